@@ -52,8 +52,7 @@ impl Bytes {
 impl From<Vec<u8>> for Bytes {
     ghost from_gives = { λ v b. b ≡ v.items };
 
-    fn from(bytes: Vec<u8>) -> Bytes
-    {
+    fn from(bytes: Vec<u8>) -> Bytes {
         Bytes { bytes }
     }
 }
@@ -62,8 +61,7 @@ impl From<Vec<u8>> for Bytes {
 impl From<Bytes> for Vec<u8> {
     ghost from_gives = { λ b v. v.items ≡ b };
 
-    fn from(bytes: Bytes) -> Vec<u8>
-    {
+    fn from(bytes: Bytes) -> Vec<u8> {
         let Bytes { bytes } = bytes;
         bytes
     }

@@ -4,5 +4,7 @@
 #![tactic(auto)]
 
 mod bytes;
+mod setup;
 
 pub use bytes::{Bytes, NoMemory};
+pub use setup::Setup;

@@ -1,0 +1,61 @@
+-- What is packed is read again, and the other way round; what a write does to the rank.
+use Rattle.std.proofs.Common.{◌≡◌, ℕ, ◌+◌, ◌*◌, ◌/◌, ◌%◌, ◌<◌, ◌≤◌, true, false, refl, sym, ◌∙◌, arith, eq-eqb}
+use Rattle.std.proofs.lemmas.Nat.{div-mul-add, mod-mul-add, div-add-mod', mod_below}
+use Rattle.std.proofs.lemmas.Grind.{common_steps}
+use Rattle.scq_word.specs.Words.{packed, index_in, safe_in, cycle_in, is_none_in, rank_in}
+
+-- two fields above the index, as one number of two digits
+packed_row : (m c s i : ℕ) → packed m c s i ≡ (c * 2 + s) * m + i
+unfolding packed
+packed_row m c s i = grind arith
+
+pub index_in-packed : (m c s i : ℕ) → i < m → index_in m (packed m c s i) ≡ i
+unfolding index_in
+index_in-packed m c s i small = rw (packed_row m c s i) (mod-mul-add (c * 2 + s) m i small)
+
+pub safe_in-packed : (m c s i : ℕ) → i < m → s < 2 → safe_in m (packed m c s i) ≡ s
+unfolding safe_in
+safe_in-packed m c s i small bit =
+    rw (packed_row m c s i, div-mul-add (c * 2 + s) m i small) (mod-mul-add c 2 s bit)
+
+pub cycle_in-packed : (m c s i : ℕ) → i < m → s < 2 → cycle_in m (packed m c s i) ≡ c
+unfolding cycle_in
+cycle_in-packed m c s i small bit =
+    rw (packed_row m c s i, div-mul-add (c * 2 + s) m i small) (div-mul-add c 2 s bit)
+
+-- a word is the pack of its parts
+pub packed-parts : (m w : ℕ) → packed m (cycle_in m w) (safe_in m w) (index_in m w) ≡ w
+unfolding index_in safe_in cycle_in
+packed-parts m w =
+    packed_row m (w / m / 2) (w / m % 2) (w % m) ∙ rw (div-add-mod' (w / m) 2) (div-add-mod' w m)
+
+pub safe_in_bit : (m w : ℕ) → safe_in m w < 2
+unfolding safe_in
+safe_in_bit m w = mod_below (w / m) 2 (omega arith)
+
+pub index_in_small : (m w : ℕ) → 0 < m → index_in m w < m
+unfolding index_in
+index_in_small m w some = mod_below w m some
+
+-- words with the same parts are one
+pub same_word : (m v w : ℕ) → cycle_in m v ≡ cycle_in m w → safe_in m v ≡ safe_in m w → index_in m v ≡ index_in m w → v ≡ w
+same_word m v w c s i =
+    sym (packed-parts m v) ∙ rw (c, s, i) (packed-parts m w)
+
+-- the rank by the three cases
+pub rank_in-empty : (m w : ℕ) → is_none_in m w ≡ true → rank_in m w ≡ 3 * cycle_in m w + 2
+unfolding rank_in
+rank_in-empty m w none = rw none refl
+
+pub rank_in-safe : (m w : ℕ) → is_none_in m w ≡ false → safe_in m w ≡ 1 → rank_in m w ≡ 3 * cycle_in m w
+unfolding rank_in
+rank_in-safe m w some safe = rw (some, eq-eqb (safe_in m w) 1 safe) (omega arith)
+
+pub rank_in-unsafe : (m w : ℕ) → is_none_in m w ≡ false → safe_in m w ≡ 0 → rank_in m w ≡ 3 * cycle_in m w + 1
+unfolding rank_in
+rank_in-unsafe m w some unsafe = rw (some, unsafe) refl
+
+-- the rank lies in the three numbers of its cycle
+pub rank_in_range : (m w : ℕ) → (3 * cycle_in m w ≤ rank_in m w) × (rank_in m w ≤ 3 * cycle_in m w + 2)
+unfolding rank_in
+rank_in_range m w = grind (arith, common_steps)
