@@ -1,0 +1,5 @@
+pub mod Put
+pub mod Machine
+pub mod Table
+pub mod Start
+pub mod Reach

@@ -1,0 +1,64 @@
+-- A state of the machine: the words of all rings with the contents that stand beside their entries, the part of each
+-- seat, and the opening contents.
+use Rattle.std.specs.Prelude.{ℕ, List, [], Option}
+use Rattle.scq_core.specs.declared.ended.Ended.{Ended}
+use Rattle.scq_core.specs.declared.phase.Phase.{Phase}
+use Rattle.scq_core.specs.Put.{put}
+
+-- the entries by ring and slot: the word, and the content that its put placed with it
+pub record Entries : Type 0 where
+  pub word : ℕ → ℕ → ℕ
+  pub content : ℕ → ℕ → List ℕ
+
+-- the words by ring. Threshold is kept as 2^32 more than its value
+pub record Cells : Type 0 where
+  pub tail : ℕ → ℕ
+  pub head : ℕ → ℕ
+  pub threshold : ℕ → ℕ
+  pub entries : Entries
+
+-- a seat's part: what it is in the middle of, the indices in its hand, the spent ticket that it keeps, and its record
+pub record Part : Type 0 where
+  pub phase : Phase
+  pub hand : List ℕ
+  pub spent : Option ℕ
+  pub calls : List Ended
+
+pub record Machine : Type 0 where
+  pub cells : Cells
+  pub part : ℕ → Part
+  pub opening : List (List ℕ)
+
+-- one word of one ring
+pub data Word : Type 0 where
+  tail_of : (ring : ℕ) → Word
+  head_of : (ring : ℕ) → Word
+  threshold_of : (ring : ℕ) → Word
+  entry_of : (ring slot : ℕ) → Word
+
+-- what stands in a word
+abbrev pub read : Cells → Word → ℕ
+read m (tail_of r) = m.tail r
+read m (head_of r) = m.head r
+read m (threshold_of r) = m.threshold r
+read m (entry_of r s) = m.entries.word r s
+
+-- what stands beside it: the content of an entry
+abbrev pub beside : Cells → Word → List ℕ
+beside m (tail_of r) = []
+beside m (head_of r) = []
+beside m (threshold_of r) = []
+beside m (entry_of r s) = m.entries.content r s
+
+abbrev pub put_entry : {A : Type 0} → (ℕ → ℕ → A) → ℕ → ℕ → A → ℕ → ℕ → A
+put_entry f r s x = put f r (put (f r) s x)
+
+-- the cells with one word changed, and beside an entry its content
+abbrev pub written : Cells → Word → ℕ → List ℕ → Cells
+written m (tail_of r) x y = record m { tail = put m.tail r x }
+written m (head_of r) x y = record m { head = put m.head r x }
+written m (threshold_of r) x y = record m { threshold = put m.threshold r x }
+written m (entry_of r s) x y =
+    record m {
+      entries = record { word = put_entry m.entries.word r s x; content = put_entry m.entries.content r s y };
+    }

@@ -1,0 +1,43 @@
+-- The start: ring 0 full, all other rings empty, each seat idle with empty hands.
+use Rattle.std.specs.Prelude.{ℕ, ◌+◌, ◌-◌, ◌==◌, if◌then◌else◌, List, [], None, slice_index_or, zero, suc}
+use Rattle.scq_word.specs.declared.setup.Setup.{Setup}
+use Rattle.scq_word.specs.Sizes.{n_of}
+use Rattle.scq_word.specs.Tickets.{slot_of}
+use Rattle.scq_word.specs.Words.{mark_of, packed}
+use Rattle.scq_core.specs.declared.phase.Phase.TheVariants.{Idle}
+use Rattle.scq_core.specs.Machine.{Cells, Part, Machine}
+use Rattle.scq_core.specs.Table.{zero_level, reset_level, size}
+
+-- the word of an entry that was never used
+abbrev pub unused : ℕ → ℕ
+unused m = packed m 0 1 (mark_of m)
+
+-- the entries of a ring of m slots in which the indices below a count stand, index j at the ticket m + j
+abbrev pub filled : ℕ → ℕ → ℕ → ℕ
+filled m zero slot = unused m
+filled m (suc j) slot = if slot == slot_of m (m + j) then packed m 1 1 j else filled m j slot
+
+-- the contents beside them: that of index j is the opening content j
+abbrev pub filled_contents : ℕ → List (List ℕ) → ℕ → ℕ → List ℕ
+filled_contents m opening zero slot = []
+filled_contents m opening (suc j) slot =
+    if slot == slot_of m (m + j) then slice_index_or opening j [] else filled_contents m opening j slot
+
+abbrev pub start_cells : Setup → List (List ℕ) → Cells
+start_cells c opening =
+    record {
+      tail = λ r. if r == 0 then size c + n_of c.order else size c;
+      head = λ r. size c;
+      threshold = λ r. if r == 0 then reset_level c else zero_level - 1;
+      entries =
+        record {
+          word = λ r s. if r == 0 then filled (size c) (n_of c.order) s else unused (size c);
+          content = λ r s. if r == 0 then filled_contents (size c) opening (n_of c.order) s else [];
+        };
+    }
+
+abbrev pub idle_part : Part
+idle_part = record { phase = Idle; hand = []; spent = None; calls = [] }
+
+abbrev pub start_of : Setup → List (List ℕ) → Machine
+start_of c opening = record { cells = start_cells c opening; part = λ k. idle_part; opening = opening }
