@@ -1,0 +1,32 @@
+ghost use Rattle.std.specs.Prelude.{◌≡◌, ℕ, ◌≤◌, Option, IsSome, IfOk, OnOk, OnErr, IfSome};
+ghost use Rattle.std.specs.Option.{option_map};
+ghost use Rattle.scq_outside.specs.Faults.{Rose, last_count};
+ghost use Rattle.scq_outside.specs.Table.{Table, without};
+
+use crate::{Failed, Source};
+
+/// Where sources come from, by name.
+pub trait Files {
+    type Src: Source;
+
+    /// How often a source was not got. The count stands still at the last value of a u64.
+    ghost faults: { Self → ℕ };
+
+    /// For each name that is there its content, where the table is told.
+    ghost table: { Self → Option Table };
+
+    /// The source of this name. Where the table is told, it comes exactly where the name is in it,
+    /// has the name's content left, and the name leaves the table.
+    fn source(&mut self, name: &str) -> Result<Self::Src, Failed>
+        ensures fresh { IfOk result (λ source. Self.Src.faults source ≡ 0) }
+        ensures content { IfOk result (λ source. IfSome (table self.old) (λ files. IsSome (files name.now) × (Self.Src.left source ≡ files name.now))) }
+        ensures given { OnOk result (table self.new ≡ option_map (without name.now) (table self.old)) }
+        ensures kept { OnOk result (faults self.new ≡ faults self.old) }
+
+        // After a fault the table is what it was.
+        ensures missing { OnErr result (IfSome (table self.old) (λ files. files name.now ≡ None)) }
+        ensures unchanged { OnErr result (table self.new ≡ table self.old) }
+        ensures rose { OnErr result (Rose (faults self.old) (faults self.new)) }
+        ensures fits { OnErr result (faults self.new ≤ last_count) }
+        ensures never_falls { faults self.old ≤ faults self.new };
+}

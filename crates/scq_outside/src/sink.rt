@@ -1,0 +1,29 @@
+ghost use Rattle.std.specs.Prelude.{◌≡◌, ℕ, ◌<◌, ◌≤◌, ◌++◌, List, Option, length, take, IfOk, OnOk, OnErr};
+ghost use Rattle.std.specs.Option.{option_map};
+ghost use Rattle.scq_outside.specs.Faults.{Rose, last_count};
+
+use crate::Failed;
+
+/// What bytes are written to, piece by piece.
+pub trait Sink {
+    /// How often a write has failed. The count stands still at the last value of a u64.
+    ghost faults: { Self → ℕ };
+
+    /// The bytes that were written, where the sink tells them.
+    ghost written: { Self → Option (List ℕ) };
+
+    /// Writes some of the piece, from its front, and answers how many bytes: at least 1. A device
+    /// that takes nothing of the piece has failed.
+    fn write(&mut self, piece: &[u8]) -> Result<usize, Failed>
+        requires { 0 < length piece.now }
+        ensures some { IfOk result (λ k. 0 < k) }
+        ensures within { IfOk result (λ k. k ≤ length piece.now) }
+        ensures appended { IfOk result (λ k. written self.new ≡ option_map (λ bytes. bytes ++ take k piece.now) (written self.old)) }
+        ensures kept { OnOk result (faults self.new ≡ faults self.old) }
+
+        // After a fault the sink has what it had.
+        ensures unwritten { OnErr result (written self.new ≡ written self.old) }
+        ensures rose { OnErr result (Rose (faults self.old) (faults self.new)) }
+        ensures fits { OnErr result (faults self.new ≤ last_count) }
+        ensures never_falls { faults self.old ≤ faults self.new };
+}

@@ -1,0 +1,31 @@
+ghost use Rattle.std.specs.Prelude.{◌≡◌, ℕ, ◌<◌, ◌≤◌, ◌++◌, List, [], Option, length, take, IfOk, OnOk, OnErr, IfSome};
+ghost use Rattle.std.specs.Option.{option_map};
+ghost use Rattle.scq_outside.specs.Faults.{Rose, last_count};
+
+/// Reading, writing or opening failed. It comes only where the count of faults of the object rose.
+#[derive(Clone, Copy, Debug, PartialEq, Eq)]
+pub struct Failed;
+
+/// What bytes are read from, piece by piece.
+pub trait Source: Send + Drop {
+    /// How often a read has failed. The count stands still at the last value of a u64.
+    ghost faults: { Self → ℕ };
+
+    /// The bytes that are left, where the source tells them.
+    ghost left: { Self → Option (List ℕ) };
+
+    /// Reads at most as many bytes as `into` has, to its front, and answers how many. Of no bytes
+    /// the answer means that the end is reached.
+    fn read(&mut self, into: &mut [u8]) -> Result<usize, Failed>
+        requires { 0 < length into.old }
+        ensures within { IfOk result (λ k. k ≤ length into.new) }
+        ensures moved { IfOk result (λ k. left self.old ≡ option_map (λ rest. take k into.new ++ rest) (left self.new)) }
+        ensures end { IfOk result (λ k. k ≡ 0 → IfSome (left self.old) (λ bytes. bytes ≡ [])) }
+        ensures kept { OnOk result (faults self.new ≡ faults self.old) }
+
+        // After a fault the source has what it had.
+        ensures unmoved { OnErr result (left self.new ≡ left self.old) }
+        ensures rose { OnErr result (Rose (faults self.old) (faults self.new)) }
+        ensures fits { OnErr result (faults self.new ≤ last_count) }
+        ensures never_falls { faults self.old ≤ faults self.new };
+}
