@@ -1,0 +1,51 @@
+-- What a text says, byte by byte: its lines, and the messages that they are. It knows no file, no
+-- declared topic and no way of reading.
+use Rattle.std.specs.Prelude.{ℕ, ◌+◌, Bool, ◌==◌, List, [], ◌∷◌, length, if◌then◌else◌}
+use Rattle.std.specs.List.{slice_split, before_first, after_first}
+
+-- a byte ends a line where it is LF
+abbrev pub is_line_feed : ℕ → Bool
+is_line_feed b = b == 10
+
+-- a byte ends a topic where it is the space
+abbrev pub is_space : ℕ → Bool
+is_space b = b == 32
+
+-- the parts without the last one where that is empty
+abbrev pub without_empty_end : List (List ℕ) → List (List ℕ)
+without_empty_end [] = []
+without_empty_end (part ∷ []) = if length part == 0 then [] else part ∷ []
+without_empty_end (part ∷ next ∷ more) = part ∷ without_empty_end (next ∷ more)
+
+-- the lines of a text: each part that an LF ends, and what follows the last LF where it has bytes
+abbrev pub lines_of : List ℕ → List (List ℕ)
+lines_of text = without_empty_end (slice_split is_line_feed text)
+
+-- a message as a text has it: its line's number, from 1, its topic's bytes and its payload
+pub record Framed : Type 0 where
+  pub line : ℕ
+  pub topic : List ℕ
+  pub payload : List ℕ
+
+-- the message of a line: the topic stands before the first space and the payload after it; a line
+-- without a space is all topic
+abbrev pub framed : ℕ → List ℕ → Framed
+framed number line = record {
+  line = number;
+  topic = before_first is_space line;
+  payload = after_first is_space line;
+}
+
+-- the messages of lines of which the first has this number: an empty line has its number and no message
+abbrev pub messages_from : ℕ → List (List ℕ) → List Framed
+messages_from number [] = []
+messages_from number ([] ∷ more) = messages_from (number + 1) more
+messages_from number ((b ∷ bs) ∷ more) = framed number (b ∷ bs) ∷ messages_from (number + 1) more
+
+-- the messages of a text that follows so many lines
+unfoldable pub messages_after : ℕ → List ℕ → List Framed
+messages_after passed text = messages_from (passed + 1) (lines_of text)
+
+-- the messages of a text
+abbrev pub messages_of : List ℕ → List Framed
+messages_of text = messages_after 0 text
