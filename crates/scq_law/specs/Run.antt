@@ -1,0 +1,134 @@
+-- What a run is, and what is told of it: the state that it leads to, its history, and the counts of each ring.
+use Rattle.std.specs.Prelude.{◌≡◌, ℕ, ◌+◌, ◌-◌, ◌==◌, ◌&&◌, nat_le, nat_lt, if◌then◌else◌, List, [], ◌∷◌, ◌++◌, length, Option, Some, None, slice_get}
+use Rattle.std.specs.Option.{option_and_then, option_map}
+use Rattle.scq_word.specs.declared.setup.Setup.{Setup}
+use Rattle.scq_word.specs.Sizes.{n_of}
+use Rattle.scq_core.specs.declared.ended.Ended.{Ended}
+use Rattle.scq_core.specs.declared.ended.Ended.TheVariants as ended
+use Rattle.scq_core.specs.declared.phase.Phase.{Phase}
+use Rattle.scq_core.specs.declared.phase.Phase.TheVariants.{Idle, AtE1, AtE4, AtE5, AtE6, AtD1, AtD10}
+use Rattle.scq_core.specs.declared.step.Step.{Step}
+use Rattle.scq_core.specs.Put.{put}
+use Rattle.scq_core.specs.Machine.{Machine, read, put_entry}
+use Rattle.scq_core.specs.Table.{moved, size, turn_of, word_of}
+use Rattle.scq_core.specs.Start.{start_of}
+use Rattle.scq_hist.specs.declared.events.Call.TheVariants.{Put, Get}
+use Rattle.scq_hist.specs.declared.events.Event.{Event}
+use Rattle.scq_hist.specs.declared.events.Event.TheVariants.{Start, End}
+use Rattle.scq_hist.specs.declared.events.PutName.{PutName}
+use Rattle.scq_hist.specs.declared.events.PutName.TheVariants.{Opening, Of}
+use Rattle.scq_hist.specs.declared.events.Reply.{Reply}
+use Rattle.scq_hist.specs.declared.events.Reply.TheVariants.{Done, Got, Nothing, Spent}
+
+-- what is told of a run: the state that it has led to, the events so far, how many puts each seat has begun, the put that
+-- placed at each place of each ring, and for each ring how often a put has ended and how many dequeue turns failed since
+pub record Told : Type 0 where
+  pub state : Machine
+  pub events : List Event
+  pub puts : ℕ → ℕ
+  pub placer : ℕ → ℕ → PutName
+  pub resets : ℕ → ℕ
+  pub fails : ℕ → ℕ
+
+-- the reply of a call that has ended: a get names the put that placed where it took
+abbrev pub reply_of : (ℕ → ℕ → PutName) → Ended → Reply
+reply_of placer (ended.Done r p w) = Done
+reply_of placer (ended.Got r p w) = Got (placer r p) w
+reply_of placer (ended.Nothing r) = Nothing
+reply_of placer (ended.Spent r t is_put) = Spent
+
+-- the Start at a call's first step: the seat was idle before it
+abbrev pub starts : ℕ → Phase → Phase → List Event
+starts seat Idle (AtE1 r i w l) = Start seat (Put r w) ∷ []
+starts seat Idle (AtD1 r) = Start seat (Get r) ∷ []
+starts seat phase turn = []
+
+-- the End at a call's last step: the seat is idle after it, and its record has the call at its end
+abbrev pub end_of : ℕ → (ℕ → ℕ → PutName) → Option Ended → List Event
+end_of seat placer None = []
+end_of seat placer (Some call) = End seat (reply_of placer call) ∷ []
+
+abbrev pub finishes : ℕ → (ℕ → ℕ → PutName) → Phase → List Ended → List Event
+finishes seat placer Idle calls = end_of seat placer (slice_get calls (length calls - 1))
+finishes seat placer phase calls = []
+
+-- one more where a put begins
+abbrev pub puts_after : ℕ → Phase → Phase → (ℕ → ℕ) → ℕ → ℕ
+puts_after seat Idle (AtE1 r i w l) puts = put puts seat (puts seat + 1)
+puts_after seat phase turn puts = puts
+
+-- an exchange that succeeds places the put that its seat has under way
+abbrev pub placer_after : ℕ → Phase → ℕ → (ℕ → ℕ) → (ℕ → ℕ → PutName) → ℕ → ℕ → PutName
+placer_after seat (AtE4 r i w t e) found puts placer =
+    if found == e then put_entry placer r t (Of seat (puts seat)) else placer
+placer_after seat turn found puts placer = placer
+
+-- a put ends with Done at the step E5 or E6 after which its seat is idle
+abbrev pub is_reset : Phase → Phase → Option ℕ
+is_reset (AtE5 r i w t) Idle = Some r
+is_reset (AtE6 r i w t) Idle = Some r
+is_reset turn phase = None
+
+abbrev pub resets_after : Option ℕ → (ℕ → ℕ) → ℕ → ℕ
+resets_after None resets = resets
+resets_after (Some r) resets = put resets r (resets r + 1)
+
+-- a step D10 is one more failed turn; after a reset there is none yet
+abbrev pub fails_after : Phase → Option ℕ → (ℕ → ℕ) → ℕ → ℕ
+fails_after (AtD10 r h leaving) reset fails = put fails r (fails r + 1)
+fails_after turn None fails = fails
+fails_after turn (Some r) fails = put fails r 0
+
+-- what is told after a turn of a seat
+abbrev pub told_after : Setup → ℕ → Phase → Told → Told
+told_after c seat turn told =
+    let before = told.state.part seat in
+    let state = moved c told.state seat turn in
+    let found = read told.state.cells (word_of c turn) in
+    let after = state.part seat in
+    let placer = placer_after seat turn found told.puts told.placer in
+    record {
+      state = state;
+      events = told.events ++ starts seat before.phase turn ++ finishes seat placer after.phase after.calls;
+      puts = puts_after seat before.phase turn told.puts;
+      placer = placer;
+      resets = resets_after (is_reset turn after.phase) told.resets;
+      fails = fails_after turn (is_reset turn after.phase) told.fails;
+    }
+
+-- what is told after one more step, or None where it isn't enabled
+abbrev pub told_by : Setup → Told → ℕ × Step → Option Told
+told_by c told x = option_map (λ turn. told_after c x.0 turn told) (turn_of c (told.state.part x.0) x.1)
+
+-- the name of no put, since a seat's puts are numbered from 1
+abbrev pub nobody : PutName
+nobody = Of 0 0
+
+-- at the start opening put j stands in ring 0, at the place j behind the size of a ring
+abbrev pub first_placer : Setup → ℕ → ℕ → PutName
+first_placer c r p =
+    if (r == 0) && nat_le (size c) p && nat_lt p (size c + n_of c.order) then Opening (p - size c) else nobody
+
+-- what is told before the first step
+abbrev pub told_first : Setup → List (List ℕ) → Told
+told_first c opening = record {
+  state = start_of c opening;
+  events = [];
+  puts = λ seat. 0;
+  placer = first_placer c;
+  resets = λ r. 0;
+  fails = λ r. 0;
+}
+
+-- what is told after more steps, or None where one of them isn't enabled
+abbrev pub told_along : Setup → Told → List (ℕ × Step) → Option Told
+told_along c told [] = Some told
+told_along c told (x ∷ xs) = option_and_then (λ next. told_along c next xs) (told_by c told x)
+
+-- what is told of these steps from the start, or None where they are no run: where one isn't enabled in its turn
+abbrev pub told_of : Setup → List (List ℕ) → List (ℕ × Step) → Option Told
+told_of c opening steps = told_along c (told_first c opening) steps
+
+-- these steps are a run, and this is told of it
+pub record IsRun (c : Setup) (opening : List (List ℕ)) (steps : List (ℕ × Step)) (told : Told) : Type 0 where
+  pub told_is : told_of c opening steps ≡ Some told
