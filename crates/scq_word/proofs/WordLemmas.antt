@@ -1,6 +1,7 @@
 -- What is packed is read again, and the other way round; what a write does to the rank.
-use Rattle.std.proofs.Common.{◌≡◌, ℕ, ◌+◌, ◌*◌, ◌/◌, ◌%◌, ◌<◌, ◌≤◌, true, false, refl, sym, ◌∙◌, arith, eq-eqb}
-use Rattle.std.proofs.lemmas.Nat.{div-mul-add, mod-mul-add, div-add-mod', mod_below}
+use Rattle.std.proofs.Common.{◌≡◌, ℕ, ◌+◌, ◌-◌, ◌*◌, ◌/◌, ◌%◌, ◌^◌, ◌<◌, ◌≤◌, true, false, refl, sym, ◌∙◌, arith, eq-eqb}
+use Rattle.std.specs.Int.Bits.{bit_or, or_zero_r}
+use Rattle.std.proofs.lemmas.Nat.{div-mul-add, mod-mul-add, div-add-mod', mod_below, pow_pos, or_block, le_or_r, or_lt}
 use Rattle.std.proofs.lemmas.Grind.{common_steps}
 use Rattle.scq_word.specs.Words.{packed, index_in, safe_in, cycle_in, is_none_in, rank_in}
 
@@ -59,3 +60,42 @@ rank_in-unsafe m w some unsafe = rw (some, unsafe) refl
 pub rank_in_range : (m w : ℕ) → (3 * cycle_in m w ≤ rank_in m w) × (rank_in m w ≤ 3 * cycle_in m w + 2)
 unfolding rank_in
 rank_in_range m w = grind (arith, common_steps)
+
+-- all the bits of an index, over an index
+or_index : (k i : ℕ) → i < 2 ^ k → bit_or i (2 ^ k - 1) ≡ 2 ^ k - 1
+or_index k i small =
+    let some : 0 < 2 ^ k = pow_pos k in
+    let mark : 2 ^ k - 1 < 2 ^ k = omega arith in
+    let low : 2 ^ k - 1 ≤ bit_or i (2 ^ k - 1) = le_or_r i (2 ^ k - 1) in
+    let high : bit_or i (2 ^ k - 1) < 2 ^ k = or_lt k i (2 ^ k - 1) small mark in
+    omega arith
+
+-- a fetch_or of the mark takes the index out of the word, and leaves its cycle and its safe bit.
+-- Plan: the word is its two high fields and its index; the mark is no bit of the fields and all bits of the index.
+pub bit_or-mark : (k w : ℕ) → bit_or w (2 ^ k - 1) ≡ packed (2 ^ k) (cycle_in (2 ^ k) w) (safe_in (2 ^ k) w) (2 ^ k - 1)
+unfolding safe_in cycle_in
+bit_or-mark k w =
+    let some : 0 < 2 ^ k = pow_pos k in
+    let mark : 2 ^ k - 1 < 2 ^ k = omega arith in
+    let small : w % 2 ^ k < 2 ^ k = mod_below w (2 ^ k) some in
+    let parts : w / 2 ^ k * 2 ^ k + w % 2 ^ k ≡ w = div-add-mod' w (2 ^ k) in
+    let alone : 0 * 2 ^ k + (2 ^ k - 1) ≡ 2 ^ k - 1 = grind arith in
+    let apart = or_block k (w / 2 ^ k) 0 (w % 2 ^ k) (2 ^ k - 1) small mark in
+    let fields : bit_or w (2 ^ k - 1) ≡ w / 2 ^ k * 2 ^ k + (2 ^ k - 1) = rw (parts, alone, or_zero_r (w / 2 ^ k), or_index k (w % 2 ^ k) small) at apart in
+    fields ∙ sym (packed_row (2 ^ k) (w / 2 ^ k / 2) (w / 2 ^ k % 2) (2 ^ k - 1) ∙ rw (div-add-mod' (w / 2 ^ k) 2) refl)
+
+-- what is consumed has no index, and the cycle and the safe bit that it had
+pub cycle_in-consumed : (k w : ℕ) → cycle_in (2 ^ k) (bit_or w (2 ^ k - 1)) ≡ cycle_in (2 ^ k) w
+cycle_in-consumed k w =
+    let some : 0 < 2 ^ k = pow_pos k in
+    rw (bit_or-mark k w) (cycle_in-packed (2 ^ k) (cycle_in (2 ^ k) w) (safe_in (2 ^ k) w) (2 ^ k - 1) (omega arith) (safe_in_bit (2 ^ k) w))
+
+pub safe_in-consumed : (k w : ℕ) → safe_in (2 ^ k) (bit_or w (2 ^ k - 1)) ≡ safe_in (2 ^ k) w
+safe_in-consumed k w =
+    let some : 0 < 2 ^ k = pow_pos k in
+    rw (bit_or-mark k w) (safe_in-packed (2 ^ k) (cycle_in (2 ^ k) w) (safe_in (2 ^ k) w) (2 ^ k - 1) (omega arith) (safe_in_bit (2 ^ k) w))
+
+pub index_in-consumed : (k w : ℕ) → index_in (2 ^ k) (bit_or w (2 ^ k - 1)) ≡ 2 ^ k - 1
+index_in-consumed k w =
+    let some : 0 < 2 ^ k = pow_pos k in
+    rw (bit_or-mark k w) (index_in-packed (2 ^ k) (cycle_in (2 ^ k) w) (safe_in (2 ^ k) w) (2 ^ k - 1) (omega arith))

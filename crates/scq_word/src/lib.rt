@@ -1,10 +1,22 @@
-// The words that every crate above speaks with: bytes that contracts see as a list, and the one
-// answer without a cause, want of memory. It stands on `std` alone. The layers above use the
-// clauses of `Bytes`: a copy has the bytes of what was copied, and reading gives them back.
+// The words that every crate above speaks with: bytes that contracts see as a list, buffers that are
+// written in place, setups, and the words of a ring's entries and tickets. It stands on `std` alone, and
+// on `thiserror` for the text of a fault. The layers above use: packing and unpacking an entry are
+// inverse, each change of an entry raises its rank, and want of memory is the one answer without a cause.
 #![tactic(auto)]
 
+mod buffer;
 mod bytes;
+mod entry;
+pub mod laws;
 mod setup;
+mod shape;
+#[cfg(test)]
+mod tests;
+mod words;
 
+pub use buffer::Buffer;
 pub use bytes::{Bytes, NoMemory};
-pub use setup::Setup;
+pub use entry::Entry;
+pub use setup::{Setup, SetupFault};
+pub use shape::Shape;
+pub use words::{cycle_of, pack, rank, slot_of, unpack};

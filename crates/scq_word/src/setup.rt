@@ -1,5 +1,9 @@
-ghost use Rattle.std.specs.Prelude.{◌≡◌, ℕ, ◌*◌, ◌^◌, ◌<◌, ◌≤◌};
+ghost use Rattle.std.specs.Prelude.{◌≡◌, ℕ, ◌*◌, ◌^◌, ◌<◌, ◌≤◌, ◌↔◌, ◌⊎◌, IsOk, IfOk, Err};
 ghost use Rattle.scq_word.specs.Sizes.{n_of};
+ghost use Rattle.scq_word.specs.Ranges.{IsWithin, IsOutside};
+
+use crate::shape::Shape;
+use thiserror::Error;
 
 /// What rings are made with: `2^order` indices, so many rings, so many seats that make calls, and the limit of
 /// their tickets. Valid by its type: the order is in 1..=12, the rings in 1..=18, the seats in 1..=n, and the
@@ -14,4 +18,78 @@ pub struct Setup {
     ghost rings_in_range: { (1 ≤ rings) × (rings ≤ 18) },
     ghost seats_in_range: { (1 ≤ seats) × (seats ≤ n_of order) },
     ghost limit_in_range: { (8 * n_of order ≤ limit) × (limit ≤ 2 ^ 60) },
+}
+
+/// Why there is no such setup. The tests are made in this order, so that each fault says that the ones before it
+/// are not there.
+#[derive(Clone, Copy, Debug, PartialEq, Eq, Error)]
+pub enum SetupFault {
+    #[error("order is not in 1..12")]
+    BadOrder,
+    #[error("rings are not in 1..18")]
+    BadRings,
+    #[error("seats are not in 1..n")]
+    BadSeats,
+    #[error("limit is not in 8n..2^60")]
+    BadLimit,
+}
+
+impl Setup {
+    pub fn new(order: u32, rings: u32, seats: u32, limit: u64) -> Result<Setup, SetupFault>
+        ensures ok { IsOk result ↔ (IsWithin 1 12 order × IsWithin 1 18 rings × IsWithin 1 (n_of order) seats
+            × IsWithin (8 * n_of order) (2 ^ 60) limit) }
+        ensures made { IfOk result (λ setup. (setup.order ≡ order) × (setup.rings ≡ rings) × (setup.seats ≡ seats)
+            × (setup.limit ≡ limit)) }
+
+        ensures bad_order { (result ≡ Err SetupFault.BadOrder) ↔ IsOutside 1 12 order }
+        ensures bad_rings { (result ≡ Err SetupFault.BadRings) ↔ (IsWithin 1 12 order × IsOutside 1 18 rings) }
+        ensures bad_seats { (result ≡ Err SetupFault.BadSeats) ↔ (IsWithin 1 12 order × IsWithin 1 18 rings
+            × IsOutside 1 (n_of order) seats) }
+        ensures bad_limit { (result ≡ Err SetupFault.BadLimit) ↔ (IsWithin 1 12 order × IsWithin 1 18 rings
+            × IsWithin 1 (n_of order) seats × IsOutside (8 * n_of order) (2 ^ 60) limit) }
+    {
+        let Some(shape) = Shape::new(order) else {
+            return Err(SetupFault::BadOrder);
+        };
+        if rings < 1 || rings > 18 {
+            return Err(SetupFault::BadRings);
+        }
+        let n = shape.n();
+        if seats < 1 || seats > n {
+            return Err(SetupFault::BadSeats);
+        }
+        if limit < 8 * u64::from(n) || limit > 1 << 60 {
+            return Err(SetupFault::BadLimit);
+        }
+        Ok(Setup {
+            order,
+            rings,
+            seats,
+            limit,
+        })
+    }
+
+    pub fn shape(&self) -> Shape
+        ensures { result.order ≡ self.now.order }
+    {
+        Shape { order: self.order }
+    }
+
+    pub fn rings(&self) -> u32
+        ensures { result ≡ self.now.rings }
+    {
+        self.rings
+    }
+
+    pub fn seats(&self) -> u32
+        ensures { result ≡ self.now.seats }
+    {
+        self.seats
+    }
+
+    pub fn limit(&self) -> u64
+        ensures { result ≡ self.now.limit }
+    {
+        self.limit
+    }
 }

@@ -1,0 +1,47 @@
+ghost use Rattle.std.specs.Prelude.{◌≡◌, ℕ, ◌≤◌, ◌<◌, ◌-◌, ◌*◌, ◌^◌, ◌↔◌, ◌⊎◌, IsSome, IfSome, IsNone};
+ghost use Rattle.scq_word.specs.Sizes.{n_of, slots_of};
+ghost use Rattle.scq_word.specs.Words.{mark_of};
+ghost use Rattle.scq_word.specs.Ranges.{IsWithin, IsOutside};
+
+/// The order of a ring, 1 to 12 by its type: the ring queues the indices below `2^order`.
+#[derive(Clone, Copy, Debug, PartialEq, Eq)]
+pub struct Shape {
+    pub order: u32,
+    ghost order_in_range: { (1 ≤ order) × (order ≤ 12) },
+}
+
+impl Shape {
+    /// None exactly where the order is not in 1..=12.
+    pub fn new(order: u32) -> Option<Shape>
+        ensures within { IsSome result ↔ IsWithin 1 12 order }
+        ensures outside { IsNone result ↔ IsOutside 1 12 order }
+        ensures order { IfSome result (λ shape. shape.order ≡ order) }
+    {
+        if order >= 1 && order <= 12 {
+            Some(Shape { order })
+        } else {
+            None
+        }
+    }
+
+    /// The number of indices, `2^order`.
+    pub fn n(&self) -> u32
+        ensures { result ≡ n_of self.now.order }
+    {
+        1 << self.order
+    }
+
+    /// The number of slots, two for each index.
+    pub fn slots(&self) -> u32
+        ensures { result ≡ slots_of self.now.order }
+    {
+        2 * self.n()
+    }
+
+    /// The mark that says "no index": as many as the slots, less 1.
+    pub fn none(&self) -> u32
+        ensures { result ≡ mark_of (slots_of self.now.order) }
+    {
+        self.slots() - 1
+    }
+}

@@ -1,0 +1,146 @@
+ghost use Rattle.std.specs.Prelude.{◌≡◌, length, refl};
+ghost use Rattle.std.proofs.Common.{sym, ◌∙◌};
+ghost use Rattle.std.specs.Vec.{with_items};
+ghost use Rattle.scq_word.specs.Written.{rewritten};
+
+use crate::{
+    Buffer, Bytes, Entry, Setup, SetupFault, Shape, cycle_of, pack, rank, slot_of, unpack,
+};
+use std::test::Fail;
+
+// Bytes on the heap, as the smallest buffer.
+#[derive(Drop)]
+struct Heap {
+    bytes: Vec<u8>,
+}
+
+impl Buffer for Heap {
+    ghost contents = { λ heap. heap.bytes.items };
+
+    ghost IsSameBuffer = { λ a b. length a.bytes.items ≡ length b.bytes.items };
+
+    ghost written = { λ heap bytes. record { bytes = with_items heap.bytes bytes } };
+
+    ghost same_as_itself = { λ a. refl };
+
+    ghost same_back = { λ a b same. sym same };
+
+    ghost same_along = { λ a b c first second. first ∙ second };
+
+    ghost same_length = { λ a b same. same };
+
+    ghost written_bytes = { λ a bytes same. rewritten a.bytes.items bytes a.bytes.len a.bytes.ok.0 same };
+
+    ghost written_same = { λ a bytes. sym a.bytes.ok.0 ∙ (with_items a.bytes bytes).ok.0 };
+
+    fn bytes(&self) -> &[u8] {
+        self.bytes.as_slice()
+    }
+
+    fn bytes_mut(&mut self) -> &mut [u8] {
+        self.bytes.as_mut_slice()
+    }
+}
+
+// What generic code knows of a buffer after a write through the loan.
+fn fill<B: Buffer>(buffer: &mut B, from: &[u8])
+    requires { length from.now ≡ length (B.contents buffer.old) }
+    ensures bytes { B.contents buffer.new ≡ from.now }
+    ensures same { B.IsSameBuffer buffer.old buffer.new }
+{
+    buffer.bytes_mut().copy_from_slice(from);
+}
+
+#[test]
+fn a_buffer_is_written_in_place(rt: HostRuntime) -> Result<(), Fail> {
+    let mut heap = Heap {
+        bytes: vec![in rt.alloc(); 0; 2]?,
+    };
+    assert_eq!(rt; heap.bytes(), [0, 0].as_slice());
+    fill(&mut heap, b"hi");
+    assert_eq!(rt; heap.bytes(), b"hi".as_slice());
+    Ok(())
+}
+
+// What a word is read as again, and what a fetch_or of the mark makes of it.
+#[test]
+fn entries_and_words(rt: HostRuntime) -> Result<(), Fail> {
+    let table = [
+        (1, 0, true, None, 7, 2, 7),
+        (1, 1, true, Some(0), 12, 3, 15),
+        (1, 1, false, Some(0), 8, 4, 11),
+        (1, 2, true, Some(1), 21, 6, 23),
+        (12, 1, true, Some(0), 24576, 3, 32767),
+    ];
+    for (order, cycle, safe, index, word, height, consumed) in table {
+        let shape = Shape::new(order).ok_or("order")?;
+        let entry = Entry { cycle, safe, index };
+        let mark = u64::from(shape.none());
+        assert!(rt; cycle < 1 << 50 && index.unwrap_or(0) < 2);
+        assert_eq!(rt; pack(shape, entry), word);
+        assert_eq!(rt; rank(entry), height, "word {word}");
+        assert_eq!(rt; word | mark, consumed, "word {word}");
+        assert_eq!(rt; unpack(shape, pack(shape, entry)), entry, "word {word}");
+    }
+    Ok(())
+}
+
+#[test]
+fn shapes_and_tickets(rt: HostRuntime) -> Result<(), Fail> {
+    assert_eq!(rt; Shape::new(0), None);
+    assert_eq!(rt; Shape::new(13), None);
+    let large = Shape::new(12).ok_or("order")?;
+    assert_eq!(rt;
+        (large.n(), large.slots(), large.none()),
+        (4096, 8192, 8191)
+    );
+    let small = Shape::new(1).ok_or("order")?;
+    for (ticket, cycle) in [(3, 0), (4, 1), (7, 1), (12, 3)] {
+        assert_eq!(rt; cycle_of(small, ticket), cycle, "ticket {ticket}");
+    }
+    for (ticket, slot) in [(3, 3), (4, 0), (9, 1), (12, 0)] {
+        assert_eq!(rt; slot_of(small, ticket), slot, "ticket {ticket}");
+    }
+    Ok(())
+}
+
+#[test]
+fn setups(rt: HostRuntime) -> Result<(), Fail> {
+    let faults = [
+        ((0, 2, 2, 16), SetupFault::BadOrder),
+        ((13, 19, 0, 0), SetupFault::BadOrder),
+        ((1, 0, 3, 15), SetupFault::BadRings),
+        ((1, 19, 0, 15), SetupFault::BadRings),
+        ((1, 2, 3, 16), SetupFault::BadSeats),
+        ((1, 2, 0, 15), SetupFault::BadSeats),
+        ((1, 2, 2, 15), SetupFault::BadLimit),
+        ((1, 2, 2, (1 << 60) + 1), SetupFault::BadLimit),
+    ];
+    for ((order, rings, seats, limit), fault) in faults {
+        assert_eq!(rt;
+            Setup::new(order, rings, seats, limit),
+            Err(fault),
+            "order {order} rings {rings}"
+        );
+    }
+    let setup = Setup::new(1, 2, 2, 16)?;
+    assert_eq!(rt;
+        (
+            setup.shape().n(),
+            setup.rings(),
+            setup.seats(),
+            setup.limit()
+        ),
+        (2, 2, 2, 16)
+    );
+    Ok(())
+}
+
+#[test]
+fn bytes_are_copied(rt: HostRuntime) -> Result<(), Fail> {
+    let copy = Bytes::copy_of(rt.alloc(), b"abc")?;
+    assert_eq!(rt; copy.bytes(), b"abc".as_slice());
+    let vec: Vec<u8> = copy.into();
+    assert_eq!(rt; Bytes::from(vec).bytes().len(), 3);
+    Ok(())
+}
