@@ -1,2 +1,4 @@
 pub mod PutLemmas
 pub mod Turns
+pub mod Entries
+pub mod Ranks
