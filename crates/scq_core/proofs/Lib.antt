@@ -2,3 +2,4 @@ pub mod PutLemmas
 pub mod Turns
 pub mod Entries
 pub mod Ranks
+pub mod Steady

@@ -1,5 +1,5 @@
 -- A step is a turn: the seat's phase, or the first step of a call that it begins.
-use Rattle.std.proofs.Common.{◌≡◌, ℕ, ◌<◌, true, ◌&&◌, ◌⊎◌, inl, inr, List, ltb-true, refl}
+use Rattle.std.proofs.Common.{◌≡◌, ℕ, ◌<◌, true, ◌&&◌, ◌⊎◌, inl, inr, List, ltb-true, refl, sym, ◌∙◌}
 use Rattle.std.specs.Prelude.{Option, Some, None, nat_lt}
 use Rattle.std.specs.Option.{option_map}
 use Rattle.std.proofs.lemmas.Bool.{cases_Bool, and_parts}
@@ -74,3 +74,20 @@ begins c hand spent (AtD8 r h from) D8 turn e = inl (cc)
 begins c hand spent (AtD9 r h from to) D9 turn e = inl (cc)
 begins c hand spent (AtD10 r h leaving) D10 turn e = inl (cc)
 begins c hand spent phase step turn e = absurd (cc)
+
+begun_wakes : (c : Setup) (hand : List ℕ) (turn : Phase) → Begins c hand turn → turn ≡ Idle → ⊥
+begun_wakes c hand turn (begins_put r i w low small held) idle = cc
+begun_wakes c hand turn (begins_get r low) idle = cc
+
+idle_sleeps : (c : Setup) (hand : List ℕ) (spent : Option ℕ) (step : Step) (turn : Phase) → turn_at c hand spent Idle step ≡ Some turn → turn ≡ Idle → ⊥
+idle_sleeps c hand None (E1 r i w) turn e idle = begun_wakes c hand turn (put_begins c hand r i w turn e) idle
+idle_sleeps c hand None (D1 r) turn e idle = begun_wakes c hand turn (get_begins c hand r turn e) idle
+idle_sleeps c hand spent step turn e idle = cc
+
+-- no turn is idle
+pub awake : (c : Setup) (hand : List ℕ) (spent : Option ℕ) (phase : Phase) (step : Step) (turn : Phase) → turn_at c hand spent phase step ≡ Some turn → turn ≡ Idle → ⊥
+awake c hand spent phase step turn e idle =
+    elim (begins c hand spent phase step turn e) [
+      | inl same ↦ idle_sleeps c hand spent step turn (rw (sym same ∙ idle) at e) idle
+      | inr new ↦ begun_wakes c hand turn new.2 idle
+    ]
