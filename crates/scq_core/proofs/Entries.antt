@@ -5,7 +5,9 @@ use Rattle.scq_word.specs.declared.setup.Setup.{Setup}
 use Rattle.scq_word.specs.Sizes.{n_of}
 use Rattle.scq_word.specs.Words.{packed, mark_of, index_in, safe_in, cycle_in, is_none_in, rank_in}
 use Rattle.scq_word.proofs.WordLemmas.{index_in-packed, safe_in-packed, cycle_in-packed, safe_in_bit, index_in_small, rank_in-empty, rank_in-safe, rank_in-unsafe, rank_in_range, packed-parts}
-use Rattle.scq_core.specs.Table.{size, cycle, passed}
+use Rattle.scq_word.proofs.TicketLemmas.{ticket_parts}
+use Rattle.std.proofs.Math.Nat.{mul-le-mul_right, mul-le-mul_left}
+use Rattle.scq_core.specs.Table.{size, cycle, passed, zero_level, reset_of}
 use Rattle.scq_core.specs.Laws.{IsAbove}
 
 -- there are at least two indices
@@ -126,3 +128,63 @@ passing_rises c h e later =
                 record { above = inl (rw (← unsafe) (packed-parts m e)) }
           ])
     ]
+
+-- the limit of tickets leaves room for a few turns of a ring, and is at most 2^60
+pub limit_high : (c : Setup) → 4 * size c ≤ c.limit
+limit_high c = let l = c.limit_in_range in omega arith
+
+pub limit_low : (c : Setup) → c.limit ≤ 2 ^ 60
+limit_low c = let l = c.limit_in_range in l.1
+
+-- seats are at most 4096
+pub few_seats : (c : Setup) → c.seats ≤ 4096
+few_seats c = let s = c.seats_in_range in let n = few_indices c in omega arith
+
+pub some_seats : (c : Setup) → 1 ≤ c.seats
+some_seats c = let s = c.seats_in_range in s.0
+
+-- what the laws use of the word of a Threshold of 0
+pub zero_level_is : zero_level ≡ 2 ^ 32
+unfolding zero_level
+zero_level_is = refl
+
+-- what they use of the number that a reset sets: it reaches over the window and every other seat, and is small
+pub reset_covers : (c : Setup) → n_of c.order + 1 ≤ reset_of c
+unfolding reset_of
+reset_covers c = let some = some_indices c in omega arith
+
+pub reset_reaches : (c : Setup) → size c + c.seats ≤ reset_of c + 1
+unfolding reset_of
+reset_reaches c = let some = some_indices c in let s = c.seats_in_range in omega arith
+
+pub reset_small : (c : Setup) → reset_of c < 2 ^ 16
+unfolding reset_of
+reset_small c = let few = few_indices c in omega arith
+
+-- the cycle of a ticket below the limit, times the slots, is below the limit
+pub cycle_lawful : (c : Setup) (t : ℕ) → t < c.limit → cycle c t * size c < c.limit
+cycle_lawful c t low = let parts = ticket_parts (size c) t in omega arith
+
+-- a word of such a cycle is one of 64 bits
+pub packed_fits : (c : Setup) (z s i : ℕ) → z * size c < c.limit → s < 2 → i < size c → packed (size c) z s i < 2 ^ 64
+unfolding packed
+packed_fits c z s i low bit small =
+    let few = few_indices c in
+    let high = limit_low c in
+    let one : s * size c ≤ 1 * size c = mul-le-mul_right (size c) (omega arith) in
+    omega arith
+
+pub word_fits : (c : Setup) (w : ℕ) → cycle_in (size c) w * size c < c.limit → w < 2 ^ 64
+word_fits c w low =
+    let some = some_slots c in
+    let fits = packed_fits c (cycle_in (size c) w) (safe_in (size c) w) (index_in (size c) w) low (safe_in_bit (size c) w) (index_in_small (size c) w some) in
+    rw (packed-parts (size c) w) at fits
+
+-- and its rank is far below
+pub rank_fits : (c : Setup) (w : ℕ) → cycle_in (size c) w * size c < c.limit → rank_in (size c) w < 2 ^ 61
+rank_fits c w low =
+    let some = some_indices c in
+    let high = limit_low c in
+    let range = rank_in_range (size c) w in
+    let four : cycle_in (size c) w * 4 ≤ cycle_in (size c) w * size c = mul-le-mul_left (cycle_in (size c) w) (omega arith) in
+    omega arith

@@ -3,3 +3,5 @@ pub mod Turns
 pub mod Entries
 pub mod Ranks
 pub mod Steady
+pub mod Counts
+pub mod Limits

@@ -1,13 +1,13 @@
 -- The laws of the machine that its own arithmetic stands on, for every reachable state and every enabled step.
-use Rattle.std.specs.Prelude.{ℕ, ◌≡◌, ◌<◌, ◌≤◌, ◌⊎◌, true, List, Some}
+use Rattle.std.specs.Prelude.{ℕ, zero, suc, ◌≡◌, ◌+◌, ◌*◌, ◌^◌, ◌<◌, ◌≤◌, ◌⊎◌, true, ◌==◌, if◌then◌else◌, List, Option, Some, None}
 use Rattle.scq_word.specs.declared.setup.Setup.{Setup}
 use Rattle.scq_word.specs.Sizes.{n_of}
 use Rattle.scq_word.specs.Tickets.{slot_of}
 use Rattle.scq_word.specs.Words.{safe_in, cycle_in, is_none_in, rank_in}
 use Rattle.scq_core.specs.declared.phase.Phase.{Phase}
 use Rattle.scq_core.specs.declared.phase.Phase.TheVariants.{Idle, AtE1, AtE2, AtE3, AtE4, AtE5, AtE6, AtD1, AtD2, AtD3, AtD4, AtD5, AtD6, AtD7, AtD8, AtD9, AtD10}
-use Rattle.scq_core.specs.Machine.{Cells, Machine}
-use Rattle.scq_core.specs.Table.{size, cycle, holds_index}
+use Rattle.scq_core.specs.Machine.{Cells, Part, Machine}
+use Rattle.scq_core.specs.Table.{size, cycle, zero_level, reset_level, holds_index}
 
 -- an entry's word is as it was, or of a higher rank: so a word that has changed never comes back
 pub record IsAbove (m e now : ℕ) : Type 0 where
@@ -81,3 +81,55 @@ pub record IsSteady (c : Setup) (m : Machine) : Type 0 where
   pub kept : (k t : ℕ) → (m.part k).spent ≡ Some t → ((m.part k).phase ≡ Idle) × (c.limit ≤ t)
   pub tails : (r : ℕ) → size c ≤ m.cells.tail r
   pub heads : (r : ℕ) → size c ≤ m.cells.head r
+
+-- the sum of a number over the parts of the seats below k
+abbrev pub total : (Part → ℕ) → (ℕ → Part) → ℕ → ℕ
+total f part zero = 0
+total f part (suc k) = f (part k) + total f part k
+
+-- 1 for a seat that keeps a spent ticket
+abbrev pub spent_of : Option ℕ → ℕ
+spent_of None = 0
+spent_of (Some ticket) = 1
+
+-- 1 for a seat in a dequeue of this ring that has passed D1
+abbrev pub dequeues : ℕ → Phase → ℕ
+dequeues r (AtD2 q l) = if q == r then 1 else 0
+dequeues r (AtD3 q h l) = if q == r then 1 else 0
+dequeues r (AtD4 q h) = if q == r then 1 else 0
+dequeues r (AtD5 q h e) = if q == r then 1 else 0
+dequeues r (AtD6 q h) = if q == r then 1 else 0
+dequeues r (AtD7 q h from to) = if q == r then 1 else 0
+dequeues r (AtD8 q h from) = if q == r then 1 else 0
+dequeues r (AtD9 q h from to) = if q == r then 1 else 0
+dequeues r (AtD10 q h leaving) = if q == r then 1 else 0
+dequeues r phase = 0
+
+-- how many seats keep a spent ticket, and how many are in a dequeue of this ring that has passed D1
+abbrev pub spent_seats : Setup → Machine → ℕ
+spent_seats c m = total (λ p. spent_of p.spent) m.part c.seats
+
+abbrev pub dequeues_of : Setup → Machine → ℕ → ℕ
+dequeues_of c m r = total (λ p. dequeues r p.phase) m.part c.seats
+
+-- Tail and Head pass the limit by at most one for each seat that keeps a spent ticket
+pub record CountersBounded (c : Setup) (m : Machine) : Type 0 where
+  pub tail : (r : ℕ) → m.cells.tail r ≤ c.limit + spent_seats c m
+  pub head : (r : ℕ) → m.cells.head r ≤ c.limit + spent_seats c m
+  pub spent : spent_seats c m ≤ c.seats
+
+-- Threshold is no lower than the seats allow that are in no dequeue, and no higher than a reset sets it
+pub record ThresholdFloor (c : Setup) (m : Machine) : Type 0 where
+  pub floor : (r : ℕ) → zero_level + dequeues_of c m r ≤ m.cells.threshold r + c.seats
+  pub ceiling : (r : ℕ) → m.cells.threshold r ≤ reset_level c
+
+-- the cycle of each entry is that of a ticket below the limit
+pub record CyclesBounded (c : Setup) (m : Cells) : Type 0 where
+  pub cycles : (r s : ℕ) → cycle_in (size c) (m.entries.word r s) * size c < c.limit
+
+-- every word is one of 64 bits, with room for a step
+pub record WordsFit (c : Setup) (m : Cells) : Type 0 where
+  pub tail : (r : ℕ) → m.tail r + 1 < 2 ^ 64
+  pub head : (r : ℕ) → m.head r + 1 < 2 ^ 64
+  pub threshold : (r : ℕ) → (0 < m.threshold r) × (m.threshold r < 2 ^ 64)
+  pub entry : (r s : ℕ) → m.entries.word r s < 2 ^ 64
