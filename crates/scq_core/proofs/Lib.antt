@@ -1,0 +1,7 @@
+pub mod PutLemmas
+pub mod Turns
+pub mod Entries
+pub mod Ranks
+pub mod Steady
+pub mod Counts
+pub mod Limits

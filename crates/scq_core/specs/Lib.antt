@@ -3,3 +3,4 @@ pub mod Machine
 pub mod Table
 pub mod Start
 pub mod Reach
+pub mod Laws

@@ -1,0 +1,62 @@
+-- A sum over the parts of seats: when one part changes, and where each part gives at most 1.
+use Rattle.std.proofs.Common.{◌≡◌, ℕ, zero, suc, ◌+◌, ◌<◌, ◌≤◌, refl, inl, inr, arith}
+use Rattle.std.proofs.lemmas.Bool.{cases_eq}
+use Rattle.scq_core.specs.Put.{put}
+use Rattle.scq_core.specs.Machine.{Part}
+use Rattle.scq_core.specs.Laws.{total}
+use Rattle.scq_core.proofs.PutLemmas.{put_here, put_else}
+
+-- a changed part of a seat that is not counted
+pub total_beyond : (f : Part → ℕ) (part : ℕ → Part) (k : ℕ) (p : Part) (n : ℕ) → n ≤ k → total f (put part k p) n ≡ total f part n
+total_beyond f part k p zero le = refl
+total_beyond f part k p (suc n) le =
+    rw (put_else part k p n (λ e. omega arith), total_beyond f part k p n (omega arith)) refl
+
+-- the sum moves by what the changed part gives more or less
+pub total_put : (f : Part → ℕ) (part : ℕ → Part) (k : ℕ) (p : Part) (n : ℕ) → k < n → total f (put part k p) n + f (part k) ≡ total f part n + f p
+total_put f part k p zero less = absurd (omega arith)
+total_put f part k p (suc n) less =
+    elim (cases_eq n k) [
+      | inl same ↦
+          rw (same, put_here part k p, total_beyond f part k p k (omega arith)) (omega arith)
+      | inr apart ↦
+          let rest = total_put f part k p n (omega arith) in
+          rw (put_else part k p n apart) (omega arith)
+    ]
+
+-- at most the number of seats
+pub total_few : (f : Part → ℕ) (part : ℕ → Part) → ((p : Part) → f p ≤ 1) → (n : ℕ) → total f part n ≤ n
+total_few f part few zero = omega arith
+total_few f part few (suc n) = let rest = total_few f part few n in let one = few (part n) in omega arith
+
+-- nothing where each gives nothing
+pub total_none : (f : Part → ℕ) (part : ℕ → Part) (n : ℕ) → ((k : ℕ) → k < n → f (part k) ≡ 0) → total f part n ≡ 0
+total_none f part zero none = refl
+total_none f part (suc n) none =
+    let here = none n (omega arith) in
+    let rest = total_none f part n (λ k low. none k (omega arith)) in
+    omega arith
+
+-- fewer than the seats where one of them gives nothing
+pub total_less : (f : Part → ℕ) (part : ℕ → Part) → ((p : Part) → f p ≤ 1) → (n k : ℕ) → k < n → f (part k) ≡ 0 → total f part n < n
+total_less f part few zero k low none = absurd (omega arith)
+total_less f part few (suc n) k low none =
+    elim (cases_eq n k) [
+      | inl same ↦
+          let here : f (part n) ≡ 0 = rw same none in
+          let rest = total_few f part few n in
+          omega arith
+      | inr apart ↦
+          let one = few (part n) in
+          let rest = total_less f part few n k (omega arith) none in
+          omega arith
+    ]
+
+-- each seat's own number is in the sum
+pub total_one : (f : Part → ℕ) (part : ℕ → Part) (n k : ℕ) → k < n → f (part k) ≤ total f part n
+total_one f part zero k low = absurd (omega arith)
+total_one f part (suc n) k low =
+    elim (cases_eq n k) [
+      | inl same ↦ rw same (omega arith)
+      | inr apart ↦ let rest = total_one f part n k (omega arith) in omega arith
+    ]
