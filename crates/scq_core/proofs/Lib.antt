@@ -5,3 +5,4 @@ pub mod Ranks
 pub mod Steady
 pub mod Counts
 pub mod Limits
+pub mod Floor
