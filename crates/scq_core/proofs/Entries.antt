@@ -188,3 +188,6 @@ rank_fits c w low =
     let range = rank_in_range (size c) w in
     let four : cycle_in (size c) w * 4 ≤ cycle_in (size c) w * size c = mul-le-mul_left (cycle_in (size c) w) (omega arith) in
     omega arith
+
+pub few_slots : (c : Setup) → size c ≤ 8192
+few_slots c = let few = few_indices c in omega arith

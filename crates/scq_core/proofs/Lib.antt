@@ -6,3 +6,5 @@ pub mod Steady
 pub mod Counts
 pub mod Limits
 pub mod Floor
+pub mod Fits
+pub mod Starts

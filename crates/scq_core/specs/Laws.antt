@@ -1,12 +1,12 @@
 -- The laws of the machine that its own arithmetic stands on, for every reachable state and every enabled step.
-use Rattle.std.specs.Prelude.{ℕ, zero, suc, ◌≡◌, ◌+◌, ◌*◌, ◌^◌, ◌<◌, ◌≤◌, ◌⊎◌, true, ◌==◌, if◌then◌else◌, List, Option, Some, None}
+use Rattle.std.specs.Prelude.{ℕ, zero, suc, ◌≡◌, ◌≢◌, ◌+◌, ◌*◌, ◌^◌, ◌<◌, ◌≤◌, ◌⊎◌, true, ◌==◌, if◌then◌else◌, List, Option, Some, None}
 use Rattle.scq_word.specs.declared.setup.Setup.{Setup}
 use Rattle.scq_word.specs.Sizes.{n_of}
 use Rattle.scq_word.specs.Tickets.{slot_of}
 use Rattle.scq_word.specs.Words.{safe_in, cycle_in, is_none_in, rank_in}
 use Rattle.scq_core.specs.declared.phase.Phase.{Phase}
 use Rattle.scq_core.specs.declared.phase.Phase.TheVariants.{Idle, AtE1, AtE2, AtE3, AtE4, AtE5, AtE6, AtD1, AtD2, AtD3, AtD4, AtD5, AtD6, AtD7, AtD8, AtD9, AtD10}
-use Rattle.scq_core.specs.Machine.{Cells, Part, Machine}
+use Rattle.scq_core.specs.Machine.{Cells, Part, Machine, Word, written}
 use Rattle.scq_core.specs.Table.{size, cycle, zero_level, reset_level, holds_index}
 
 -- an entry's word is as it was, or of a higher rank: so a word that has changed never comes back
@@ -133,3 +133,17 @@ pub record WordsFit (c : Setup) (m : Cells) : Type 0 where
   pub head : (r : ℕ) → m.head r + 1 < 2 ^ 64
   pub threshold : (r : ℕ) → (0 < m.threshold r) × (m.threshold r < 2 ^ 64)
   pub entry : (r s : ℕ) → m.entries.word r s < 2 ^ 64
+
+-- a step changes at most one word, with the content beside it where it is an entry, and its own seat's part
+pub record ChangesOne (before : Machine) (seat : ℕ) (later : Machine) : Type 0 where
+  pub word : Word
+  pub value : ℕ
+  pub content : List ℕ
+  pub cells : later.cells ≡ written before.cells word value content
+  pub parts : (k : ℕ) → k ≢ seat → later.part k ≡ before.part k
+  pub opening : later.opening ≡ before.opening
+
+-- while a dequeue catches up, Tail is past what it found there
+pub record CatchUpLags (m : Machine) : Type 0 where
+  pub at_head : (k r h from : ℕ) → (m.part k).phase ≡ AtD8 r h from → from < m.cells.tail r
+  pub at_tail : (k r h from to : ℕ) → (m.part k).phase ≡ AtD9 r h from to → from < m.cells.tail r
