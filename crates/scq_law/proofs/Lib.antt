@@ -1,0 +1,4 @@
+pub mod Ghosts
+pub mod Events
+pub mod Told
+pub mod Deed
