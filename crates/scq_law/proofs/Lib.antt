@@ -2,3 +2,5 @@ pub mod Ghosts
 pub mod Events
 pub mod Told
 pub mod Deed
+pub mod Booked
+pub mod Placing
