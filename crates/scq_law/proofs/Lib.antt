@@ -4,3 +4,4 @@ pub mod Told
 pub mod Deed
 pub mod Booked
 pub mod Placing
+pub mod PutEffects
