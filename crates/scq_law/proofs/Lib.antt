@@ -4,4 +4,6 @@ pub mod Told
 pub mod Deed
 pub mod Booked
 pub mod Placing
+pub mod Risen
 pub mod PutEffects
+pub mod DiedEffects
