@@ -7,3 +7,5 @@ pub mod Placing
 pub mod Risen
 pub mod PutEffects
 pub mod DiedEffects
+pub mod BeganEffects
+pub mod TakenEffects
