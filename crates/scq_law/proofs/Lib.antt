@@ -9,3 +9,4 @@ pub mod PutEffects
 pub mod DiedEffects
 pub mod BeganEffects
 pub mod TakenEffects
+pub mod LaidEffects
