@@ -90,14 +90,14 @@ event c (AtD10 r h true) x y = emptied r h
 event c (AtD10 r h false) x y = if nat_le x zero_level then emptied r h else lowered r h
 
 -- what the event tells of the tickets, at this step of the run, of this seat whose record has so many calls
-abbrev pub told_by : Event → ℕ → ℕ → ℕ → Ghost → Ghost
-told_by (drew r i w t) time k number g = with_put g r t (pending k i)
-told_by (fell r i w t found) time k number g = with_put g r t (failed time i found)
-told_by (laid r i w t) time k number g = with_put g r t (placed i w (call_of k number))
-told_by (began r h) time k number g = with_get g r h (opened k)
-told_by (died r h) time k number g = with_get g r h dead
-told_by (taken r h i w) time k number g = with_get g r h (took k number)
-told_by _ time k number g = g
+abbrev pub ghost_by : Event → ℕ → ℕ → ℕ → Ghost → Ghost
+ghost_by (drew r i w t) time k number g = with_put g r t (pending k i)
+ghost_by (fell r i w t found) time k number g = with_put g r t (failed time i found)
+ghost_by (laid r i w t) time k number g = with_put g r t (placed i w (call_of k number))
+ghost_by (began r h) time k number g = with_get g r h (opened k)
+ghost_by (died r h) time k number g = with_get g r h dead
+ghost_by (taken r h i w) time k number g = with_get g r h (took k number)
+ghost_by _ time k number g = g
 
 -- the seat's stance afterwards
 abbrev pub stance_by : Event → Stance → Stance

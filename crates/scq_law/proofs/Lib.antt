@@ -1,6 +1,6 @@
 pub mod Ghosts
 pub mod Events
-pub mod Told
+pub mod Tale
 pub mod Deed
 pub mod Booked
 pub mod Placing
