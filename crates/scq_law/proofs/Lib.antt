@@ -10,3 +10,5 @@ pub mod DiedEffects
 pub mod BeganEffects
 pub mod TakenEffects
 pub mod LaidEffects
+pub mod Drawing
+pub mod Closing
