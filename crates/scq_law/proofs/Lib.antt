@@ -12,3 +12,4 @@ pub mod TakenEffects
 pub mod LaidEffects
 pub mod Drawing
 pub mod Closing
+pub mod Outcomes
