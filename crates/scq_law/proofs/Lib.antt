@@ -13,3 +13,4 @@ pub mod LaidEffects
 pub mod Drawing
 pub mod Closing
 pub mod Outcomes
+pub mod Full
