@@ -14,3 +14,4 @@ pub mod Drawing
 pub mod Closing
 pub mod Outcomes
 pub mod Full
+pub mod Base
