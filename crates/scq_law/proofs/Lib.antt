@@ -15,3 +15,5 @@ pub mod Closing
 pub mod Outcomes
 pub mod Full
 pub mod Base
+pub mod From
+pub mod Deeds
