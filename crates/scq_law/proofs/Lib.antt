@@ -17,3 +17,4 @@ pub mod Full
 pub mod Base
 pub mod From
 pub mod Deeds
+pub mod Causes
