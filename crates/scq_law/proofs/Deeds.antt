@@ -347,3 +347,45 @@ module _ (c : Setup) (m : Machine) (g : Ghost) (k : ℕ) (booked : IsBooked c m.
   proper (AtD10 r h true) awake from busy claims knows =
       record { was = inl (goes_from p (AtD10 r h true) refl from); dead = claims }
   proper (AtD10 r h false) awake from busy claims knows = proper_D10 r h from claims
+
+-- what the stance is after a call's first step does not depend on what it was
+first_forgets : (c : Setup) (turn : Phase) (x : ℕ) (y : List ℕ) (s z : Stance) → is_first turn ≡ true → stance_by (event c turn x y) s ≡ stance_by (event c turn x y) z
+first_forgets c (AtE1 r i w l) x y s z first =
+    elim (cases_Bool (nat_le c.limit x)) [ inl past ↦ rw past refl | inr under ↦ rw under refl ]
+first_forgets c (AtD1 r) x y s z first =
+    elim (cases_Bool (nat_lt x zero_level)) [ inl low ↦ rw low refl | inr high ↦ rw high refl ]
+first_forgets c turn x y s z first = absurd (cc)
+
+-- the stance afterwards, told from the seat's own before
+own_stance : (c : Setup) (p : Part) (turn : Phase) (x : ℕ) (y : List ℕ) → From p turn → stance_by (event c turn x y) (stance_of turn) ≡ stance_by (event c turn x y) (stance_of p.phase)
+own_stance c p turn x y from =
+    elim from [
+      | inl s ↦ first_forgets c turn x y (stance_of turn) (stance_of p.phase) s.first
+      | inr o ↦ rw o.stance refl
+    ]
+
+-- an enabled turn of a seat, from a state with the base group
+pub deed : (c : Setup) (m : Machine) (g : Ghost) (k : ℕ) (s : Step) (turn : Phase) → turn_of c (m.part k) s ≡ Some turn → IsBased c g m → Deed c m g k (event_of c m turn) (moved c m k turn)
+deed c m g k s turn enabled base =
+    let p = m.part k in
+    let from = came_from c p s turn enabled in
+    let awake_turn = awake c p.hand p.spent p.phase s turn enabled in
+    let busy = has c m.cells p s turn (base.steady.busy k) enabled in
+    let claims = turn_claims c g p k (length p.calls) s turn enabled (base.claims k) in
+    let knows = turn_knows c m.cells g p s turn enabled (base.knows k) in
+    let x = found c m.cells turn in
+    let y = content c m.cells turn in
+    let ch : ChangesOf c m.cells p turn = changes c m.cells p turn awake_turn in
+    let here = put_here m.part k (after c turn x y p) in
+    record {
+      proper = proper c m g k base.booked base.drawn turn awake_turn from busy claims knows;
+      stance = rw here (ch.stance ∙ own_stance c p turn x y from);
+      hand = rw here ch.hand;
+      calls = rw here ch.calls;
+      kept = rw here ch.kept;
+      others = λ j other. put_else m.part k (after c turn x y p) j other;
+      tail = ch.tail;
+      head = ch.head;
+      threshold = ch.threshold;
+      opening = refl;
+    }
