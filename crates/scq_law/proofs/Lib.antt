@@ -18,3 +18,4 @@ pub mod Base
 pub mod From
 pub mod Deeds
 pub mod Causes
+pub mod Scenes
