@@ -4,6 +4,9 @@
 // layer above uses that each test is the truth of its definition there.
 #![tactic(auto)]
 
+mod calls;
 mod events;
+mod lawful;
 
 pub use events::{Call, Event, PutName, Reply};
+pub use lawful::lawful_calls;

@@ -1,0 +1,55 @@
+//! What stands where in a list: each look-up is one scan, since the tests take no memory.
+
+ghost use Rattle.std.specs.Prelude.{◌≡◌, ◌≤◌, length, MatchOption};
+ghost use Rattle.scq_hist.specs.Calls.{under_way, puts_before};
+ghost use Rattle.scq_hist.specs.Lookups.{HasUnderWay};
+
+use crate::events::{Call, Event};
+
+/// The place of the Start of the call that the seat has under way at this moment.
+pub(crate) fn under_way(events: &[Event], seat: u32, moment: usize) -> Option<usize>
+    requires { moment ≤ length events.now }
+    ensures { result ≡ under_way events.now seat moment }
+{
+    let mut started = None;
+    for (i, event) in events[..moment].iter().enumerate() {
+        match event {
+            Event::Start { seat: k, .. } if *k == seat => started = Some(i),
+            Event::End { seat: k, .. } if *k == seat => started = None,
+            _ => {}
+        }
+    }
+    started
+}
+
+/// That call, with the place of its Start.
+pub(crate) fn call_under_way(events: &[Event], seat: u32, moment: usize) -> Option<(usize, &Call)>
+    requires { moment ≤ length events.now }
+    ensures { MatchOption result
+        (under_way events.now seat moment ≡ None)
+        (λ found. HasUnderWay events.now seat moment found.0 found.1.now) }
+{
+    let start = under_way(events, seat, moment)?;
+    match &events[start] {
+        Event::Start { call, .. } => Some((start, call)),
+        Event::End { .. } => None,
+    }
+}
+
+/// How many puts the seat began by this moment, over all queues.
+pub(crate) fn puts_before(events: &[Event], seat: u32, moment: usize) -> u64
+    requires { moment ≤ length events.now }
+    ensures { result ≡ puts_before events.now seat moment }
+{
+    let mut puts = 0;
+    for event in &events[..moment] {
+        match event {
+            Event::Start {
+                seat: k,
+                call: Call::Put { .. },
+            } if *k == seat => puts += 1,
+            _ => {}
+        }
+    }
+    puts
+}
