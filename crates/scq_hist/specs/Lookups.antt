@@ -1,11 +1,27 @@
 -- What the look-ups of `src/calls.rt` answer
-use Rattle.std.specs.Prelude.{◌≡◌, ℕ, List, Some, slice_get}
-use Rattle.scq_hist.specs.Calls.{under_way}
+use Rattle.std.specs.Prelude.{◌≡◌, ℕ, ◌<◌, List, Option, Some, None, slice_get}
+use Rattle.scq_hist.specs.Calls.{under_way, Names}
 use Rattle.scq_hist.specs.declared.events.Call.{Call}
 use Rattle.scq_hist.specs.declared.events.Event.{Event}
-use Rattle.scq_hist.specs.declared.events.Event.TheVariants.{Start}
+use Rattle.scq_hist.specs.declared.events.Event.TheVariants.{Start, End}
+use Rattle.scq_hist.specs.declared.events.PutName.{PutName}
+use Rattle.scq_hist.specs.declared.events.Reply.TheVariants.{Got}
 
 -- the seat has this call under way at moment m, which started at place s
 pub record HasUnderWay (events : List Event) (seat m s : ℕ) (call : Call) : Type 0 where
   pub is : under_way events seat m ≡ Some s
   pub starts : slice_get events s ≡ Some (Start seat call)
+
+-- the name in an End with Got
+abbrev pub got_name : Event → Option PutName
+got_name (End _ (Got name _)) = Some name
+got_name _ = None
+
+-- the first End with Got that names the put stands at place e
+pub record IsFirstNamed (events : List Event) (name : PutName) (e : ℕ) : Type 0 where
+  pub names : Names events e name
+  pub first : (d : ℕ) → d < e → ¬ Names events d name
+
+-- no End before place e names the put that the one at e names
+pub record NamesNew (events : List Event) (e : ℕ) : Type 0 where
+  pub new : (name : PutName) (d : ℕ) → Names events e name → d < e → ¬ Names events d name

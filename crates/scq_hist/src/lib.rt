@@ -7,6 +7,8 @@
 mod calls;
 mod events;
 mod lawful;
+mod names;
 
 pub use events::{Call, Event, PutName, Reply};
 pub use lawful::lawful_calls;
+pub use names::once;
