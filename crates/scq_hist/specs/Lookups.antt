@@ -1,7 +1,9 @@
 -- What the look-ups of `src/calls.rt` answer
 use Rattle.std.specs.Prelude.{◌≡◌, ℕ, ◌<◌, List, Option, Some, None, slice_get}
-use Rattle.scq_hist.specs.Calls.{under_way, Names}
+use Rattle.scq_hist.specs.Calls.{under_way, IsCall, IsPut, Names}
+use Rattle.scq_hist.specs.Aspects.{IsBegun}
 use Rattle.scq_hist.specs.declared.events.Call.{Call}
+use Rattle.scq_hist.specs.declared.events.Call.TheVariants.{Get}
 use Rattle.scq_hist.specs.declared.events.Event.{Event}
 use Rattle.scq_hist.specs.declared.events.Event.TheVariants.{Start, End}
 use Rattle.scq_hist.specs.declared.events.PutName.{PutName}
@@ -25,3 +27,12 @@ pub record IsFirstNamed (events : List Event) (name : PutName) (e : ℕ) : Type 
 -- no End before place e names the put that the one at e names
 pub record NamesNew (events : List Event) (e : ℕ) : Type 0 where
   pub new : (name : PutName) (d : ℕ) → Names events e name → d < e → ¬ Names events d name
+
+-- the seat's put of this number doesn't start before place i
+pub record NoPutBefore (events : List Event) (seat number i : ℕ) : Type 0 where
+  pub none : (s queue : ℕ) (content : List ℕ) → s < i → ¬ IsPut events seat number queue content s
+
+-- if a Got stands at place e, it is fresh
+pub record IsFreshAt (opening : List (List ℕ)) (events : List Event) (e : ℕ) : Type 0 where
+  pub begun : (s seat queue : ℕ) (name : PutName) (content : List ℕ)
+      → IsCall events seat (Get queue) s e (Got name content) → IsBegun opening events name queue content e

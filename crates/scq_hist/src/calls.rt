@@ -1,10 +1,11 @@
 //! What stands where in a list: each look-up is one scan, since the tests take no memory.
 
 ghost use Rattle.std.specs.Prelude.{◌≡◌, ◌≤◌, length, MatchOption};
-ghost use Rattle.scq_hist.specs.Calls.{under_way, puts_before};
-ghost use Rattle.scq_hist.specs.Lookups.{HasUnderWay};
+ghost use Rattle.scq_hist.specs.Calls.{under_way, puts_before, IsPut};
+ghost use Rattle.scq_hist.specs.Lookups.{HasUnderWay, NoPutBefore};
 
 use crate::events::{Call, Event};
+use scq_word::Bytes;
 
 /// The place of the Start of the call that the seat has under way at this moment.
 pub(crate) fn under_way(events: &[Event], seat: u32, moment: usize) -> Option<usize>
@@ -52,4 +53,28 @@ pub(crate) fn puts_before(events: &[Event], seat: u32, moment: usize) -> u64
         }
     }
     puts
+}
+
+/// The seat's put of this number: the place of its Start, its queue and its content.
+pub(crate) fn put_named(events: &[Event], seat: u32, number: u64) -> Option<(usize, u32, &Bytes)>
+    ensures { MatchOption result
+        (NoPutBefore events.now seat number (length events.now))
+        (λ put. IsPut events.now seat number put.1 put.2.now put.0) }
+{
+    let mut puts = 0;
+    for (start, event) in events.iter().enumerate() {
+        match event {
+            Event::Start {
+                seat: k,
+                call: Call::Put { queue, content },
+            } if *k == seat => {
+                puts += 1;
+                if puts == number {
+                    return Some((start, *queue, content));
+                }
+            }
+            _ => {}
+        }
+    }
+    None
 }

@@ -6,9 +6,11 @@
 
 mod calls;
 mod events;
+mod freshness;
 mod lawful;
 mod names;
 
 pub use events::{Call, Event, PutName, Reply};
+pub use freshness::fresh;
 pub use lawful::lawful_calls;
 pub use names::once;
