@@ -1,3 +1,5 @@
 pub mod UnderWay
 pub mod NamesLemmas
 pub mod Puts
+pub mod Counting
+pub mod Pending

@@ -1,6 +1,6 @@
 -- What the look-ups of `src/calls.rt` answer
 use Rattle.std.specs.Prelude.{◌≡◌, ℕ, ◌<◌, List, Option, Some, None, slice_get}
-use Rattle.scq_hist.specs.Calls.{under_way, IsCall, IsPut, Names}
+use Rattle.scq_hist.specs.Calls.{under_way, IsCall, IsPut, Names, IsGetOf}
 use Rattle.scq_hist.specs.Aspects.{IsBegun}
 use Rattle.scq_hist.specs.declared.events.Call.{Call}
 use Rattle.scq_hist.specs.declared.events.Call.TheVariants.{Get}
@@ -36,3 +36,12 @@ pub record NoPutBefore (events : List Event) (seat number i : ℕ) : Type 0 wher
 pub record IsFreshAt (opening : List (List ℕ)) (events : List Event) (e : ℕ) : Type 0 where
   pub begun : (s seat queue : ℕ) (name : PutName) (content : List ℕ)
       → IsCall events seat (Get queue) s e (Got name content) → IsBegun opening events name queue content e
+
+-- the Start of the call that ends at place e, where this event stands
+abbrev pub call_start : List Event → ℕ → Option Event → Option ℕ
+call_start events e (Some (End seat _)) = under_way events seat e
+call_start events e _ = None
+
+-- no get that has got a put ends at place e
+pub record EndsNoGet (events : List Event) (e : ℕ) : Type 0 where
+  pub none : (name : PutName) (s : ℕ) → ¬ IsGetOf events name s e

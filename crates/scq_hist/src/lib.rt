@@ -7,6 +7,7 @@
 mod calls;
 mod events;
 mod freshness;
+mod gets;
 mod lawful;
 mod names;
 

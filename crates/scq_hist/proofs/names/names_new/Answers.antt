@@ -1,28 +1,6 @@
-use Rattle.std.proofs.Common.{arith, ◌≡◌, ℕ, ◌<◌, Option, Some, None, List, subst, refl, sym, IsTrue, ◌↔◌, eqb, MatchOption}
-use Rattle.std.specs.Option.{option_eq}
-use Rattle.std.proofs.lemmas.Bool.Decides.{nat_tests}
-use Rattle.scq_hist.specs.Calls.{IsGot, Names}
-use Rattle.scq_hist.specs.Lookups.{IsFirstNamed, NamesNew}
-use Rattle.scq_hist.specs.declared.events.Event.{Event}
-use Rattle.scq_hist.specs.declared.events.PutName.{PutName}
-use Rattle.scq_hist.proofs.NamesLemmas.{named_there, names_there, same_name, read}
+use Rattle.std.proofs.Common.{refl, sym}
+use Rattle.scq_hist.proofs.NamesLemmas.{first_is_new, named_there, names_there, read}
 use Rattle.scq_hist.proofs.names.names_new.Goals as goal
-
--- where the first End that names the put is at f, the one at e names it newly exactly where f is e
-first_is_new : (events : List Event) (e : ℕ) (name : PutName) (r : Option ℕ) → Names events e name
-    → MatchOption r (¬ IsGot events name) (IsFirstNamed events name) → IsTrue (option_eq eqb r (Some e)) ↔ NamesNew events e
-first_is_new events e name None n h = absurd (h (e, n))
-first_is_new events e name (Some f) n h = (
-  λ t. record {
-    new = λ m d at lt before.
-        let here : f ≡ e = grind (arith, nat_tests) in
-        let same : m ≡ name = same_name events e m name at n in
-        h.first d (omega arith) (subst (λ x. Names events d x) same before);
-  },
-  λ w. let past : (f < e → ⊥) = λ lt. w.new name f n lt h.names in
-      let none : (e < f → ⊥) = λ lt. h.first e lt n in
-      let here : f ≡ e = omega arith in grind (arith, nat_tests),
-)
 
 pub returns-in-Some : goal.returns-in-Some
 returns-in-Some c =

@@ -7,7 +7,7 @@ use Rattle.scq_hist.specs.declared.events.Event.TheVariants.{End}
 use Rattle.scq_hist.specs.declared.events.PutName.{PutName}
 use Rattle.scq_hist.specs.declared.events.Reply.TheVariants.{Got}
 use Rattle.scq_hist.proofs.NamesLemmas.{named_there, read}
-use Rattle.scq_hist.proofs.names.first_named.Goals as goal
+use Rattle.scq_hist.proofs.gets.first_named.Goals as goal
 
 pub loop-e-preserved : goal.loop-e-preserved
 loop-e-preserved c = below_more _ _ c.loop-e.invariant (λ n. iff_false c.names.ensures c.if-names.false
