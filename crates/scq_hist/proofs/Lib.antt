@@ -3,3 +3,5 @@ pub mod NamesLemmas
 pub mod Puts
 pub mod Counting
 pub mod Pending
+pub mod TallyLemmas
+pub mod Claims

@@ -2,3 +2,4 @@ pub mod Calls
 pub mod Counts
 pub mod Aspects
 pub mod Lookups
+pub mod Tallies

@@ -1,12 +1,13 @@
 -- What the look-ups of `src/calls.rt` answer
 use Rattle.std.specs.Prelude.{◌≡◌, ℕ, ◌<◌, List, Option, Some, None, slice_get}
-use Rattle.scq_hist.specs.Calls.{under_way, IsCall, IsPut, Names, IsGetOf}
+use Rattle.scq_hist.specs.Calls.{under_way, IsCall, IsPut, IsDoneAt, Names, IsGetOf}
 use Rattle.scq_hist.specs.Aspects.{IsBegun}
 use Rattle.scq_hist.specs.declared.events.Call.{Call}
 use Rattle.scq_hist.specs.declared.events.Call.TheVariants.{Get}
 use Rattle.scq_hist.specs.declared.events.Event.{Event}
 use Rattle.scq_hist.specs.declared.events.Event.TheVariants.{Start, End}
 use Rattle.scq_hist.specs.declared.events.PutName.{PutName}
+use Rattle.scq_hist.specs.declared.events.PutName.TheVariants.{Opening, Of}
 use Rattle.scq_hist.specs.declared.events.Reply.TheVariants.{Got}
 
 -- the seat has this call under way at moment m, which started at place s
@@ -45,3 +46,12 @@ call_start events e _ = None
 -- no get that has got a put ends at place e
 pub record EndsNoGet (events : List Event) (e : ℕ) : Type 0 where
   pub none : (name : PutName) (s : ℕ) → ¬ IsGetOf events name s e
+
+-- this put is one of the queue and ends with Done at place e
+abbrev pub EndsDone : List Event → ℕ → ℕ → PutName → Type 0
+EndsDone events queue e (Opening _) = ⊥
+EndsDone events queue e (Of seat number) = IsDoneAt events queue e seat number
+
+-- no put of this queue ends with Done at place e
+pub record NoDoneAt (events : List Event) (queue e : ℕ) : Type 0 where
+  pub none : (seat number : ℕ) → ¬ IsDoneAt events queue e seat number

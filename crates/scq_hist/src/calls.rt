@@ -1,10 +1,10 @@
 //! What stands where in a list: each look-up is one scan, since the tests take no memory.
 
-ghost use Rattle.std.specs.Prelude.{◌≡◌, ◌≤◌, length, MatchOption};
+ghost use Rattle.std.specs.Prelude.{◌≡◌, ◌<◌, ◌≤◌, length, MatchOption};
 ghost use Rattle.scq_hist.specs.Calls.{under_way, puts_before, IsPut};
-ghost use Rattle.scq_hist.specs.Lookups.{HasUnderWay, NoPutBefore};
+ghost use Rattle.scq_hist.specs.Lookups.{HasUnderWay, NoPutBefore, EndsDone, NoDoneAt};
 
-use crate::events::{Call, Event};
+use crate::events::{Call, Event, PutName, Reply};
 use scq_word::Bytes;
 
 /// The place of the Start of the call that the seat has under way at this moment.
@@ -40,7 +40,8 @@ pub(crate) fn call_under_way(events: &[Event], seat: u32, moment: usize) -> Opti
 /// How many puts the seat began by this moment, over all queues.
 pub(crate) fn puts_before(events: &[Event], seat: u32, moment: usize) -> u64
     requires { moment ≤ length events.now }
-    ensures { result ≡ puts_before events.now seat moment }
+    ensures count { result ≡ puts_before events.now seat moment }
+    ensures few { result ≤ moment }
 {
     let mut puts = 0;
     for event in &events[..moment] {
@@ -77,4 +78,27 @@ pub(crate) fn put_named(events: &[Event], seat: u32, number: u64) -> Option<(usi
         }
     }
     None
+}
+
+/// The put of this queue that ends with Done at this place.
+pub(crate) fn done_put(events: &[Event], queue: u32, e: usize) -> Option<PutName>
+    requires { e < length events.now }
+    ensures { MatchOption result (NoDoneAt events.now queue e) (EndsDone events.now queue e) }
+{
+    match &events[e] {
+        Event::End {
+            seat,
+            reply: Reply::Done,
+        } => match call_under_way(events, *seat, e) {
+            Some((start, Call::Put { queue: of, .. })) if *of == queue => {
+                let number = puts_before(events, *seat, start) + 1;
+                Some(PutName::Of {
+                    seat: *seat,
+                    number,
+                })
+            }
+            _ => None,
+        },
+        _ => None,
+    }
 }

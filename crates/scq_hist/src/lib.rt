@@ -10,6 +10,7 @@ mod freshness;
 mod gets;
 mod lawful;
 mod names;
+mod tallies;
 
 pub use events::{Call, Event, PutName, Reply};
 pub use freshness::fresh;
