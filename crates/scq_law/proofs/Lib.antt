@@ -19,3 +19,6 @@ pub mod From
 pub mod Deeds
 pub mod Causes
 pub mod Scenes
+pub mod Growing
+pub mod Doing
+pub mod Placings
