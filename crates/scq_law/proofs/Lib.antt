@@ -22,3 +22,4 @@ pub mod Scenes
 pub mod Growing
 pub mod Doing
 pub mod Placings
+pub mod Takings
