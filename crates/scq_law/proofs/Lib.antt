@@ -23,3 +23,4 @@ pub mod Growing
 pub mod Doing
 pub mod Placings
 pub mod Takings
+pub mod Tied

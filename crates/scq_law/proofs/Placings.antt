@@ -103,8 +103,8 @@ module _ (c : Setup) (opening : List (List ℕ)) (events : List Event) (begun : 
       }
 
   -- no event is told
-  pub placed_on : (stance2 : ℕ → Stance) → ((k n : ℕ) → n + due (stance k) ≤ begun k → n + due (stance2 k) ≤ begun k) → IsPlaced c opening events begun placer stance2 calls puts origin
-  placed_on stance2 low =
+  pub placed_on : (stance2 : ℕ → Stance) (calls2 : ℕ → ℕ) → ((k n : ℕ) → n + due (stance k) ≤ begun k → n + due (stance2 k) ≤ begun k) → ((k : ℕ) → calls k ≤ calls2 k) → IsPlaced c opening events begun placer stance2 calls2 puts origin
+  placed_on stance2 calls2 low calls_rise =
       record {
         stood = was.stood;
         tokens = was.tokens;
@@ -113,7 +113,19 @@ module _ (c : Setup) (opening : List (List ℕ)) (events : List Event) (begun : 
         low = λ r p k n is name. low k n (was.low r p k n is name);
         one = was.one;
         early = was.early;
-        done = was.done;
+        done =
+            λ e k at.
+            let l = was.done e k at in
+            let low_calls = calls_rise k in
+            let ended = l.ended in
+            record {
+              r = l.r; p = l.p; n = l.n; index = l.index; content = l.content; number = l.number;
+              is = l.is;
+              ended = omega arith;
+              name = l.name;
+              under = l.under;
+              later = l.later;
+            };
       }
 
   -- a placed ticket isn't one at which nothing is placed
