@@ -3,6 +3,10 @@
 // messages of what its source told, for every cutting of reads.
 #![tactic(auto)]
 
+mod fault;
 mod message;
+mod room;
+mod window;
 
+pub use fault::FrameFault;
 pub use message::Message;
