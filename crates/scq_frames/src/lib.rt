@@ -3,6 +3,7 @@
 // messages of what its source told, for every cutting of reads.
 #![tactic(auto)]
 
+mod cut;
 mod fault;
 mod message;
 mod room;
