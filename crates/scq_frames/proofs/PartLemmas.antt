@@ -1,7 +1,8 @@
 -- Parts of a room, and the line feeds in them.
-use Rattle.std.proofs.Common.{◌≡◌, ℕ, ◌+◌, ◌-◌, ◌<◌, ◌≤◌, List, length, take, drop, get_or, Some, None, sym, ◌∙◌, ap, ⊎_elim, arith, length-drop}
+use Rattle.std.proofs.Common.{◌≡◌, ℕ, ◌+◌, ◌-◌, ◌<◌, ◌≤◌, List, ◌++◌, length, take, drop, get_or, Some, None, sym, ◌∙◌, ap, ⊎_elim, arith, length-drop}
 use Rattle.std.specs.Prelude.{slice_range}
-use Rattle.std.proofs.lemmas.List.{get_or-take, get_or-drop, drop-take, length-take}
+use Rattle.std.proofs.lemmas.List.{get_or-take, get_or-drop, drop-drop, drop-take, length-take}
+use Rattle.std.proofs.Math.Seq.{take-add}
 use Rattle.std.proofs.lemmas.Bool.{cases_lt, eqb-true, eq-eqb}
 use Rattle.std.proofs.lemmas.Grind.{common_steps}
 use Rattle.memchr.specs.Find.{IsFirstByte, is_byte}
@@ -57,3 +58,32 @@ module _ (xs : List ℕ) (a b : ℕ) where
 pub clear-append : (xs : List ℕ) (a b c : ℕ) → HasNoLineFeed xs a b → HasNoLineFeed xs b c → HasNoLineFeed xs a c
 clear-append xs a b c one two k low high is =
     ⊎_elim (λ (h : k < b). one k low h is) (λ (h : b ≤ k). two k h high is) (cases_lt k b)
+
+-- a part lies in what stands before its end
+pub part-take : (xs : List ℕ) (a b : ℕ) → a ≤ b → slice_range xs a b ≡ drop a (take b xs)
+part-take xs a b h =
+    let end : a + (b - a) ≡ b = omega arith in
+    sym (drop-take a (b - a) xs) ∙ ap (λ (k : ℕ). drop a (take k xs)) end
+
+pub part-append : (xs : List ℕ) (a b c : ℕ) → a ≤ b → b ≤ c → slice_range xs a c ≡ slice_range xs a b ++ slice_range xs b c
+part-append xs a b c low high =
+    let sum : c - a ≡ (b - a) + (c - b) = omega arith in
+    let start : a + (b - a) ≡ b = omega arith in
+    ap (λ (k : ℕ). take k (drop a xs)) sum ∙ take-add (b - a) (c - b) (drop a xs)
+    ∙ ap (λ l. slice_range xs a b ++ take (c - b) l) (drop-drop (b - a) a xs ∙ ap (λ (k : ℕ). drop k xs) start)
+
+-- the held bytes after they moved, and after something was read behind them
+pub part_again : (xs ys zs : List ℕ) (a b d : ℕ) → slice_range ys d (d + (b - a)) ≡ slice_range xs a b → take (d + (b - a)) zs ≡ take (d + (b - a)) ys
+    → slice_range zs d (d + (b - a)) ≡ slice_range xs a b
+part_again xs ys zs a b d moved same =
+    part-take zs d (d + (b - a)) (omega arith) ∙ ap (drop d) same ∙ sym (part-take ys d (d + (b - a)) (omega arith)) ∙ moved
+
+-- what was clear is clear where it stands then
+pub clear_again : (xs zs : List ℕ) (a s b d : ℕ) → slice_range zs d (d + (b - a)) ≡ slice_range xs a b → a ≤ s → s ≤ b
+    → HasNoLineFeed xs a s → HasNoLineFeed zs d (d + (s - a))
+clear_again xs zs a s b d same low high clear k from to is =
+    let at : d + (k - d) ≡ k = omega arith in
+    let reads : get_or xs (a + (k - d)) 0 ≡ get_or zs k 0 =
+    sym (get_or-part xs a b (k - d) (omega arith)) ∙ ap (λ l. get_or l (k - d) 0) (sym same)
+    ∙ get_or-part zs d (d + (b - a)) (k - d) (omega arith) ∙ ap (λ (i : ℕ). get_or zs i 0) at in
+    clear (a + (k - d)) (omega arith) (omega arith) (reads ∙ is)

@@ -5,9 +5,11 @@
 
 mod cut;
 mod fault;
+mod framer;
 mod message;
 mod room;
 mod window;
 
 pub use fault::FrameFault;
+pub use framer::Framer;
 pub use message::Message;

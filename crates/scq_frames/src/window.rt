@@ -1,8 +1,13 @@
-ghost use Rattle.std.specs.Prelude.{◌≡◌, ℕ, ◌+◌, ◌-◌, ◌<◌, ◌≤◌, [], length, take, drop, slice_range, vec_len, IfOk, IfSome, IfNone, OnOk, OnErr};
+ghost use Rattle.std.specs.Prelude.{◌≡◌, ℕ, ◌+◌, ◌-◌, ◌<◌, ◌≤◌, [], length, take, drop, slice_range, vec_len, IfOk, IfErr, IfSome, IfNone, OnOk, OnErr, IsErrOf, ◌⊎◌, ◌≢◌};
 ghost use Rattle.std.specs.Option.{option_map};
+ghost use Rattle.scq_outside.specs.Faults.{Rose};
 ghost use Rattle.scq_frames.specs.Lines.{EndsAt, HasNoLineFeed};
+ghost use Rattle.scq_frames.specs.Framing.{Reads};
 
+use crate::FrameFault;
+use crate::room::{make_room, read_at};
 use memchr::memchr;
+use scq_outside::Source;
 use scq_word::NoMemory;
 use std::alloc::Global;
 use std::marker::Model;
@@ -86,5 +91,30 @@ impl Window {
     {
         self.start += len;
         self.searched = self.searched.max(self.start);
+    }
+
+    /// Reads at most so many bytes behind those held, and answers how many.
+    pub fn read<S: Source>(&mut self, source: &mut S, most: usize) -> Result<usize, FrameFault>
+        requires some { 0 < most }
+        requires small { most ≤ 4096 }
+        ensures most { IfOk result (λ k. k ≤ most) }
+        ensures reads { IfOk result (Reads self.old self.new (S.left source.old) (S.left source.new)) }
+
+        // After a fault nothing moved.
+        ensures faults { IfErr result (λ fault. (fault ≡ FrameFault.ReadFault) ⊎ (fault ≡ FrameFault.NoMemory)) }
+        ensures held { OnErr result (self.new ≡ self.old) }
+        ensures left { OnErr result (S.left source.new ≡ S.left source.old) }
+
+        ensures rose { IsErrOf result FrameFault.ReadFault → Rose (S.faults source.old) (S.faults source.new) }
+        ensures kept { result ≢ Err FrameFault.ReadFault → S.faults source.new ≡ S.faults source.old }
+    {
+        let held = self.end - self.start;
+        let from = make_room(&mut self.room, self.start, self.end, most)?;
+        self.searched = from + (self.searched - self.start);
+        self.start = from;
+        self.end = from + held;
+        let got = read_at(source, &mut self.room, self.end, most)?;
+        self.end += got;
+        Ok(got)
     }
 }
