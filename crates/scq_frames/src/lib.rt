@@ -8,6 +8,8 @@ mod fault;
 mod framer;
 mod message;
 mod room;
+#[cfg(test)]
+mod tests;
 mod window;
 
 pub use fault::FrameFault;
