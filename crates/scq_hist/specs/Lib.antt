@@ -1,3 +1,5 @@
 pub mod Calls
 pub mod Counts
 pub mod Aspects
+pub mod Lookups
+pub mod Tallies

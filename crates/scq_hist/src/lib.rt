@@ -4,6 +4,15 @@
 // layer above uses that each test is the truth of its definition there.
 #![tactic(auto)]
 
+mod calls;
 mod events;
+mod freshness;
+mod gets;
+mod lawful;
+mod names;
+mod tallies;
 
 pub use events::{Call, Event, PutName, Reply};
+pub use freshness::fresh;
+pub use lawful::lawful_calls;
+pub use names::once;

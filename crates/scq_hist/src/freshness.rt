@@ -1,0 +1,85 @@
+ghost use Rattle.std.specs.Prelude.{◌≡◌, ◌<◌, ◌↔◌, ℕ, IsTrue, Some, length, slice_get};
+ghost use Rattle.scq_hist.specs.Calls.{IsPut};
+ghost use Rattle.scq_hist.specs.Aspects.{IsLawful, IsBegun, IsFresh};
+ghost use Rattle.scq_hist.specs.Lookups.{IsFreshAt};
+
+use crate::calls::{call_under_way, put_named};
+use crate::events::{Call, Event, PutName, Reply};
+use scq_word::Bytes;
+
+fn same_bytes(a: &Bytes, b: &Bytes) -> bool
+    ensures { IsTrue result ↔ (a.now ≡ b.now) }
+{
+    a.bytes() == b.bytes()
+}
+
+/// Whether this opening token is of this queue and content.
+fn is_token(opening: &[Bytes], number: u32, queue: u32, content: &Bytes) -> bool
+    ensures { IsTrue result ↔ ((queue ≡ 0) × (slice_get opening.now number ≡ Some content.now)) }
+{
+    match opening.get(number as usize) {
+        Some(token) => queue == 0 && same_bytes(token, content),
+        None => false,
+    }
+}
+
+/// Whether the seat's put of this number is of this queue and content, and starts before place e.
+fn is_put(events: &[Event], seat: u32, number: u64, queue: u32, content: &Bytes, e: usize) -> bool
+    ensures { IsTrue result
+        ↔ ((s : ℕ) × (s < e) × IsPut events.now seat number queue content.now s) }
+{
+    match put_named(events, seat, number) {
+        Some((start, of, put)) if start < e && of == queue => same_bytes(put, content),
+        _ => false,
+    }
+}
+
+fn is_begun(
+    opening: &[Bytes],
+    events: &[Event],
+    name: PutName,
+    queue: u32,
+    content: &Bytes,
+    e: usize,
+) -> bool
+    ensures { IsTrue result ↔ IsBegun opening.now events.now name queue content.now e }
+{
+    match name {
+        PutName::Opening { number } => is_token(opening, number, queue, content),
+        PutName::Of { seat, number } => is_put(events, seat, number, queue, content, e),
+    }
+}
+
+fn is_fresh_at(opening: &[Bytes], events: &[Event], e: usize) -> bool
+    requires { e < length events.now }
+    ensures { IsTrue result ↔ IsFreshAt opening.now events.now e }
+{
+    match &events[e] {
+        Event::End {
+            seat,
+            reply: Reply::Got { name, content },
+        } => {
+            match call_under_way(events, *seat, e) {
+                Some((_, Call::Get { queue })) => is_begun(
+                    opening, events, *name, *queue, content, e,
+                ),
+                _ => true,
+            }
+        }
+        _ => true,
+    }
+}
+
+/// Whether each Got names a put of the same queue and content that is an opening token or started
+/// before.
+pub fn fresh(opening: &[Bytes], events: &[Event]) -> bool
+    requires { IsLawful events.now }
+    ensures { IsTrue result ↔ IsFresh opening.now events.now }
+{
+    for e in 0..events.len() {
+        if !is_fresh_at(opening, events, e) {
+            return false;
+        }
+    }
+    true
+}

@@ -1,0 +1,105 @@
+//! The gets that have got a put, and those that never end.
+
+ghost use Rattle.std.specs.Prelude.{◌≡◌, ◌<◌, ◌≤◌, ◌↔◌, ℕ, suc, Some, IsTrue, MatchOption, length, slice_get};
+ghost use Rattle.scq_hist.specs.Calls.{IsGot, IsGetOf, IsPending};
+ghost use Rattle.scq_hist.specs.Aspects.{IsLawful};
+ghost use Rattle.scq_hist.specs.Counts.{IsCount};
+ghost use Rattle.scq_hist.specs.Lookups.{got_name, call_start, IsFirstNamed, EndsNoGet};
+
+use crate::calls::under_way;
+use crate::events::{Call, Event, PutName, Reply};
+
+/// The name in an End with Got.
+pub(crate) fn got_name(event: &Event) -> Option<PutName>
+    ensures { result ≡ got_name event.now }
+{
+    match event {
+        Event::End {
+            reply: Reply::Got { name, .. },
+            ..
+        } => Some(*name),
+        _ => None,
+    }
+}
+
+fn names(event: &Event, name: PutName) -> bool
+    ensures { IsTrue result ↔ (got_name event.now ≡ Some name) }
+{
+    got_name(event) == Some(name)
+}
+
+/// The place of the first End with Got that names this put.
+pub(crate) fn first_named(events: &[Event], name: PutName) -> Option<usize>
+    ensures { MatchOption result (¬ (IsGot events.now name)) (IsFirstNamed events.now name) }
+{
+    for (e, event) in events.iter().enumerate() {
+        if names(event, name) {
+            return Some(e);
+        }
+    }
+    None
+}
+
+/// The place of the Start of the call that ends at this place.
+fn call_start(events: &[Event], e: usize) -> Option<usize>
+    requires { e < length events.now }
+    ensures { result ≡ call_start events.now e (slice_get events.now e) }
+{
+    match &events[e] {
+        Event::Start { .. } => None,
+        Event::End { seat, .. } => under_way(events, *seat, e),
+    }
+}
+
+/// The place of the Start of the get that has got this put.
+pub(crate) fn get_of(events: &[Event], name: PutName) -> Option<usize>
+    requires { IsLawful events.now }
+    ensures { MatchOption result
+        (¬ (IsGot events.now name))
+        (λ s. (e : ℕ) × IsGetOf events.now name s e) }
+{
+    let e = first_named(events, name)?;
+    call_start(events, e)
+}
+
+/// If the call that ends at this place is the get that has got a put: that put, and the place of the
+/// get's Start.
+pub(crate) fn get_ending_at(events: &[Event], e: usize) -> Option<(PutName, usize)>
+    requires lawful { IsLawful events.now }
+    requires within { e < length events.now }
+    ensures { MatchOption result (EndsNoGet events.now e) (λ get. IsGetOf events.now get.0 get.1 e) }
+{
+    let name = got_name(&events[e])?;
+    if first_named(events, name) != Some(e) {
+        return None;
+    }
+    Some((name, call_start(events, e)?))
+}
+
+/// Whether a get of this queue starts here that is under way at the end of the list.
+fn never_ends(events: &[Event], queue: u32, s: usize) -> bool
+    requires { s < length events.now }
+    ensures { IsTrue result ↔ IsPending events.now queue (suc s) s }
+{
+    match &events[s] {
+        Event::Start {
+            seat,
+            call: Call::Get { queue: of },
+        } if *of == queue => { under_way(events, *seat, events.len()) == Some(s) }
+        _ => false,
+    }
+}
+
+/// How many gets of this queue that started before this moment are under way at the end of the list.
+pub(crate) fn pending_gets(events: &[Event], queue: u32, moment: usize) -> usize
+    requires { moment ≤ length events.now }
+    ensures { IsCount (IsPending events.now queue moment) result }
+{
+    let mut pending = 0;
+    for s in 0..moment {
+        if never_ends(events, queue, s) {
+            pending += 1;
+        }
+    }
+    pending
+}

@@ -1,0 +1,39 @@
+ghost use Rattle.std.specs.Prelude.{◌↔◌, ◌<◌, IsTrue, length, slice_get};
+ghost use Rattle.scq_hist.specs.Aspects.{Suits, IsInPlace, IsLawful};
+
+use crate::calls::{call_under_way, under_way};
+use crate::events::{Call, Event, Reply};
+
+fn suits(call: &Call, reply: &Reply) -> bool
+    ensures { IsTrue result ↔ Suits call.now reply.now }
+{
+    match call {
+        Call::Put { .. } => matches!(reply, Reply::Done | Reply::Spent),
+        Call::Get { .. } => matches!(reply, Reply::Got { .. } | Reply::Nothing | Reply::Spent),
+    }
+}
+
+fn is_in_place(events: &[Event], i: usize) -> bool
+    requires { i < length events.now }
+    ensures { IsTrue result ↔ IsInPlace events.now i (slice_get events.now i) }
+{
+    match &events[i] {
+        Event::Start { seat, .. } => under_way(events, *seat, i).is_none(),
+        Event::End { seat, reply } => match call_under_way(events, *seat, i) {
+            None => false,
+            Some((_, call)) => suits(call, reply),
+        },
+    }
+}
+
+/// Whether each seat's events alternate, beginning with a Start, and each reply suits its call.
+pub fn lawful_calls(events: &[Event]) -> bool
+    ensures { IsTrue result ↔ IsLawful events.now }
+{
+    for i in 0..events.len() {
+        if !is_in_place(events, i) {
+            return false;
+        }
+    }
+    true
+}

@@ -1,0 +1,30 @@
+ghost use Rattle.std.specs.Prelude.{◌<◌, ◌↔◌, IsTrue, length};
+ghost use Rattle.scq_hist.specs.Aspects.{IsLawful, IsOnce};
+ghost use Rattle.scq_hist.specs.Lookups.{NamesNew};
+
+use crate::events::Event;
+use crate::gets::{first_named, got_name};
+
+/// Whether no End before this one names the put that it names, if it names one.
+fn names_new(events: &[Event], e: usize) -> bool
+    requires { e < length events.now }
+    ensures { IsTrue result ↔ NamesNew events.now e }
+{
+    match got_name(&events[e]) {
+        Some(name) => first_named(events, name) == Some(e),
+        None => true,
+    }
+}
+
+/// Whether no two Gots name the same put.
+pub fn once(events: &[Event]) -> bool
+    requires { IsLawful events.now }
+    ensures { IsTrue result ↔ IsOnce events.now }
+{
+    for e in 0..events.len() {
+        if !names_new(events, e) {
+            return false;
+        }
+    }
+    true
+}
