@@ -19,3 +19,5 @@ pub mod From
 pub mod Deeds
 pub mod Causes
 pub mod Scenes
+pub mod Stances
+pub mod Roots
