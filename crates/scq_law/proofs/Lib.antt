@@ -21,3 +21,4 @@ pub mod Causes
 pub mod Scenes
 pub mod Stances
 pub mod Roots
+pub mod HandLemmas
