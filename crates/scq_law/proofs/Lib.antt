@@ -22,3 +22,4 @@ pub mod Scenes
 pub mod Stances
 pub mod Roots
 pub mod HandLemmas
+pub mod Once
