@@ -23,3 +23,4 @@ pub mod Stances
 pub mod Roots
 pub mod HandLemmas
 pub mod Once
+pub mod Reached
