@@ -66,3 +66,8 @@ lower_ticket m t u some slot less =
           let one : t ≡ u = same_ticket m t u slot same in
           absurd (omega arith)
     ]
+
+-- the tickets of one turn of the ring
+pub cycle_of-row : (m c i : ℕ) → i < m → cycle_of m (c * m + i) ≡ c
+unfolding cycle_of
+cycle_of-row m c i small = div-mul-add c m i small

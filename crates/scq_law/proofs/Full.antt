@@ -1,0 +1,249 @@
+-- The start, with ring 0 full, has all of the base group.
+-- Plan: by induction on the count of filled slots, what stands in a slot; then each ticket by where it is.
+use Rattle.std.proofs.Common.{◌≡◌, ◌≢◌, ℕ, ◌+◌, ◌-◌, ◌*◌, ◌<◌, ◌≤◌, zero, suc, Bool, true, false, ◌&&◌, List, [], length, refl, ap, sym, ◌∙◌, ◌⊎◌, inl, inr, arith, eq-eqb, ne_eqb, eqb-true, leb-true, ltb-true, lt-ltb, le-leb}
+use Rattle.std.specs.Prelude.{◌==◌, if◌then◌else◌, nat_lt, nat_le, slice_index_or}
+use Rattle.std.proofs.lemmas.Bool.{cases_Bool, cases_eq, cases_lt, and_parts, and_from}
+use Rattle.scq_word.specs.declared.setup.Setup.{Setup}
+use Rattle.scq_word.specs.Sizes.{n_of}
+use Rattle.scq_word.specs.Tickets.{cycle_of, slot_of}
+use Rattle.scq_word.specs.Words.{mark_of, packed, index_in, safe_in, cycle_in, is_none_in}
+use Rattle.scq_word.proofs.TicketLemmas.{same_ticket, cycle_of-row, cycle_of_mono}
+use Rattle.scq_word.proofs.WordLemmas.{index_in-packed, cycle_in-packed}
+use Rattle.scq_core.specs.Machine.{Machine}
+use Rattle.scq_core.specs.Table.{size, cycle}
+use Rattle.scq_core.specs.Start.{unused, filled, filled_contents, start_cells, start_of}
+use Rattle.scq_core.proofs.Entries.{some_slots, some_indices, below_mark, none_in-marked, none_in-filled}
+use Rattle.scq_law.specs.Places.{Maker, opening_put}
+use Rattle.scq_law.proofs.Ghosts.{Ghost, PutState, fresh, placed, is_placed, stood, start_ghost}
+use Rattle.scq_law.proofs.Booked.{IsBooked, IsDrawn, Holds, Stands, at_ticket}
+
+-- in a slot stands an index below the count at its place, with its content, or nothing, and it is the slot of no such place
+pub record Filled (m : ℕ) (opening : List (List ℕ)) (count s : ℕ) : Type 0 where
+  pub index : ℕ
+  pub low : index < count
+  pub slot : s ≡ slot_of m (m + index)
+  pub word : filled m count s ≡ packed m 1 1 index
+  pub content : filled_contents m opening count s ≡ slice_index_or opening index []
+
+pub record Unfilled (m count s : ℕ) : Type 0 where
+  pub word : filled m count s ≡ unused m
+  pub other : (j : ℕ) → j < count → s ≢ slot_of m (m + j)
+
+pub fills : (m : ℕ) (opening : List (List ℕ)) (count s : ℕ) → Filled m opening count s ⊎ Unfilled m count s
+fills m opening zero s = inr (record { word = refl; other = λ j low. absurd (omega arith) })
+fills m opening (suc count) s =
+    elim (cases_eq s (slot_of m (m + count))) [
+      | inl same ↦
+          let test = eq-eqb s (slot_of m (m + count)) same in
+          inl (record { index = count; low = omega arith; slot = same; word = rw test refl; content = rw test refl })
+      | inr apart ↦
+          let test = ne_eqb s (slot_of m (m + count)) apart in
+          elim (fills m opening count s) [
+            | inl f ↦
+                let low = f.low in
+                inl
+                (record { index = f.index; low = omega arith; slot = f.slot; word = rw test f.word; content = rw test f.content })
+            | inr f ↦
+                inr
+                (record {
+                  word = rw test f.word;
+                  other =
+                      λ j low.
+                      elim (cases_eq j count) [
+                        | inl last ↦ rw last apart
+                        | inr before ↦ f.other j (omega arith)
+                      ];
+                })
+          ]
+    ]
+
+-- a ticket of the start is one of the opening places, or fresh
+pub record Stood (c : Setup) (opening : List (List ℕ)) (r t : ℕ) : Type 0 where
+  pub ring : r ≡ 0
+  pub first : size c ≤ t
+  pub last : t < size c + n_of c.order
+  pub is : stood c opening r t ≡ placed (t - size c) (slice_index_or opening (t - size c) []) opening_put
+
+pub record NotStood (c : Setup) (opening : List (List ℕ)) (r t : ℕ) : Type 0 where
+  pub is : stood c opening r t ≡ fresh
+  pub out : r ≡ 0 → size c ≤ t → t < size c + n_of c.order → ⊥
+
+pub stands_at : (c : Setup) (opening : List (List ℕ)) (r t : ℕ) → Stood c opening r t ⊎ NotStood c opening r t
+stands_at c opening r t =
+    elim (cases_Bool (r == 0 && nat_le (size c) t && nat_lt t (size c + n_of c.order))) [
+      | inl holds ↦
+          let both = and_parts (r == 0 && nat_le (size c) t) (nat_lt t (size c + n_of c.order)) holds in
+          let two = and_parts (r == 0) (nat_le (size c) t) both.0 in
+          inl
+          (record {
+            ring = eqb-true r 0 two.0; first = leb-true (size c) t two.1; last = ltb-true t (size c + n_of c.order) both.1; is = rw holds refl;
+          })
+      | inr fails ↦
+          inr
+          (record {
+            is = rw fails refl;
+            out =
+                λ ring first last.
+                let all : (r == 0 && nat_le (size c) t && nat_lt t (size c + n_of c.order)) ≡ true =
+                and_from (r == 0 && nat_le (size c) t) (nat_lt t (size c + n_of c.order)) (and_from (r == 0) (nat_le (size c) t) (eq-eqb r 0 ring) (le-leb (size c) t first)) (lt-ltb t (size c + n_of c.order) last) in
+                absurd (cc);
+          })
+    ]
+
+-- the opening places are of the ring's second turn
+pub second_turn : (c : Setup) (j : ℕ) → j < size c → cycle c (size c + j) ≡ 1
+second_turn c j small =
+    let row : cycle c (1 * size c + j) ≡ 1 = cycle_of-row (size c) 1 j small in
+    let same : 1 * size c + j ≡ size c + j = omega arith in
+    rw same at row
+
+-- an opening place of this slot is this ticket
+one_place : (c : Setup) (t j : ℕ) → size c ≤ t → t < size c + n_of c.order → j < n_of c.order → slot_of (size c) t ≡ slot_of (size c) (size c + j) → t ≡ size c + j
+one_place c t j first last low slot =
+    let small : t - size c < size c = omega arith in
+    let same : size c + (t - size c) ≡ t = omega arith in
+    let turn : cycle c t ≡ 1 = rw same at (second_turn c (t - size c) small) in
+    let turn_j : cycle c (size c + j) ≡ 1 = second_turn c j (omega arith) in
+    same_ticket (size c) t (size c + j) slot (turn ∙ sym turn_j)
+
+module _ (c : Setup) (opening : List (List ℕ)) where
+
+  -- the words of an unused entry and of a filled one
+  none_unused : is_none_in (size c) (unused (size c)) ≡ true
+  none_unused = none_in-marked (size c) 0 1 (some_slots c)
+
+  cycle_unused : cycle_in (size c) (unused (size c)) ≡ 0
+  cycle_unused = cycle_in-packed (size c) 0 1 (mark_of (size c)) (omega (arith, some_indices c)) (omega arith)
+
+  some_filled : (j : ℕ) → j < n_of c.order → is_none_in (size c) (packed (size c) 1 1 j) ≡ false
+  some_filled j low = none_in-filled (size c) 1 1 j (below_mark c j low)
+
+  cycle_filled : (j : ℕ) → j < n_of c.order → cycle_in (size c) (packed (size c) 1 1 j) ≡ 1
+  cycle_filled j low = cycle_in-packed (size c) 1 1 j (omega arith) (omega arith)
+
+  -- an entry of the start
+  abbrev word : ℕ → ℕ → ℕ
+  word = (start_cells c opening).entries.word
+
+  -- where an index stands, ring and slot are those of an opening place
+  holds_filled : (r p : ℕ) → is_none_in (size c) (at_ticket c word r p) ≡ false → (r ≡ 0) × Filled (size c) opening (n_of c.order) (slot_of (size c) p)
+  holds_filled r p some =
+      elim (cases_eq r 0) [
+        | inl ring ↦
+            let here : is_none_in (size c) (filled (size c) (n_of c.order) (slot_of (size c) p)) ≡ false = rw (eq-eqb r 0 ring) at some in
+            elim (fills (size c) opening (n_of c.order) (slot_of (size c) p)) [
+              | inl f ↦ (ring, f)
+              | inr f ↦ let not : is_none_in (size c) (unused (size c)) ≡ false = rw f.word at here in let none = none_unused in absurd (cc)
+            ]
+        | inr other ↦
+            let not : is_none_in (size c) (unused (size c)) ≡ false = rw (ne_eqb r 0 other) at some in
+            let none = none_unused in
+            absurd (cc)
+      ]
+
+  start_live : (r p : ℕ) → Holds c word r p → is_placed (stood c opening r p) ≡ true
+  start_live r p has =
+      let at = holds_filled r p has.index in
+      let f = at.1 in
+      let low = f.low in
+      let turn : cycle_in (size c) (filled (size c) (n_of c.order) (slot_of (size c) p)) ≡ cycle c p = rw (eq-eqb r 0 at.0) at has.cycle in
+      let one : 1 ≡ cycle c p = sym (cycle_filled f.index low) ∙ sym (ap (cycle_in (size c)) f.word) ∙ turn in
+      let turn_j : cycle c (size c + f.index) ≡ 1 = second_turn c f.index (omega arith) in
+      let same : p ≡ size c + f.index = same_ticket (size c) p (size c + f.index) f.slot (sym one ∙ sym turn_j) in
+      elim (stands_at c opening r p) [
+        | inl s ↦ rw s.is refl
+        | inr s ↦ absurd (s.out at.0 (omega arith) (omega arith))
+      ]
+
+  start_stands : (r p i : ℕ) (w : List ℕ) (b : Maker) → stood c opening r p ≡ placed i w b → Stands c (start_cells c opening).entries r p i w
+  start_stands r p i w b is =
+      elim (stands_at c opening r p) [
+        | inr s ↦ let clash : fresh ≡ placed i w b = sym s.is ∙ is in absurd (cc)
+        | inl s ↦
+            let first = s.first in
+            let last = s.last in
+            let same : placed (p - size c) (slice_index_or opening (p - size c) []) opening_put ≡ placed i w b = sym s.is ∙ is in
+            let index : p - size c ≡ i = cc in
+            let content : slice_index_or opening (p - size c) [] ≡ w = cc in
+            let back : size c + (p - size c) ≡ p = omega arith in
+            elim (fills (size c) opening (n_of c.order) (slot_of (size c) p)) [
+              | inr f ↦ absurd (f.other (p - size c) (omega arith) (rw back refl))
+              | inl f ↦
+                  let low = f.low in
+                  let place : p ≡ size c + f.index = one_place c p f.index first last low f.slot in
+                  let j : f.index ≡ i = omega arith in
+                  let ring = eq-eqb r 0 s.ring in
+                  let turn : cycle c (size c + f.index) ≡ 1 = second_turn c f.index (omega arith) in
+                  record {
+                    holds =
+                        record {
+                          cycle = rw (ring, f.word) (cycle_filled f.index low ∙ sym turn ∙ ap (cycle c) (sym place));
+                          index = rw (ring, f.word) (some_filled f.index low);
+                        };
+                    index = rw (ring, f.word) (index_in-packed (size c) 1 1 f.index (omega arith) ∙ j);
+                    content = rw ring (f.content ∙ ap (λ x. slice_index_or opening x []) (j ∙ sym index) ∙ content);
+                    small = omega arith;
+                  }
+            ]
+      ]
+
+  start_over : (r p : ℕ) → size c ≤ p → cycle_in (size c) (at_ticket c word r p) ≡ cycle c p → is_none_in (size c) (at_ticket c word r p) ≡ true → ⊥
+  start_over r p first at none =
+      let high : 1 ≤ cycle c p =
+      (let row : cycle c (size c + 0) ≡ 1 = second_turn c 0 (some_slots c) in
+      let mono : cycle c (size c + 0) ≤ cycle c p = cycle_of_mono (size c) (size c + 0) p (some_slots c) (omega arith) in omega arith) in
+      let zero_turn = cycle_unused in
+      elim (cases_eq r 0) [
+        | inl ring ↦
+            elim (fills (size c) opening (n_of c.order) (slot_of (size c) p)) [
+              | inl f ↦
+                  let not : is_none_in (size c) (packed (size c) 1 1 f.index) ≡ true = rw (eq-eqb r 0 ring, f.word) at none in
+                  let some = some_filled f.index f.low in
+                  absurd (cc)
+              | inr f ↦
+                  let turn : cycle_in (size c) (unused (size c)) ≡ cycle c p = rw (eq-eqb r 0 ring, f.word) at at in
+                  omega arith
+            ]
+        | inr other ↦
+            let turn : cycle_in (size c) (unused (size c)) ≡ cycle c p = rw (ne_eqb r 0 other) at at in omega arith
+      ]
+
+  pub start_booked : IsBooked c (start_cells c opening).entries (start_ghost c opening)
+  start_booked =
+      record {
+        live = λ r p has. (start_live r p has, refl);
+        stands = λ r p i w b is waits. start_stands r p i w b is;
+        over = λ r p first at none. absurd (start_over r p first at none);
+        taken = λ r p k j got. absurd (cc);
+        never = λ r p gone. absurd (cc);
+        shut = λ r p gone. absurd (cc);
+      }
+
+  -- a ticket outside of the opening places is fresh
+  fresh_out : (r t : ℕ) → (r ≡ 0 → size c ≤ t → t < size c + n_of c.order → ⊥) → stood c opening r t ≡ fresh
+  fresh_out r t out =
+      elim (stands_at c opening r t) [
+        | inl s ↦ absurd (out s.ring s.first s.last)
+        | inr s ↦ s.is
+      ]
+
+  pub start_drawn : IsDrawn c (start_cells c opening).tail (start_cells c opening).head (start_ghost c opening)
+  start_drawn =
+      let limits = c.limit_in_range in
+      record {
+        tails =
+            λ r t high.
+            fresh_out r t (λ ring first last. let low : size c + n_of c.order ≤ t = rw (eq-eqb r 0 ring) at high in omega arith);
+        heads = λ r t high. refl;
+        put_limit = λ r t high. fresh_out r t (λ ring first last. omega arith);
+        get_limit = λ r t high. refl;
+        put_first = λ r t less. fresh_out r t (λ ring first last. omega arith);
+        get_first = λ r t less. refl;
+        first_tail =
+            λ r.
+            elim (cases_eq r 0) [
+              | inl ring ↦ rw (eq-eqb r 0 ring) (omega arith)
+              | inr other ↦ rw (ne_eqb r 0 other) (omega arith)
+            ];
+        first_head = λ r. omega arith;
+      }
