@@ -30,10 +30,10 @@ start_cells c opening =
       head = λ r. size c;
       threshold = λ r. if r == 0 then reset_level c else zero_level - 1;
       entries =
-        record {
-          word = λ r s. if r == 0 then filled (size c) (n_of c.order) s else unused (size c);
-          content = λ r s. if r == 0 then filled_contents (size c) opening (n_of c.order) s else [];
-        };
+          record {
+            word = λ r s. if r == 0 then filled (size c) (n_of c.order) s else unused (size c);
+            content = λ r s. if r == 0 then filled_contents (size c) opening (n_of c.order) s else [];
+          };
     }
 
 abbrev pub idle_part : Part
