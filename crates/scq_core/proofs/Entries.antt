@@ -1,5 +1,5 @@
 -- The sizes of a setup, and what the three writes of an entry do to its word and rank.
-use Rattle.std.proofs.Common.{◌≡◌, ℕ, ◌+◌, ◌*◌, ◌^◌, ◌<◌, ◌≤◌, true, false, refl, inl, inr, arith, eq-eqb, ne_eqb, eqb-true, pow_mono}
+use Rattle.std.proofs.Common.{◌≡◌, ◌≢◌, ℕ, ◌+◌, ◌*◌, ◌^◌, ◌<◌, ◌≤◌, true, false, refl, inl, inr, arith, eq-eqb, ne_eqb, eqb-true, pow_mono}
 use Rattle.std.proofs.lemmas.Bool.{cases_Bool, cases_eq, eqb-false}
 use Rattle.scq_word.specs.declared.setup.Setup.{Setup}
 use Rattle.scq_word.specs.Sizes.{n_of}
@@ -191,3 +191,10 @@ rank_fits c w low =
 
 pub few_slots : (c : Setup) → size c ≤ 8192
 few_slots c = let few = few_indices c in omega arith
+
+-- a word that has changed never comes back
+pub above_apart : (m e x y : ℕ) → IsAbove m e x → x ≢ e → IsAbove m x y → y ≢ e
+above_apart m e x y low apart high back =
+    let down : IsAbove m x e = rw back at high in
+    let le = above_rank m x e down in
+    elim low.above [ inl same ↦ absurd (apart same) | inr rose ↦ absurd (omega arith) ]

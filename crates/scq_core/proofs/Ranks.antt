@@ -10,7 +10,7 @@ use Rattle.scq_core.specs.Machine.{Cells, tail_of, head_of, entry_of, written}
 use Rattle.scq_core.specs.Table.{size, cycle, cells_after}
 use Rattle.scq_core.specs.Laws.{IsAbove, RankRises, CountersRise, Busy, word_at}
 use Rattle.scq_core.proofs.PutLemmas.{put_cases, put_entry_cases}
-use Rattle.scq_core.proofs.Entries.{above_same, placing_rises, taking_rises, passing_rises, below_mark, some_slots}
+use Rattle.scq_core.proofs.Entries.{above_same, above_trans, placing_rises, taking_rises, passing_rises, below_mark, some_slots}
 
 -- one entry written above what stood there
 pub entry_rises : (c : Setup) (m : Cells) (r s x : ℕ) (y : List ℕ) → IsAbove (size c) (m.entries.word r s) x → RankRises c m (written m (entry_of r s) x y)
@@ -101,3 +101,23 @@ counters_rise c m hand (AtD7 r h from to) has = tail_rises m r _ [] (catching_up
 counters_rise c m hand (AtD8 r h from) has = head_rises m r _ [] (omega arith)
 counters_rise c m hand (AtD9 r h from to) has = tail_rises m r _ [] (omega arith)
 counters_rise c m hand turn has = record { tail = λ q. omega arith; head = λ q. omega arith }
+
+-- several steps rise as one does
+pub ranks_same : (c : Setup) (m : Cells) → RankRises c m m
+ranks_same c m = record { rises = λ r s. above_same (size c) (m.entries.word r s) }
+
+pub ranks_trans : (c : Setup) (a b d : Cells) → RankRises c a b → RankRises c b d → RankRises c a d
+ranks_trans c a b d low high =
+    record {
+      rises = λ r s. above_trans (size c) _ _ (d.entries.word r s) (low.rises r s) (high.rises r s);
+    }
+
+pub counters_same : (m : Cells) → CountersRise m m
+counters_same m = record { tail = λ r. omega arith; head = λ r. omega arith }
+
+pub counters_trans : (a b d : Cells) → CountersRise a b → CountersRise b d → CountersRise a d
+counters_trans a b d low high =
+    record {
+      tail = λ r. let one = low.tail r in let two = high.tail r in omega arith;
+      head = λ r. let one = low.head r in let two = high.head r in omega arith;
+    }

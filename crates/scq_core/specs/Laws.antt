@@ -118,7 +118,8 @@ pub record CountersBounded (c : Setup) (m : Machine) : Type 0 where
   pub head : (r : ℕ) → m.cells.head r ≤ c.limit + spent_seats c m
   pub spent : spent_seats c m ≤ c.seats
 
--- Threshold is no lower than the seats allow that are in no dequeue, and no higher than a reset sets it
+-- Threshold is at least a - k, where a of the k seats are in a dequeue of the ring that has passed D1, and no higher
+-- than a reset sets it. Both sides are raised by what the word of 0 is
 pub record ThresholdFloor (c : Setup) (m : Machine) : Type 0 where
   pub floor : (r : ℕ) → zero_level + dequeues_of c m r ≤ m.cells.threshold r + c.seats
   pub ceiling : (r : ℕ) → m.cells.threshold r ≤ reset_level c

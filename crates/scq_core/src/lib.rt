@@ -5,6 +5,7 @@
 #![tactic(auto)]
 
 mod ended;
+pub mod laws;
 mod phase;
 mod step;
 

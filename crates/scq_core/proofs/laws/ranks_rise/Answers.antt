@@ -1,0 +1,5 @@
+use Rattle.scq_core.proofs.Fits.{step_rises}
+use Rattle.scq_core.proofs.laws.ranks_rise.Goals as goal
+
+pub returns : goal.returns
+returns c = λ setup m later seat step reach e. (step_rises setup m later seat step reach e).0

@@ -1,0 +1,70 @@
+//! Laws of the machine, for every setup and every state that steps reach. The functions do nothing: each
+//! stands for its contract.
+
+ghost use Rattle.std.specs.Prelude.{◌≡◌, ℕ, ◌<◌, List, Some, length};
+ghost use Rattle.scq_word.specs.declared.setup.Setup.{Setup};
+ghost use Rattle.scq_word.specs.Sizes.{n_of};
+ghost use Rattle.scq_core.specs.declared.step.Step.{Step};
+ghost use Rattle.scq_core.specs.Machine.{Machine};
+ghost use Rattle.scq_core.specs.Table.{step_of};
+ghost use Rattle.scq_core.specs.Start.{start_of};
+ghost use Rattle.scq_core.specs.Reach.{IsReachable};
+ghost use Rattle.scq_core.specs.Laws.{ChangesOne, RankRises, CountersRise, IsSteady, CatchUpLags, CountersBounded, ThresholdFloor, CyclesBounded, WordsFit};
+
+/// The start is reachable, with an opening content for each index.
+pub fn start_is_reachable()
+    ensures { (c : Setup) (opening : List (List ℕ)) → length opening ≡ n_of c.order → IsReachable c (start_of c opening) }
+{}
+
+/// An enabled step of a seat leads from a reachable state to a reachable state.
+pub fn steps_stay_reachable()
+    ensures { (c : Setup) (m later : Machine) (seat : ℕ) (step : Step) → IsReachable c m → seat < c.seats → step_of c m seat step ≡ Some later → IsReachable c later }
+{}
+
+/// A step changes at most one word of one ring, with the content beside it, and its own seat's part.
+pub fn steps_change_one_word()
+    ensures { (c : Setup) (m later : Machine) (seat : ℕ) (step : Step) → step_of c m seat step ≡ Some later → ChangesOne m seat later }
+{}
+
+/// Each step leaves each entry as it is or raises its rank.
+pub fn ranks_rise()
+    ensures { (c : Setup) (m later : Machine) (seat : ℕ) (step : Step) → IsReachable c m → step_of c m seat step ≡ Some later → RankRises c m.cells later.cells }
+{}
+
+/// Tail and Head never fall.
+pub fn counters_rise()
+    ensures { (c : Setup) (m later : Machine) (seat : ℕ) (step : Step) → IsReachable c m → step_of c m seat step ≡ Some later → CountersRise m.cells later.cells }
+{}
+
+/// What each seat has by its phase: its ring, index and ticket are in range, its index is in its hand, and what it
+/// loaded stands still or never comes back. A seat that keeps a spent ticket is idle, and drew it at or past the limit.
+pub fn seats_are_steady()
+    ensures { (c : Setup) (m : Machine) → IsReachable c m → IsSteady c m }
+{}
+
+/// While a dequeue catches up, from its failed exchange on, Tail is past what it found there.
+pub fn catch_ups_lag()
+    ensures { (c : Setup) (m : Machine) → IsReachable c m → CatchUpLags m }
+{}
+
+/// Tail and Head pass the limit by at most one for each seat that keeps a spent ticket: so by at most the number of
+/// seats.
+pub fn counters_are_bounded()
+    ensures { (c : Setup) (m : Machine) → IsReachable c m → CountersBounded c m }
+{}
+
+/// Threshold is at least `a - k`, where `a` of the `k` seats are in a dequeue of the ring that has passed D1: so at
+/// least `-k`. It is no higher than a reset sets it.
+pub fn threshold_has_a_floor()
+    ensures { (c : Setup) (m : Machine) → IsReachable c m → ThresholdFloor c m }
+{}
+
+/// The cycle of each entry is that of a ticket below the limit.
+pub fn cycles_are_bounded()
+    ensures { (c : Setup) (m : Machine) → IsReachable c m → CyclesBounded c m.cells }
+{}
+
+/// Each word is one of 64 bits, with room for a step.
+pub fn words_fit()
+    ensures { (c : Setup) (m : Machine) → IsReachable c m → WordsFit c m.cells }
+{}
