@@ -1,3 +1,6 @@
+pub mod Onto
+pub mod Books
+pub mod Window
 pub mod Ghosts
 pub mod Events
 pub mod Tale
