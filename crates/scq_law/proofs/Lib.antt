@@ -1,6 +1,8 @@
 pub mod Onto
 pub mod Books
 pub mod Window
+pub mod Flows
+pub mod Keeping
 pub mod Ghosts
 pub mod Events
 pub mod Tale
