@@ -1,3 +1,9 @@
+pub mod Onto
+pub mod Books
+pub mod Window
+pub mod Flows
+pub mod Keeping
+pub mod Kept
 pub mod Ghosts
 pub mod Events
 pub mod Tale
