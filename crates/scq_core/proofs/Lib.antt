@@ -8,3 +8,4 @@ pub mod Limits
 pub mod Floor
 pub mod Fits
 pub mod Starts
+pub mod Packing

@@ -6,8 +6,12 @@
 
 mod ended;
 pub mod laws;
+mod next;
 mod phase;
+mod ring;
+mod slot;
 mod step;
+mod table;
 
 pub use ended::Ended;
 pub use phase::Phase;
