@@ -81,6 +81,17 @@ abbrev pub laid_by : Next → Option (List ℕ)
 laid_by (Places r i w t laid) = Some laid
 laid_by next = None
 
+-- a turn of a dequeue
+abbrev pub IsOfGet : Phase → Type 0
+IsOfGet Idle = ⊥
+IsOfGet (AtE1 r i w l) = ⊥
+IsOfGet (AtE2 r i w t l) = ⊥
+IsOfGet (AtE3 r i w t e) = ⊥
+IsOfGet (AtE4 r i w t e) = ⊥
+IsOfGet (AtE5 r i w t) = ⊥
+IsOfGet (AtE6 r i w t) = ⊥
+IsOfGet turn = Unit {0}
+
 -- what a turn's arithmetic stands on, where it found the word x: counters have room, tickets are below the limit, an
 -- entry has an index of the ring or none, and Threshold is not yet at the bottom
 abbrev pub IsReady : Setup → Phase → ℕ → Type 0

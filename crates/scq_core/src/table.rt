@@ -12,7 +12,7 @@ use crate::slot::Place;
 use scq_word::{Entry, Setup, cycle_of, pack, slot_of, unpack};
 
 // The word that stands for a Threshold of 0: it is kept as so much more than its value.
-const ZERO_LEVEL: u64 = 1 << 32;
+pub const ZERO_LEVEL: u64 = 1 << 32;
 
 /// The ring that a turn is on; an idle seat is on none.
 pub fn ring_of(turn: &Phase) -> u32
@@ -111,7 +111,7 @@ fn filled(setup: &Setup, ticket: u64, index: u32) -> u64
 }
 
 // What Threshold is reset to once an index was placed: 3n - 1.
-fn reset_level(setup: &Setup) -> u64
+pub fn reset_level(setup: &Setup) -> u64
     ensures { result ≡ reset_level setup.now }
 {
     ZERO_LEVEL + 3 * u64::from(setup.shape().n()) - 1
