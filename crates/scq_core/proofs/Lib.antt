@@ -9,3 +9,5 @@ pub mod Floor
 pub mod Fits
 pub mod Starts
 pub mod Packing
+pub mod Places
+pub mod Advancing

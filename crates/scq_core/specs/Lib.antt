@@ -7,3 +7,4 @@ pub mod Laws
 pub mod Rings
 pub mod Book
 pub mod Turn
+pub mod Advance
