@@ -4,11 +4,19 @@
 // table, and every state of the type is one that steps reach.
 #![tactic(auto)]
 
+mod advance;
 mod ended;
 pub mod laws;
+mod next;
 mod phase;
+mod ring;
+mod seat;
+mod slot;
 mod step;
+mod table;
+mod turn;
 
+pub use advance::ApplyFault;
 pub use ended::Ended;
 pub use phase::Phase;
 pub use step::Step;
