@@ -1,4 +1,4 @@
-ghost use Rattle.std.specs.Prelude.{◌≡◌, ℕ, ◌+◌, ◌-◌, ◌<◌, ◌≤◌, ◌++◌, List, [], Option, Some, length, take, min, vec_capacity, IfOk, OnOk, OnErr};
+ghost use Rattle.std.specs.Prelude.{◌≡◌, ℕ, ◌+◌, ◌-◌, ◌<◌, ◌≤◌, ◌++◌, List, [], Option, Some, length, take, min, vec_capacity, IfOk, OnOk, OnErr, IsErr, ◌↔◌};
 ghost use Rattle.std.specs.Option.{option_map};
 ghost use Rattle.scq_outside.specs.Faults.{Rose, last_count};
 ghost use Rattle.scq_outside.specs.Written.{Written};
@@ -50,7 +50,19 @@ impl Sink for MemSink {
 
     ghost written = { λ s. Some s.bytes };
 
-    fn write(&mut self, piece: &[u8]) -> Result<usize, Failed> {
+    fn write(&mut self, piece: &[u8]) -> Result<usize, Failed>
+        requires { 0 < length piece.now }
+        ensures takes { 0 < self.old.room → result ≡ Ok (min (length piece.now) self.old.room) }
+        ensures bytes { self.new.bytes ≡ self.old.bytes ++ take (min (length piece.now) self.old.room) piece.now }
+        ensures room { self.new.room ≡ self.old.room - length piece.now }
+
+        // Only a sink that has no room fails, and counts it.
+        ensures full { IsErr result ↔ (self.old.room ≡ 0) }
+        ensures kept { OnOk result (self.new.faults ≡ self.old.faults) }
+        ensures rose { OnErr result (Rose self.old.faults self.new.faults) }
+        ensures fits { OnErr result (self.new.faults ≤ last_count) }
+        ensures never_falls { self.old.faults ≤ self.new.faults }
+    {
         let count = piece.len().min(self.room);
         if count == 0 {
             self.faults = self.faults.saturating_add(1);
