@@ -1,5 +1,4 @@
-ghost use Rattle.std.specs.Prelude.{◌≡◌, ℕ, ◌≤◌, List, Option, Some, IsSome, if◌then◌else◌, IfOk, OnOk, OnErr, IfSome};
-ghost use Rattle.std.specs.Option.{option_map};
+ghost use Rattle.std.specs.Prelude.{◌≡◌, ℕ, List, Some, if◌then◌else◌, OnOk, OnErr};
 ghost use Rattle.std.specs.Str.{bytes_eq};
 
 use crate::{Failed, Files, MemSource};

@@ -1,5 +1,4 @@
-ghost use Rattle.std.specs.Prelude.{◌≡◌, ℕ, ◌+◌, ◌-◌, ◌<◌, ◌≤◌, ◌++◌, List, [], Option, Some, length, take, min, vec_capacity, IfOk, OnOk, OnErr, IsErr, ◌↔◌};
-ghost use Rattle.std.specs.Option.{option_map};
+ghost use Rattle.std.specs.Prelude.{◌≡◌, ◌+◌, ◌-◌, ◌<◌, ◌≤◌, ◌++◌, [], Some, length, take, min, vec_capacity, IfOk, OnOk, OnErr, IsErr, ◌↔◌};
 ghost use Rattle.scq_outside.specs.Faults.{Rose, last_count};
 ghost use Rattle.scq_outside.specs.Written.{Written};
 

@@ -1,6 +1,4 @@
-ghost use Rattle.std.specs.Prelude.{◌≡◌, ℕ, ◌<◌, ◌≤◌, ◌++◌, List, [], Option, Some, length, take, drop, min, IfOk, OnOk, OnErr, IfSome};
-ghost use Rattle.std.specs.Option.{option_map};
-ghost use Rattle.scq_outside.specs.Faults.{Rose, last_count};
+ghost use Rattle.std.specs.Prelude.{◌≡◌, ℕ, ◌<◌, ◌≤◌, ◌++◌, List, [], Some, length, take, drop, min, IfOk};
 
 use crate::{Failed, Source};
 use std::marker::Model;
