@@ -1,5 +1,5 @@
 -- What is written of the messages that a framer gives, where no topic is declared.
-use Rattle.std.specs.Prelude.{ℕ, List, [], ◌∷◌, ◌++◌, codes, decimal}
+use Rattle.std.specs.Prelude.{ℕ, List, [], ◌++◌, codes, decimal}
 use Rattle.scq_frames.specs.declared.message.Message.{Message}
 use Rattle.scq_service.specs.Output.{reply_line, length_reply}
 

@@ -6,6 +6,7 @@
 
 mod fault;
 mod output;
+mod telling;
 mod words;
 mod writing;
 
