@@ -1,2 +1,3 @@
+pub mod Answered
 mod Rows
 pub mod Told

@@ -4,6 +4,7 @@
 // comes only where its cause holds.
 #![tactic(auto)]
 
+mod answering;
 mod fault;
 mod output;
 mod telling;
