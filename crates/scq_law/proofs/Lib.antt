@@ -30,3 +30,4 @@ pub mod Roots
 pub mod HandLemmas
 pub mod Once
 pub mod Reached
+pub mod Records
