@@ -31,3 +31,6 @@ pub mod HandLemmas
 pub mod Once
 pub mod Reached
 pub mod Records
+pub mod Throughout
+pub mod PlaceLaws
+pub mod HandLaws
