@@ -8,3 +8,6 @@ pub mod Limits
 pub mod Floor
 pub mod Fits
 pub mod Starts
+pub mod Packing
+pub mod Places
+pub mod Advancing

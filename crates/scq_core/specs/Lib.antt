@@ -4,3 +4,7 @@ pub mod Table
 pub mod Start
 pub mod Reach
 pub mod Laws
+pub mod Rings
+pub mod Book
+pub mod Turn
+pub mod Advance

@@ -5,7 +5,8 @@ use Rattle.scq_core.specs.declared.ended.Ended.{Ended}
 use Rattle.scq_core.specs.declared.phase.Phase.{Phase}
 use Rattle.scq_core.specs.Put.{put}
 
--- the entries by ring and slot: the word, and the content that its put placed with it
+-- the entries by ring and slot: the word, and the content that its put placed with it. A put's exchange writes both; a
+-- dequeue changes the word alone, and the content that stays means nothing until the next put
 pub record Entries : Type 0 where
   pub word : ℕ → ℕ → ℕ
   pub content : ℕ → ℕ → List ℕ

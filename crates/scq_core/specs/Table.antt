@@ -38,14 +38,15 @@ cycle c ticket = cycle_of (size c) ticket
 abbrev pub entry_at : Setup → ℕ → ℕ → Word
 entry_at c ring ticket = entry_of ring (slot_of (size c) ticket)
 
--- a hand without an index
+-- a hand with this index taken out
 abbrev pub without : ℕ → List ℕ → List ℕ
 without index hand = filter (λ i. not (i == index)) hand
 
 abbrev pub holds_index : List ℕ → ℕ → Bool
 holds_index hand index = list_any (λ i. i == index) hand
 
--- the turn of a seat with this hand, kept ticket and phase, where the step is enabled
+-- the turn of a seat with this hand, kept ticket and phase, where the step is enabled. A seat in the middle of a call
+-- keeps no spent ticket
 abbrev pub turn_at : Setup → List ℕ → Option ℕ → Phase → Step → Option Phase
 turn_at c hand None Idle (E1 r i w) =
     if nat_lt r c.rings && nat_lt i (n_of c.order) && holds_index hand i then Some (AtE1 r i w 0) else None
@@ -70,7 +71,7 @@ turn_at c hand spent phase step = None
 abbrev pub turn_of : Setup → Part → Step → Option Phase
 turn_of c p step = turn_at c p.hand p.spent p.phase step
 
--- the word that a turn reads
+-- the word that a turn reads. Idle is no turn: its line is never used
 abbrev pub word_of : Setup → Phase → Word
 word_of c Idle = tail_of 0
 word_of c (AtE1 r i w l) = tail_of r
@@ -172,6 +173,7 @@ moved c m seat turn =
       opening = m.opening;
     }
 
--- what one line of the table does: the state after a step of a seat, or None where no line allows it
+-- what one line of the table does: the state after a step of a seat, or None where no line allows it. That the seat is
+-- one of the setup's is asked where steps are joined to runs
 abbrev pub step_of : Setup → Machine → ℕ → Step → Option Machine
 step_of c m seat step = option_map (moved c m seat) (turn_of c (m.part seat) step)

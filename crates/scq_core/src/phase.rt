@@ -1,8 +1,14 @@
 use scq_word::Bytes;
 
 /// What a seat is in the middle of: its next step, with what it drew and loaded. `ticket` is the drawn
-/// one, and `word` the entry that was loaded. `least` bounds from below what the step will find: a
-/// ticket, or the rank of an entry; it is 0 where nothing is known yet, and rises with each try.
+/// one, and `word` the entry that was loaded.
+///
+/// `least` bounds from below what the step will find, and no line of the step table looks at it: in
+/// AtE1 and AtD2 it is one more than the last ticket, in AtE2 and AtD3 the rank of the entry that a
+/// failed exchange found. It is 0 where nothing is known yet, and rises with each try of one ticket.
+///
+/// `from` and `to` are what a dequeue lifts Tail from and to. `leaving` says that Tail was caught up,
+/// so that the call ends with Nothing whatever Threshold was.
 #[derive(Debug, Drop)]
 pub enum Phase {
     Idle,

@@ -1,6 +1,6 @@
 -- What a text says, byte by byte: its lines, and the messages that they are. It knows no file, no
 -- declared topic and no way of reading.
-use Rattle.std.specs.Prelude.{ℕ, ◌+◌, Bool, ◌==◌, List, [], ◌∷◌, length, if◌then◌else◌}
+use Rattle.std.specs.Prelude.{ℕ, ◌+◌, Bool, ◌==◌, List, [], ◌∷◌, ◌++◌}
 use Rattle.std.specs.List.{slice_split, before_first, after_first}
 
 -- a byte ends a line where it is LF
@@ -11,15 +11,20 @@ is_line_feed b = b == 10
 abbrev pub is_space : ℕ → Bool
 is_space b = b == 32
 
--- the parts without the last one where that is empty
-abbrev pub without_empty_end : List (List ℕ) → List (List ℕ)
-without_empty_end [] = []
-without_empty_end (part ∷ []) = if length part == 0 then [] else part ∷ []
-without_empty_end (part ∷ next ∷ more) = part ∷ without_empty_end (next ∷ more)
+-- what follows the last LF is a line where it has bytes
+abbrev pub last_line : List ℕ → List (List ℕ)
+last_line [] = []
+last_line (b ∷ bs) = (b ∷ bs) ∷ []
+
+-- the lines in the parts between the LFs of a text
+abbrev pub lines_of_parts : List (List ℕ) → List (List ℕ)
+lines_of_parts [] = []
+lines_of_parts (last ∷ []) = last_line last
+lines_of_parts (part ∷ next ∷ more) = part ∷ lines_of_parts (next ∷ more)
 
 -- the lines of a text: each part that an LF ends, and what follows the last LF where it has bytes
 abbrev pub lines_of : List ℕ → List (List ℕ)
-lines_of text = without_empty_end (slice_split is_line_feed text)
+lines_of text = lines_of_parts (slice_split is_line_feed text)
 
 -- a message as a text has it: its line's number, from 1, its topic's bytes and its payload
 pub record Framed : Type 0 where
@@ -36,11 +41,15 @@ framed number line = record {
   payload = after_first is_space line;
 }
 
+-- the message in a line, where the line has bytes
+abbrev pub message_in : ℕ → List ℕ → List Framed
+message_in number [] = []
+message_in number (b ∷ bs) = framed number (b ∷ bs) ∷ []
+
 -- the messages of lines of which the first has this number: an empty line has its number and no message
 abbrev pub messages_from : ℕ → List (List ℕ) → List Framed
 messages_from number [] = []
-messages_from number ([] ∷ more) = messages_from (number + 1) more
-messages_from number ((b ∷ bs) ∷ more) = framed number (b ∷ bs) ∷ messages_from (number + 1) more
+messages_from number (line ∷ more) = message_in number line ++ messages_from (number + 1) more
 
 -- the messages of a text that follows so many lines
 unfoldable pub messages_after : ℕ → List ℕ → List Framed

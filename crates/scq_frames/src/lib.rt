@@ -3,6 +3,15 @@
 // messages of what its source told, for every cutting of reads.
 #![tactic(auto)]
 
+mod cut;
+mod fault;
+mod framer;
 mod message;
+mod room;
+#[cfg(test)]
+mod tests;
+mod window;
 
+pub use fault::FrameFault;
+pub use framer::Framer;
 pub use message::Message;

@@ -5,3 +5,4 @@ pub mod Counting
 pub mod Pending
 pub mod TallyLemmas
 pub mod Claims
+pub mod Tokens

@@ -17,15 +17,19 @@ pub names_from_get : (events : List Event) (name : PutName) (s e : ℕ) → IsGe
 names_from_get events name s e g = record { seat = g.seat; content = g.content; ends = g.call.ends }
 
 -- a put has one get
-pub one_get : (events : List Event) (name : PutName) (s t d e : ℕ) → IsGetOf events name s d → IsGetOf events name t e → s ≡ t
-one_get events name s t d e g h =
-    let end : d ≡ e = elim (cases_order d e) [
+pub same_end : (events : List Event) (name : PutName) (s t d e : ℕ) → IsGetOf events name s d → IsGetOf events name t e → d ≡ e
+same_end events name s t d e g h =
+    elim (cases_order d e) [
       | inl same ↦ same
       | inr w ↦ elim w [
         | inl lt ↦ absurd (h.first d lt (names_from_get events name s d g))
         | inr lt ↦ absurd (g.first e lt (names_from_get events name t e h))
       ]
-    ] in
+    ]
+
+pub one_get : (events : List Event) (name : PutName) (s t d e : ℕ) → IsGetOf events name s d → IsGetOf events name t e → s ≡ t
+one_get events name s t d e g h =
+    let end = same_end events name s t d e g h in
     let x = g.call.ends in let y = h.call.ends in
     let seat : g.seat ≡ h.seat = cc in
     let u = g.call.under_way_till in let v = h.call.under_way_till in cc
@@ -152,3 +156,13 @@ pub finished_same : (opening : List (List ℕ)) (events : List Event) (queue e u
 finished_same opening events queue e u f free t =
     tally_same events (IsFinishedAt opening events queue e) (IsFinishedAt opening events queue (e + 1)) u f t
     (finished_later opening events queue e) (λ name h. finished_no_more opening events queue e name free h)
+
+pub tokens_of_queue : (opening : List (List ℕ)) (events : List Event) (queue u f : ℕ) → queue ≡ 0
+    → IsTally events (IsFinishedAt opening events 0 0) u f → IsTally events (IsFinishedAt opening events queue 0) u f
+tokens_of_queue opening events queue u f is t = subst (λ q. IsTally events (IsFinishedAt opening events q 0) u f) (sym is) t
+
+pub no_tokens : (opening : List (List ℕ)) (events : List Event) (queue : ℕ) → (queue ≡ 0 → ⊥) → IsTally events (IsFinishedAt opening events queue 0) 0 0
+no_tokens opening events queue other = tally_none events (IsFinishedAt opening events queue 0) none where
+  none : (name : PutName) → IsFinishedAt opening events queue 0 name → ⊥
+  none (Opening number) h = other h.0
+  none (Of k m) h = (let lt = h.1 in absurd (omega arith))

@@ -1,9 +1,10 @@
 -- Of some puts: how many no End has got, and from which moment on the others are claimed
-use Rattle.std.specs.Prelude.{◌≡◌, ℕ, ◌+◌, ◌<◌, ◌≤◌, ◌⊎◌, max, List}
-use Rattle.scq_hist.specs.Calls.{IsGot, IsGetOf}
+use Rattle.std.specs.Prelude.{◌≡◌, ℕ, ◌+◌, ◌<◌, ◌≤◌, ◌⊎◌, max, List, length}
+use Rattle.scq_hist.specs.Calls.{IsFinishedAt, IsGot, IsGetOf}
 use Rattle.scq_hist.specs.Counts.{IsCount}
 use Rattle.scq_hist.specs.declared.events.Event.{Event}
 use Rattle.scq_hist.specs.declared.events.PutName.{PutName}
+use Rattle.scq_hist.specs.declared.events.PutName.TheVariants.{Opening}
 
 -- one of these puts is got by a get that doesn't start before moment m
 pub record HasLateGet (events : List Event) (Puts : PutName → Type 0) (m : ℕ) : Type 0 where
@@ -36,3 +37,25 @@ pub record AddsGot (events : List Event) (name : PutName) (u f v g : ℕ) : Type
 
 abbrev pub AddsPut : List Event → PutName → ℕ → ℕ → ℕ → ℕ → Type 0
 AddsPut events name u f v g = AddsUngot events name u f v g ⊎ AddsGot events name u f v g
+
+-- the put is got by a get that ended before place e
+pub record IsGotBy (events : List Event) (e : ℕ) (name : PutName) : Type 0 where
+  pub s : ℕ
+  pub d : ℕ
+  pub before : d < e
+  pub get : IsGetOf events name s d
+
+-- the get that ends at place e started at s and has got an opening token
+pub record IsTokenGotAt (opening : List (List ℕ)) (events : List Event) (e s : ℕ) : Type 0 where
+  pub number : ℕ
+  pub token : number < length opening
+  pub get : IsGetOf events (Opening number) s e
+
+pub record NoTokenGotAt (opening : List (List ℕ)) (events : List Event) (e : ℕ) : Type 0 where
+  pub none : (number s : ℕ) → number < length opening → ¬ IsGetOf events (Opening number) s e
+
+-- `got` opening tokens are got by gets that ended before place e, and f is the first moment by which these have started
+pub record TalliesTokens (opening : List (List ℕ)) (events : List Event) (e got f : ℕ) : Type 0 where
+  pub count : IsCount (λ name. IsFinishedAt opening events 0 0 name × IsGotBy events e name) got
+  pub claimed : (name : PutName) (s d : ℕ) → IsFinishedAt opening events 0 0 name → d < e → IsGetOf events name s d → s < f
+  pub least : (m : ℕ) → m < f → HasLateGet events (IsFinishedAt opening events 0 0) m

@@ -1,11 +1,13 @@
-ghost use Rattle.std.specs.Prelude.{◌≡◌, ◌+◌, ◌<◌, ◌≤◌, ◌^◌, ℕ, List, length};
+ghost use Rattle.std.specs.Prelude.{◌≡◌, ◌+◌, ◌<◌, ◌≤◌, ◌^◌, ℕ, List, MatchOption, length};
 ghost use Rattle.scq_hist.specs.Calls.{IsFinishedAt};
 ghost use Rattle.scq_hist.specs.Aspects.{IsLawful};
-ghost use Rattle.scq_hist.specs.Tallies.{IsTally, AddsPut};
+ghost use Rattle.scq_hist.specs.declared.events.Event.{Event};
+ghost use Rattle.scq_hist.specs.Tallies.{IsTally, AddsPut, IsTokenGotAt, NoTokenGotAt};
 
 use crate::calls::done_put;
 use crate::events::{Event, PutName};
-use crate::gets::get_of;
+use crate::gets::{get_ending_at, get_of};
+use scq_word::Bytes;
 
 /// Of some finished puts: how many no End has got, and the first moment by which the gets of the
 /// others have started.
@@ -48,4 +50,78 @@ pub(crate) fn tally_after(tally: Tally, events: &[Event], queue: u32, e: usize) 
         None => tally,
         Some(name) => with_put(tally, events, name),
     }
+}
+
+/// The place of the Start of the get that ends at this place and has got an opening token.
+fn token_got_at(opening: &[Bytes], events: &[Event], e: usize) -> Option<usize>
+    requires lawful { IsLawful events.now }
+    requires within { e < length events.now }
+    ensures { MatchOption result
+        (NoTokenGotAt opening.now events.now e)
+        (IsTokenGotAt opening.now events.now e) }
+{
+    match get_ending_at(events, e) {
+        Some((PutName::Opening { number }, start)) if (number as usize) < opening.len() => {
+            Some(start)
+        }
+        _ => None,
+    }
+}
+
+/// The tally of the opening tokens. Only those that some End names are looked up.
+pub(crate) fn opening_tally(opening: &[Bytes], events: &[Event]) -> Tally
+    requires { IsLawful events.now }
+    ensures few { result.ungot ≤ length opening.now }
+    ensures tally { IsTally events.now (IsFinishedAt opening.now events.now 0 0) result.ungot result.claimed_from }
+{
+    let mut got = 0;
+    let mut claimed_from = 0usize;
+    for e in 0..events.len() {
+        match token_got_at(opening, events, e) {
+            None => {}
+            Some(start) => {
+                got += 1;
+                claimed_from = claimed_from.max(start + 1);
+            }
+        }
+    }
+    Tally {
+        ungot: opening.len() - got,
+        claimed_from,
+    }
+}
+
+/// The puts of this queue that are finished before any event: the opening tokens, in queue 0.
+fn tally_before_all(tokens: Tally, queue: u32) -> Tally
+    ensures few { result.ungot ≤ tokens.ungot }
+    ensures tally { (opening : List (List ℕ)) (events : List Event)
+        → IsTally events (IsFinishedAt opening events 0 0) tokens.ungot tokens.claimed_from
+        → IsTally events (IsFinishedAt opening events queue 0) result.ungot result.claimed_from }
+{
+    if queue == 0 {
+        tokens
+    } else {
+        Tally {
+            ungot: 0,
+            claimed_from: 0,
+        }
+    }
+}
+
+/// The tally of the puts of this queue that are finished at this moment. `tokens` is that of the
+/// opening tokens.
+pub(crate) fn finished_tally(tokens: Tally, events: &[Event], queue: u32, moment: usize) -> Tally
+    requires lawful { IsLawful events.now }
+    requires within { moment ≤ length events.now }
+    requires room { tokens.ungot + length events.now < 2 ^ 64 }
+    ensures few { result.ungot ≤ tokens.ungot + moment }
+    ensures tally { (opening : List (List ℕ))
+        → IsTally events.now (IsFinishedAt opening events.now 0 0) tokens.ungot tokens.claimed_from
+        → IsTally events.now (IsFinishedAt opening events.now queue moment) result.ungot result.claimed_from }
+{
+    let mut tally = tally_before_all(tokens, queue);
+    for e in 0..moment {
+        tally = tally_after(tally, events, queue, e);
+    }
+    tally
 }

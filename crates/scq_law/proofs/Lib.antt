@@ -1,3 +1,9 @@
+pub mod Onto
+pub mod Books
+pub mod Window
+pub mod Flows
+pub mod Keeping
+pub mod Kept
 pub mod Ghosts
 pub mod Events
 pub mod Tale
@@ -24,3 +30,12 @@ pub mod Doing
 pub mod Placings
 pub mod Takings
 pub mod Tied
+pub mod Stances
+pub mod Roots
+pub mod HandLemmas
+pub mod Once
+pub mod Reached
+pub mod Records
+pub mod Throughout
+pub mod PlaceLaws
+pub mod HandLaws

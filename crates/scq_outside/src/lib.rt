@@ -5,10 +5,22 @@
 // in memory tell all; those over std tell nothing, and are the edge that is trusted.
 #![tactic(auto)]
 
+mod disk;
 mod files;
+mod mem_files;
+mod mem_sink;
+mod mem_source;
 mod sink;
 mod source;
+mod std_sink;
+#[cfg(test)]
+mod tests;
 
+pub use disk::{DiskFiles, DiskSource};
 pub use files::Files;
+pub use mem_files::MemFiles;
+pub use mem_sink::MemSink;
+pub use mem_source::MemSource;
 pub use sink::Sink;
 pub use source::{Failed, Source};
+pub use std_sink::StdSink;

@@ -1,6 +1,6 @@
 -- The two facts of slots that everything above uses, and cycles of tickets of one slot.
 use Rattle.std.proofs.Common.{◌≡◌, ℕ, ◌+◌, ◌*◌, ◌/◌, ◌%◌, ◌<◌, ◌≤◌, sym, ◌∙◌, arith, inl, inr}
-use Rattle.std.proofs.Math.Nat.{mul-le-mul_right}
+use Rattle.std.proofs.Math.Nat.{mul-le-mul_right, mod-eq_of_lt}
 use Rattle.std.proofs.lemmas.Bool.{cases_lt}
 use Rattle.std.proofs.lemmas.Nat.{div-mul-add, mod-mul-add, div-add-mod', mod_below, le-div}
 use Rattle.scq_word.specs.Tickets.{cycle_of, slot_of}
@@ -71,3 +71,8 @@ lower_ticket m t u some slot less =
 pub cycle_of-row : (m c i : ℕ) → i < m → cycle_of m (c * m + i) ≡ c
 unfolding cycle_of
 cycle_of-row m c i small = div-mul-add c m i small
+
+-- each slot is that of a ticket
+pub slot_of-onto : (m s : ℕ) → s < m → (t : ℕ) × (slot_of m t ≡ s)
+unfolding slot_of
+slot_of-onto m s low = (s, mod-eq_of_lt low)

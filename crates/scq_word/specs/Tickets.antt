@@ -1,4 +1,4 @@
--- A ticket in a ring of m slots: the turn of the ring that it belongs to, and its slot.
+-- A ticket in a ring of m slots: the round of the ring that it belongs to, and its slot.
 use Rattle.std.specs.Prelude.{ℕ, ◌/◌, ◌%◌}
 
 -- how often the ring was gone round before the ticket

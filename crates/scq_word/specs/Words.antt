@@ -10,12 +10,15 @@ mark_of m = m - 1
 unfoldable pub packed : ℕ → ℕ → ℕ → ℕ → ℕ
 packed m cycle safe index = cycle * (2 * m) + safe * m + index
 
+-- the index, or the mark
 unfoldable pub index_in : ℕ → ℕ → ℕ
 index_in m word = word % m
 
+-- 1 where the entry is safe, else 0
 unfoldable pub safe_in : ℕ → ℕ → ℕ
 safe_in m word = word / m % 2
 
+-- the round of the ring that the entry belongs to
 unfoldable pub cycle_in : ℕ → ℕ → ℕ
 cycle_in m word = word / m / 2
 

@@ -1,5 +1,6 @@
-/// What stands in a slot of a ring: the turn of the ring in which it was put there, whether it may
-/// still be filled out of turn, and an index where it has one.
+/// What stands in a slot of a ring: the round of the ring that it belongs to, whether it is safe, and
+/// an index where it has one. It is unsafe where a dequeue of a later round passed it while an index
+/// stood there; then an enqueue may fill it only where Head is at most its ticket.
 #[derive(Clone, Copy, Debug, PartialEq, Eq)]
 pub struct Entry {
     pub cycle: u64,

@@ -1,0 +1,4 @@
+use Rattle.scq_core.proofs.next.next_of.Goals as goal
+
+pub returns-in-AtE2-clause-part : goal.returns-in-AtE2-clause-part
+returns-in-AtE2-clause-part c beside same p = rw c.in-AtE2.is (c.seen_by_put.ensures.part c.in-AtE2.least beside p)

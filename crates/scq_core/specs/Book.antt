@@ -1,0 +1,54 @@
+-- A state as lists, and the machine's state that it stands for.
+use Rattle.std.specs.Prelude.{ℕ, ◌≡◌, ◌-◌, ◌<◌, List, [], length, All, slice_index_or}
+use Rattle.scq_word.specs.declared.setup.Setup.{Setup}
+use Rattle.scq_core.specs.declared.slot.Slot.{Slot}
+use Rattle.scq_core.specs.Machine.{Cells, Part, Machine}
+use Rattle.scq_core.specs.Table.{size, zero_level}
+use Rattle.scq_core.specs.Start.{unused, idle_part}
+use Rattle.scq_core.specs.Reach.{IsReachable}
+use Rattle.scq_core.specs.Rings.{RingBook}
+
+pub record Book : Type 0 where
+  pub setup : Setup
+  pub rings : List RingBook
+  pub seats : List Part
+  pub opening : List (List ℕ)
+
+-- past the last slot and the last ring stands what was never used
+abbrev pub no_slot : Setup → Slot
+no_slot c = record { word = unused (size c); content = [] }
+
+abbrev pub no_ring : Setup → RingBook
+no_ring c = record { tail = size c; head = size c; threshold = zero_level - 1; slots = [] }
+
+abbrev pub ring_in : Setup → List RingBook → ℕ → RingBook
+ring_in c rings r = slice_index_or rings r (no_ring c)
+
+abbrev pub slot_in : Setup → List RingBook → ℕ → ℕ → Slot
+slot_in c rings r s = slice_index_or (ring_in c rings r).slots s (no_slot c)
+
+abbrev pub cells_of : Setup → List RingBook → Cells
+cells_of c rings =
+    record {
+      tail = λ r. (ring_in c rings r).tail;
+      head = λ r. (ring_in c rings r).head;
+      threshold = λ r. (ring_in c rings r).threshold;
+      entries = record { word = λ r s. (slot_in c rings r s).word; content = λ r s. (slot_in c rings r s).content };
+    }
+
+abbrev pub part_in : List Part → ℕ → Part
+part_in seats k = slice_index_or seats k idle_part
+
+-- the state of the machine
+abbrev pub machine_of : Book → Machine
+machine_of b = record { cells = cells_of b.setup b.rings; part = part_in b.seats; opening = b.opening }
+
+-- every ring has two slots for each index
+abbrev pub HasRings : Setup → List RingBook → Type 0
+HasRings c rings = (length rings ≡ c.rings) × ((r : ℕ) → r < c.rings → length (ring_in c rings r).slots ≡ size c)
+
+-- the lists are as long as the setup says, and steps reach the state
+pub record IsSound (b : Book) : Type 0 where
+  pub rings : HasRings b.setup b.rings
+  pub seats : length b.seats ≡ b.setup.seats
+  pub reachable : IsReachable b.setup (machine_of b)

@@ -1,0 +1,364 @@
+ghost use Rattle.std.specs.Prelude.{◌≡◌, ℕ, ◌<◌, List, None, unwrap_or};
+ghost use Rattle.scq_core.specs.declared.phase.Phase.TheVariants.{AtE2, AtD3};
+ghost use Rattle.scq_word.specs.Entries.{IsIndexOrMark};
+ghost use Rattle.scq_core.specs.Machine.{Part};
+ghost use Rattle.scq_core.specs.Table.{after, stores};
+ghost use Rattle.scq_core.specs.Turn.{copied, part_after, laid_by, IsOfGet, IsReady};
+
+use crate::ended::Ended;
+use crate::phase::Phase;
+use crate::table::{ZERO_LEVEL, reset_level};
+use scq_word::{Bytes, Setup, cycle_of, rank, unpack};
+
+/// What becomes of a seat after a turn: its call goes on or ends, or keeps the ticket that it drew at
+/// or past the limit. Or it has placed an index, which leaves its hand, and `laid` comes to stand
+/// beside the entry; or it takes one, and its call ends so.
+#[derive(Debug, Drop)]
+pub enum Next {
+    Goes(Phase),
+    Ends(Ended),
+    Spends {
+        ring: u32,
+        ticket: u64,
+        put: bool,
+    },
+    Places {
+        ring: u32,
+        index: u32,
+        content: Bytes,
+        ticket: u64,
+        laid: Bytes,
+    },
+    Takes {
+        ring: u32,
+        place: u64,
+        index: u32,
+        content: Bytes,
+    },
+}
+
+/// What becomes of a seat after its turn, which found this word. `copy` is a copy of the content that
+/// the turn may need twice: a put's own where it may place it, and the one beside the entry where it
+/// is taken.
+pub fn next_of(setup: &Setup, turn: Phase, found: u64, copy: Bytes) -> Next
+    requires { IsReady setup.now turn found }
+    ensures part { (beside : List ℕ) → copied turn beside ≡ copy
+        → (p : Part) → after setup.now turn found beside p ≡ part_after result p }
+    ensures laid { (beside : List ℕ) → copied turn beside ≡ copy
+        → unwrap_or (laid_by result) beside ≡ stores turn found beside }
+{
+    match turn {
+        Phase::AtE1 {
+            ring,
+            index,
+            content,
+            ..
+        } => {
+            if found >= setup.limit() {
+                Next::Spends {
+                    ring,
+                    ticket: found,
+                    put: true,
+                }
+            } else {
+                Next::Goes(Phase::AtE2 {
+                    ring,
+                    index,
+                    content,
+                    ticket: found,
+                    least: 0,
+                })
+            }
+        }
+        Phase::AtE2 {
+            ring,
+            index,
+            content,
+            ticket,
+            ..
+        } => seen_by_put(setup, ring, index, content, ticket, found),
+        Phase::AtE3 {
+            ring,
+            index,
+            content,
+            ticket,
+            word,
+        } => {
+            if found <= ticket {
+                Next::Goes(Phase::AtE4 {
+                    ring,
+                    index,
+                    content,
+                    ticket,
+                    word,
+                })
+            } else {
+                Next::Goes(Phase::AtE1 {
+                    ring,
+                    index,
+                    content,
+                    least: ticket + 1,
+                })
+            }
+        }
+        Phase::AtE4 {
+            ring,
+            index,
+            content,
+            ticket,
+            word,
+        } => {
+            if found == word {
+                Next::Places {
+                    ring,
+                    index,
+                    content,
+                    ticket,
+                    laid: copy,
+                }
+            } else {
+                Next::Goes(Phase::AtE2 {
+                    ring,
+                    index,
+                    content,
+                    ticket,
+                    least: rank(unpack(setup.shape(), found)),
+                })
+            }
+        }
+        Phase::AtE5 {
+            ring,
+            index,
+            content,
+            ticket,
+        } => {
+            if found == reset_level(setup) {
+                Next::Ends(Ended::Done {
+                    ring,
+                    place: ticket,
+                    content,
+                })
+            } else {
+                Next::Goes(Phase::AtE6 {
+                    ring,
+                    index,
+                    content,
+                    ticket,
+                })
+            }
+        }
+        Phase::AtE6 {
+            ring,
+            content,
+            ticket,
+            ..
+        } => Next::Ends(Ended::Done {
+            ring,
+            place: ticket,
+            content,
+        }),
+        turn => next_of_get(setup, turn, found, copy),
+    }
+}
+
+// An enqueue has loaded the entry of its slot: it may fill an earlier cycle's entry without an index,
+// where that is safe, or where no dequeue has passed yet.
+fn seen_by_put(
+    setup: &Setup,
+    ring: u32,
+    index: u32,
+    content: Bytes,
+    ticket: u64,
+    found: u64,
+) -> Next
+    requires lawful { ticket < setup.now.limit }
+    requires entry { IsIndexOrMark setup.now.order found }
+    ensures part { (least : ℕ) (beside : List ℕ) (p : Part) → after setup.now (AtE2 ring index content ticket least) found beside p ≡ part_after result p }
+    ensures laid { laid_by result ≡ None }
+{
+    let shape = setup.shape();
+    let entry = unpack(shape, found);
+    if entry.cycle >= cycle_of(shape, ticket) || entry.index.is_some() {
+        Next::Goes(Phase::AtE1 {
+            ring,
+            index,
+            content,
+            least: ticket + 1,
+        })
+    } else if entry.safe {
+        Next::Goes(Phase::AtE4 {
+            ring,
+            index,
+            content,
+            ticket,
+            word: found,
+        })
+    } else {
+        Next::Goes(Phase::AtE3 {
+            ring,
+            index,
+            content,
+            ticket,
+            word: found,
+        })
+    }
+}
+
+// The same for the turns of a dequeue.
+#[tactic(auto, unfolding(crate::specs::Table::zero_level))]
+fn next_of_get(setup: &Setup, turn: Phase, found: u64, copy: Bytes) -> Next
+    requires ready { IsReady setup.now turn found }
+    requires get { IsOfGet turn }
+    ensures part { (beside : List ℕ) → copied turn beside ≡ copy
+        → (p : Part) → after setup.now turn found beside p ≡ part_after result p }
+    ensures laid { (beside : List ℕ) → copied turn beside ≡ copy
+        → unwrap_or (laid_by result) beside ≡ stores turn found beside }
+{
+    match turn {
+        Phase::AtD1 { ring } => {
+            if found < ZERO_LEVEL {
+                Next::Ends(Ended::Nothing { ring })
+            } else {
+                Next::Goes(Phase::AtD2 { ring, least: 0 })
+            }
+        }
+        Phase::AtD2 { ring, .. } => {
+            if found >= setup.limit() {
+                Next::Spends {
+                    ring,
+                    ticket: found,
+                    put: false,
+                }
+            } else {
+                Next::Goes(Phase::AtD3 {
+                    ring,
+                    ticket: found,
+                    least: 0,
+                })
+            }
+        }
+        Phase::AtD3 { ring, ticket, .. } => seen_by_get(setup, ring, ticket, found),
+        Phase::AtD4 { ring, ticket } => {
+            let shape = setup.shape();
+            let index = unpack(shape, found).index.unwrap_or(shape.none());
+            Next::Takes {
+                ring,
+                place: ticket,
+                index,
+                content: copy,
+            }
+        }
+        Phase::AtD5 { ring, ticket, word } => {
+            if found == word {
+                Next::Goes(Phase::AtD6 { ring, ticket })
+            } else {
+                Next::Goes(Phase::AtD3 {
+                    ring,
+                    ticket,
+                    least: rank(unpack(setup.shape(), found)),
+                })
+            }
+        }
+        Phase::AtD6 { ring, ticket } => {
+            if found <= ticket + 1 {
+                Next::Goes(Phase::AtD7 {
+                    ring,
+                    ticket,
+                    from: found,
+                    to: ticket + 1,
+                })
+            } else {
+                Next::Goes(Phase::AtD10 {
+                    ring,
+                    ticket,
+                    leaving: false,
+                })
+            }
+        }
+        Phase::AtD7 {
+            ring,
+            ticket,
+            from,
+            ..
+        } => {
+            if found == from {
+                Next::Goes(Phase::AtD10 {
+                    ring,
+                    ticket,
+                    leaving: true,
+                })
+            } else {
+                Next::Goes(Phase::AtD8 { ring, ticket, from })
+            }
+        }
+        Phase::AtD8 { ring, ticket, from } => Next::Goes(Phase::AtD9 {
+            ring,
+            ticket,
+            from,
+            to: found,
+        }),
+        Phase::AtD9 {
+            ring,
+            ticket,
+            to,
+            ..
+        } => {
+            if found >= to {
+                Next::Goes(Phase::AtD10 {
+                    ring,
+                    ticket,
+                    leaving: true,
+                })
+            } else {
+                Next::Goes(Phase::AtD7 {
+                    ring,
+                    ticket,
+                    from: found,
+                    to,
+                })
+            }
+        }
+        Phase::AtD10 {
+            ring,
+            leaving: true,
+            ..
+        } => Next::Ends(Ended::Nothing { ring }),
+        Phase::AtD10 {
+            ring,
+            ticket,
+            leaving: false,
+        } => {
+            if found <= ZERO_LEVEL {
+                Next::Ends(Ended::Nothing { ring })
+            } else {
+                Next::Goes(Phase::AtD2 {
+                    ring,
+                    least: ticket + 1,
+                })
+            }
+        }
+        _ => unreachable!(),
+    }
+}
+
+// A dequeue has loaded the entry of its slot: of its own cycle it is taken, an earlier one is passed.
+fn seen_by_get(setup: &Setup, ring: u32, ticket: u64, found: u64) -> Next
+    requires { IsIndexOrMark setup.now.order found }
+    ensures part { (least : ℕ) (beside : List ℕ) (p : Part) → after setup.now (AtD3 ring ticket least) found beside p ≡ part_after result p }
+    ensures laid { laid_by result ≡ None }
+{
+    let shape = setup.shape();
+    let cycle = unpack(shape, found).cycle;
+    let own = cycle_of(shape, ticket);
+    if cycle == own {
+        Next::Goes(Phase::AtD4 { ring, ticket })
+    } else if cycle < own {
+        Next::Goes(Phase::AtD5 {
+            ring,
+            ticket,
+            word: found,
+        })
+    } else {
+        Next::Goes(Phase::AtD6 { ring, ticket })
+    }
+}

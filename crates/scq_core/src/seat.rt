@@ -1,0 +1,158 @@
+ghost use Rattle.std.specs.Prelude.{◌≡◌, ℕ, List, ◌<◌, is_some, unwrap_or, IfOk, OnOk, OnErr};
+ghost use Rattle.scq_core.specs.Table.{turn_of, after, stores, without};
+ghost use Rattle.scq_core.specs.Start.{idle_part};
+ghost use Rattle.scq_core.specs.Turn.{copied, IsReady};
+
+use crate::ended::Ended;
+use crate::next::{Next, next_of};
+use crate::phase::Phase;
+use crate::step::Step;
+use scq_word::{Bytes, NoMemory, Setup};
+use std::alloc::Global;
+use std::marker::Model;
+use std::mem;
+
+/// A seat's part: what it is in the middle of, the indices in its hand, the spent ticket that it keeps,
+/// and the record of its ended calls.
+#[derive(Debug, Drop)]
+pub struct Seat {
+    phase: Phase,
+    hand: Vec<u32>,
+    spent: Option<u64>,
+    calls: Vec<Ended>,
+}
+
+impl Model for Seat {
+    ghost use Rattle.scq_core.specs.Machine.{Part};
+
+    ghost Value = { Part };
+
+    ghost view = { λ s. record { phase = s.phase; hand = s.hand.items; spent = s.spent; calls = s.calls.items } };
+}
+
+impl Seat {
+    pub fn idle(alloc: Global) -> Seat
+        ensures { result ≡ idle_part }
+    {
+        Seat {
+            phase: Phase::Idle,
+            hand: Vec::new(alloc),
+            spent: None,
+            calls: Vec::new(alloc),
+        }
+    }
+
+    /// Whether a line of the table allows the step.
+    pub fn allows(&self, setup: &Setup, step: &Step) -> bool
+        ensures { result ≡ is_some (turn_of setup.now self.now step.now) }
+    {
+        match (&self.phase, step) {
+            (Phase::Idle, Step::E1 { ring, index, .. }) => {
+                self.spent.is_none()
+                    && *ring < setup.rings()
+                    && *index < setup.shape().n()
+                    && self.hand.contains(index)
+            }
+            (Phase::Idle, Step::D1 { ring }) => self.spent.is_none() && *ring < setup.rings(),
+            (Phase::AtE1 { .. }, Step::E1Again) => true,
+            (Phase::AtE2 { .. }, Step::E2) => true,
+            (Phase::AtE3 { .. }, Step::E3) => true,
+            (Phase::AtE4 { .. }, Step::E4) => true,
+            (Phase::AtE5 { .. }, Step::E5) => true,
+            (Phase::AtE6 { .. }, Step::E6) => true,
+            (Phase::AtD2 { .. }, Step::D2) => true,
+            (Phase::AtD3 { .. }, Step::D3) => true,
+            (Phase::AtD4 { .. }, Step::D4) => true,
+            (Phase::AtD5 { .. }, Step::D5) => true,
+            (Phase::AtD6 { .. }, Step::D6) => true,
+            (Phase::AtD7 { .. }, Step::D7) => true,
+            (Phase::AtD8 { .. }, Step::D8) => true,
+            (Phase::AtD9 { .. }, Step::D9) => true,
+            (Phase::AtD10 { .. }, Step::D10) => true,
+            _ => false,
+        }
+    }
+
+    /// The turn of a step that is allowed: the one that it begins, or what the seat is in the middle of.
+    pub fn turn<'a>(&'a self, started: &'a Option<Phase>) -> &'a Phase
+        ensures { result.now ≡ unwrap_or started.now self.now.phase }
+    {
+        match started {
+            Some(turn) => turn,
+            None => &self.phase,
+        }
+    }
+
+    /// Makes the turn, which found this word. Answers the content that is to stand beside the entry,
+    /// where the turn placed an index. After an `Err` the seat is unchanged.
+    pub fn proceed(
+        &mut self,
+        setup: &Setup,
+        started: Option<Phase>,
+        found: u64,
+        copy: Bytes,
+    ) -> Result<Option<Bytes>, NoMemory>
+        requires { IsReady setup.now (unwrap_or started self.old.phase) found }
+        ensures part { OnOk result ((beside : List ℕ) → copied (unwrap_or started self.old.phase) beside ≡ copy
+            → self.new ≡ after setup.now (unwrap_or started self.old.phase) found beside self.old) }
+        ensures laid { IfOk result (λ laid. (beside : List ℕ) → copied (unwrap_or started self.old.phase) beside ≡ copy
+            → unwrap_or laid beside ≡ stores (unwrap_or started self.old.phase) found beside) }
+        ensures err { OnErr result (self.new ≡ self.old) }
+    {
+        self.hand.reserve(1)?;
+        self.calls.reserve(1)?;
+        let resting = mem::replace(&mut self.phase, Phase::Idle);
+        let turn = started.unwrap_or(resting);
+        match next_of(setup, turn, found, copy) {
+            Next::Goes(phase) => {
+                self.phase = phase;
+                Ok(None)
+            }
+            Next::Ends(ended) => {
+                self.calls.push_reserved(ended);
+                Ok(None)
+            }
+            Next::Spends { ring, ticket, put } => {
+                self.spent = Some(ticket);
+                self.calls.push_reserved(Ended::Spent { ring, ticket, put });
+                Ok(None)
+            }
+            Next::Places {
+                ring,
+                index,
+                content,
+                ticket,
+                laid,
+            } => {
+                take_out(&mut self.hand, index);
+                self.phase = Phase::AtE5 {
+                    ring,
+                    index,
+                    content,
+                    ticket,
+                };
+                Ok(Some(laid))
+            }
+            Next::Takes {
+                ring,
+                place,
+                index,
+                content,
+            } => {
+                self.hand.push_reserved(index);
+                self.calls.push_reserved(Ended::Got {
+                    ring,
+                    place,
+                    content,
+                });
+                Ok(None)
+            }
+        }
+    }
+}
+
+fn take_out(hand: &mut Vec<u32>, index: u32)
+    ensures { hand.new.items ≡ without index hand.old.items }
+{
+    hand.retain(|held| *held != index);
+}

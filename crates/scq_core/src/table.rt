@@ -1,0 +1,147 @@
+ghost use Rattle.std.specs.Prelude.{◌≡◌, ℕ, ◌<◌};
+ghost use Rattle.scq_word.specs.Sizes.{n_of};
+ghost use Rattle.scq_word.specs.Tickets.{slot_of};
+ghost use Rattle.scq_word.specs.Words.{mark_of, packed, safe_in, cycle_in};
+ghost use Rattle.scq_word.specs.Entries.{IsIndexOrMark};
+ghost use Rattle.scq_core.specs.declared.slot.Place.TheVariants.{Entry as EntryPlace};
+ghost use Rattle.scq_core.specs.Table.{size, cycle, reset_level, passed, writes};
+ghost use Rattle.scq_core.specs.Turn.{ring_of, place_of, IsReady};
+
+use crate::phase::Phase;
+use crate::slot::Place;
+use scq_word::{Entry, Setup, cycle_of, pack, slot_of, unpack};
+
+// The word that stands for a Threshold of 0: it is kept as so much more than its value.
+pub const ZERO_LEVEL: u64 = 1 << 32;
+
+/// The ring that a turn is on; an idle seat is on none.
+pub fn ring_of(turn: &Phase) -> u32
+    ensures { result ≡ ring_of turn.now }
+{
+    match turn {
+        Phase::Idle => 0,
+        Phase::AtE1 { ring, .. } => *ring,
+        Phase::AtE2 { ring, .. } => *ring,
+        Phase::AtE3 { ring, .. } => *ring,
+        Phase::AtE4 { ring, .. } => *ring,
+        Phase::AtE5 { ring, .. } => *ring,
+        Phase::AtE6 { ring, .. } => *ring,
+        Phase::AtD1 { ring } => *ring,
+        Phase::AtD2 { ring, .. } => *ring,
+        Phase::AtD3 { ring, .. } => *ring,
+        Phase::AtD4 { ring, .. } => *ring,
+        Phase::AtD5 { ring, .. } => *ring,
+        Phase::AtD6 { ring, .. } => *ring,
+        Phase::AtD7 { ring, .. } => *ring,
+        Phase::AtD8 { ring, .. } => *ring,
+        Phase::AtD9 { ring, .. } => *ring,
+        Phase::AtD10 { ring, .. } => *ring,
+    }
+}
+
+/// The one word of that ring that the turn reads and writes.
+pub fn place_of(setup: &Setup, turn: &Phase) -> Place
+    ensures { result ≡ place_of setup.now turn.now }
+{
+    match turn {
+        Phase::Idle => Place::Tail,
+        Phase::AtE1 { .. } => Place::Tail,
+        Phase::AtE2 { ticket, .. } => entry_at(setup, *ticket),
+        Phase::AtE3 { .. } => Place::Head,
+        Phase::AtE4 { ticket, .. } => entry_at(setup, *ticket),
+        Phase::AtE5 { .. } => Place::Threshold,
+        Phase::AtE6 { .. } => Place::Threshold,
+        Phase::AtD1 { .. } => Place::Threshold,
+        Phase::AtD2 { .. } => Place::Head,
+        Phase::AtD3 { ticket, .. } => entry_at(setup, *ticket),
+        Phase::AtD4 { ticket, .. } => entry_at(setup, *ticket),
+        Phase::AtD5 { ticket, .. } => entry_at(setup, *ticket),
+        Phase::AtD6 { .. } => Place::Tail,
+        Phase::AtD7 { .. } => Place::Tail,
+        Phase::AtD8 { .. } => Place::Head,
+        Phase::AtD9 { .. } => Place::Tail,
+        Phase::AtD10 { .. } => Place::Threshold,
+    }
+}
+
+fn entry_at(setup: &Setup, ticket: u64) -> Place
+    ensures { result ≡ EntryPlace (slot_of (size setup.now) ticket) }
+{
+    Place::Entry {
+        slot: slot_of(setup.shape(), ticket),
+    }
+}
+
+/// What a turn writes there where it found this word. A turn that only reads writes what it found.
+pub fn written(setup: &Setup, turn: &Phase, found: u64) -> u64
+    requires { IsReady setup.now turn.now found }
+    ensures { result ≡ writes setup.now turn.now found }
+{
+    match turn {
+        Phase::AtE1 { .. } => found + 1,
+        Phase::AtE4 {
+            index,
+            ticket,
+            word,
+            ..
+        } if found == *word => filled(setup, *ticket, *index),
+        Phase::AtE6 { .. } => reset_level(setup),
+        Phase::AtD2 { .. } => found + 1,
+        Phase::AtD4 { .. } => consumed(setup, found),
+        Phase::AtD5 { ticket, word, .. } if found == *word => passed(setup, *ticket, found),
+        Phase::AtD7 { from, to, .. } if found == *from => *to,
+        Phase::AtD10 { .. } => found - 1,
+        _ => found,
+    }
+}
+
+// The word of an index at its ticket.
+fn filled(setup: &Setup, ticket: u64, index: u32) -> u64
+    requires lawful { ticket < setup.now.limit }
+    requires own { index < n_of setup.now.order }
+    ensures { result ≡ packed (size setup.now) (cycle setup.now ticket) 1 index }
+{
+    let shape = setup.shape();
+    let entry = Entry {
+        cycle: cycle_of(shape, ticket),
+        safe: true,
+        index: Some(index),
+    };
+    pack(shape, entry)
+}
+
+// What Threshold is reset to once an index was placed: 3n - 1.
+pub fn reset_level(setup: &Setup) -> u64
+    ensures { result ≡ reset_level setup.now }
+{
+    ZERO_LEVEL + 3 * u64::from(setup.shape().n()) - 1
+}
+
+// A fetch_or of the mark takes the index out, and leaves the cycle and the safe bit.
+fn consumed(setup: &Setup, found: u64) -> u64
+    ensures { result ≡ packed (size setup.now) (cycle_in (size setup.now) found) (safe_in (size setup.now) found) (mark_of (size setup.now)) }
+{
+    found | u64::from(setup.shape().none())
+}
+
+// What a dequeue leaves in an entry of an earlier cycle: without an index it is moved to the cycle of
+// the dequeue's ticket, so that no enqueue with an earlier one fills it; an index is marked unsafe.
+fn passed(setup: &Setup, ticket: u64, found: u64) -> u64
+    requires lawful { ticket < setup.now.limit }
+    requires entry { IsIndexOrMark setup.now.order found }
+    ensures { result ≡ passed setup.now ticket found }
+{
+    let shape = setup.shape();
+    let entry = unpack(shape, found);
+    let left = match entry.index {
+        None => Entry {
+            cycle: cycle_of(shape, ticket),
+            ..entry
+        },
+        Some(_) => Entry {
+            safe: false,
+            ..entry
+        },
+    };
+    pack(shape, left)
+}

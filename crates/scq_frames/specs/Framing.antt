@@ -1,0 +1,78 @@
+-- What contracts see of a framer, and what its calls do.
+use Rattle.std.specs.Prelude.{◌≡◌, ℕ, ◌+◌, ◌-◌, ◌*◌, ◌<◌, Bool, false, IfSome, List, [], ◌++◌, Option, length, map, max, if◌then◌else◌}
+use Rattle.std.specs.Option.{option_map}
+use Rattle.scq_frames.specs.declared.message.Message.{Message}
+use Rattle.scq_frames.specs.Text.{messages_after}
+use Rattle.scq_frames.specs.Numbered.{numbered}
+
+-- a framer as contracts see it
+pub record Framing : Type 0 where
+  -- its file's number, and the most bytes that the file may have
+  pub file : ℕ
+  pub most : ℕ
+  -- how many lines were passed
+  pub line : ℕ
+  -- the bytes that were read and not yet given, and how many were read in all
+  pub held : List ℕ
+  pub read : ℕ
+  -- whether the end was read, and whether a call failed
+  pub ended : Bool
+  pub failed : Bool
+  -- the sum, over the messages given, of one more than the larger of 1 and the payload's length
+  pub weight : ℕ
+
+-- the bytes ahead of a framer whose source has these left: once it read the end it asks for none
+abbrev pub bytes_ahead : Framing → List ℕ → List ℕ
+bytes_ahead f left = f.held ++ (if f.ended then [] else left)
+
+-- the messages ahead of it, with topics numbered so
+abbrev pub messages_ahead : (List ℕ → ℕ) → Framing → List ℕ → List Message
+messages_ahead number f left = map (numbered f.file number) (messages_after f.line (bytes_ahead f left))
+
+-- the messages ahead, where the source tells what it has left
+abbrev pub told_ahead : (List ℕ → ℕ) → Framing → Option (List ℕ) → Option (List Message)
+told_ahead number f left = option_map (messages_ahead number f) left
+
+-- how many bytes there are in all, read and left, where the source tells
+abbrev pub told_size : Framing → Option (List ℕ) → Option ℕ
+told_size f left = option_map (λ bytes. f.read + length bytes) left
+
+-- nothing is left, where the source tells
+abbrev pub NothingLeft : Option (List ℕ) → Type 0
+NothingLeft left = IfSome left (λ bytes. bytes ≡ [])
+
+-- what a message adds to the weight
+abbrev pub weight_of : Message → ℕ
+weight_of m = max 1 (length m.payload) + 1
+
+-- a message that was given is of the framer's file, and its line is the last one passed
+pub record IsNext (old new : Framing) (m : Message) : Type 0 where
+  pub file : m.file ≡ old.file
+  pub above : old.line < m.line
+  pub line : new.line ≡ m.line
+  pub weight : new.weight ≡ old.weight + weight_of m
+
+-- a framer of a file that was not read yet
+abbrev pub fresh : ℕ → ℕ → Framing
+fresh file most = record {
+  file = file;
+  most = most;
+  line = 0;
+  held = [];
+  read = 0;
+  ended = false;
+  failed = false;
+  weight = 0;
+}
+
+-- a read put these many bytes behind those held, and the source has that much less left
+pub record Reads (old new : List ℕ) (before after : Option (List ℕ)) (k : ℕ) : Type 0 where
+  pub bytes : List ℕ
+  pub held : new ≡ old ++ bytes
+  pub count : length bytes ≡ k
+  pub moved : before ≡ option_map (λ rest. bytes ++ rest) after
+  pub end : k ≡ 0 → NothingLeft before
+
+-- how much a framer may still do without giving a message: it falls with each line and each read
+abbrev pub work_left : Framing → ℕ
+work_left f = 2 * (f.most - f.read) + length f.held + (if f.ended then 0 else 1)

@@ -1,0 +1,192 @@
+ghost use Rattle.std.specs.Prelude.{◌≡◌, ◌≢◌, ◌⊎◌, ℕ, ◌+◌, ◌^◌, ◌<◌, ◌≤◌, ◌++◌, [], ◌∷◌, length, take, drop, false, map, IsTrue, IfOk, IfErr, IfSome, IfNone, OnOk, OnErr, IsErrOf, is_err, sum_by};
+ghost use Rattle.std.specs.Option.{option_map, option_to_list};
+ghost use Rattle.scq_outside.specs.Faults.{Rose};
+ghost use Rattle.scq_frames.specs.Numbered.{numbered, undeclared};
+ghost use Rattle.scq_frames.specs.Text.{message_in};
+ghost use Rattle.scq_frames.specs.Lines.{EndsAt, HasNoLineFeed};
+ghost use Rattle.scq_frames.specs.Framing.{Framing, IsNext, NothingLeft, fresh, told_ahead, told_size, weight_of, work_left};
+
+use crate::cut::message_of_line;
+use crate::window::{READ, Window};
+use crate::{FrameFault, Message};
+use scq_outside::Source;
+use scq_word::NoMemory;
+use std::alloc::Global;
+use std::marker::Model;
+
+/// Cuts what a source gives into messages.
+#[derive(Drop)]
+pub struct Framer {
+    alloc: Global,
+    file: u32,
+    most: u64,
+    window: Window,
+    line: u32,
+    read: u64,
+    ended: bool,
+    failed: bool,
+    weight: u64,
+}
+
+impl Model for Framer {
+    ghost use Rattle.scq_frames.specs.Framing.{Framing};
+
+    ghost Value = { Framing };
+
+    ghost use Rattle.scq_frames.specs.Sound.{IsSound, framing};
+
+    ghost view = { framing };
+
+    ghost invariant = { λ f. IsSound (framing f) };
+}
+
+impl Framer {
+    /// A framer of the file of this number, which may have so many bytes and no more.
+    pub fn new(alloc: Global, file: u32, most: u64) -> Result<Framer, NoMemory>
+        requires { most ≤ 2 ^ 30 }
+        ensures { IfOk result (λ framer. framer ≡ fresh file most) }
+    {
+        Ok(Framer {
+            alloc,
+            file,
+            most,
+            window: Window::new(alloc)?,
+            line: 0,
+            read: 0,
+            ended: false,
+            failed: false,
+            weight: 0,
+        })
+    }
+
+    /// Whether a call of `next` answered an `Err`.
+    pub fn failed(&self) -> bool
+        ensures { result ≡ self.now.failed }
+    {
+        self.failed
+    }
+
+    /// The next message, or `None` at the end. After an `Err` the framer has failed.
+    pub fn next<S: Source>(&mut self, source: &mut S) -> Result<Option<Message>, FrameFault>
+        requires { self.old.failed ≡ false }
+
+        // Where the source tells what it has left, the message is the first of those ahead, and
+        // those that are ahead now are the rest. None comes exactly where none is ahead.
+        ensures gives { IfOk result (λ given. told_ahead undeclared self.old (S.left source.old) ≡ option_map (λ rest. option_to_list given ++ rest) (told_ahead undeclared self.new (S.left source.new))) }
+        ensures none { IfOk result (λ given. IfNone given (told_ahead undeclared self.old (S.left source.old) ≡ option_map (λ _. []) (S.left source.old))) }
+
+        // None says, for every source, that the end was read. From then on the source is not touched.
+        ensures over { IfOk result (λ given. IfNone given (IsTrue self.new.ended × (self.new.held ≡ []))) }
+        ensures end { (IsTrue self.old.ended → NothingLeft (S.left source.old)) → IsTrue self.new.ended → NothingLeft (S.left source.new) }
+        ensures ended { IsTrue self.old.ended → source.new ≡ source.old }
+
+        // Of every source, also one that tells nothing, the messages are of the framer's file, their
+        // lines rise, and their weights are at most one more than the limit.
+        ensures next { IfOk result (λ given. IfSome given (IsNext self.old self.new)) }
+        ensures topic { IfOk result (λ given. IfSome given (λ m. m.topic ≡ 0)) }
+        ensures bounded { self.new.weight ≤ self.new.most + 1 }
+        ensures limits { (self.new.file ≡ self.old.file) × (self.new.most ≡ self.old.most) }
+        ensures size { told_size self.new (S.left source.new) ≡ told_size self.old (S.left source.old) }
+        ensures read { OnOk result (self.new.read ≤ self.new.most) }
+
+        ensures read_fault { IsErrOf result FrameFault.ReadFault → Rose (S.faults source.old) (S.faults source.new) }
+        ensures kept { result ≢ Err FrameFault.ReadFault → S.faults source.new ≡ S.faults source.old }
+        ensures too_large { (bytes : ℕ) → IsErrOf result (FrameFault.TooLarge bytes) → (bytes ≡ self.new.most + 1) × (self.new.read ≡ bytes) }
+        ensures failed { self.new.failed ≡ is_err result }
+    {
+        self.failed = true;
+        let given = loop {
+            match self.line_len() {
+                Some(len) => {
+                    if let Some(message) = self.pass(len, len + 1)? {
+                        break Some(message);
+                    }
+                }
+                None => {
+                    if self.has_ended() {
+                        break self.last_line()?;
+                    }
+                    self.read(source)?;
+                }
+            }
+        };
+        self.failed = false;
+        Ok(given)
+    }
+
+    /// The length of the first line that is held, where an LF ends it.
+    fn line_len(&mut self) -> Option<usize>
+        ensures same { self.new ≡ self.old }
+        ensures found { IfSome result (EndsAt self.old.held) }
+        ensures none { IfNone result (HasNoLineFeed self.old.held 0 (length self.old.held)) }
+        ensures small { length self.old.held ≤ 2 ^ 31 }
+    {
+        self.window.line_len()
+    }
+
+    fn has_ended(&self) -> bool
+        ensures { result ≡ self.now.ended }
+    {
+        self.ended
+    }
+
+    /// Passes the first line: `len` bytes, which take `used` with an LF behind them. Answers its
+    /// message, where it has bytes.
+    fn pass(&mut self, len: usize, used: usize) -> Result<Option<Message>, NoMemory>
+        requires within { used ≤ length self.old.held }
+        requires takes { (used ≡ len + 1) ⊎ ((used ≡ len) × (0 < len) × (len ≡ length self.old.held) × IsTrue self.old.ended) }
+        ensures given { IfOk result (λ given. option_to_list given ≡ map (numbered self.old.file undeclared) (message_in (self.old.line + 1) (take len self.old.held))) }
+        ensures passed { IfOk result (λ given. self.new ≡ record self.old { line = self.old.line + 1; held = drop used self.old.held; weight = self.old.weight + sum_by weight_of (option_to_list given) }) }
+        ensures err { OnErr result (self.new ≡ self.old) }
+    {
+        let line = self.line + 1;
+        let given = message_of_line(self.alloc, self.file, line, self.window.front(len))?;
+        if let Some(message) = &given {
+            self.weight += message.payload.bytes().len().max(1) as u64 + 1;
+        }
+        self.line = line;
+        self.window.skip(used);
+        Ok(given)
+    }
+
+    /// Passes the last line, which no LF ends, where it has bytes.
+    fn last_line(&mut self) -> Result<Option<Message>, NoMemory>
+        requires ended { IsTrue self.old.ended }
+        ensures given { IfOk result (λ given. option_to_list given ≡ map (numbered self.old.file undeclared) (message_in (self.old.line + 1) self.old.held)) }
+        ensures none { IfOk result (λ given. IfNone given (self.new ≡ self.old)) }
+        ensures some { IfOk result (λ given. IfSome given (λ m. self.new ≡ record self.old { line = self.old.line + 1; held = []; weight = self.old.weight + weight_of m })) }
+        ensures err { OnErr result (self.new ≡ self.old) }
+    {
+        let len = self.window.len();
+        if len == 0 {
+            return Ok(None);
+        }
+        self.pass(len, len)
+    }
+
+    /// Reads at most `READ` bytes, up to the limit in all, and one more there.
+    fn read<S: Source>(&mut self, source: &mut S) -> Result<(), FrameFault>
+        requires going { self.old.ended ≡ false }
+        requires failing { IsTrue self.old.failed }
+        requires within { self.old.read ≤ self.old.most }
+        ensures same { self.new ≡ record self.old { held = self.new.held; read = self.new.read; ended = self.new.ended } }
+        ensures ahead { OnOk result (told_ahead undeclared self.old (S.left source.old) ≡ told_ahead undeclared self.new (S.left source.new)) }
+        ensures size { told_size self.new (S.left source.new) ≡ told_size self.old (S.left source.old) }
+        ensures end { IsTrue self.new.ended → NothingLeft (S.left source.new) }
+        ensures within { OnOk result (self.new.read ≤ self.new.most) }
+        ensures falls { OnOk result (work_left self.new < work_left self.old) }
+
+        ensures read_fault { IsErrOf result FrameFault.ReadFault → Rose (S.faults source.old) (S.faults source.new) }
+        ensures kept { result ≢ Err FrameFault.ReadFault → S.faults source.new ≡ S.faults source.old }
+        ensures too_large { (bytes : ℕ) → IsErrOf result (FrameFault.TooLarge bytes) → (bytes ≡ self.new.most + 1) × (self.new.read ≡ bytes) }
+    {
+        let ask = (self.most - self.read).clamp(1, READ as u64) as usize;
+        let got = self.window.read(source, ask)?;
+        self.read += got as u64;
+        self.ended = got == 0;
+        if self.read > self.most {
+            return Err(FrameFault::TooLarge { bytes: self.read });
+        }
+        Ok(())
+    }
+}

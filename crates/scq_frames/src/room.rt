@@ -1,0 +1,56 @@
+// The room in which a window's bytes stand: how more of it is made, and how it is read into.
+ghost use Rattle.std.specs.Prelude.{◌≡◌, ℕ, ◌+◌, ◌-◌, ◌<◌, ◌≤◌, ◌++◌, take, slice_range, vec_len, IfOk, IfSome, OnOk, OnErr, []};
+ghost use Rattle.std.specs.Option.{option_map};
+ghost use Rattle.scq_outside.specs.Faults.{Rose};
+
+use scq_outside::{Failed, Source};
+use scq_word::NoMemory;
+
+/// Makes room for so many bytes more behind the held ones, which stand from `start` up to `end`.
+/// Answers where the held bytes begin then: they move only where that makes room enough.
+pub fn make_room(
+    room: &mut Vec<u8>,
+    start: usize,
+    end: usize,
+    more: usize,
+) -> Result<usize, NoMemory>
+    requires ordered { start ≤ end }
+    requires within { end ≤ vec_len room.old }
+    requires small { more ≤ 4096 }
+    ensures held { IfOk result (λ from. slice_range room.new.items from (from + (end - start)) ≡ slice_range room.old.items start end) }
+    ensures enough { IfOk result (λ from. from + (end - start) + more ≤ vec_len room.new) }
+    ensures err { OnErr result (room.new.items ≡ room.old.items) }
+{
+    let len = room.len();
+    if end + more <= len {
+        return Ok(start);
+    }
+    let held = end - start;
+    if held + more <= len {
+        room.copy_within(start..end, 0);
+        return Ok(0);
+    }
+    room.resize(len.saturating_mul(2).saturating_add(more), 0)?;
+    Ok(start)
+}
+
+/// Reads at most so many bytes to a place of the room.
+pub fn read_at<S: Source>(
+    source: &mut S,
+    room: &mut Vec<u8>,
+    at: usize,
+    most: usize,
+) -> Result<usize, Failed>
+    requires some { 0 < most }
+    requires within { at + most ≤ vec_len room.old }
+    ensures before { take at room.new.items ≡ take at room.old.items }
+    ensures len { vec_len room.new ≡ vec_len room.old }
+    ensures most { IfOk result (λ k. k ≤ most) }
+    ensures moved { IfOk result (λ k. S.left source.old ≡ option_map (λ rest. slice_range room.new.items at (at + k) ++ rest) (S.left source.new)) }
+    ensures end { IfOk result (λ k. k ≡ 0 → IfSome (S.left source.old) (λ bytes. bytes ≡ [])) }
+    ensures kept { OnOk result (S.faults source.new ≡ S.faults source.old) }
+    ensures unmoved { OnErr result (S.left source.new ≡ S.left source.old) }
+    ensures rose { OnErr result (Rose (S.faults source.old) (S.faults source.new)) }
+{
+    source.read(&mut room[at..at + most])
+}

@@ -1,0 +1,100 @@
+-- The public law that each index has one home. Plan: a home and a spot of the tickets' states are the same thing.
+use Rattle.std.proofs.Common.{◌≡◌, ◌≢◌, ℕ, ◌<◌, ◌≤◌, true, false, List, [], refl, ap, sym, ◌∙◌, inl, inr, arith, ne_eqb}
+use Rattle.std.proofs.lemmas.Bool.{cases_lt}
+use Rattle.scq_word.specs.declared.setup.Setup.{Setup}
+use Rattle.scq_word.specs.Sizes.{n_of}
+use Rattle.scq_word.specs.Tickets.{slot_of}
+use Rattle.scq_word.specs.Words.{index_in, cycle_in, is_none_in}
+use Rattle.scq_word.proofs.TicketLemmas.{ticket_in, slot_of_small, slot_of-onto, slot_of-ticket_in, cycle_of-ticket_in}
+use Rattle.scq_core.specs.Machine.{Part, Machine}
+use Rattle.scq_core.specs.Table.{size, cycle, holds_index}
+use Rattle.scq_core.specs.Reach.{IsReachable}
+use Rattle.scq_core.proofs.Entries.{some_slots, below_mark}
+use Rattle.scq_law.specs.Hands.{times, Home, hand_of, slot_in, IsHome, IsSeen, OneHand}
+use Rattle.scq_law.proofs.Ghosts.{Ghost, fresh, placed}
+use Rattle.scq_law.proofs.Tale.{story}
+use Rattle.scq_law.proofs.Deed.{Live}
+use Rattle.scq_law.proofs.Booked.{Holds, at_ticket}
+use Rattle.scq_law.proofs.Causes.{live_at}
+use Rattle.scq_law.proofs.Base.{IsBased, based}
+use Rattle.scq_law.proofs.HandLemmas.{times_seen, seen_times}
+use Rattle.scq_law.proofs.Once.{Spot, in_hand, at_place, IsAt, IsOnce}
+use Rattle.scq_law.proofs.Reached.{IsReached}
+use Rattle.scq_law.proofs.Throughout.{once, reached}
+
+-- the home that a spot is
+abbrev home_of : Setup → Spot → Home
+home_of c (in_hand k) = hand_of k
+home_of c (at_place r t) = slot_in r (slot_of (size c) t)
+
+-- a spot of this home, where the index is
+record Spotted (c : Setup) (g : Ghost) (m : Machine) (i : ℕ) (h : Home) : Type 0 where
+  spot : Spot
+  is : IsAt g m i spot
+  home : home_of c spot ≡ h
+
+module _ (c : Setup) (g : Ghost) (m : Machine) (base : IsBased c g m) where
+
+  spotted : (i : ℕ) (h : Home) → i < n_of c.order → IsSeen c m i h → Spotted c g m i h
+  spotted i (hand_of k) low seen =
+      record { spot = in_hand k; is = times_seen (m.part k).hand i seen; home = refl }
+  spotted i (slot_in r s) low seen =
+      let word = m.cells.entries.word in
+      let at = slot_of-onto (size c) s seen.0 in
+      let x = word r s in
+      let q = ticket_in (size c) at.0 (cycle_in (size c) x) in
+      let slot : slot_of (size c) q ≡ s = slot_of-ticket_in (size c) at.0 (cycle_in (size c) x) (some_slots c) ∙ at.1 in
+      let turn : cycle c q ≡ cycle_in (size c) x = cycle_of-ticket_in (size c) at.0 (cycle_in (size c) x) (some_slots c) in
+      let is_x : at_ticket c word r q ≡ x = ap (word r) slot in
+      let index = seen.1 in
+      let mark = below_mark c i low in
+      let some : is_none_in (size c) x ≡ false = ne_eqb _ _ (λ e. omega arith) in
+      let has : Holds c word r q = record { cycle = rw is_x (sym turn); index = rw is_x some } in
+      let live : Live g r q (index_in (size c) (at_ticket c word r q)) = live_at c m.cells.entries g r q base.booked has in
+      let same : index_in (size c) (at_ticket c word r q) ≡ i = ap (index_in (size c)) is_x ∙ index in
+      record { spot = at_place r q; is = moved_to r q _ i same live; home = ap (slot_in r) slot }
+    where
+      moved_to : (r q x i : ℕ) → x ≡ i → Live g r q x → Live g r q i
+      moved_to r q x i same live = rw same at live
+
+  settled : IsOnce c g m → IsReached c g m → (i : ℕ) → i < n_of c.order → (h : Home) × IsHome c m i h
+  settled once reach i low = let was = once.somewhere i low in go was.0 was.1
+    where
+      go : (s : Spot) → IsAt g m i s → (h : Home) × IsHome c m i h
+      go (in_hand k) at =
+          let some = seen_times (m.part k).hand i at in
+          let few = once.single k i in
+          let seat : k < c.seats =
+          elim (cases_lt k c.seats) [
+            | inl low ↦ low
+            | inr high ↦
+                let none : holds_index (m.part k).hand i ≡ false = ap (λ (p : Part). holds_index p.hand i) (reach.absent k high) in
+                absurd (cc)
+          ] in
+          (hand_of k, (seat, omega arith))
+      go (at_place r t) at =
+          let stands = base.booked.stands r t i at.content at.maker at.is at.waits in
+          let ring : r < c.rings =
+          elim (cases_lt r c.rings) [
+            | inl low ↦ low
+            | inr high ↦ let fresh_there = reach.rings r t high in let is = at.is in absurd (cc)
+          ] in
+          (slot_in r (slot_of (size c) t), (ring, slot_of_small (size c) t (some_slots c), stands.index))
+
+-- the law, of every reachable state
+pub one_hand : (c : Setup) (m : Machine) → IsReachable c m → OneHand c m
+one_hand c m reach =
+    let s = story c m reach in
+    let g = s.ghost in
+    let base = based c s.time g m s.tells in
+    let one = once c s.time g m s.tells in
+    let reach_g = reached c s.time g m s.tells in
+    record {
+      home = settled c g m base one reach_g;
+      alone =
+          λ i h l low seen_h seen_l.
+          let a = spotted c g m base i h low seen_h in
+          let b = spotted c g m base i l low seen_l in
+          let same : a.spot ≡ b.spot = one.alone i a.spot b.spot a.is b.is in
+          sym a.home ∙ ap (home_of c) same ∙ b.home;
+    }

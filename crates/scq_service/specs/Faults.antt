@@ -1,0 +1,38 @@
+-- What the program ends with.
+use Rattle.std.specs.Prelude.{ℕ, List, [], ◌++◌, Option, Some, None, codes, decimal}
+use Rattle.scq_service.specs.declared.fault.Fault.{Fault}
+use Rattle.scq_service.specs.declared.fault.Fault.TheVariants.{Words, OpenFault, ReadFault, TooLarge, WriteFault, NoMemory}
+use Rattle.scq_service.specs.declared.fault.WordsFault.{WordsFault}
+use Rattle.scq_service.specs.declared.fault.WordsFault.TheVariants.{NotUnderstood}
+
+-- the status of each fault
+abbrev pub status_of_fault : Fault → ℕ
+status_of_fault (Words fault) = 2
+status_of_fault (OpenFault file) = 3
+status_of_fault (ReadFault file) = 3
+status_of_fault (TooLarge file) = 6
+status_of_fault WriteFault = 4
+status_of_fault NoMemory = 5
+
+-- the status that the program ends with
+abbrev pub status_of : Option Fault → ℕ
+status_of None = 0
+status_of (Some fault) = status_of_fault fault
+
+-- the line about faulty words
+abbrev pub words_line : WordsFault → List ℕ
+words_line NotUnderstood = codes "words not understood\n"
+
+-- the line about a fault
+abbrev pub fault_line : Fault → List ℕ
+fault_line (Words fault) = words_line fault
+fault_line (OpenFault file) = codes "file " ++ decimal file ++ codes ": cannot open\n"
+fault_line (ReadFault file) = codes "file " ++ decimal file ++ codes ": read fault\n"
+fault_line (TooLarge file) = codes "file " ++ decimal file ++ codes ": more than 1073741824 bytes\n"
+fault_line WriteFault = codes "write fault\n"
+fault_line NoMemory = codes "out of memory\n"
+
+-- what is told of the end: the fault's line, or nothing
+abbrev pub end_line : Option Fault → List ℕ
+end_line None = []
+end_line (Some fault) = fault_line fault

@@ -1,0 +1,5 @@
+pub mod Answers
+pub mod Output
+pub mod Words
+pub mod Faults
+pub mod Writing

@@ -1,0 +1,36 @@
+/// Why the words of the command line are refused.
+#[derive(Clone, Copy, Debug, PartialEq, Eq)]
+pub enum WordsFault {
+    NotUnderstood,
+}
+
+/// Why the program ends with another status than 0. Files are numbered from 1.
+#[derive(Clone, Copy, Debug, PartialEq, Eq)]
+pub enum Fault {
+    Words(WordsFault),
+    /// The source of this file wasn't got.
+    OpenFault { file: u32 },
+    /// A read of this file failed.
+    ReadFault { file: u32 },
+    /// This file has more than 2^30 bytes.
+    TooLarge { file: u32 },
+    WriteFault,
+    NoMemory,
+}
+
+impl Fault {
+    ghost use Rattle.std.specs.Prelude.{◌≡◌};
+    ghost use Rattle.scq_service.specs.Faults.{status_of_fault};
+
+    pub fn status(&self) -> u8
+        ensures { result ≡ status_of_fault self.now }
+    {
+        match self {
+            Fault::Words(_) => 2,
+            Fault::OpenFault { .. } | Fault::ReadFault { .. } => 3,
+            Fault::WriteFault => 4,
+            Fault::NoMemory => 5,
+            Fault::TooLarge { .. } => 6,
+        }
+    }
+}

@@ -1,0 +1,35 @@
+ghost use Rattle.std.specs.Prelude.{◌≡◌, ◌++◌, codes, decimal, OnOk, OnErr};
+ghost use Rattle.scq_outside.specs.Faults.{Rose};
+ghost use Rattle.scq_service.specs.Faults.{fault_line};
+ghost use Rattle.scq_service.specs.Writing.{told_with, WrotePart};
+
+use crate::writing::write_all;
+use crate::{Fault, WordsFault};
+use itoa::Buffer;
+use scq_outside::{Failed, Sink};
+
+/// Writes the line about a fault. It takes no memory, so that want of memory can be told too.
+pub fn tell<K: Sink>(sink: &mut K, fault: &Fault) -> Result<(), Failed>
+    ensures whole { OnOk result (K.written sink.new ≡ told_with (K.written sink.old) (fault_line fault.now)) }
+    ensures part { WrotePart (K.written sink.old) (K.written sink.new) (fault_line fault.now) }
+    ensures rose { OnErr result (Rose (K.faults sink.old) (K.faults sink.new)) }
+{
+    match fault {
+        Fault::Words(WordsFault::NotUnderstood) => write_all(sink, b"words not understood\n"),
+        Fault::OpenFault { file } => write_about(sink, *file, b": cannot open\n"),
+        Fault::ReadFault { file } => write_about(sink, *file, b": read fault\n"),
+        Fault::TooLarge { file } => write_about(sink, *file, b": more than 1073741824 bytes\n"),
+        Fault::WriteFault => write_all(sink, b"write fault\n"),
+        Fault::NoMemory => write_all(sink, b"out of memory\n"),
+    }
+}
+
+fn write_about<K: Sink>(sink: &mut K, file: u32, what: &[u8]) -> Result<(), Failed>
+    ensures whole { OnOk result (K.written sink.new ≡ told_with (K.written sink.old) (codes "file " ++ decimal file ++ what.now)) }
+    ensures part { WrotePart (K.written sink.old) (K.written sink.new) (codes "file " ++ decimal file ++ what.now) }
+    ensures rose { OnErr result (Rose (K.faults sink.old) (K.faults sink.new)) }
+{
+    write_all(sink, b"file ")?;
+    write_all(sink, Buffer::new().format(file).as_bytes())?;
+    write_all(sink, what)
+}

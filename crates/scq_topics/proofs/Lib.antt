@@ -1,0 +1,4 @@
+pub mod EntriesRead
+pub mod Found
+pub mod SumRun
+pub mod WordsBegun

@@ -1,0 +1,5 @@
+pub mod Kind
+pub mod Runs
+pub mod Sum
+pub mod Reply
+pub mod Topics

@@ -1,0 +1,38 @@
+ghost use Rattle.std.specs.Prelude.{◌≡◌, IfOk, decimal};
+ghost use Rattle.scq_topics.specs.Reply.{reply_of};
+
+use crate::Kind;
+use crate::sum::token_sum;
+use crate::words::word_count;
+use scq_word::{Bytes, NoMemory};
+use sha2::{Digest, Sha256};
+use std::alloc::Global;
+
+/// The reply to a payload, in one pass over it and one allocation. It fails only for want of
+/// memory.
+pub fn reply(alloc: Global, kind: Kind, payload: &[u8]) -> Result<Bytes, NoMemory>
+    ensures { IfOk result (λ bytes. bytes ≡ reply_of kind payload.now) }
+{
+    match kind {
+        Kind::Len => number(alloc, payload.len() as u64),
+        Kind::Words => number(alloc, word_count(payload) as u64),
+        Kind::Sum => match token_sum(payload) {
+            Some(sum) => number(alloc, sum),
+            None => Bytes::copy_of(alloc, b"bad"),
+        },
+        Kind::Sha256 => digest(alloc, payload),
+        Kind::Echo => Bytes::copy_of(alloc, payload),
+    }
+}
+
+fn number(alloc: Global, n: u64) -> Result<Bytes, NoMemory>
+    ensures { IfOk result (λ bytes. bytes ≡ decimal n) }
+{
+    Ok(Bytes::from(n.to_string(alloc)?.into_bytes()))
+}
+
+fn digest(alloc: Global, payload: &[u8]) -> Result<Bytes, NoMemory>
+    ensures { IfOk result (λ bytes. bytes ≡ reply_of Kind.Sha256 payload.now) }
+{
+    Ok(Bytes::from(hex::encode(alloc, Sha256::digest(payload))?.into_bytes()))
+}
