@@ -39,3 +39,4 @@ pub mod Records
 pub mod Throughout
 pub mod PlaceLaws
 pub mod HandLaws
+pub mod Tidings
