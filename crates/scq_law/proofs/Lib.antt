@@ -40,3 +40,4 @@ pub mod Throughout
 pub mod PlaceLaws
 pub mod HandLaws
 pub mod Tidings
+pub mod Chronicle
