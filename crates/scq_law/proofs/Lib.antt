@@ -41,3 +41,4 @@ pub mod PlaceLaws
 pub mod HandLaws
 pub mod Tidings
 pub mod Chronicle
+pub mod Claiming
