@@ -42,7 +42,7 @@ module _ (c : Setup) (opening : List (List ℕ)) (told : Told) (chron : IsChroni
   abbrev tied : IsToldTied c opening told g
   tied = chron.tied
 
-  abbrev base : IsBased c g told.state
+  abbrev pub base : IsBased c g told.state
   base = based c chron.time g told.state chron.tale
 
   abbrev root : IsRooted g told.state

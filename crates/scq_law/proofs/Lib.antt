@@ -42,3 +42,4 @@ pub mod HandLaws
 pub mod Tidings
 pub mod Chronicle
 pub mod Claiming
+pub mod Ordered
