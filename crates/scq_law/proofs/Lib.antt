@@ -34,3 +34,4 @@ pub mod Records
 pub mod Throughout
 pub mod PlaceLaws
 pub mod HandLaws
+pub mod LaterLaws
