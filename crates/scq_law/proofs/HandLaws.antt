@@ -1,5 +1,5 @@
 -- The public law that each index has one home. Plan: a home and a spot of the tickets' states are the same thing.
-use Rattle.std.proofs.Common.{◌≡◌, ◌≢◌, ℕ, ◌<◌, ◌≤◌, true, false, List, [], refl, ap, sym, ◌∙◌, inl, inr, arith, ne_eqb}
+use Rattle.std.proofs.Common.{◌≡◌, ℕ, ◌<◌, false, refl, ap, sym, ◌∙◌, inl, inr, arith, ne_eqb}
 use Rattle.std.proofs.lemmas.Bool.{cases_lt}
 use Rattle.scq_word.specs.declared.setup.Setup.{Setup}
 use Rattle.scq_word.specs.Sizes.{n_of}
@@ -10,8 +10,8 @@ use Rattle.scq_core.specs.Machine.{Part, Machine}
 use Rattle.scq_core.specs.Table.{size, cycle, holds_index}
 use Rattle.scq_core.specs.Reach.{IsReachable}
 use Rattle.scq_core.proofs.Entries.{some_slots, below_mark}
-use Rattle.scq_law.specs.Hands.{times, Home, hand_of, slot_in, IsHome, IsSeen, OneHand}
-use Rattle.scq_law.proofs.Ghosts.{Ghost, fresh, placed}
+use Rattle.scq_law.specs.Hands.{Home, hand_of, slot_in, IsHome, IsSeen, OneHand}
+use Rattle.scq_law.proofs.Ghosts.{Ghost}
 use Rattle.scq_law.proofs.Tale.{story}
 use Rattle.scq_law.proofs.Deed.{Live}
 use Rattle.scq_law.proofs.Booked.{Holds, at_ticket}
@@ -34,7 +34,6 @@ record Spotted (c : Setup) (g : Ghost) (m : Machine) (i : ℕ) (h : Home) : Type
   home : home_of c spot ≡ h
 
 module _ (c : Setup) (g : Ghost) (m : Machine) (base : IsBased c g m) where
-
   spotted : (i : ℕ) (h : Home) → i < n_of c.order → IsSeen c m i h → Spotted c g m i h
   spotted i (hand_of k) low seen =
       record { spot = in_hand k; is = times_seen (m.part k).hand i seen; home = refl }

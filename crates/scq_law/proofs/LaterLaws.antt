@@ -1,17 +1,15 @@
 -- What was placed stays placed, and what was given up stays given up.
-use Rattle.std.proofs.Common.{◌≡◌, ℕ, ◌+◌, ◌<◌, List, length, true, false, ap, sym, ◌∙◌}
+use Rattle.std.proofs.Common.{◌≡◌, ℕ, ◌+◌, List, length, true, ap}
 use Rattle.scq_word.specs.declared.setup.Setup.{Setup}
 use Rattle.scq_core.specs.Machine.{Machine}
-use Rattle.scq_core.specs.Table.{moved}
 use Rattle.scq_core.specs.Reach.{IsReachable}
 use Rattle.scq_core.proofs.Turns.{turned}
 use Rattle.scq_law.specs.Later.{IsLater, at_once, by_step}
 use Rattle.scq_law.specs.Places.{Maker, GaveUp, IsPlacedBy}
 use Rattle.scq_law.proofs.Ghosts.{Ghost, placed, dead, is_placed}
-use Rattle.scq_law.proofs.Events.{stance_of}
-use Rattle.scq_law.proofs.Tale.{Tale, story, story_step, event_of, ghost_after}
-use Rattle.scq_law.proofs.Base.{IsBased, based}
-use Rattle.scq_law.proofs.Scenes.{Scene, scene}
+use Rattle.scq_law.proofs.Tale.{Tale, story, story_step, ghost_after}
+use Rattle.scq_law.proofs.Base.{based}
+use Rattle.scq_law.proofs.Scenes.{scene}
 use Rattle.scq_law.proofs.Throughout.{recorded}
 use Rattle.scq_law.proofs.PlaceLaws.{placed_by, by_placed, gave_up_dead}
 
