@@ -31,6 +31,7 @@ pub mod HandLemmas
 pub mod Once
 pub mod Reached
 pub mod Records
+pub mod Small
 pub mod Throughout
 pub mod PlaceLaws
 pub mod HandLaws

@@ -167,7 +167,7 @@ once_still c g h m n lives hands once =
     forth i (at_place r p) at = lives.forth r p i at
 
 -- the hands after an event that changes none
-hands_still : (c : Setup) (m : Machine) (g : Ghost) (k : ℕ) (e : Event) (n : Machine) → Deed c m g k e n → hand_by e (m.part k).hand ≡ (m.part k).hand → (j : ℕ) → (n.part j).hand ≡ (m.part j).hand
+pub hands_still : (c : Setup) (m : Machine) (g : Ghost) (k : ℕ) (e : Event) (n : Machine) → Deed c m g k e n → hand_by e (m.part k).hand ≡ (m.part k).hand → (j : ℕ) → (n.part j).hand ≡ (m.part j).hand
 hands_still c m g k e n deed same j =
     elim (cases_eq j k) [
       | inl own ↦ ap (λ x. (n.part x).hand) own ∙ deed.hand ∙ same ∙ ap (λ x. (m.part x).hand) (sym own)
