@@ -1,10 +1,10 @@
 -- Each state of a run has the base group. Plan: a turn's own seat and books are its outcome; what the other seats claim
 -- and know lasts by what stays for them.
-use Rattle.std.proofs.Common.{◌≡◌, ◌≢◌, ℕ, ◌+◌, ◌<◌, List, length, refl, ◌⊎◌, inl, inr}
+use Rattle.std.proofs.Common.{◌≡◌, ◌≢◌, ℕ, List, length, inl, inr}
 use Rattle.std.specs.Prelude.{Some}
 use Rattle.scq_word.specs.declared.setup.Setup.{Setup}
 use Rattle.scq_core.specs.declared.phase.Phase.{Phase}
-use Rattle.scq_core.specs.declared.phase.Phase.TheVariants.{Idle, AtE1, AtE2, AtE3, AtE4, AtE5, AtE6, AtD1, AtD2, AtD3, AtD4, AtD5, AtD6, AtD7, AtD8, AtD9, AtD10}
+use Rattle.scq_core.specs.declared.phase.Phase.TheVariants.{AtE4, AtD4}
 use Rattle.scq_core.specs.declared.step.Step.{Step}
 use Rattle.scq_core.specs.Machine.{Cells, Entries, Part, Machine}
 use Rattle.scq_core.specs.Table.{turn_of, cells_after, moved}
@@ -13,7 +13,7 @@ use Rattle.scq_core.proofs.PutLemmas.{put_cases}
 use Rattle.scq_core.proofs.Turns.{Begins, begins_put, begins_get, begins, awake}
 use Rattle.scq_core.proofs.Steady.{has, steady_turn, steady_start}
 use Rattle.scq_law.proofs.Ghosts.{Ghost}
-use Rattle.scq_law.proofs.Events.{Stance, resting, drawing, putting, landed, seeking, trying, missed, leaving, stance_of}
+use Rattle.scq_law.proofs.Events.{Stance, putting, landed, trying, missed, leaving, stance_of}
 use Rattle.scq_law.proofs.Tale.{Tale, tale_start, tale_step, ghost_after}
 use Rattle.scq_law.proofs.Booked.{IsBooked, IsDrawn, Claims, Knows, Moves}
 use Rattle.scq_law.proofs.Outcomes.{OutcomeOf, outcome}

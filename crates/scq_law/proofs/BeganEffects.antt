@@ -1,13 +1,12 @@
 -- A dequeue draws a ticket, and no entry changes: the books stay, and what the other seats have.
-use Rattle.std.proofs.Common.{◌≡◌, ◌≢◌, ℕ, true, false, inl, inr, ap, sym, ◌∙◌, refl}
+use Rattle.std.proofs.Common.{◌≡◌, ℕ, inl, inr, sym, ◌∙◌, refl}
 use Rattle.scq_word.specs.declared.setup.Setup.{Setup}
 use Rattle.scq_core.specs.Machine.{Entries}
 use Rattle.scq_core.proofs.PutLemmas.{put_entry_or, put_entry_cases}
 use Rattle.scq_law.proofs.Ghosts.{Ghost, unopened, opened, dead, took, waiting, with_get}
-use Rattle.scq_law.proofs.Booked.{IsBooked, Passed, Moves, Effect}
+use Rattle.scq_law.proofs.Booked.{IsBooked, Moves, Effect}
 
 module _ (c : Setup) (e : Entries) (g : Ghost) (k r h : ℕ) (fresh : g.gets r h ≡ unopened) (booked : IsBooked c e g) where
-
   -- what may still be taken is the same as before
   same_waiting : (q p : ℕ) → waiting ((with_get g r h (opened k)).gets q p) ≡ waiting (g.gets q p)
   same_waiting q p =

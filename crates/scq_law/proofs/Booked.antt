@@ -1,17 +1,17 @@
 -- The base group: how the tickets' states and the entries fit together, which tickets are drawn, what each seat has.
-use Rattle.std.specs.Prelude.{◌≡◌, ◌≢◌, ℕ, ◌<◌, ◌≤◌, ◌⊎◌, Bool, true, false, List}
+use Rattle.std.specs.Prelude.{◌≡◌, ◌≢◌, ℕ, ◌<◌, ◌≤◌, ◌⊎◌, true, false, List}
 use Rattle.scq_word.specs.declared.setup.Setup.{Setup}
 use Rattle.scq_word.specs.Sizes.{n_of}
 use Rattle.scq_word.specs.Tickets.{slot_of}
 use Rattle.scq_word.specs.Words.{index_in, safe_in, cycle_in, is_none_in}
 use Rattle.scq_core.specs.declared.phase.Phase.{Phase}
-use Rattle.scq_core.specs.declared.phase.Phase.TheVariants.{Idle, AtE1, AtE2, AtE3, AtE4, AtE5, AtE6, AtD1, AtD2, AtD3, AtD4, AtD5, AtD6, AtD7, AtD8, AtD9, AtD10}
+use Rattle.scq_core.specs.declared.phase.Phase.TheVariants.{AtE4, AtD4}
 use Rattle.scq_core.specs.Machine.{Entries}
 use Rattle.scq_core.specs.Table.{size, cycle}
 use Rattle.scq_core.specs.Laws.{Lags}
 use Rattle.scq_law.specs.Places.{Maker, call_of}
-use Rattle.scq_law.proofs.Ghosts.{Ghost, PutState, GetState, fresh, pending, placed, unopened, opened, dead, took, is_placed, waiting}
-use Rattle.scq_law.proofs.Events.{Stance, resting, drawing, putting, landed, seeking, trying, missed, leaving}
+use Rattle.scq_law.proofs.Ghosts.{Ghost, GetState, fresh, pending, placed, unopened, opened, dead, took, is_placed, waiting}
+use Rattle.scq_law.proofs.Events.{Stance, putting, landed, trying, missed, leaving}
 
 -- the word of a ticket's entry
 abbrev pub at_ticket : Setup → (ℕ → ℕ → ℕ) → ℕ → ℕ → ℕ

@@ -1,19 +1,18 @@
 -- Why an enqueue fails with its ticket at an entry: Head is past the ticket, or a live place of the slot blocks it.
 -- Plan: the ticket of the entry's cycle in this slot. Without an index it is over, so below Head, and no lower than the
 -- ticket; with an index it is live, and it isn't the ticket, which is pending.
-use Rattle.std.proofs.Common.{◌≡◌, ◌≢◌, ℕ, ◌<◌, ◌≤◌, Bool, true, false, ◌&&◌, ◌⊎◌, inl, inr, refl, ap, sym, ◌∙◌, List, arith, lt-ltb}
+use Rattle.std.proofs.Common.{◌≡◌, ◌≢◌, ℕ, ◌<◌, ◌≤◌, true, false, ◌&&◌, ◌⊎◌, inl, inr, refl, ap, sym, List, arith, lt-ltb}
 use Rattle.std.specs.Prelude.{nat_lt}
-use Rattle.std.proofs.lemmas.Bool.{cases_Bool, cases_lt, and_from, ltb-false}
+use Rattle.std.proofs.lemmas.Bool.{cases_Bool, cases_lt, and_from}
 use Rattle.scq_word.specs.declared.setup.Setup.{Setup}
 use Rattle.scq_word.specs.Tickets.{slot_of}
 use Rattle.scq_word.specs.Words.{index_in, cycle_in, is_none_in}
 use Rattle.scq_word.proofs.TicketLemmas.{ticket_in, slot_of-ticket_in, cycle_of-ticket_in, lower_ticket}
 use Rattle.scq_core.specs.Machine.{Entries}
 use Rattle.scq_core.specs.Table.{size, cycle}
-use Rattle.scq_core.specs.Laws.{Drawn}
 use Rattle.scq_core.proofs.Entries.{some_slots}
 use Rattle.scq_law.specs.Places.{Maker}
-use Rattle.scq_law.proofs.Ghosts.{Ghost, PutState, GetState, fresh, pending, failed, placed, unopened, is_placed, waiting}
+use Rattle.scq_law.proofs.Ghosts.{Ghost, PutState, fresh, pending, failed, placed, is_placed, waiting}
 use Rattle.scq_law.proofs.Deed.{Live, Blocks}
 use Rattle.scq_law.proofs.Booked.{IsBooked, IsDrawn, Holds, at_ticket}
 

@@ -1,26 +1,23 @@
 -- Each turn is a deed: what held before its event, and that the state changes as the event says.
-use Rattle.std.proofs.Common.{◌≡◌, ◌≢◌, ℕ, ◌+◌, ◌-◌, ◌<◌, ◌≤◌, Bool, true, false, ◌&&◌, List, [], ◌++◌, length, append-nil, refl, ap, sym, ◌∙◌, ◌⊎◌, inl, inr, arith, eq-eqb, ne_eqb, ltb-true, leb-true, eqb-true}
+use Rattle.std.proofs.Common.{◌≡◌, ℕ, ◌+◌, ◌<◌, true, false, ◌&&◌, List, [], ◌++◌, length, append-nil, refl, sym, ◌∙◌, inl, inr, arith, eq-eqb, ne_eqb, ltb-true, leb-true, eqb-true}
 use Rattle.std.specs.Prelude.{◌==◌, nat_lt, nat_le, Some}
-use Rattle.std.proofs.lemmas.Bool.{cases_Bool, cases_eq, cases_lt, and_parts, and_cases, leb-false, ltb-false}
+use Rattle.std.proofs.lemmas.Bool.{cases_Bool, cases_eq, leb-false, ltb-false}
 use Rattle.scq_word.specs.declared.setup.Setup.{Setup}
-use Rattle.scq_word.specs.Tickets.{slot_of}
-use Rattle.scq_word.specs.Words.{packed, index_in, safe_in, cycle_in, is_none_in}
-use Rattle.scq_word.proofs.TicketLemmas.{ticket_in, slot_of-ticket_in, cycle_of-ticket_in, lower_ticket}
+use Rattle.scq_word.specs.Words.{packed, safe_in, cycle_in, is_none_in}
 use Rattle.scq_core.specs.declared.phase.Phase.{Phase}
 use Rattle.scq_core.specs.declared.phase.Phase.TheVariants.{Idle, AtE1, AtE2, AtE3, AtE4, AtE5, AtE6, AtD1, AtD2, AtD3, AtD4, AtD5, AtD6, AtD7, AtD8, AtD9, AtD10}
 use Rattle.scq_core.specs.declared.step.Step.{Step}
 use Rattle.scq_core.specs.Machine.{Cells, Part, Machine}
 use Rattle.scq_core.specs.Table.{size, cycle, zero_level, reset_level, after, cells_after, turn_of, moved, passed}
-use Rattle.scq_core.specs.Laws.{Busy, Drawn, word_at}
+use Rattle.scq_core.specs.Laws.{Busy, word_at}
 use Rattle.scq_core.proofs.PutLemmas.{put_here, put_else, put_same}
-use Rattle.scq_core.proofs.Entries.{some_slots}
 use Rattle.scq_core.proofs.Turns.{awake}
 use Rattle.scq_core.proofs.Steady.{has}
-use Rattle.scq_law.specs.Places.{Maker, call_of, opening_put}
-use Rattle.scq_law.proofs.Ghosts.{Ghost, PutState, GetState, fresh, pending, failed, placed, unopened, opened, dead, took, is_placed, waiting}
+use Rattle.scq_law.specs.Places.{call_of, opening_put}
+use Rattle.scq_law.proofs.Ghosts.{Ghost, pending, placed, opened, dead}
 use Rattle.scq_law.proofs.Events.{Stance, stance_of, Event, event, stance_by, hand_by, ended_by, kept_by, tail_by, head_by, threshold_by}
 use Rattle.scq_law.proofs.Tale.{event_of}
-use Rattle.scq_law.proofs.Deed.{stance, Live, Blocks, Rests, Proper, Deed}
+use Rattle.scq_law.proofs.Deed.{Rests, Proper, Deed}
 use Rattle.scq_law.proofs.Booked.{IsBooked, IsDrawn, Claims, Knows, Passed, Holds}
 use Rattle.scq_law.proofs.DiedEffects.{died_unplaced}
 use Rattle.scq_law.proofs.LaidEffects.{laid_waits}
@@ -28,7 +25,7 @@ use Rattle.scq_law.proofs.Closing.{closes_later, closes_passed, fills_packed}
 use Rattle.scq_law.proofs.Causes.{placement, fail_cause}
 use Rattle.scq_law.proofs.Outcomes.{found, content}
 use Rattle.scq_law.proofs.Base.{IsBased, turn_claims, turn_knows}
-use Rattle.scq_law.proofs.From.{From, Starts, GoesOn, is_first, is_entry, came_from, goes_from}
+use Rattle.scq_law.proofs.From.{From, is_first, came_from, goes_from}
 
 -- how cells and part of seat k change, as the event e says
 pub record Changes (c : Setup) (m : Cells) (p : Part) (turn : Phase) (e : Event) (n : Cells) (q : Part) : Type 0 where
@@ -135,7 +132,6 @@ abbrev pub ProperOf : Setup → Machine → Ghost → ℕ → Phase → Type 0
 ProperOf c m g k turn = Proper c m g k (event_of c m turn)
 
 module _ (c : Setup) (m : Machine) (g : Ghost) (k : ℕ) (booked : IsBooked c m.cells.entries g) (drawn : IsDrawn c m.cells.tail m.cells.head g) where
-
   abbrev p : Part
   p = m.part k
 

@@ -1,16 +1,16 @@
 -- A dequeue gives its ticket up: it found an entry of a later cycle, or moved or marked an entry of an earlier one.
 -- Plan: what such a write does to a word is one record; from it each fact of the books by where its place is.
-use Rattle.std.proofs.Common.{◌≡◌, ◌≢◌, ℕ, List, ◌<◌, ◌≤◌, ◌⊎◌, inl, inr, Bool, true, false, ap, sym, ◌∙◌, refl, arith}
+use Rattle.std.proofs.Common.{◌≡◌, ◌≢◌, ℕ, List, ◌<◌, ◌≤◌, ◌⊎◌, inl, inr, true, false, ap, sym, ◌∙◌, refl, arith}
 use Rattle.scq_word.specs.declared.setup.Setup.{Setup}
 use Rattle.scq_word.specs.Tickets.{slot_of}
-use Rattle.scq_word.specs.Words.{index_in, safe_in, cycle_in, is_none_in, rank_in}
+use Rattle.scq_word.specs.Words.{index_in, safe_in, cycle_in, is_none_in}
 use Rattle.scq_core.specs.Machine.{Entries, put_entry}
 use Rattle.scq_core.specs.Table.{size, cycle}
 use Rattle.scq_core.specs.Laws.{IsAbove}
 use Rattle.scq_core.proofs.PutLemmas.{put_entry_cases}
 use Rattle.scq_law.specs.Places.{Maker}
 use Rattle.scq_law.proofs.Ghosts.{Ghost, PutState, fresh, pending, failed, GetState, opened, dead, took, placed, is_placed, waiting, with_get}
-use Rattle.scq_law.proofs.Booked.{IsBooked, IsDrawn, Holds, Stands, Shut, Passed, Loaded, Moves, Effect, at_ticket}
+use Rattle.scq_law.proofs.Booked.{IsBooked, Holds, Stands, Shut, Passed, Loaded, Moves, Effect, at_ticket}
 use Rattle.scq_law.proofs.Risen.{came_back, below_cycle}
 use Rattle.scq_law.proofs.Placing.{Here, Beside, Apart, places}
 
@@ -30,7 +30,6 @@ abbrev pub reworded : Setup → Entries → ℕ → ℕ → ℕ → Entries
 reworded c e r t z = record { word = put_entry e.word r (slot_of (size c) t) z; content = e.content }
 
 module _ (c : Setup) (e : Entries) (g : Ghost) (k r h z : ℕ) (mine : g.gets r h ≡ opened k) (closes : Closes (size c) (at_ticket c e.word r h) z (cycle c h)) (booked : IsBooked c e g) where
-
   -- no index stands at the ticket, before and after
   not_there : Holds c e.word r h → ⊥
   not_there has = closes.away has.cycle
@@ -48,15 +47,15 @@ module _ (c : Setup) (e : Entries) (g : Ghost) (k r h z : ℕ) (mine : g.gets r 
   -- an index that stands at another ticket of the slot stands there before and after
   was_beside : (p : ℕ) → slot_of (size c) p ≡ slot_of (size c) h → cycle c p ≢ cycle c h → cycle_in (size c) z ≡ cycle c p → is_none_in (size c) z ≡ false → Holds c e.word r p
   was_beside p slot turn at has =
-    let old : is_none_in (size c) (at_ticket c e.word r h) ≡ false = sym closes.none ∙ has in
-    let same = (closes.full old).0 in
-    record { cycle = rw slot (sym same ∙ at); index = rw slot old }
+      let old : is_none_in (size c) (at_ticket c e.word r h) ≡ false = sym closes.none ∙ has in
+      let same = (closes.full old).0 in
+      record { cycle = rw slot (sym same ∙ at); index = rw slot old }
 
   is_beside : (p : ℕ) → slot_of (size c) p ≡ slot_of (size c) h → Holds c e.word r p → (cycle_in (size c) z ≡ cycle c p) × (is_none_in (size c) z ≡ false)
   is_beside p slot has =
-    let old : is_none_in (size c) (at_ticket c e.word r h) ≡ false = rw slot at has.index in
-    let at : cycle_in (size c) (at_ticket c e.word r h) ≡ cycle c p = rw slot at has.cycle in
-    ((closes.full old).0 ∙ at, closes.none ∙ old)
+      let old : is_none_in (size c) (at_ticket c e.word r h) ≡ false = rw slot at has.index in
+      let at : cycle_in (size c) (at_ticket c e.word r h) ≡ cycle c p = rw slot at has.cycle in
+      ((closes.full old).0 ∙ at, closes.none ∙ old)
 
   abbrev place : (q p : ℕ) → Here ℕ GetState c e.word z g.gets dead r h q p ⊎ (Beside ℕ GetState c e.word z g.gets dead r h q p ⊎ Apart ℕ GetState c e.word z g.gets dead r h q p)
   place q p = places c e.word z g.gets dead r h q p

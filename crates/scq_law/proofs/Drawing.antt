@@ -1,7 +1,6 @@
 -- Which tickets are drawn, over a turn: counters only rise, and a ticket whose state changes is below its counter.
-use Rattle.std.proofs.Common.{◌≡◌, ℕ, ◌<◌, ◌≤◌, inl, inr, arith}
+use Rattle.std.proofs.Common.{◌≡◌, ℕ, ◌≤◌, arith}
 use Rattle.scq_word.specs.declared.setup.Setup.{Setup}
-use Rattle.scq_core.specs.Table.{size}
 use Rattle.scq_core.specs.Machine.{Cells}
 use Rattle.scq_core.specs.Laws.{CountersRise, Drawn}
 use Rattle.scq_core.proofs.PutLemmas.{put_entry_cases}

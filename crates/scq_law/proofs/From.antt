@@ -9,7 +9,7 @@ use Rattle.scq_core.specs.declared.step.Step.TheVariants.{E1, E1Again, E2, E3, E
 use Rattle.scq_core.specs.Machine.{Part}
 use Rattle.scq_core.specs.Table.{turn_at, turn_of}
 use Rattle.scq_core.proofs.Turns.{Begins, begins_put, begins_get, begins}
-use Rattle.scq_law.proofs.Events.{Stance, resting, stance_of}
+use Rattle.scq_law.proofs.Events.{resting, stance_of}
 
 -- a first step of a call; a dequeue's never is what a seat rests at
 abbrev pub is_first : Phase → Bool

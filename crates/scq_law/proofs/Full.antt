@@ -1,20 +1,19 @@
 -- The start, with ring 0 full, has all of the base group.
 -- Plan: by induction on the count of filled slots, what stands in a slot; then each ticket by where it is.
-use Rattle.std.proofs.Common.{◌≡◌, ◌≢◌, ℕ, ◌+◌, ◌-◌, ◌*◌, ◌<◌, ◌≤◌, zero, suc, Bool, true, false, ◌&&◌, List, [], length, refl, ap, sym, ◌∙◌, ◌⊎◌, inl, inr, arith, eq-eqb, ne_eqb, eqb-true, leb-true, ltb-true, lt-ltb, le-leb}
-use Rattle.std.specs.Prelude.{◌==◌, if◌then◌else◌, nat_lt, nat_le, slice_index_or}
-use Rattle.std.proofs.lemmas.Bool.{cases_Bool, cases_eq, cases_lt, and_parts, and_from}
+use Rattle.std.proofs.Common.{◌≡◌, ◌≢◌, ℕ, ◌+◌, ◌-◌, ◌*◌, ◌<◌, ◌≤◌, zero, suc, true, false, ◌&&◌, List, [], refl, ap, sym, ◌∙◌, ◌⊎◌, inl, inr, arith, eq-eqb, ne_eqb, eqb-true, leb-true, ltb-true, lt-ltb, le-leb}
+use Rattle.std.specs.Prelude.{◌==◌, nat_lt, nat_le, slice_index_or}
+use Rattle.std.proofs.lemmas.Bool.{cases_Bool, cases_eq, and_parts, and_from}
 use Rattle.scq_word.specs.declared.setup.Setup.{Setup}
 use Rattle.scq_word.specs.Sizes.{n_of}
-use Rattle.scq_word.specs.Tickets.{cycle_of, slot_of}
-use Rattle.scq_word.specs.Words.{mark_of, packed, index_in, safe_in, cycle_in, is_none_in}
+use Rattle.scq_word.specs.Tickets.{slot_of}
+use Rattle.scq_word.specs.Words.{mark_of, packed, cycle_in, is_none_in}
 use Rattle.scq_word.proofs.TicketLemmas.{same_ticket, cycle_of-row, cycle_of_mono}
 use Rattle.scq_word.proofs.WordLemmas.{index_in-packed, cycle_in-packed}
-use Rattle.scq_core.specs.Machine.{Machine}
 use Rattle.scq_core.specs.Table.{size, cycle}
-use Rattle.scq_core.specs.Start.{unused, filled, filled_contents, start_cells, start_of}
+use Rattle.scq_core.specs.Start.{unused, filled, filled_contents, start_cells}
 use Rattle.scq_core.proofs.Entries.{some_slots, some_indices, below_mark, none_in-marked, none_in-filled}
 use Rattle.scq_law.specs.Places.{Maker, opening_put}
-use Rattle.scq_law.proofs.Ghosts.{Ghost, PutState, fresh, placed, is_placed, stood, start_ghost}
+use Rattle.scq_law.proofs.Ghosts.{fresh, placed, is_placed, stood, start_ghost}
 use Rattle.scq_law.proofs.Booked.{IsBooked, IsDrawn, Holds, Stands, at_ticket}
 
 -- in a slot stands an index below the count at its place, with its content, or nothing, and it is the slot of no such place
@@ -76,7 +75,10 @@ stands_at c opening r t =
           let two = and_parts (r == 0) (nat_le (size c) t) both.0 in
           inl
           (record {
-            ring = eqb-true r 0 two.0; first = leb-true (size c) t two.1; last = ltb-true t (size c + n_of c.order) both.1; is = rw holds refl;
+            ring = eqb-true r 0 two.0;
+            first = leb-true (size c) t two.1;
+            last = ltb-true t (size c + n_of c.order) both.1;
+            is = rw holds refl;
           })
       | inr fails ↦
           inr
@@ -107,7 +109,6 @@ one_place c t j first last low slot =
     same_ticket (size c) t (size c + j) slot (turn ∙ sym turn_j)
 
 module _ (c : Setup) (opening : List (List ℕ)) where
-
   -- the words of an unused entry and of a filled one
   none_unused : is_none_in (size c) (unused (size c)) ≡ true
   none_unused = none_in-marked (size c) 0 1 (some_slots c)

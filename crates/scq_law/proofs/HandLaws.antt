@@ -1,5 +1,5 @@
 -- The public law that each index has one home. Plan: a home and a spot of the tickets' states are the same thing.
-use Rattle.std.proofs.Common.{◌≡◌, ◌≢◌, ℕ, ◌<◌, ◌≤◌, true, false, List, [], refl, ap, sym, ◌∙◌, inl, inr, arith, ne_eqb}
+use Rattle.std.proofs.Common.{◌≡◌, ℕ, ◌<◌, false, refl, ap, sym, ◌∙◌, inl, inr, arith, ne_eqb}
 use Rattle.std.proofs.lemmas.Bool.{cases_lt}
 use Rattle.scq_word.specs.declared.setup.Setup.{Setup}
 use Rattle.scq_word.specs.Sizes.{n_of}
@@ -10,8 +10,8 @@ use Rattle.scq_core.specs.Machine.{Part, Machine}
 use Rattle.scq_core.specs.Table.{size, cycle, holds_index}
 use Rattle.scq_core.specs.Reach.{IsReachable}
 use Rattle.scq_core.proofs.Entries.{some_slots, below_mark}
-use Rattle.scq_law.specs.Hands.{times, Home, hand_of, slot_in, IsHome, IsSeen, OneHand}
-use Rattle.scq_law.proofs.Ghosts.{Ghost, fresh, placed}
+use Rattle.scq_law.specs.Hands.{Home, hand_of, slot_in, IsHome, IsSeen, OneHand}
+use Rattle.scq_law.proofs.Ghosts.{Ghost}
 use Rattle.scq_law.proofs.Tale.{story}
 use Rattle.scq_law.proofs.Deed.{Live}
 use Rattle.scq_law.proofs.Booked.{Holds, at_ticket}
@@ -20,7 +20,7 @@ use Rattle.scq_law.proofs.Base.{IsBased, based}
 use Rattle.scq_law.proofs.HandLemmas.{times_seen, seen_times}
 use Rattle.scq_law.proofs.Once.{Spot, in_hand, at_place, IsAt, IsOnce}
 use Rattle.scq_law.proofs.Reached.{IsReached}
-use Rattle.scq_law.proofs.Throughout.{once, reached}
+use Rattle.scq_law.proofs.Throughout.{once, reached, small}
 
 -- the home that a spot is
 abbrev home_of : Setup → Spot → Home
@@ -34,25 +34,29 @@ record Spotted (c : Setup) (g : Ghost) (m : Machine) (i : ℕ) (h : Home) : Type
   home : home_of c spot ≡ h
 
 module _ (c : Setup) (g : Ghost) (m : Machine) (base : IsBased c g m) where
-
-  spotted : (i : ℕ) (h : Home) → i < n_of c.order → IsSeen c m i h → Spotted c g m i h
-  spotted i (hand_of k) low seen =
-      record { spot = in_hand k; is = times_seen (m.part k).hand i seen; home = refl }
-  spotted i (slot_in r s) low seen =
+  -- the place at which the index of an entry stands
+  stood_at : (r s : ℕ) → s < size c → is_none_in (size c) (m.cells.entries.word r s) ≡ false → (q : ℕ) × Live g r q (index_in (size c) (m.cells.entries.word r s)) × (slot_of (size c) q ≡ s)
+  stood_at r s low some =
       let word = m.cells.entries.word in
-      let at = slot_of-onto (size c) s seen.0 in
+      let at = slot_of-onto (size c) s low in
       let x = word r s in
       let q = ticket_in (size c) at.0 (cycle_in (size c) x) in
       let slot : slot_of (size c) q ≡ s = slot_of-ticket_in (size c) at.0 (cycle_in (size c) x) (some_slots c) ∙ at.1 in
       let turn : cycle c q ≡ cycle_in (size c) x = cycle_of-ticket_in (size c) at.0 (cycle_in (size c) x) (some_slots c) in
       let is_x : at_ticket c word r q ≡ x = ap (word r) slot in
-      let index = seen.1 in
-      let mark = below_mark c i low in
-      let some : is_none_in (size c) x ≡ false = ne_eqb _ _ (λ e. omega arith) in
       let has : Holds c word r q = record { cycle = rw is_x (sym turn); index = rw is_x some } in
       let live : Live g r q (index_in (size c) (at_ticket c word r q)) = live_at c m.cells.entries g r q base.booked has in
-      let same : index_in (size c) (at_ticket c word r q) ≡ i = ap (index_in (size c)) is_x ∙ index in
-      record { spot = at_place r q; is = moved_to r q _ i same live; home = ap (slot_in r) slot }
+      (q, rw is_x at live, slot)
+
+  spotted : (i : ℕ) (h : Home) → i < n_of c.order → IsSeen c m i h → Spotted c g m i h
+  spotted i (hand_of k) low seen =
+      record { spot = in_hand k; is = times_seen (m.part k).hand i seen; home = refl }
+  spotted i (slot_in r s) low seen =
+      let index = seen.1 in
+      let mark = below_mark c i low in
+      let some : is_none_in (size c) (m.cells.entries.word r s) ≡ false = ne_eqb _ _ (λ e. omega arith) in
+      let at = stood_at r s seen.0 some in
+      record { spot = at_place r at.0; is = moved_to r at.0 _ i index at.1; home = ap (slot_in r) at.2 }
     where
       moved_to : (r q x i : ℕ) → x ≡ i → Live g r q x → Live g r q i
       moved_to r q x i same live = rw same at live
@@ -89,6 +93,7 @@ one_hand c m reach =
     let base = based c s.time g m s.tells in
     let one = once c s.time g m s.tells in
     let reach_g = reached c s.time g m s.tells in
+    let few = small c s.time g m s.tells in
     record {
       home = settled c g m base one reach_g;
       alone =
@@ -97,4 +102,9 @@ one_hand c m reach =
           let b = spotted c g m base i l low seen_l in
           let same : a.spot ≡ b.spot = one.alone i a.spot b.spot a.is b.is in
           sym a.home ∙ ap (home_of c) same ∙ b.home;
+      in_hands = λ i k some. few.hands k i (times_seen (m.part k).hand i some);
+      in_entries =
+          λ r s low some.
+          let live = stood_at c g m base r s low some in
+          few.places r live.0 (index_in (size c) (m.cells.entries.word r s)) live.1.content live.1.maker live.1.is;
     }

@@ -1,19 +1,18 @@
 -- An enqueue places its index at its ticket, in an entry without an index and of an earlier cycle.
 -- Plan: first the ticket's own get can neither have been given up nor taken; then the books by where a place is.
-use Rattle.std.proofs.Common.{◌≡◌, ◌≢◌, ℕ, List, ◌<◌, ◌≤◌, ◌⊎◌, inl, inr, Bool, true, false, ap, sym, ◌∙◌, refl, arith}
+use Rattle.std.proofs.Common.{◌≡◌, ℕ, List, ◌<◌, ◌⊎◌, inl, inr, true, false, ap, sym, ◌∙◌, refl, arith}
 use Rattle.scq_word.specs.declared.setup.Setup.{Setup}
 use Rattle.scq_word.specs.Sizes.{n_of}
 use Rattle.scq_word.specs.Tickets.{slot_of}
-use Rattle.scq_word.specs.Words.{index_in, safe_in, cycle_in, is_none_in}
+use Rattle.scq_word.specs.Words.{index_in, cycle_in, is_none_in}
 use Rattle.scq_word.proofs.TicketLemmas.{lower_ticket}
 use Rattle.scq_core.specs.Machine.{Entries, put_entry}
 use Rattle.scq_core.specs.Table.{size, cycle}
-use Rattle.scq_core.specs.Laws.{IsAbove}
 use Rattle.scq_core.proofs.PutLemmas.{put_entry_cases, put_entry_here, put_entry_or}
 use Rattle.scq_core.proofs.Entries.{some_slots}
 use Rattle.scq_law.specs.Places.{Maker}
-use Rattle.scq_law.proofs.Ghosts.{Ghost, PutState, GetState, unopened, opened, dead, took, placed, fresh, pending, failed, is_placed, waiting, with_put}
-use Rattle.scq_law.proofs.Booked.{IsBooked, Holds, Stands, Shut, Passed, Loaded, Moves, Effect, at_ticket}
+use Rattle.scq_law.proofs.Ghosts.{Ghost, PutState, GetState, unopened, opened, dead, took, placed, pending, is_placed, waiting, with_put}
+use Rattle.scq_law.proofs.Booked.{IsBooked, Holds, Stands, Passed, Moves, Effect, at_ticket}
 use Rattle.scq_law.proofs.Placing.{Here, Beside, Apart, places}
 
 -- a word e without an index and of a cycle before d becomes z, which has the index i at the cycle d and is safe
@@ -30,7 +29,6 @@ refilled c e r t z w =
     record { word = put_entry e.word r (slot_of (size c) t) z; content = put_entry e.content r (slot_of (size c) t) w }
 
 module _ (c : Setup) (e : Entries) (g : Ghost) (k r t i z : ℕ) (w : List ℕ) (b : Maker) (mine : g.puts r t ≡ pending k i) (small : i < n_of c.order) (fills : Fills (size c) (at_ticket c e.word r t) z (cycle c t) i) (passed : Passed c e.word g.gets r t (at_ticket c e.word r t)) (booked : IsBooked c e g) where
-
   -- a ticket of the slot that was given up is lower
   gone_lower : (p : ℕ) → slot_of (size c) p ≡ slot_of (size c) t → g.gets r p ≡ dead → cycle c p < cycle c t
   gone_lower p slot gone =

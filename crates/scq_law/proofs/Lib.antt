@@ -36,6 +36,7 @@ pub mod HandLemmas
 pub mod Once
 pub mod Reached
 pub mod Records
+pub mod Small
 pub mod Throughout
 pub mod PlaceLaws
 pub mod HandLaws
@@ -43,3 +44,4 @@ pub mod Tidings
 pub mod Chronicle
 pub mod Claiming
 pub mod Ordered
+pub mod LaterLaws

@@ -1,6 +1,6 @@
 -- Each index is at one spot: in one hand, once, or live at one place. Plan: an event that moves no index keeps the spots;
 -- a put that places moves its index from its hand to the place, and a get that takes moves it back.
-use Rattle.std.proofs.Common.{◌≡◌, ◌≢◌, ℕ, ◌+◌, ◌-◌, ◌<◌, ◌≤◌, Bool, true, false, List, [], ◌∷◌, ◌++◌, length, refl, ap, sym, ◌∙◌, ◌⊎◌, inl, inr, arith, ne_eqb}
+use Rattle.std.proofs.Common.{◌≡◌, ◌≢◌, ℕ, ◌+◌, ◌-◌, ◌<◌, ◌≤◌, true, false, List, [], ◌∷◌, ◌++◌, length, refl, ap, sym, ◌∙◌, ◌⊎◌, inl, inr, arith, ne_eqb}
 use Rattle.std.specs.Prelude.{slice_index_or, ◌==◌}
 use Rattle.std.proofs.lemmas.Bool.{cases_Bool, cases_eq}
 use Rattle.scq_word.specs.declared.setup.Setup.{Setup}
@@ -8,16 +8,15 @@ use Rattle.scq_word.specs.Sizes.{n_of}
 use Rattle.scq_core.specs.Machine.{Part, Machine}
 use Rattle.scq_core.specs.Table.{size, without, holds_index}
 use Rattle.scq_core.specs.Start.{start_of}
-use Rattle.scq_core.proofs.PutLemmas.{put_entry_or, put_entry_here, put_entry_cases}
-use Rattle.scq_core.proofs.Entries.{some_indices}
+use Rattle.scq_core.proofs.PutLemmas.{put_entry_or, put_entry_here}
 use Rattle.scq_law.specs.Places.{Maker, call_of, opening_put}
 use Rattle.scq_law.specs.Hands.{times}
-use Rattle.scq_law.proofs.Ghosts.{Ghost, PutState, GetState, fresh, pending, failed, placed, unopened, opened, dead, took, is_placed, waiting, stood, start_ghost, with_put, with_get}
-use Rattle.scq_law.proofs.Events.{Stance, Event, calm, drew, fell, laid, finished, entered, refused, began, died, saw_end, lifted, taken, lowered, emptied, overran, hand_by}
+use Rattle.scq_law.proofs.Ghosts.{Ghost, PutState, GetState, pending, failed, placed, opened, dead, took, is_placed, waiting, start_ghost, with_put, with_get}
+use Rattle.scq_law.proofs.Events.{Event, drew, fell, laid, began, died, taken, hand_by}
 use Rattle.scq_law.proofs.Deed.{Live, Deed}
 use Rattle.scq_law.proofs.Full.{stands_at}
 use Rattle.scq_law.proofs.Scenes.{Scene, ghost_next}
-use Rattle.scq_law.proofs.HandLemmas.{holds_without, without_holds, holds_pushed, pushed_holds, pushed_here, unseen_times, seen_times, times_seen, times-append, times-without}
+use Rattle.scq_law.proofs.HandLemmas.{holds_without, without_holds, holds_pushed, pushed_holds, pushed_here, unseen_times, times-append, times-without}
 
 pub data Spot : Type 0 where
   in_hand : (seat : ℕ) → Spot
@@ -54,10 +53,12 @@ once_start c opening =
               cc
           | inr s ↦ let is = live.is in let at = s.is in absurd (cc)
         ]
+
     start_alone : (i : ℕ) (s z : Spot) → IsAt (start_ghost c opening) (start_of c opening) i s → IsAt (start_ghost c opening) (start_of c opening) i z → s ≡ z
     start_alone i (in_hand k) z at_s at_z = absurd (cc)
     start_alone i (at_place r t) (in_hand k) at_s at_z = absurd (cc)
     start_alone i (at_place r t) (at_place q p) at_s at_z = start_at r t i at_s ∙ sym (start_at q p i at_z)
+
     start_live : (i : ℕ) → i < n_of c.order → Live (start_ghost c opening) 0 (size c + i) i
     start_live i low =
         elim (stands_at c opening 0 (size c + i)) [
@@ -138,7 +139,10 @@ lives_get g r h x either =
                   | inr same ↦
                       let old : waiting (g.gets r h) ≡ true = rw (a.0, a.1) at live.waits in
                       record {
-                        content = live.content; maker = live.maker; is = live.is; waits = ap waiting a.2 ∙ same ∙ old;
+                        content = live.content;
+                        maker = live.maker;
+                        is = live.is;
+                        waits = ap waiting a.2 ∙ same ∙ old;
                       }
                 ]
             | inr a ↦ record { content = live.content; maker = live.maker; is = live.is; waits = ap waiting a.1 ∙ live.waits }
@@ -157,12 +161,13 @@ once_still c g h m n lives hands once =
     back : (i : ℕ) (s : Spot) → IsAt h n i s → IsAt g m i s
     back i (in_hand k) at = ap (λ x. holds_index x i) (sym (hands k)) ∙ at
     back i (at_place r p) at = lives.back r p i at
+
     forth : (i : ℕ) (s : Spot) → IsAt g m i s → IsAt h n i s
     forth i (in_hand k) at = ap (λ x. holds_index x i) (hands k) ∙ at
     forth i (at_place r p) at = lives.forth r p i at
 
 -- the hands after an event that changes none
-hands_still : (c : Setup) (m : Machine) (g : Ghost) (k : ℕ) (e : Event) (n : Machine) → Deed c m g k e n → hand_by e (m.part k).hand ≡ (m.part k).hand → (j : ℕ) → (n.part j).hand ≡ (m.part j).hand
+pub hands_still : (c : Setup) (m : Machine) (g : Ghost) (k : ℕ) (e : Event) (n : Machine) → Deed c m g k e n → hand_by e (m.part k).hand ≡ (m.part k).hand → (j : ℕ) → (n.part j).hand ≡ (m.part j).hand
 hands_still c m g k e n deed same j =
     elim (cases_eq j k) [
       | inl own ↦ ap (λ x. (n.part x).hand) own ∙ deed.hand ∙ same ∙ ap (λ x. (m.part x).hand) (sym own)
@@ -196,10 +201,13 @@ once_laid c time g m k r i w t n scene once =
   where
     d : Deed c m g k (laid r i w t) n
     d = scene.deed
+
     maker : Maker
     maker = call_of k (length (m.part k).calls)
+
     h : Ghost
     h = with_put g r t (placed i w maker)
+
     -- a spot afterwards was one before, of another index, or is the new place
     back : (x : ℕ) (s : Spot) → IsAt h n x s → (IsAt g m x s × (x ≢ i)) ⊎ ((s ≡ at_place r t) × (x ≡ i))
     back x (in_hand j) at =
@@ -226,11 +234,13 @@ once_laid c time g m k r i w t n scene once =
               inl
               (old, λ same. let held : holds_index (m.part k).hand x ≡ true = rw same d.proper.held in let spots : at_place q p ≡ in_hand k = once.alone x (at_place q p) (in_hand k) old held in absurd (cc))
         ]
+
     joined : (x : ℕ) (s z : Spot) → (IsAt g m x s × (x ≢ i)) ⊎ ((s ≡ at_place r t) × (x ≡ i)) → (IsAt g m x z × (x ≢ i)) ⊎ ((z ≡ at_place r t) × (x ≡ i)) → s ≡ z
     joined x s z (inl a) (inl b) = once.alone x s z a.0 b.0
     joined x s z (inl a) (inr b) = absurd (a.1 b.1)
     joined x s z (inr a) (inl b) = absurd (b.1 a.1)
     joined x s z (inr a) (inr b) = a.0 ∙ sym b.0
+
     forth : (x : ℕ) (s : Spot) → x ≢ i → IsAt g m x s → IsAt h n x s
     forth x (in_hand j) other at =
         elim (cases_eq j k) [
@@ -268,15 +278,20 @@ once_taken c time g m k r p i w n scene once =
   where
     d : Deed c m g k (taken r p i w) n
     d = scene.deed
+
     h : Ghost
     h = with_get g r p (took k (length (m.part k).calls))
+
     here : Live g r p i
     here = record { content = w; maker = d.proper.maker; is = d.proper.placed; waits = ap waiting d.proper.opened }
+
     live_there : (x : ℕ) → x ≡ i → Live g r p x
     live_there x same = rw same here
+
     not_in_hand : (x j : ℕ) → holds_index (m.part j).hand x ≡ true → x ≢ i
     not_in_hand x j held same =
         let spots : in_hand j ≡ at_place r p = once.alone x (in_hand j) (at_place r p) held (live_there x same) in absurd (cc)
+
     -- a spot afterwards was one before, of another index, or is the seat's hand
     back : (x : ℕ) (s : Spot) → IsAt h n x s → (IsAt g m x s × (x ≢ i)) ⊎ ((s ≡ in_hand k) × (x ≡ i))
     back x (in_hand j) at =
@@ -298,11 +313,13 @@ once_taken c time g m k r p i w n scene once =
               inl
               (old, λ same. let spots : at_place q u ≡ at_place r p = once.alone x (at_place q u) (at_place r p) old (live_there x same) in let ring : q ≡ r = cc in let place : u ≡ p = cc in a.0 ring place)
         ]
+
     joined : (x : ℕ) (s z : Spot) → (IsAt g m x s × (x ≢ i)) ⊎ ((s ≡ in_hand k) × (x ≡ i)) → (IsAt g m x z × (x ≢ i)) ⊎ ((z ≡ in_hand k) × (x ≡ i)) → s ≡ z
     joined x s z (inl a) (inl b) = once.alone x s z a.0 b.0
     joined x s z (inl a) (inr b) = absurd (a.1 b.1)
     joined x s z (inr a) (inl b) = absurd (b.1 a.1)
     joined x s z (inr a) (inr b) = a.0 ∙ sym b.0
+
     forth : (x : ℕ) (s : Spot) → x ≢ i → IsAt g m x s → IsAt h n x s
     forth x (in_hand j) other at =
         elim (cases_eq j k) [
@@ -320,6 +337,7 @@ once_taken c time g m k r p i w n scene once =
               absurd (other index)
           | inr a ↦ record { content = at.content; maker = at.maker; is = at.is; waits = ap waiting a.1 ∙ at.waits }
         ]
+
     single : (j x : ℕ) → times x (n.part j).hand ≤ 1
     single j x =
         elim (cases_eq j k) [

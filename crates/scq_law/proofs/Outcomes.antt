@@ -1,28 +1,28 @@
 -- Each turn keeps the books. Plan: by the turn and the test that it makes, it is one of the effects; what is left to say
 -- is which tickets are drawn, and what the seat's new phase claims.
-use Rattle.std.proofs.Common.{◌≡◌, ◌≢◌, ℕ, ◌+◌, ◌<◌, ◌≤◌, Bool, true, false, ◌&&◌, List, length, refl, ap, sym, ◌∙◌, ◌⊎◌, inl, inr, arith, eq-eqb, ne_eqb, ltb-true, leb-true}
-use Rattle.std.specs.Prelude.{[], ◌==◌, if◌then◌else◌, nat_lt, nat_le}
-use Rattle.std.proofs.lemmas.Bool.{cases_Bool, cases_eq, cases_lt, and_parts, leb-false, ltb-false}
+use Rattle.std.proofs.Common.{◌≡◌, ℕ, ◌+◌, ◌<◌, true, false, ◌&&◌, List, length, refl, ap, ◌∙◌, inl, inr, arith, eq-eqb, ne_eqb, leb-true}
+use Rattle.std.specs.Prelude.{[], ◌==◌, nat_lt, nat_le}
+use Rattle.std.proofs.lemmas.Bool.{cases_Bool, cases_eq, cases_lt, leb-false, ltb-false}
 use Rattle.scq_word.specs.declared.setup.Setup.{Setup}
 use Rattle.scq_word.specs.Tickets.{slot_of}
-use Rattle.scq_word.specs.Words.{mark_of, packed, index_in, safe_in, cycle_in, is_none_in}
+use Rattle.scq_word.specs.Words.{packed, safe_in, cycle_in, is_none_in}
 use Rattle.scq_core.specs.declared.phase.Phase.{Phase}
 use Rattle.scq_core.specs.declared.phase.Phase.TheVariants.{Idle, AtE1, AtE2, AtE3, AtE4, AtE5, AtE6, AtD1, AtD2, AtD3, AtD4, AtD5, AtD6, AtD7, AtD8, AtD9, AtD10}
 use Rattle.scq_core.specs.Put.{put}
-use Rattle.scq_core.specs.Machine.{Cells, Entries, Part, tail_of, head_of, threshold_of, entry_of, read, beside, written}
+use Rattle.scq_core.specs.Machine.{Cells, Entries, Part, tail_of, head_of, entry_of, read, beside, written}
 use Rattle.scq_core.specs.Table.{size, cycle, zero_level, reset_level, word_of, after, cells_after, passed, goes_on}
-use Rattle.scq_core.specs.Laws.{CountersRise, Drawn, Lags, Busy, word_at}
+use Rattle.scq_core.specs.Laws.{Drawn, Busy, word_at}
 use Rattle.scq_core.proofs.PutLemmas.{put_here, put_same, put_entry_here, put_entry_same}
 use Rattle.scq_core.proofs.Ranks.{counters_rise}
 use Rattle.scq_law.specs.Places.{call_of}
-use Rattle.scq_law.proofs.Ghosts.{Ghost, fresh, pending, failed, placed, unopened, opened, dead, took, waiting, with_put, with_get}
-use Rattle.scq_law.proofs.Events.{Event, event, ghost_by, stance_of}
-use Rattle.scq_law.proofs.Booked.{IsBooked, IsDrawn, Claims, Knows, Passed, Holds, Effect, at_ticket}
+use Rattle.scq_law.proofs.Ghosts.{Ghost, pending, failed, placed, opened, dead, waiting, with_put, with_get}
+use Rattle.scq_law.proofs.Events.{event, ghost_by, stance_of}
+use Rattle.scq_law.proofs.Booked.{IsBooked, IsDrawn, Claims, Knows, Passed, Holds, Effect}
 use Rattle.scq_law.proofs.PutEffects.{is_ours, put_effect, no_effect}
 use Rattle.scq_law.proofs.BeganEffects.{began_effect}
-use Rattle.scq_law.proofs.DiedEffects.{Closes, reworded, died_effect}
+use Rattle.scq_law.proofs.DiedEffects.{Closes, died_effect}
 use Rattle.scq_law.proofs.TakenEffects.{took_effect}
-use Rattle.scq_law.proofs.LaidEffects.{refilled, laid_effect}
+use Rattle.scq_law.proofs.LaidEffects.{laid_effect}
 use Rattle.scq_law.proofs.Drawing.{drawn_rise, drawn_put, drawn_get}
 use Rattle.scq_law.proofs.Closing.{closes_later, closes_passed, empties_marked, fills_packed}
 
@@ -48,7 +48,6 @@ OutcomeOf c m g time k p turn =
     Outcome c m.entries g k (cells_after c turn m) (ghost_then c m g time k p turn) (after c turn (found c m turn) (content c m turn) p)
 
 module _ (c : Setup) (m : Cells) (g : Ghost) (time k : ℕ) (p : Part) (booked : IsBooked c m.entries g) (drawn : IsDrawn c m.tail m.head g) where
-
   quiet : Effect c m.entries g k m.entries g
   quiet = no_effect c m.entries g k booked
 

@@ -1,22 +1,20 @@
 -- The public law on places, from the tickets' states. Plan: what is placed by the records and phases is what the ticket's
 -- state says, in both directions; then each field is a fact of states.
-use Rattle.std.proofs.Common.{◌≡◌, ◌≢◌, ℕ, ◌+◌, ◌-◌, ◌<◌, ◌≤◌, Bool, true, false, List, [], length, refl, ap, sym, ◌∙◌, ◌⊎◌, inl, inr, arith}
-use Rattle.std.specs.Prelude.{Some, slice_get, slice_index_or}
+use Rattle.std.proofs.Common.{◌≡◌, ℕ, ◌-◌, ◌<◌, ◌≤◌, true, false, List, length, refl, ap, sym, ◌∙◌, ◌⊎◌, inl, inr}
 use Rattle.std.proofs.lemmas.Bool.{cases_lt}
 use Rattle.scq_word.specs.declared.setup.Setup.{Setup}
 use Rattle.scq_word.specs.Tickets.{slot_of}
-use Rattle.scq_core.specs.declared.ended.Ended.TheVariants.{Done, Got}
 use Rattle.scq_core.specs.declared.phase.Phase.{Phase}
-use Rattle.scq_core.specs.declared.phase.Phase.TheVariants.{Idle, AtE1, AtE2, AtE3, AtE4, AtE5, AtE6, AtD1, AtD2, AtD3, AtD4, AtD5, AtD6, AtD7, AtD8, AtD9, AtD10}
+use Rattle.scq_core.specs.declared.phase.Phase.TheVariants.{AtE5, AtE6, AtD3, AtD4, AtD5, AtD6, AtD7, AtD8, AtD9, AtD10}
 use Rattle.scq_core.specs.Machine.{Part, Machine}
 use Rattle.scq_core.specs.Table.{size}
 use Rattle.scq_core.specs.Reach.{IsReachable}
 use Rattle.scq_law.specs.Places.{Maker, opening_put, call_of, HasLanded, LooksAt, GaveUp, IsPlacedBy, at_opening, in_record, under_way, IsTakenBy, IsUntaken, OneLooks, PlacesOnce}
-use Rattle.scq_law.proofs.Ghosts.{Ghost, PutState, GetState, fresh, pending, failed, placed, unopened, opened, dead, took, is_placed, waiting}
-use Rattle.scq_law.proofs.Events.{Stance, resting, landed, trying, stance_of}
-use Rattle.scq_law.proofs.Tale.{Tale, Story, story}
+use Rattle.scq_law.proofs.Ghosts.{Ghost, GetState, placed, unopened, opened, dead, took, is_placed}
+use Rattle.scq_law.proofs.Events.{resting, landed, trying, stance_of}
+use Rattle.scq_law.proofs.Tale.{story}
 use Rattle.scq_law.proofs.Deed.{stance}
-use Rattle.scq_law.proofs.Booked.{IsBooked, IsDrawn, Claims, Knows}
+use Rattle.scq_law.proofs.Booked.{Claims, Knows}
 use Rattle.scq_law.proofs.Causes.{placement}
 use Rattle.scq_law.proofs.Base.{IsBased, based}
 use Rattle.scq_law.proofs.Roots.{IsRooted}
@@ -63,7 +61,6 @@ gave_up_dead g k number (AtD10 q t false) r h claims at = rw (← at.0, ← at.1
 gave_up_dead g k number phase r h claims at = absurd at
 
 module _ (c : Setup) (g : Ghost) (m : Machine) (base : IsBased c g m) (recorded : IsRecorded c g m) where
-
   pub placed_by : (r p : ℕ) (w : List ℕ) (a : Maker) → IsPlacedBy c m r p w a → (i : ℕ) × (g.puts r p ≡ placed i w a)
   placed_by r p w a (at_opening ring first last content) =
       (p - size c, rw (ring, content) (recorded.opens p first last))

@@ -38,7 +38,11 @@ places c word z state x r t q p =
                 inr
                 (inl
                 (record {
-                  ring = a.0; slot = a.1; turn = λ same. b.0 a.0 (same_ticket (size c) p t a.1 same); word_is = a.2; state_is = b.1;
+                  ring = a.0;
+                  slot = a.1;
+                  turn = λ same. b.0 a.0 (same_ticket (size c) p t a.1 same);
+                  word_is = a.2;
+                  state_is = b.1;
                 }))
           ]
       | inr a ↦

@@ -1,12 +1,12 @@
 -- A ticket of a put changes, and no entry does: its drawer draws it or fails with it. The books stay, and what the other
 -- seats have.
-use Rattle.std.proofs.Common.{◌≡◌, ◌≢◌, ℕ, Bool, true, false, inl, inr, eqb, eqb-true, ap, sym, ◌∙◌, refl}
+use Rattle.std.proofs.Common.{◌≡◌, ℕ, Bool, true, false, inl, inr, eqb-true, ap, sym, ◌∙◌, refl}
 use Rattle.std.specs.Prelude.{◌==◌}
 use Rattle.scq_word.specs.declared.setup.Setup.{Setup}
-use Rattle.scq_core.specs.Machine.{Entries, put_entry}
+use Rattle.scq_core.specs.Machine.{Entries}
 use Rattle.scq_core.proofs.PutLemmas.{put_entry_or, put_entry_cases}
-use Rattle.scq_law.proofs.Ghosts.{Ghost, PutState, fresh, pending, failed, placed, is_placed, waiting, with_put}
-use Rattle.scq_law.proofs.Booked.{IsBooked, Passed, Moves, Effect}
+use Rattle.scq_law.proofs.Ghosts.{Ghost, PutState, fresh, pending, failed, placed, is_placed, with_put}
+use Rattle.scq_law.proofs.Booked.{IsBooked, Moves, Effect}
 
 -- the state of a ticket that no other seat has drawn, and where nothing was placed
 abbrev pub is_ours : ℕ → PutState → Bool

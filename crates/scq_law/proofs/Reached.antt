@@ -1,18 +1,15 @@
 -- Rings out of range have no tickets, each ticket below Head that is a turn has been drawn by a get, and seats out of
 -- range have never moved.
-use Rattle.std.proofs.Common.{◌≡◌, ◌≢◌, ℕ, ◌+◌, ◌<◌, ◌≤◌, true, false, inl, inr, refl, ap, sym, ◌∙◌, ◌⊎◌, arith, List, length}
-use Rattle.std.proofs.lemmas.Bool.{cases_eq}
+use Rattle.std.proofs.Common.{◌≡◌, ◌≢◌, ℕ, ◌+◌, ◌<◌, ◌≤◌, true, false, inl, inr, refl, sym, ◌∙◌, arith, List, length}
 use Rattle.scq_word.specs.declared.setup.Setup.{Setup}
-use Rattle.scq_core.specs.Put.{put}
-use Rattle.scq_core.specs.Machine.{Part, Machine}
+use Rattle.scq_core.specs.Machine.{Machine}
 use Rattle.scq_core.specs.Table.{size}
 use Rattle.scq_core.specs.Start.{start_of, idle_part}
 use Rattle.scq_core.proofs.PutLemmas.{put_entry_or, put_entry_cases, put_or}
-use Rattle.scq_core.proofs.Entries.{some_slots}
 use Rattle.scq_law.specs.Places.{call_of}
 use Rattle.scq_law.proofs.Ghosts.{Ghost, PutState, GetState, fresh, pending, failed, placed, unopened, opened, dead, took, start_ghost, with_put, with_get}
-use Rattle.scq_law.proofs.Events.{Stance, putting, trying, Event, calm, drew, fell, laid, finished, entered, refused, began, died, saw_end, lifted, taken, lowered, emptied, overran, head_by}
-use Rattle.scq_law.proofs.Deed.{stance, Deed}
+use Rattle.scq_law.proofs.Events.{putting, Event, drew, fell, laid, began, died, taken, overran}
+use Rattle.scq_law.proofs.Deed.{Deed}
 use Rattle.scq_law.proofs.Full.{stands_at}
 use Rattle.scq_law.proofs.Scenes.{Scene, ghost_next}
 use Rattle.scq_law.proofs.Stances.{stance_has}
@@ -132,7 +129,9 @@ reached_step c time g m k (overran r t false) n scene old =
 reached_step c time g m k (overran r t true) n scene old =
     let d = scene.deed in
     record {
-      rings = old.rings; reached = rw d.head old.reached; absent = absent_stay c m g k (overran r t true) n scene.low d old.absent;
+      rings = old.rings;
+      reached = rw d.head old.reached;
+      absent = absent_stay c m g k (overran r t true) n scene.low d old.absent;
     }
 reached_step c time g m k e n scene old =
     let d = scene.deed in

@@ -1,19 +1,19 @@
 -- The seats' records agree with the tickets' states. Plan: a record only grows, by the call that the event ends, and
 -- what is placed or taken stays; so each direction needs a look at the new call or the new state alone.
-use Rattle.std.proofs.Common.{◌≡◌, ◌≢◌, ℕ, zero, suc, ◌+◌, ◌-◌, ◌<◌, ◌≤◌, Bool, true, false, List, [], ◌∷◌, ◌++◌, length, append-nil, refl, ap, sym, ◌∙◌, ◌⊎◌, inl, inr, arith}
-use Rattle.std.specs.Prelude.{Option, Some, None, slice_get, slice_index_or}
+use Rattle.std.proofs.Common.{◌≡◌, ℕ, zero, suc, ◌+◌, ◌-◌, ◌<◌, ◌≤◌, true, false, List, [], ◌∷◌, ◌++◌, length, append-nil, refl, ap, sym, ◌∙◌, ◌⊎◌, inl, inr, arith}
+use Rattle.std.specs.Prelude.{Some, slice_get, slice_index_or}
 use Rattle.std.proofs.lemmas.Bool.{cases_eq}
 use Rattle.scq_word.specs.declared.setup.Setup.{Setup}
 use Rattle.scq_word.specs.Sizes.{n_of}
 use Rattle.scq_core.specs.declared.ended.Ended.{Ended}
-use Rattle.scq_core.specs.declared.ended.Ended.TheVariants.{Done, Got, Nothing, Spent}
+use Rattle.scq_core.specs.declared.ended.Ended.TheVariants.{Done, Got}
 use Rattle.scq_core.specs.Machine.{Part, Machine}
 use Rattle.scq_core.specs.Table.{size}
 use Rattle.scq_core.specs.Start.{start_of}
 use Rattle.scq_core.proofs.PutLemmas.{put_entry_or, put_entry_here}
 use Rattle.scq_law.specs.Places.{Maker, call_of, opening_put}
-use Rattle.scq_law.proofs.Ghosts.{Ghost, PutState, GetState, fresh, pending, failed, placed, unopened, opened, dead, took, is_placed, start_ghost, with_put, with_get}
-use Rattle.scq_law.proofs.Events.{Stance, landed, Event, calm, drew, fell, laid, finished, entered, refused, began, died, saw_end, lifted, taken, lowered, emptied, overran, ended_by}
+use Rattle.scq_law.proofs.Ghosts.{Ghost, pending, failed, placed, opened, dead, took, start_ghost}
+use Rattle.scq_law.proofs.Events.{landed, Event, calm, drew, fell, laid, finished, entered, refused, began, died, saw_end, lifted, taken, lowered, emptied, overran, ended_by}
 use Rattle.scq_law.proofs.Deed.{stance, Deed}
 use Rattle.scq_law.proofs.Full.{stands_at}
 use Rattle.scq_law.proofs.Scenes.{Scene, ghost_next}
@@ -105,7 +105,6 @@ recorded_start c opening =
 
 -- the parts of the step, each with what the event has to say
 module _ (c : Setup) (time : ℕ) (g : Ghost) (m : Machine) (k : ℕ) (e : Event) (n : Machine) (scene : Scene c time g m k e n) (old : IsRecorded c g m) where
-
   abbrev d : Deed c m g k e n
   d = scene.deed
 
@@ -196,7 +195,11 @@ module _ (c : Setup) (time : ℕ) (g : Ghost) (m : Machine) (k : ℕ) (e : Event
   stood_step back r p i w is =
       let o = old.stood r p i w (back r p i w is) in
       record {
-        ring = o.ring; first = o.first; last = o.last; index = o.index; content = o.content ∙ ap (λ v. slice_index_or v (p - size c) []) (sym d.opening);
+        ring = o.ring;
+        first = o.first;
+        last = o.last;
+        index = o.index;
+        content = o.content ∙ ap (λ v. slice_index_or v (p - size c) []) (sym d.opening);
       }
 
   opens_step : (p : ℕ) → size c ≤ p → p < size c + n_of c.order → h.puts 0 p ≡ placed (p - size c) (slice_index_or n.opening (p - size c) []) opening_put

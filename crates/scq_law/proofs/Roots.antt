@@ -1,16 +1,15 @@
 -- A pending ticket is that of its seat, and an open one that of its seat.
 -- Plan: a ticket's new state is the event's own; of the old ones the seat of the event has none but its own ticket.
-use Rattle.std.proofs.Common.{◌≡◌, ◌≢◌, ℕ, List, inl, inr, ap, sym, ◌∙◌, ◌⊎◌, refl, true, false}
+use Rattle.std.proofs.Common.{◌≡◌, ℕ, List, inl, inr, ap, sym, ◌∙◌, true, false}
 use Rattle.std.proofs.lemmas.Bool.{cases_eq}
 use Rattle.scq_word.specs.declared.setup.Setup.{Setup}
-use Rattle.scq_word.specs.Sizes.{n_of}
 use Rattle.std.specs.Prelude.{length}
-use Rattle.scq_core.specs.Machine.{Part, Machine}
+use Rattle.scq_core.specs.Machine.{Machine}
 use Rattle.scq_core.specs.Start.{start_of}
 use Rattle.scq_core.proofs.PutLemmas.{put_entry_or}
 use Rattle.scq_law.specs.Places.{call_of}
-use Rattle.scq_law.proofs.Ghosts.{Ghost, PutState, GetState, fresh, pending, failed, placed, unopened, opened, dead, took, start_ghost, with_put, with_get}
-use Rattle.scq_law.proofs.Events.{Stance, resting, drawing, putting, landed, seeking, trying, missed, leaving, stance_of, Event, calm, drew, fell, laid, finished, entered, refused, began, died, saw_end, lifted, taken, lowered, emptied, overran}
+use Rattle.scq_law.proofs.Ghosts.{Ghost, PutState, GetState, pending, failed, placed, opened, dead, took, start_ghost, with_put, with_get}
+use Rattle.scq_law.proofs.Events.{putting, trying, Event, calm, drew, fell, laid, finished, entered, refused, began, died, saw_end, lifted, taken, lowered, emptied, overran}
 use Rattle.scq_law.proofs.Deed.{stance, Deed}
 use Rattle.scq_law.proofs.Full.{stands_at}
 use Rattle.scq_law.proofs.Scenes.{Scene, ghost_next}

@@ -1,14 +1,14 @@
 -- A dequeue takes the index that stands at its ticket, and the entry keeps its cycle and safe bit.
-use Rattle.std.proofs.Common.{◌≡◌, ◌≢◌, ℕ, List, ◌<◌, ◌≤◌, ◌⊎◌, inl, inr, Bool, true, false, ap, sym, ◌∙◌, refl}
+use Rattle.std.proofs.Common.{◌≡◌, ℕ, List, ◌⊎◌, inl, inr, true, false, sym, ◌∙◌, refl}
 use Rattle.scq_word.specs.declared.setup.Setup.{Setup}
 use Rattle.scq_word.specs.Tickets.{slot_of}
-use Rattle.scq_word.specs.Words.{index_in, safe_in, cycle_in, is_none_in}
-use Rattle.scq_core.specs.Machine.{Entries, put_entry}
+use Rattle.scq_word.specs.Words.{safe_in, cycle_in, is_none_in}
+use Rattle.scq_core.specs.Machine.{Entries}
 use Rattle.scq_core.specs.Table.{size, cycle}
 use Rattle.scq_core.specs.Laws.{IsAbove}
 use Rattle.scq_core.proofs.PutLemmas.{put_entry_cases}
 use Rattle.scq_law.specs.Places.{Maker}
-use Rattle.scq_law.proofs.Ghosts.{Ghost, PutState, GetState, opened, dead, took, placed, fresh, pending, failed, is_placed, waiting, with_get}
+use Rattle.scq_law.proofs.Ghosts.{Ghost, GetState, opened, dead, took, placed, is_placed, waiting, with_get}
 use Rattle.scq_law.proofs.Booked.{IsBooked, Holds, Stands, Shut, Passed, Loaded, Moves, Effect, at_ticket}
 use Rattle.scq_law.proofs.Risen.{came_back}
 use Rattle.scq_law.proofs.Placing.{Here, Beside, Apart, places}
@@ -22,7 +22,6 @@ pub record Empties (s e z : ℕ) : Type 0 where
   pub above : IsAbove s e z
 
 module _ (c : Setup) (e : Entries) (g : Ghost) (k r h z number : ℕ) (mine : g.gets r h ≡ opened k) (there : Holds c e.word r h) (empties : Empties (size c) (at_ticket c e.word r h) z) (booked : IsBooked c e g) where
-
   abbrev place : (q p : ℕ) → Here ℕ GetState c e.word z g.gets (took k number) r h q p ⊎ (Beside ℕ GetState c e.word z g.gets (took k number) r h q p ⊎ Apart ℕ GetState c e.word z g.gets (took k number) r h q p)
   place q p = places c e.word z g.gets (took k number) r h q p
 

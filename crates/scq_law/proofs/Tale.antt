@@ -1,12 +1,12 @@
 -- A run with its ghost, and that each reachable state has one.
-use Rattle.std.proofs.Common.{◌≡◌, ℕ, ◌+◌, ◌<◌, List, length, subst, sym}
-use Rattle.std.specs.Prelude.{Option, Some}
+use Rattle.std.proofs.Common.{◌≡◌, ℕ, ◌+◌, ◌<◌, List, length}
+use Rattle.std.specs.Prelude.{Some}
 use Rattle.scq_word.specs.declared.setup.Setup.{Setup}
 use Rattle.scq_word.specs.Sizes.{n_of}
 use Rattle.scq_core.specs.declared.phase.Phase.{Phase}
 use Rattle.scq_core.specs.declared.step.Step.{Step}
 use Rattle.scq_core.specs.Machine.{Machine, read, beside}
-use Rattle.scq_core.specs.Table.{turn_of, word_of, moved, step_of}
+use Rattle.scq_core.specs.Table.{turn_of, word_of, moved}
 use Rattle.scq_core.specs.Start.{start_of}
 use Rattle.scq_core.specs.Reach.{IsReachable, at_start, by_step}
 use Rattle.scq_core.proofs.Turns.{Turned, turned}

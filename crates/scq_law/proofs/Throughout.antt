@@ -7,6 +7,7 @@ use Rattle.scq_law.proofs.Tale.{Tale}
 use Rattle.scq_law.proofs.Scenes.{along}
 use Rattle.scq_law.proofs.Roots.{IsRooted, rooted_start, rooted_step}
 use Rattle.scq_law.proofs.Once.{IsOnce, once_start, once_step}
+use Rattle.scq_law.proofs.Small.{IsSmall, small_start, small_step}
 use Rattle.scq_law.proofs.Reached.{IsReached, reached_start, reached_step}
 use Rattle.scq_law.proofs.Records.{IsRecorded, recorded_start, recorded_step}
 
@@ -23,3 +24,6 @@ reached c time g m tale =
 pub recorded : (c : Setup) (time : ℕ) (g : Ghost) (m : Machine) → Tale c time g m → IsRecorded c g m
 recorded c time g m tale =
     along c (λ t h n. IsRecorded c h n) (λ o full. recorded_start c o) (recorded_step c) time g m tale
+
+pub small : (c : Setup) (time : ℕ) (g : Ghost) (m : Machine) → Tale c time g m → IsSmall c g m
+small c time g m tale = along c (λ t h n. IsSmall c h n) (λ o full. small_start c o) (small_step c) time g m tale

@@ -1,8 +1,8 @@
 -- Each index is in one place: in one seat's hand, once in that list, or in one entry of one ring.
-use Rattle.std.specs.Prelude.{◌≡◌, ℕ, zero, suc, ◌+◌, ◌<◌, ◌==◌, if◌then◌else◌, List, [], ◌∷◌}
+use Rattle.std.specs.Prelude.{◌≡◌, ℕ, ◌+◌, ◌<◌, false, ◌==◌, if◌then◌else◌, List, [], ◌∷◌}
 use Rattle.scq_word.specs.declared.setup.Setup.{Setup}
 use Rattle.scq_word.specs.Sizes.{n_of}
-use Rattle.scq_word.specs.Words.{index_in}
+use Rattle.scq_word.specs.Words.{index_in, is_none_in}
 use Rattle.scq_core.specs.Machine.{Machine}
 use Rattle.scq_core.specs.Table.{size}
 
@@ -26,7 +26,9 @@ abbrev pub IsSeen : Setup → Machine → ℕ → Home → Type 0
 IsSeen c m i (hand_of k) = 0 < times i (m.part k).hand
 IsSeen c m i (slot_in r s) = (s < size c) × (index_in (size c) (m.cells.entries.word r s) ≡ i)
 
--- each index below n has one home, and is seen nowhere else
+-- each index below n has one home, and is seen nowhere else; and hands and entries hold no other index
 pub record OneHand (c : Setup) (m : Machine) : Type 0 where
   pub home : (i : ℕ) → i < n_of c.order → (h : Home) × IsHome c m i h
   pub alone : (i : ℕ) (g h : Home) → i < n_of c.order → IsSeen c m i g → IsSeen c m i h → g ≡ h
+  pub in_hands : (i k : ℕ) → 0 < times i (m.part k).hand → i < n_of c.order
+  pub in_entries : (r s : ℕ) → s < size c → is_none_in (size c) (m.cells.entries.word r s) ≡ false → index_in (size c) (m.cells.entries.word r s) < n_of c.order

@@ -1,3 +1,4 @@
 pub mod Run
 pub mod Places
 pub mod Hands
+pub mod Later

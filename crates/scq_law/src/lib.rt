@@ -2,3 +2,5 @@
 // `scq_hist` for histories. What a run is, and what is told of it, stands in `specs/Run.antt`; the laws on states stand
 // in the other files of `specs/`, and the layers above cite them as the contracts of the module `laws`.
 #![tactic(auto)]
+
+pub mod laws;

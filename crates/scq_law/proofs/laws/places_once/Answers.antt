@@ -1,0 +1,5 @@
+use Rattle.scq_law.proofs.PlaceLaws.{places_once}
+use Rattle.scq_law.proofs.laws.places_once.Goals as goal
+
+pub returns : goal.returns
+returns c = λ setup m reach. places_once setup m reach
