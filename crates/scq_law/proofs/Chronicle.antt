@@ -1,40 +1,38 @@
 -- Each run has a ghost, and its history is tied to its state. Plan: a turn is told in two parts, first the Start of its
 -- call where the seat rested, then what its event does; and the tie holds at the start.
-use Rattle.std.proofs.Common.{eqb-true, leb-true, ltb-true, lt-ltb, le-leb, ◌≡◌, ◌≢◌, ℕ, zero, suc, ◌+◌, ◌-◌, ◌<◌, ◌≤◌, ◌⊎◌, inl, inr, Bool, true, false, List, [], ◌∷◌, ◌++◌, length, refl, ap, sym, ◌∙◌, subst, arith, eq-eqb, ne_eqb, append-nil, length-append}
-use Rattle.std.specs.Prelude.{nat_le, nat_lt, ◌&&◌, ◌==◌, if◌then◌else◌, Option, Some, None, slice_get, slice_index_or, All}
-use Rattle.std.specs.Option.{option_map, option_and_then}
+use Rattle.std.proofs.Common.{eqb-true, leb-true, lt-ltb, le-leb, ◌≡◌, ◌≢◌, ℕ, suc, ◌+◌, ◌-◌, ◌<◌, ◌≤◌, ◌⊎◌, inl, inr, true, false, List, [], ◌∷◌, ◌++◌, length, refl, ap, sym, ◌∙◌, subst, arith, eq-eqb, append-nil, length-append}
+use Rattle.std.specs.Prelude.{nat_le, nat_lt, ◌&&◌, ◌==◌, Option, Some, None, slice_index_or, All}
+use Rattle.std.specs.Option.{option_map}
 use Rattle.std.proofs.lemmas.Bool.{cases_Bool, cases_eq, and_parts, and_from}
 use Rattle.std.proofs.lemmas.Option.{option_and_then_some, slice_get-get_or}
 use Rattle.scq_word.specs.declared.setup.Setup.{Setup}
 use Rattle.scq_word.specs.Sizes.{n_of}
 use Rattle.scq_core.specs.declared.phase.Phase.{Phase}
-use Rattle.scq_core.specs.declared.phase.Phase.TheVariants.{Idle, AtE1, AtD1}
+use Rattle.scq_core.specs.declared.phase.Phase.TheVariants.{Idle}
 use Rattle.scq_core.specs.declared.step.Step.{Step}
 use Rattle.scq_core.specs.Put.{put}
 use Rattle.scq_core.specs.declared.ended.Ended.{Ended}
 use Rattle.scq_core.specs.Machine.{Machine, Part, read, beside}
 use Rattle.scq_core.specs.Table.{size, zero_level, turn_of, moved, word_of}
-use Rattle.scq_core.specs.Start.{start_of}
 use Rattle.scq_core.proofs.PutLemmas.{put_here, put_else, put_same}
 use Rattle.scq_core.proofs.Turns.{Begins, begins_put, begins_get, begins, awake}
 use Rattle.scq_hist.specs.declared.events.Event as history
 use Rattle.scq_hist.specs.declared.events.PutName.{PutName}
-use Rattle.scq_hist.specs.declared.events.PutName.TheVariants.{Opening, Of}
-use Rattle.scq_hist.specs.declared.events.Reply.TheVariants.{Done, Got, Nothing, Spent}
-use Rattle.scq_law.specs.Run.{Told, reply_of, placer_after, starts, finishes, puts_after, told_after, told_by, told_first, told_along, told_of, first_placer, nobody, IsRun}
-use Rattle.scq_law.specs.Places.{Maker, call_of, opening_put}
-use Rattle.scq_law.proofs.Ghosts.{Ghost, PutState, fresh, pending, placed, opened, is_placed, stood, start_ghost}
+use Rattle.scq_hist.specs.declared.events.PutName.TheVariants.{Opening}
+use Rattle.scq_hist.specs.declared.events.Reply.TheVariants.{Nothing, Spent}
+use Rattle.scq_law.specs.Run.{Told, reply_of, placer_after, starts, finishes, puts_after, told_after, told_by, told_first, told_along, first_placer, nobody, IsRun}
+use Rattle.scq_law.specs.Places.{call_of, opening_put}
+use Rattle.scq_law.proofs.Ghosts.{Ghost, placed, is_placed, stood, start_ghost}
 use Rattle.scq_law.proofs.Events.{Stance, resting, drawing, putting, landed, seeking, trying, missed, leaving, stance_of, Event, calm, drew, fell, laid, finished, entered, refused, began, died, saw_end, lifted, taken, lowered, emptied, overran, stance_by, ended_by, event}
-use Rattle.scq_law.proofs.Tale.{Tale, tale_start, tale_step, event_of, ghost_after}
-use Rattle.scq_law.proofs.Deed.{stance, Rests, Deed}
-use Rattle.scq_law.proofs.Base.{IsBased, based}
+use Rattle.scq_law.proofs.Tale.{Tale, tale_start, tale_step, ghost_after}
+use Rattle.scq_law.proofs.Deed.{stance, Deed}
+use Rattle.scq_law.proofs.Base.{based}
 use Rattle.scq_law.proofs.Full.{Stood, stands_at}
 use Rattle.scq_law.proofs.Scenes.{Scene, scene, ghost_next}
 use Rattle.scq_law.proofs.Roots.{IsRooted}
 use Rattle.scq_law.proofs.Throughout.{rooted}
-use Rattle.scq_law.proofs.Doing.{PutsNow, GetsNow, Doing, IsCalled, put_answer, get_answer}
+use Rattle.scq_law.proofs.Doing.{PutsNow, GetsNow, Doing, put_answer, get_answer}
 use Rattle.scq_law.proofs.Placings.{IsNamed, due, IsPlaced}
-use Rattle.scq_law.proofs.Takings.{IsTaken}
 use Rattle.scq_law.proofs.Tied.{IsTied, IsFree, tied_put, tied_get, tied_on, tied_end, tied_done, tied_drew, tied_fell, tied_laid, tied_began, tied_died, tied_taken}
 use Rattle.scq_law.proofs.Tidings.{Within, within, starts_none, puts_none, ends_by, finishes_none, finishes_last, placer_by, placer_turn}
 
@@ -70,7 +68,6 @@ opens_call c opening events begun placer m g k turn tied root awake_turn from =
 
 -- second part: what the event does
 module _ (c : Setup) (opening : List (List ℕ)) (events : List history.Event) (begun : ℕ → ℕ) (placer : ℕ → ℕ → PutName) (time : ℕ) (g : Ghost) (m : Machine) (k : ℕ) (n : Machine) (s : Stance) (tied : IsTied c opening events begun placer (put (stance m) k s) (calls_of m) g) (root : IsRooted g m) where
-
   abbrev now : ℕ → Stance
   now = put (stance m) k s
 
@@ -202,7 +199,6 @@ stance_then c p turn x y from =
 
 -- the End that is told is that of the call which the event ends
 module _ (k : ℕ) (placer : ℕ → ℕ → PutName) (q : Part) (old : List Ended) (s : Stance) where
-
   ends_none : (e : Event) → stance_by e s ≢ resting → stance_of q.phase ≡ stance_by e s → finishes k placer q.phase q.calls ≡ []
   ends_none e busy is = finishes_none k placer q.phase q.calls (λ rests. busy (sym is ∙ rests))
 
@@ -278,7 +274,6 @@ tied_turn c opening told time g k step turn low enabled tale tied =
 
 -- the start
 module _ (c : Setup) (opening : List (List ℕ)) (full : length opening ≡ n_of c.order) where
-
   first_in : (r p : ℕ) → r ≡ 0 → size c ≤ p → p < size c + n_of c.order → first_placer c r p ≡ Opening (p - size c)
   first_in r p ring first last =
       let all : (r == 0 && nat_le (size c) p && nat_lt p (size c + n_of c.order)) ≡ true =

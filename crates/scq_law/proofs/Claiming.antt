@@ -1,14 +1,13 @@
 -- The history of a run is fresh and once, and which puts are claimed. Plan: each End with Got is that of one taken
 -- ticket; so no two name one put, and a put whose place Head has passed is got by just the call that drew its place.
-use Rattle.std.proofs.Common.{◌≡◌, ◌≢◌, ℕ, suc, ◌+◌, ◌-◌, ◌<◌, ◌≤◌, ◌⊎◌, inl, inr, Bool, true, false, List, length, refl, ap, sym, ◌∙◌, subst, arith}
-use Rattle.std.specs.Prelude.{Option, Some, None, slice_get}
+use Rattle.std.proofs.Common.{◌≡◌, ℕ, ◌<◌, ◌≤◌, ◌⊎◌, inl, inr, true, List, refl, ap, sym, ◌∙◌, subst, arith}
+use Rattle.std.specs.Prelude.{Some, slice_get}
 use Rattle.std.proofs.lemmas.Bool.{cases_lt}
 use Rattle.scq_word.specs.declared.setup.Setup.{Setup}
-use Rattle.scq_word.specs.Sizes.{n_of}
 use Rattle.scq_core.specs.Table.{size}
-use Rattle.scq_hist.specs.Calls.{under_way, IsCall, IsPut, Names, IsGot, IsGetOf, IsGotBefore, IsPending}
+use Rattle.scq_hist.specs.Calls.{IsCall, Names, IsGot, IsGetOf}
 use Rattle.scq_hist.specs.Aspects.{IsFresh, IsOnce, IsBegun, IsClaimed, AllClaimed}
-use Rattle.scq_hist.specs.declared.events.Call.TheVariants.{Put, Get}
+use Rattle.scq_hist.specs.declared.events.Call.TheVariants.{Get}
 use Rattle.scq_hist.specs.declared.events.Event as history
 use Rattle.scq_hist.specs.declared.events.Event.TheVariants.{Start, End}
 use Rattle.scq_hist.specs.declared.events.PutName.{PutName}
@@ -18,21 +17,15 @@ use Rattle.scq_law.specs.Run.{Told}
 use Rattle.scq_law.specs.Places.{Maker}
 use Rattle.scq_law.proofs.Ghosts.{Ghost, GetState, placed, unopened, opened, dead, took, is_placed}
 use Rattle.scq_law.proofs.Events.{trying}
-use Rattle.scq_law.proofs.Tale.{Tale}
 use Rattle.scq_law.proofs.Deed.{stance}
 use Rattle.scq_law.proofs.Base.{IsBased, based}
 use Rattle.scq_law.proofs.Roots.{IsRooted}
-use Rattle.scq_law.proofs.Reached.{IsReached}
 use Rattle.scq_law.proofs.Throughout.{rooted, reached}
-use Rattle.scq_law.proofs.Growing.{under_now}
 use Rattle.scq_law.proofs.Doing.{GetsNow}
-use Rattle.scq_law.proofs.Placings.{IsNamed, IsPlaced}
-use Rattle.scq_law.proofs.Takings.{IsTaken}
-use Rattle.scq_law.proofs.Tied.{IsTied}
+use Rattle.scq_law.proofs.Placings.{IsNamed}
 use Rattle.scq_law.proofs.Chronicle.{IsToldTied, IsChronicle}
 
 module _ (c : Setup) (opening : List (List ℕ)) (told : Told) (chron : IsChronicle c opening told) where
-
   abbrev events : List history.Event
   events = told.events
 
@@ -74,7 +67,11 @@ module _ (c : Setup) (opening : List (List ℕ)) (told : Told) (chron : IsChroni
       let call : IsCall events t.seat (Get t.r) (tied.since t.r t.h) e (Got (told.placer t.r t.h) take.content) = subst (λ d. IsCall events t.seat (Get t.r) (tied.since t.r t.h) d (Got (told.placer t.r t.h) take.content)) at take.call in
       let begun = take.begun in
       record {
-        r = t.r; h = t.h; number = t.number; index = take.index; maker = take.maker;
+        r = t.r;
+        h = t.h;
+        number = t.number;
+        index = take.index;
+        maker = take.maker;
         took = t.is ∙ ap (λ z. took z t.number) same_seat;
         is = take.is ∙ ap (λ z. placed take.index z take.maker) same_content;
         named = t.named;
@@ -173,7 +170,6 @@ module _ (c : Setup) (opening : List (List ℕ)) (told : Told) (chron : IsChroni
       subst (λ s. slice_get events s ≡ Some (Start j (Get r))) start now.starts
 
   module _ (queue m : ℕ) (Puts : PutName → Type 0) (ahead : (name : PutName) → Puts name → Ahead queue m name) where
-
     abbrev Left : PutName → Type 0
     Left name = Puts name × (¬ IsGot events name)
 

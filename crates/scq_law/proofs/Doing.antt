@@ -1,11 +1,10 @@
 -- What the seats are in the middle of, as the history has it: by its stance a seat has no call under way, or just the
 -- call that the stance is of. Kept where a call starts, goes on and ends; and so the history is lawful.
-use Rattle.std.proofs.Common.{◌≡◌, ◌≢◌, ℕ, suc, ◌+◌, ◌<◌, ◌≤◌, ◌⊎◌, inl, inr, List, [], ◌∷◌, ◌++◌, length, refl, ap, sym, ◌∙◌, arith, eq-eqb, ne_eqb}
-use Rattle.std.specs.Prelude.{◌==◌, if◌then◌else◌, Option, Some, None, slice_get}
+use Rattle.std.proofs.Common.{◌≡◌, ◌≢◌, ℕ, ◌+◌, inl, inr, List, [], ◌∷◌, ◌++◌, length, refl, sym, ◌∙◌, arith, eq-eqb, ne_eqb}
+use Rattle.std.specs.Prelude.{Some, None, slice_get}
 use Rattle.std.proofs.lemmas.Bool.{cases_eq}
-use Rattle.scq_hist.specs.Calls.{under_way, put_start, IsCall, IsPut}
-use Rattle.scq_hist.specs.Aspects.{Suits, IsLawful, IsInPlace, IsAnswer}
-use Rattle.scq_hist.specs.declared.events.Call.{Call}
+use Rattle.scq_hist.specs.Calls.{IsPut}
+use Rattle.scq_hist.specs.Aspects.{Suits, IsLawful, IsAnswer}
 use Rattle.scq_hist.specs.declared.events.Call.TheVariants.{Put, Get}
 use Rattle.scq_hist.specs.declared.events.Event.{Event}
 use Rattle.scq_hist.specs.declared.events.Event.TheVariants.{Start, End}
@@ -43,7 +42,6 @@ pub record IsCalled (events : List Event) (puts : ℕ → ℕ) (stance : ℕ →
   pub lawful : IsLawful events
 
 module _ (events : List Event) (x : Event) where
-
   abbrev longer : List Event
   longer = events ++ x ∷ []
 

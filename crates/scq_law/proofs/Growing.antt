@@ -3,7 +3,7 @@ use Rattle.std.proofs.Common.{◌≡◌, ◌≢◌, ℕ, zero, suc, ◌+◌, ◌
 use Rattle.std.specs.Prelude.{Option, Some, None, slice_get}
 use Rattle.std.proofs.lemmas.Option.{slice_get_within}
 use Rattle.scq_hist.specs.Calls.{under_way, under_way_after, put_start, puts_before, IsCall, IsPut}
-use Rattle.scq_hist.specs.Aspects.{IsLawful, IsInPlace, IsAnswer}
+use Rattle.scq_hist.specs.Aspects.{IsLawful, IsInPlace}
 use Rattle.scq_hist.specs.declared.events.Call.{Call}
 use Rattle.scq_hist.specs.declared.events.Event.{Event}
 use Rattle.scq_hist.specs.declared.events.Event.TheVariants.{Start, End}
@@ -39,7 +39,6 @@ abbrev pub puts_now : List Event → ℕ → ℕ
 puts_now events seat = puts_before events seat (length events)
 
 module _ (events : List Event) (x : Event) where
-
   abbrev longer : List Event
   longer = events ++ x ∷ []
 

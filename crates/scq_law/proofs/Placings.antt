@@ -1,7 +1,7 @@
 -- Placed tickets and their puts in the history: each has a name of its own, of a put that started where the diary says;
 -- where a put has ended with Done, all tickets up to its place were drawn by puts that had started.
-use Rattle.std.proofs.Common.{◌≡◌, ◌≢◌, ℕ, suc, ◌+◌, ◌-◌, ◌<◌, ◌≤◌, ◌⊎◌, inl, inr, Bool, true, false, List, [], ◌∷◌, ◌++◌, length, refl, ap, sym, ◌∙◌, subst, arith, eq-eqb, ne_eqb}
-use Rattle.std.specs.Prelude.{◌==◌, if◌then◌else◌, Option, Some, None, slice_get}
+use Rattle.std.proofs.Common.{◌≡◌, ◌≢◌, ℕ, ◌+◌, ◌<◌, ◌≤◌, ◌⊎◌, inl, inr, true, false, List, [], ◌∷◌, ◌++◌, length, ap, sym, ◌∙◌, subst, arith, eq-eqb, ne_eqb}
+use Rattle.std.specs.Prelude.{Some, slice_get}
 use Rattle.std.proofs.lemmas.Bool.{cases_eq}
 use Rattle.std.proofs.lemmas.Option.{slice_get_within}
 use Rattle.scq_word.specs.declared.setup.Setup.{Setup}
@@ -12,13 +12,13 @@ use Rattle.scq_core.specs.Table.{size}
 use Rattle.scq_core.proofs.PutLemmas.{put_entry_or, put_entry_here}
 use Rattle.scq_hist.specs.Calls.{under_way, IsPut}
 use Rattle.scq_hist.specs.declared.events.Event.{Event}
-use Rattle.scq_hist.specs.declared.events.Event.TheVariants.{Start, End}
+use Rattle.scq_hist.specs.declared.events.Event.TheVariants.{End}
 use Rattle.scq_hist.specs.declared.events.PutName.{PutName}
 use Rattle.scq_hist.specs.declared.events.PutName.TheVariants.{Opening, Of}
 use Rattle.scq_hist.specs.declared.events.Reply.TheVariants.{Done}
 use Rattle.scq_law.specs.Places.{Maker, call_of}
-use Rattle.scq_law.proofs.Ghosts.{PutState, fresh, pending, failed, placed, is_placed}
-use Rattle.scq_law.proofs.Events.{Stance, resting, drawing, putting, landed, seeking, trying, missed, leaving}
+use Rattle.scq_law.proofs.Ghosts.{PutState, pending, placed, is_placed}
+use Rattle.scq_law.proofs.Events.{Stance, drawing, putting}
 use Rattle.scq_law.proofs.Growing.{under_now, at_grown, under_old, length_grown, put_grown, seat_of, under_else}
 
 -- the put of this name is an opening token of queue 0 with this content, or a seat's put of this queue that starts at s
@@ -66,7 +66,6 @@ pub put_entry_else : {A : Type 0} → (f : ℕ → ℕ → A) (r s : ℕ) (x : A
 put_entry_else f r s x q z apart = elim (put_entry_or f r s x q z) [ inl a ↦ absurd (apart a.0 a.1) | inr a ↦ a.1 ]
 
 module _ (c : Setup) (opening : List (List ℕ)) (events : List Event) (begun : ℕ → ℕ) (placer : ℕ → ℕ → PutName) (stance : ℕ → Stance) (calls : ℕ → ℕ) (puts : ℕ → ℕ → PutState) (origin : ℕ → ℕ → ℕ) (was : IsPlaced c opening events begun placer stance calls puts origin) where
-
   named_grown : (x : Event) (name : PutName) (r : ℕ) (w : List ℕ) (s : ℕ) → IsNamed opening events name r w s → IsNamed opening (events ++ x ∷ []) name r w s
   named_grown x (Opening j) r w s is = is
   named_grown x (Of k n) r w s is = put_grown events x k n r w s is
@@ -91,7 +90,12 @@ module _ (c : Setup) (opening : List (List ℕ)) (events : List Event) (begun : 
                   let low_calls = calls_rise k in
                   let ended = l.ended in
                   record {
-                    r = l.r; p = l.p; n = l.n; index = l.index; content = l.content; number = l.number;
+                    r = l.r;
+                    p = l.p;
+                    n = l.n;
+                    index = l.index;
+                    content = l.content;
+                    number = l.number;
                     is = l.is;
                     ended = omega arith;
                     name = l.name;
@@ -119,7 +123,12 @@ module _ (c : Setup) (opening : List (List ℕ)) (events : List Event) (begun : 
             let low_calls = calls_rise k in
             let ended = l.ended in
             record {
-              r = l.r; p = l.p; n = l.n; index = l.index; content = l.content; number = l.number;
+              r = l.r;
+              p = l.p;
+              n = l.n;
+              index = l.index;
+              content = l.content;
+              number = l.number;
               is = l.is;
               ended = omega arith;
               name = l.name;
@@ -133,10 +142,8 @@ module _ (c : Setup) (opening : List (List ℕ)) (events : List Event) (begun : 
   apart_from r t q u empty full ring ticket = let clash : is_placed (puts r t) ≡ true = rw (← ring, ← ticket) full in cc
 
   module _ (r t : ℕ) (empty : is_placed (puts r t) ≡ false) where
-
     -- a ticket at which nothing is placed becomes another such, drawn by a call that started at place o
     module _ (x : PutState) (o : ℕ) (still : is_placed x ≡ false) where
-
       abbrev puts2 : ℕ → ℕ → PutState
       puts2 = put_entry puts r t x
 
@@ -187,7 +194,12 @@ module _ (c : Setup) (opening : List (List ℕ)) (events : List Event) (begun : 
                 let l = was.done e k at in
                 let full : is_placed (puts l.r l.p) ≡ true = ap is_placed l.is in
                 record {
-                  r = l.r; p = l.p; n = l.n; index = l.index; content = l.content; number = l.number;
+                  r = l.r;
+                  p = l.p;
+                  n = l.n;
+                  index = l.index;
+                  content = l.content;
+                  number = l.number;
                   is = still_full l.r l.p full ∙ l.is;
                   ended = l.ended;
                   name = l.name;
@@ -210,7 +222,6 @@ module _ (c : Setup) (opening : List (List ℕ)) (events : List Event) (begun : 
 
     -- a seat places its put
     module _ (k i number : ℕ) (w : List ℕ) where
-
       abbrev new : PutState
       new = placed i w (call_of k number)
 
@@ -275,14 +286,19 @@ module _ (c : Setup) (opening : List (List ℕ)) (events : List Event) (begun : 
         ];
         early = was.early;
         done = λ e j at.
-          let l = was.done e j at in
-          let full : is_placed (puts l.r l.p) ≡ true = ap is_placed l.is in
-          record {
-            r = l.r; p = l.p; n = l.n; index = l.index; content = l.content; number = l.number;
-            is = kept_full l.r l.p full ∙ l.is;
-            ended = l.ended;
-            name = kept_name l.r l.p full ∙ l.name;
-            under = l.under;
-            later = l.later;
-          };
+            let l = was.done e j at in
+            let full : is_placed (puts l.r l.p) ≡ true = ap is_placed l.is in
+            record {
+              r = l.r;
+              p = l.p;
+              n = l.n;
+              index = l.index;
+              content = l.content;
+              number = l.number;
+              is = kept_full l.r l.p full ∙ l.is;
+              ended = l.ended;
+              name = kept_name l.r l.p full ∙ l.name;
+              under = l.under;
+              later = l.later;
+            };
       }

@@ -1,12 +1,10 @@
 -- Opened and taken tickets and their gets in the history: where a ticket was taken, a get ended with just the put that
 -- was placed there, and all tickets up to it were drawn by gets that had started.
-use Rattle.std.proofs.Common.{◌≡◌, ◌≢◌, ℕ, suc, ◌+◌, ◌<◌, ◌≤◌, ◌⊎◌, inl, inr, Bool, true, false, List, [], ◌∷◌, ◌++◌, length, refl, ap, sym, ◌∙◌, subst, arith}
-use Rattle.std.specs.Prelude.{Option, Some, None, slice_get}
-use Rattle.std.proofs.lemmas.Bool.{cases_eq}
-use Rattle.std.proofs.lemmas.Option.{slice_get_within}
+use Rattle.std.proofs.Common.{◌≡◌, ◌≢◌, ℕ, ◌<◌, ◌≤◌, ◌⊎◌, inl, inr, true, List, [], ◌∷◌, ◌++◌, length, ap, sym, ◌∙◌, subst, arith}
+use Rattle.std.specs.Prelude.{Some, slice_get}
 use Rattle.scq_core.specs.Machine.{put_entry}
 use Rattle.scq_core.proofs.PutLemmas.{put_entry_or, put_entry_here}
-use Rattle.scq_hist.specs.Calls.{under_way, IsCall}
+use Rattle.scq_hist.specs.Calls.{IsCall}
 use Rattle.scq_hist.proofs.UnderWay.{started_within}
 use Rattle.scq_hist.specs.declared.events.Call.TheVariants.{Get}
 use Rattle.scq_hist.specs.declared.events.Event.{Event}
@@ -14,7 +12,7 @@ use Rattle.scq_hist.specs.declared.events.Event.TheVariants.{Start, End}
 use Rattle.scq_hist.specs.declared.events.PutName.{PutName}
 use Rattle.scq_hist.specs.declared.events.Reply.TheVariants.{Got}
 use Rattle.scq_law.specs.Places.{Maker}
-use Rattle.scq_law.proofs.Ghosts.{PutState, GetState, placed, is_placed, unopened, opened, dead, took}
+use Rattle.scq_law.proofs.Ghosts.{PutState, GetState, placed, is_placed, opened, took}
 use Rattle.scq_law.proofs.Growing.{under_now, at_grown, new_at, kept_at, under_old, length_grown, call_grown, seat_of, under_else}
 use Rattle.scq_law.proofs.Placings.{put_entry_else}
 
@@ -45,7 +43,6 @@ pub record IsTaken (events : List Event) (placer : ℕ → ℕ → PutName) (put
   pub got : (e k : ℕ) (name : PutName) (w : List ℕ) → slice_get events e ≡ Some (End k (Got name w)) → Gotten placer gets ended e name
 
 module _ (events : List Event) (placer : ℕ → ℕ → PutName) (puts : ℕ → ℕ → PutState) (gets : ℕ → ℕ → GetState) (origin since ended : ℕ → ℕ → ℕ) (was : IsTaken events placer puts gets origin since ended) where
-
   -- an event is told that is no Got
   pub taken_grown : (x : Event) → ((r h j : ℕ) → gets r h ≡ opened j → seat_of x ≢ j) → ((k : ℕ) (name : PutName) (w : List ℕ) → x ≢ End k (Got name w)) → IsTaken (events ++ x ∷ []) placer puts gets origin since ended
   taken_grown x other no_got =
@@ -56,7 +53,10 @@ module _ (events : List Event) (placer : ℕ → ℕ → PutName) (puts : ℕ �
             λ r h k j is.
             let t = was.takes r h k j is in
             record {
-              index = t.index; content = t.content; maker = t.maker; is = t.is;
+              index = t.index;
+              content = t.content;
+              maker = t.maker;
+              is = t.is;
               call = call_grown events x k (Get r) (since r h) (ended r h) (Got (placer r h) t.content) t.call;
               earlier = t.earlier;
               begun = t.begun;
@@ -80,7 +80,9 @@ module _ (events : List Event) (placer : ℕ → ℕ → PutName) (puts : ℕ �
             let t = was.takes r h k j is in
             let full : is_placed (puts r h) ≡ true = ap is_placed t.is in
             record {
-              index = t.index; content = t.content; maker = t.maker;
+              index = t.index;
+              content = t.content;
+              maker = t.maker;
               is = same_puts r h full ∙ t.is;
               call = rw (same_name r h full) t.call;
               earlier = t.earlier;
@@ -98,7 +100,6 @@ module _ (events : List Event) (placer : ℕ → ℕ → PutName) (puts : ℕ �
   took_apart r h q u k j free is ring ticket = free k j (rw (← ring, ← ticket) is)
 
   module _ (r h : ℕ) (free : (k j : ℕ) → gets r h ≢ took k j) where
-
     -- a ticket that nobody took becomes another such, drawn by a call that started at place o
     pub taken_drawn : (x : GetState) (o : ℕ) → ((k j : ℕ) → x ≢ took k j) → ((j : ℕ) → x ≡ opened j → under_now events j ≡ Some o) → (o ≡ 0) ⊎ (o < length events) → ((u k j : ℕ) → gets r u ≡ took k j → h ≤ u → o ≡ since r h) → IsTaken events placer puts (put_entry gets r h x) origin (put_entry since r h o) ended
     taken_drawn x o still now soon high =
@@ -124,7 +125,10 @@ module _ (events : List Event) (placer : ℕ → ℕ → PutName) (puts : ℕ �
                     let t = was.takes q u k j there in
                     let same : put_entry since r h o q u ≡ since q u = put_entry_else since r h o q u a.0 in
                     record {
-                      index = t.index; content = t.content; maker = t.maker; is = t.is;
+                      index = t.index;
+                      content = t.content;
+                      maker = t.maker;
+                      is = t.is;
                       call = subst (λ s. IsCall events k (Get q) s (ended q u) (Got (placer q u) t.content)) (sym same) t.call;
                       earlier =
                           λ v le.
@@ -146,7 +150,10 @@ module _ (events : List Event) (placer : ℕ → ℕ → PutName) (puts : ℕ �
               λ e k name w at.
               let g = was.got e k name w at in
               record {
-                r = g.r; h = g.h; seat = g.seat; number = g.number;
+                r = g.r;
+                h = g.h;
+                seat = g.seat;
+                number = g.number;
                 is = put_entry_else gets r h x g.r g.h (took_apart r h g.r g.h g.seat g.number free g.is) ∙ g.is;
                 at = g.at;
                 named = g.named;
@@ -155,7 +162,6 @@ module _ (events : List Event) (placer : ℕ → ℕ → PutName) (puts : ℕ �
 
     -- a seat takes what is placed at its ticket, and its get ends so
     module _ (k number i : ℕ) (w : List ℕ) (b : Maker) where
-
       abbrev x : Event
       x = End k (Got (placer r h) w)
 
@@ -189,7 +195,10 @@ module _ (events : List Event) (placer : ℕ → ℕ → PutName) (puts : ℕ �
                       let last : ended2 q u ≡ length events = rw (a.0, a.1) (put_entry_here ended r h (length events)) in
                       let here : Taking (events ++ x ∷ []) placer puts origin since ended2 r h k =
                       record {
-                        index = i; content = w; maker = b; is = is;
+                        index = i;
+                        content = w;
+                        maker = b;
+                        is = is;
                         call =
                             rw (put_entry_here ended r h (length events))
                             (record {
@@ -208,7 +217,10 @@ module _ (events : List Event) (placer : ℕ → ℕ → PutName) (puts : ℕ �
                       let t = was.takes q u j n there in
                       let same : ended2 q u ≡ ended q u = put_entry_else ended r h (length events) q u a.0 in
                       record {
-                        index = t.index; content = t.content; maker = t.maker; is = t.is;
+                        index = t.index;
+                        content = t.content;
+                        maker = t.maker;
+                        is = t.is;
                         call = subst (λ e. IsCall (events ++ x ∷ []) j (Get q) (since q u) e (Got (placer q u) t.content)) (sym same) (call_grown events x j (Get q) (since q u) (ended q u) _ t.call);
                         earlier = λ v le. let old = t.earlier v le in subst (λ e. since q v < e) (sym same) old;
                         begun = let old = t.begun in subst (λ e. origin q u < e) (sym same) old;
@@ -221,7 +233,10 @@ module _ (events : List Event) (placer : ℕ → ℕ → PutName) (puts : ℕ �
                       let g = was.got e j name y old in
                       let apart = took_apart r h g.r g.h g.seat g.number free g.is in
                       record {
-                        r = g.r; h = g.h; seat = g.seat; number = g.number;
+                        r = g.r;
+                        h = g.h;
+                        seat = g.seat;
+                        number = g.number;
                         is = put_entry_else gets r h (took k number) g.r g.h apart ∙ g.is;
                         at = put_entry_else ended r h (length events) g.r g.h apart ∙ g.at;
                         named = g.named;
@@ -229,7 +244,10 @@ module _ (events : List Event) (placer : ℕ → ℕ → PutName) (puts : ℕ �
                   | inr new ↦
                       let same = new.1 in
                       record {
-                        r = r; h = h; seat = k; number = number;
+                        r = r;
+                        h = h;
+                        seat = k;
+                        number = number;
                         is = put_entry_here gets r h (took k number);
                         at = put_entry_here ended r h (length events) ∙ sym new.0;
                         named = cc;

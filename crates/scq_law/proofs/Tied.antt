@@ -1,27 +1,27 @@
 -- The tie between a run's history and its state, kept by each event of a turn. The diary is the proof's own: for each
 -- ticket of a put the place of the Start of the call that drew it, likewise for a get's, and the place of its get's End.
-use Rattle.std.proofs.Common.{◌≡◌, ◌≢◌, ℕ, suc, ◌+◌, ◌<◌, ◌≤◌, ◌⊎◌, inl, inr, Bool, true, false, List, [], ◌∷◌, ◌++◌, length, refl, ap, sym, ◌∙◌, subst, arith, eq-eqb, ne_eqb, append-nil}
-use Rattle.std.specs.Prelude.{◌==◌, if◌then◌else◌, Option, Some, None, slice_get}
+use Rattle.std.proofs.Common.{◌≡◌, ◌≢◌, ℕ, ◌+◌, ◌<◌, ◌≤◌, inl, inr, true, false, List, [], ◌∷◌, ◌++◌, length, refl, ap, sym, ◌∙◌, subst, arith, eq-eqb, ne_eqb}
+use Rattle.std.specs.Prelude.{Some}
 use Rattle.std.proofs.lemmas.Bool.{cases_eq}
 use Rattle.scq_word.specs.declared.setup.Setup.{Setup}
 use Rattle.scq_core.specs.Put.{put}
 use Rattle.scq_core.specs.Machine.{put_entry}
-use Rattle.scq_core.proofs.PutLemmas.{put_here, put_else, put_entry_or, put_entry_here}
-use Rattle.scq_hist.specs.Calls.{under_way, IsPut}
-use Rattle.scq_hist.specs.Aspects.{Suits, IsAnswer}
+use Rattle.scq_core.proofs.PutLemmas.{put_else, put_entry_here}
+use Rattle.scq_hist.specs.Calls.{IsPut}
+use Rattle.scq_hist.specs.Aspects.{IsAnswer}
 use Rattle.scq_hist.proofs.Puts.{one_start}
 use Rattle.scq_hist.proofs.UnderWay.{started_within}
 use Rattle.scq_hist.specs.declared.events.Call.TheVariants.{Put, Get}
 use Rattle.scq_hist.specs.declared.events.Event as history
 use Rattle.scq_hist.specs.declared.events.Event.TheVariants.{Start, End}
 use Rattle.scq_hist.specs.declared.events.PutName.{PutName}
-use Rattle.scq_hist.specs.declared.events.PutName.TheVariants.{Opening, Of}
+use Rattle.scq_hist.specs.declared.events.PutName.TheVariants.{Of}
 use Rattle.scq_hist.specs.declared.events.Reply.{Reply}
-use Rattle.scq_hist.specs.declared.events.Reply.TheVariants.{Done, Got, Nothing, Spent}
+use Rattle.scq_hist.specs.declared.events.Reply.TheVariants.{Done, Got}
 use Rattle.scq_law.specs.Places.{Maker, call_of}
-use Rattle.scq_law.proofs.Ghosts.{Ghost, PutState, GetState, fresh, pending, failed, placed, unopened, opened, dead, took, is_placed, with_put, with_get}
-use Rattle.scq_law.proofs.Events.{Stance, resting, drawing, putting, landed, seeking, trying, missed, leaving}
-use Rattle.scq_law.proofs.Growing.{under_now, under_start, seat_of, under_old, length_grown}
+use Rattle.scq_law.proofs.Ghosts.{Ghost, fresh, pending, failed, placed, unopened, opened, dead, took, is_placed, with_put, with_get}
+use Rattle.scq_law.proofs.Events.{Stance, resting, drawing, putting, landed, seeking, trying, missed}
+use Rattle.scq_law.proofs.Growing.{under_now, under_old}
 use Rattle.scq_law.proofs.Doing.{PutsNow, GetsNow, Doing, IsCalled, called_put, called_get, called_end, called_on, put_answer, get_answer}
 use Rattle.scq_law.proofs.Placings.{IsNamed, due, Landing, IsPlaced, placed_grown, placed_on, placed_drawn, placed_laid, put_entry_else}
 use Rattle.scq_law.proofs.Takings.{IsTaken, taken_grown, taken_kept, taken_drawn, taken_taken}
@@ -50,7 +50,6 @@ lands_else stance k s none j r i t w is =
     ]
 
 module _ (c : Setup) (opening : List (List ℕ)) (events : List history.Event) (begun : ℕ → ℕ) (placer : ℕ → ℕ → PutName) (stance : ℕ → Stance) (calls : ℕ → ℕ) (g : Ghost) (tied : IsTied c opening events begun placer stance calls g) (k : ℕ) where
-
   other_pends : IsFree g k → (r t j i : ℕ) → g.puts r t ≡ pending j i → k ≢ j
   other_pends free r t j i is same = free.pends r t i (is ∙ ap (λ z. pending z i) (sym same))
 
@@ -163,7 +162,12 @@ module _ (c : Setup) (opening : List (List ℕ)) (events : List history.Event) (
             let seat : k ≡ j = cc in
             subst (λ z. Landing (events ++ End k Done ∷ []) placer calls2 g.puts tied.origin (length events) z) seat
             (record {
-              r = r; p = t; n = begun k; index = i; content = w; number = calls k;
+              r = r;
+              p = t;
+              n = begun k;
+              index = i;
+              content = w;
+              number = calls k;
               is = is;
               ended = more;
               name = name;
