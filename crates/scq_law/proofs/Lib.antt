@@ -3,7 +3,8 @@ pub mod Books
 pub mod Window
 pub mod Flows
 pub mod Keeping
-pub mod Kept
+pub mod Windows
+pub mod Follow
 pub mod Ghosts
 pub mod Events
 pub mod Tale
