@@ -5,6 +5,9 @@ pub mod Flows
 pub mod Keeping
 pub mod Windows
 pub mod Follow
+pub mod Counted
+pub mod Done
+pub mod Levels
 pub mod Ghosts
 pub mod Events
 pub mod Tale
