@@ -8,6 +8,8 @@ pub mod Follow
 pub mod Counted
 pub mod Done
 pub mod Levels
+pub mod ToldRuns
+pub mod Fails
 pub mod Ghosts
 pub mod Events
 pub mod Tale
