@@ -10,6 +10,12 @@ pub mod Done
 pub mod Levels
 pub mod ToldRuns
 pub mod Fails
+pub mod TicketSums
+pub mod Tallies
+pub mod Spends
+pub mod TicketLaws
+pub mod Overruns
+pub mod Decides
 pub mod Ghosts
 pub mod Events
 pub mod Tale
