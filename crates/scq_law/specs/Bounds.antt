@@ -89,11 +89,11 @@ openings c r = if r == 0 then n_of c.order else 0
 abbrev pub enqueues : Setup → Machine → ℕ → ℕ
 enqueues c m r = total (λ p. tally (was_put r) p.calls + is_putting r p.phase) m.part c.seats + openings c r
 
--- past the first ticket of a ring, this many tickets are more than a number of enqueues can use up
+-- a bound on the tickets of a ring where so many enqueues were begun, whatever the dequeues do
 abbrev pub ticket_bound : Setup → ℕ → ℕ
 ticket_bound c begun = 4 * n_of c.order + (begun + 1) * (reset_of c + 1 + c.seats) + c.seats
 
--- Head and Tail stay below the bound for the enqueues that were begun on their ring
+-- Head, and Tail as far as it is below the limit, stay below the bound for the enqueues that were begun on their ring
 pub record TicketsBounded (c : Setup) (m : Machine) : Type 0 where
   pub head : (r : ℕ) → m.cells.head r + 2 * n_of c.order ≤ ticket_bound c (enqueues c m r)
   pub tail : (r : ℕ) → min (m.cells.tail r) c.limit + 1 ≤ ticket_bound c (enqueues c m r)

@@ -8,6 +8,7 @@ ghost use Rattle.scq_word.specs.Sizes.{n_of};
 ghost use Rattle.scq_core.specs.declared.step.Step.{Step};
 ghost use Rattle.scq_core.specs.Machine.{Machine};
 ghost use Rattle.scq_core.specs.Reach.{IsReachable};
+ghost use Rattle.scq_core.specs.Laws.{CountersBounded, ThresholdFloor};
 ghost use Rattle.scq_law.specs.Run.{Told, IsRun};
 ghost use Rattle.scq_law.specs.Bounds.{WithinWindow, ThresholdCovers, FailsBounded, TicketsBounded, NoneSpent};
 
@@ -21,6 +22,17 @@ pub fn tail_is_within_the_window()
 /// it has taken an index or lowered Threshold.
 pub fn threshold_covers_the_finished()
     ensures { (c : Setup) (m : Machine) → IsReachable c m → ThresholdCovers c m }
+{}
+
+/// Threshold is at least `a - k`, where `a` of the `k` seats are in a dequeue of the ring that has
+/// passed D1, and at most what a reset sets.
+pub fn threshold_has_a_floor()
+    ensures { (c : Setup) (m : Machine) → IsReachable c m → ThresholdFloor c m }
+{}
+
+/// Tail and Head pass the limit by at most the number of seats that keep a spent ticket.
+pub fn counters_are_bounded()
+    ensures { (c : Setup) (m : Machine) → IsReachable c m → CountersBounded c m }
 {}
 
 /// After each run, no more dequeue turns of a ring have failed since a put last ended there than what
