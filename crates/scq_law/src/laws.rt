@@ -1,12 +1,12 @@
 //! Laws of every state that steps reach. The functions do nothing: each stands for its contract.
 
-ghost use Rattle.std.specs.Prelude.{◌≡◌, ℕ, ◌<◌, List, Some};
+ghost use Rattle.std.specs.Prelude.{ℕ, List};
 ghost use Rattle.scq_word.specs.declared.setup.Setup.{Setup};
 ghost use Rattle.scq_core.specs.Machine.{Machine};
 ghost use Rattle.scq_core.specs.Reach.{IsReachable};
 ghost use Rattle.scq_law.specs.Hands.{OneHand};
 ghost use Rattle.scq_law.specs.Later.{IsLater};
-ghost use Rattle.scq_law.specs.Places.{Maker, GaveUp, IsPlacedBy, IsTakenBy, PlacesOnce};
+ghost use Rattle.scq_law.specs.Places.{Maker, GaveUp, IsPlacedBy, PlacesOnce};
 
 /// Each index is in the hand of one seat, once, or in one entry of one ring, and nowhere else.
 pub fn one_hand()
