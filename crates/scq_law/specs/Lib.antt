@@ -3,3 +3,4 @@ pub mod Places
 pub mod Hands
 pub mod Later
 pub mod Bounds
+pub mod History
