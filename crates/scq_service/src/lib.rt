@@ -6,9 +6,14 @@
 
 mod answering;
 mod fault;
+mod outcome;
 mod output;
+mod run;
+mod serving;
 mod telling;
 mod words;
 mod writing;
 
 pub use fault::{Fault, WordsFault};
+pub use outcome::Outcome;
+pub use serving::serve;
