@@ -1,12 +1,12 @@
 -- How the tickets' states change by an event, as the cover and the book ask.
-use Rattle.std.proofs.Common.{◌≡◌, ◌≢◌, ℕ, ◌+◌, ◌<◌, ◌≤◌, ◌⊎◌, Bool, true, false, List, length, inl, inr, refl, ap, sym, ◌∙◌, arith}
+use Rattle.std.proofs.Common.{◌≡◌, ◌≢◌, ℕ, ◌+◌, ◌<◌, ◌≤◌, ◌⊎◌, true, false, List, length, inl, inr, ap, sym, ◌∙◌, arith}
 use Rattle.std.proofs.lemmas.Bool.{cases_Bool, cases_lt}
 use Rattle.scq_word.specs.declared.setup.Setup.{Setup}
 use Rattle.scq_core.specs.Machine.{Machine}
 use Rattle.scq_core.proofs.PutLemmas.{put_or, put_entry_or, put_entry_here}
 use Rattle.scq_law.specs.Places.{Maker, call_of}
-use Rattle.scq_law.proofs.Ghosts.{Ghost, PutState, GetState, fresh, pending, failed, placed, unopened, opened, dead, took, is_placed, waiting, with_put, with_get}
-use Rattle.scq_law.proofs.Events.{Event, calm, drew, fell, laid, finished, entered, refused, began, died, saw_end, lifted, taken, lowered, emptied, overran}
+use Rattle.scq_law.proofs.Ghosts.{Ghost, PutState, GetState, fresh, pending, failed, placed, opened, dead, took, is_placed, waiting, with_put, with_get}
+use Rattle.scq_law.proofs.Events.{Event, drew, fell, laid, began, died, lifted, taken, overran}
 use Rattle.scq_law.proofs.Deed.{Live, Blocks}
 use Rattle.scq_law.proofs.Scenes.{Scene, ghost_next}
 

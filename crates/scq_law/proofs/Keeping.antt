@@ -1,7 +1,7 @@
 -- Each event keeps the cover and the book. Plan: an index that has gone past a drawn ticket stays past it, and one that
 -- stands earlier in its slot stays there or goes to a hand; what a new failure found stands earlier in its slot, since a
 -- whole turn of the ring later would be past the window.
-use Rattle.std.proofs.Common.{◌≡◌, ◌≢◌, ℕ, ◌+◌, ◌<◌, ◌≤◌, ◌⊎◌, true, false, inl, inr, refl, ap, sym, ◌∙◌, arith}
+use Rattle.std.proofs.Common.{◌≡◌, ◌≢◌, ℕ, ◌+◌, ◌<◌, ◌≤◌, ◌⊎◌, true, inl, inr, ap, sym, ◌∙◌, arith}
 use Rattle.std.proofs.lemmas.Bool.{cases_lt, cases_order}
 use Rattle.scq_word.specs.declared.setup.Setup.{Setup}
 use Rattle.scq_word.specs.Tickets.{slot_of}
@@ -10,7 +10,7 @@ use Rattle.scq_core.specs.Machine.{Entries}
 use Rattle.scq_core.specs.Table.{size}
 use Rattle.scq_core.proofs.Entries.{some_slots}
 use Rattle.scq_law.proofs.Ghosts.{Ghost, PutState, fresh, pending, failed, placed, waiting}
-use Rattle.scq_law.proofs.Deed.{Live, Blocks}
+use Rattle.scq_law.proofs.Deed.{Live}
 use Rattle.scq_law.proofs.Booked.{IsBooked, IsDrawn}
 use Rattle.scq_law.proofs.Books.{IsAlone, IsCovered, IsAfter, Bars, IsBook, IsWindow}
 use Rattle.scq_law.proofs.Flows.{Fails, Flows, Advances}
@@ -32,7 +32,6 @@ covered_step c g h tail head tail' head' time flows advances was =
     }
 
 module _ (c : Setup) (e : Entries) (g h : Ghost) (tail head head' : ℕ → ℕ) (time : ℕ) (flows : Flows c g tail head time h) (rises : (r : ℕ) → head r ≤ head' r) (booked : IsBooked c e g) (drawn : IsDrawn c tail head g) (alone : IsAlone c g) (window : IsWindow c tail head) (book : IsBook c g head time) where
-
   -- a drawn ticket is below Tail and the limit, and in the window
   below : (r t : ℕ) (x : PutState) → g.puts r t ≡ x → x ≢ fresh → t < tail r
   below r t x is some =

@@ -1,19 +1,18 @@
 -- The window follows from one state. Plan: were twice as many tickets as there are indices drawn from Head on, each
 -- would have a label of its own: its index where it is pending or placed, the found index past all indices where it
 -- failed. So each label is met; and the drawer's index of a failed ticket, as a label, is met by one that failed earlier.
-use Rattle.std.proofs.Common.{◌≡◌, ◌≢◌, ℕ, zero, suc, ◌+◌, ◌<◌, ◌≤◌, ◌⊎◌, inl, inr, refl, ap, sym, ◌∙◌, List, true, arith}
+use Rattle.std.proofs.Common.{◌≡◌, ◌≢◌, ℕ, zero, suc, ◌+◌, ◌<◌, ◌≤◌, ◌⊎◌, inl, inr, refl, ap, sym, ◌∙◌, true, arith}
 use Rattle.std.proofs.lemmas.Bool.{cases_eq, cases_lt}
 use Rattle.scq_word.specs.declared.setup.Setup.{Setup}
 use Rattle.scq_word.specs.Sizes.{n_of}
 use Rattle.scq_core.specs.Machine.{Entries}
 use Rattle.scq_core.specs.Table.{size}
 use Rattle.scq_core.proofs.Entries.{some_indices}
-use Rattle.scq_law.specs.Places.{Maker}
-use Rattle.scq_law.proofs.Ghosts.{Ghost, PutState, fresh, pending, failed, placed, unopened, waiting}
+use Rattle.scq_law.proofs.Ghosts.{Ghost, PutState, fresh, pending, failed, placed, waiting}
 use Rattle.scq_law.proofs.Deed.{Live}
 use Rattle.scq_law.proofs.Booked.{IsBooked, IsDrawn}
 use Rattle.scq_law.proofs.Books.{IsAlone, IsCovered, IsBook, IsWindow}
-use Rattle.scq_law.proofs.Onto.{Meets, IsOneToOne, onto}
+use Rattle.scq_law.proofs.Onto.{IsOneToOne, onto}
 
 abbrev label : ℕ → PutState → ℕ
 label n fresh = 0

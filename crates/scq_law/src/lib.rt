@@ -3,4 +3,5 @@
 // in the other files of `specs/`, and the layers above cite them as the contracts of the module `laws`.
 #![tactic(auto)]
 
+pub mod bounds;
 pub mod laws;

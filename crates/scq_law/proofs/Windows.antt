@@ -1,24 +1,25 @@
--- Cover and book in each state of a run, and with them the window. Plan: one induction for one hand, the seats of the
--- tickets, cover and book; the window of the state before an event is what its step needs.
-use Rattle.std.proofs.Common.{◌≡◌, ◌≢◌, ℕ, ◌+◌, ◌<◌, ◌≤◌, List, length, true, false, inl, inr, refl, ap, sym, ◌∙◌, arith, eq-eqb, ne_eqb}
-use Rattle.std.specs.Prelude.{◌==◌, if◌then◌else◌}
+-- Cover and book in each state of a run, and with them the window. Plan: one induction for cover and book; the window of
+-- the state before an event, which follows from both, is what its step needs.
+use Rattle.std.proofs.Common.{◌≡◌, ℕ, ◌+◌, ◌<◌, List, inl, inr, ap, sym, ◌∙◌, arith, eq-eqb, ne_eqb}
 use Rattle.std.proofs.lemmas.Bool.{cases_eq}
 use Rattle.scq_word.specs.declared.setup.Setup.{Setup}
 use Rattle.scq_word.specs.Sizes.{n_of}
 use Rattle.scq_core.specs.Machine.{Machine}
-use Rattle.scq_core.specs.Table.{size, holds_index}
+use Rattle.scq_core.specs.Table.{size}
 use Rattle.scq_core.specs.Start.{start_of}
 use Rattle.scq_core.specs.Laws.{Offers}
-use Rattle.scq_law.proofs.Ghosts.{Ghost, fresh, pending, failed, placed, start_ghost}
-use Rattle.scq_law.proofs.Events.{Event, Stance, putting}
-use Rattle.scq_law.proofs.Deed.{stance, Live}
+use Rattle.scq_law.proofs.Ghosts.{Ghost, pending, failed, start_ghost}
+use Rattle.scq_law.proofs.Events.{Event, putting}
+use Rattle.scq_law.proofs.Deed.{stance}
 use Rattle.scq_law.proofs.Tale.{Tale}
 use Rattle.scq_law.proofs.Base.{IsBased, based}
 use Rattle.scq_law.proofs.Full.{stands_at}
-use Rattle.scq_law.proofs.Scenes.{Scene, ghost_next, along}
+use Rattle.scq_law.proofs.Scenes.{Scene, ghost_next}
+use Rattle.scq_law.proofs.Follow.{follow}
+use Rattle.scq_law.proofs.Throughout.{rooted, once}
 use Rattle.scq_law.proofs.Stances.{stance_has}
-use Rattle.scq_law.proofs.Roots.{IsRooted, rooted_start, rooted_step}
-use Rattle.scq_law.proofs.Once.{Spot, in_hand, at_place, IsOnce, once_start, once_step}
+use Rattle.scq_law.proofs.Roots.{IsRooted}
+use Rattle.scq_law.proofs.Once.{in_hand, at_place, IsOnce}
 use Rattle.scq_law.proofs.Books.{IsAlone, IsCovered, IsBook, IsWindow}
 use Rattle.scq_law.proofs.Window.{window}
 use Rattle.scq_law.proofs.Flows.{flows, advances}
@@ -64,22 +65,21 @@ alone_of c g m base rooted once =
       low = λ r t k i is. let a = holder c g m base rooted k r t i is in a.offers.index;
     }
 
-pub record IsKept (c : Setup) (time : ℕ) (g : Ghost) (m : Machine) : Type 0 where
-  pub rooted : IsRooted g m
-  pub once : IsOnce c g m
+pub record IsNoted (c : Setup) (time : ℕ) (g : Ghost) (m : Machine) : Type 0 where
   pub covered : IsCovered c g m.cells.tail m.cells.head
   pub book : IsBook c g m.cells.head time
 
--- the window in a state with all of them
-pub window_of : (c : Setup) (time : ℕ) (g : Ghost) (m : Machine) → IsBased c g m → IsKept c time g m → IsWindow c m.cells.tail m.cells.head
-window_of c time g m base kept =
-    window c m.cells.entries g m.cells.tail m.cells.head time base.booked base.drawn (alone_of c g m base kept.rooted kept.once) kept.covered kept.book
+alone : (c : Setup) (time : ℕ) (g : Ghost) (m : Machine) → Tale c time g m → IsBased c g m → IsAlone c g
+alone c time g m tale base = alone_of c g m base (rooted c time g m tale) (once c time g m tale)
 
-kept_start : (c : Setup) (opening : List (List ℕ)) → IsKept c 0 (start_ghost c opening) (start_of c opening)
-kept_start c opening =
+-- the window in a state with both
+from_notes : (c : Setup) (time : ℕ) (g : Ghost) (m : Machine) → Tale c time g m → IsBased c g m → IsNoted c time g m → IsWindow c m.cells.tail m.cells.head
+from_notes c time g m tale base noted =
+    window c m.cells.entries g m.cells.tail m.cells.head time base.booked base.drawn (alone c time g m tale base) noted.covered noted.book
+
+noted_start : (c : Setup) (opening : List (List ℕ)) → IsNoted c 0 (start_ghost c opening) (start_of c opening)
+noted_start c opening =
     record {
-      rooted = rooted_start c opening;
-      once = once_start c opening;
       covered =
           record {
             covered =
@@ -112,21 +112,22 @@ kept_start c opening =
           | inr s ↦ let at = s.is in absurd (cc)
         ]
 
-kept_step : (c : Setup) (time : ℕ) (g : Ghost) (m : Machine) (k : ℕ) (e : Event) (n : Machine) → Scene c time g m k e n → IsKept c time g m → IsKept c (time + 1) (ghost_next time g m k e) n
-kept_step c time g m k e n scene kept =
+noted_step : (c : Setup) (time : ℕ) (g : Ghost) (m : Machine) (k : ℕ) (e : Event) (n : Machine) → Tale c time g m → Scene c time g m k e n → IsNoted c time g m → IsNoted c (time + 1) (ghost_next time g m k e) n
+noted_step c time g m k e n tale scene noted =
     let h = ghost_next time g m k e in
     let base = scene.base in
     let flow = flows c time g m k e n scene in
     let up = advances c time g m k e n scene in
-    let alone = alone_of c g m base kept.rooted kept.once in
-    let near = window_of c time g m base kept in
+    let near = from_notes c time g m tale base noted in
     record {
-      rooted = rooted_step c time g m k e n scene kept.rooted;
-      once = once_step c time g m k e n scene kept.once;
-      covered = covered_step c g h m.cells.tail m.cells.head n.cells.tail n.cells.head time flow up kept.covered;
+      covered = covered_step c g h m.cells.tail m.cells.head n.cells.tail n.cells.head time flow up noted.covered;
       book =
-          book_step c m.cells.entries g h m.cells.tail m.cells.head n.cells.head time flow up.heads base.booked base.drawn alone near kept.book;
+          book_step c m.cells.entries g h m.cells.tail m.cells.head n.cells.head time flow up.heads base.booked base.drawn (alone c time g m tale base) near noted.book;
     }
 
-pub kept : (c : Setup) (time : ℕ) (g : Ghost) (m : Machine) → Tale c time g m → IsKept c time g m
-kept c = along c (IsKept c) (λ opening full. kept_start c opening) (kept_step c)
+pub noted : (c : Setup) (time : ℕ) (g : Ghost) (m : Machine) → Tale c time g m → IsNoted c time g m
+noted c = follow c (IsNoted c) (λ opening full. noted_start c opening) (noted_step c)
+
+-- in each state of a run
+pub windowed : (c : Setup) (time : ℕ) (g : Ghost) (m : Machine) → Tale c time g m → IsWindow c m.cells.tail m.cells.head
+windowed c time g m tale = from_notes c time g m tale (based c time g m tale) (noted c time g m tale)

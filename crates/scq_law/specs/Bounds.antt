@@ -1,0 +1,103 @@
+-- How far Tail, Head and Threshold of a ring are apart, and how many tickets a number of enqueues can use up.
+use Rattle.std.specs.Prelude.{◌≡◌, ℕ, ◌+◌, ◌*◌, ◌<◌, ◌≤◌, ◌⊎◌, min, Bool, true, false, ◌==◌, if◌then◌else◌, List, [], ◌∷◌}
+use Rattle.std.specs.List.{Contains}
+use Rattle.scq_word.specs.declared.setup.Setup.{Setup}
+use Rattle.scq_word.specs.Sizes.{n_of}
+use Rattle.scq_core.specs.declared.ended.Ended.{Ended}
+use Rattle.scq_core.specs.declared.ended.Ended.TheVariants.{Done, Got, Nothing, Spent}
+use Rattle.scq_core.specs.declared.phase.Phase.{Phase}
+use Rattle.scq_core.specs.declared.phase.Phase.TheVariants.{AtE1, AtE2, AtE3, AtE4, AtE5, AtE6, AtD3, AtD4, AtD5, AtD6, AtD7, AtD8, AtD9, AtD10}
+use Rattle.scq_core.specs.Machine.{Machine}
+use Rattle.scq_core.specs.Table.{size, zero_level, reset_of}
+use Rattle.scq_core.specs.Laws.{total}
+use Rattle.scq_law.specs.Run.{Told}
+
+-- no ring's Tail, as far as it is below the limit, is more than twice the number of indices, less one, past its Head
+pub record WithinWindow (c : Setup) (m : Machine) : Type 0 where
+  pub within : (r : ℕ) → min (m.cells.tail r) c.limit + 1 ≤ m.cells.head r + 2 * n_of c.order
+
+-- 1 for a seat whose turn is in flight on this ring: it has drawn a ticket below the limit to dequeue, and hasn't yet
+-- taken what is there or counted the turn as failed
+abbrev pub flies : ℕ → Phase → ℕ
+flies r (AtD3 q h l) = if q == r then 1 else 0
+flies r (AtD4 q h) = if q == r then 1 else 0
+flies r (AtD5 q h e) = if q == r then 1 else 0
+flies r (AtD6 q h) = if q == r then 1 else 0
+flies r (AtD7 q h from to) = if q == r then 1 else 0
+flies r (AtD8 q h from) = if q == r then 1 else 0
+flies r (AtD9 q h from to) = if q == r then 1 else 0
+flies r (AtD10 q h leaving) = if q == r then 1 else 0
+flies r phase = 0
+
+-- how many turns of this ring are in flight
+abbrev pub flights : Setup → Machine → ℕ → ℕ
+flights c m r = total (λ p. flies r p.phase) m.part c.seats
+
+-- a seat's record has a put that ended at this place of the ring
+pub record IsDone (m : Machine) (r p : ℕ) : Type 0 where
+  pub seat : ℕ
+  pub content : List ℕ
+  pub ended : Contains (m.part seat).calls (Done r p content)
+
+-- an opening place of ring 0
+pub record IsOpening (c : Setup) (r p : ℕ) : Type 0 where
+  pub ring : r ≡ 0
+  pub first : size c ≤ p
+  pub last : p < size c + n_of c.order
+
+-- the put at this place has ended, or is an opening put
+abbrev pub IsFinished : Setup → Machine → ℕ → ℕ → Type 0
+IsFinished c m r p = IsDone m r p ⊎ IsOpening c r p
+
+-- with q turns in flight, Threshold is at least (p - Head) + q + 2 for each finished place p at or past Head. Both sides
+-- are raised by Head and by what the word of 0 is
+pub record ThresholdCovers (c : Setup) (m : Machine) : Type 0 where
+  pub covers : (r p : ℕ) → IsFinished c m r p → m.cells.head r ≤ p → zero_level + p + flights c m r + 2 ≤ m.cells.threshold r + m.cells.head r
+
+-- since a put last ended on a ring no more dequeue turns have failed there than a reset sets and there are seats
+pub record FailsBounded (c : Setup) (told : Told) : Type 0 where
+  pub fails : (r : ℕ) → told.fails r ≤ reset_of c + c.seats
+
+-- the sum of a number over the calls that have ended
+abbrev pub tally : (Ended → ℕ) → List Ended → ℕ
+tally f [] = 0
+tally f (x ∷ xs) = f x + tally f xs
+
+-- 1 for an enqueue of this ring
+abbrev pub was_put : ℕ → Ended → ℕ
+was_put r (Done q p w) = if q == r then 1 else 0
+was_put r (Got q p w) = 0
+was_put r (Nothing q) = 0
+was_put r (Spent q t true) = if q == r then 1 else 0
+was_put r (Spent q t false) = 0
+
+-- 1 for a seat that has one under way
+abbrev pub is_putting : ℕ → Phase → ℕ
+is_putting r (AtE1 q i w l) = if q == r then 1 else 0
+is_putting r (AtE2 q i w t l) = if q == r then 1 else 0
+is_putting r (AtE3 q i w t e) = if q == r then 1 else 0
+is_putting r (AtE4 q i w t e) = if q == r then 1 else 0
+is_putting r (AtE5 q i w t) = if q == r then 1 else 0
+is_putting r (AtE6 q i w t) = if q == r then 1 else 0
+is_putting r phase = 0
+
+-- the opening puts of a ring
+abbrev pub openings : Setup → ℕ → ℕ
+openings c r = if r == 0 then n_of c.order else 0
+
+-- how many enqueues were begun on this ring: the ended ones, those under way, and the opening puts
+abbrev pub enqueues : Setup → Machine → ℕ → ℕ
+enqueues c m r = total (λ p. tally (was_put r) p.calls + is_putting r p.phase) m.part c.seats + openings c r
+
+-- a bound on the tickets of a ring where so many enqueues were begun, whatever the dequeues do
+abbrev pub ticket_bound : Setup → ℕ → ℕ
+ticket_bound c begun = 4 * n_of c.order + (begun + 1) * (reset_of c + 1 + c.seats) + c.seats
+
+-- Head, and Tail as far as it is below the limit, stay below the bound for the enqueues that were begun on their ring
+pub record TicketsBounded (c : Setup) (m : Machine) : Type 0 where
+  pub head : (r : ℕ) → m.cells.head r + 2 * n_of c.order ≤ ticket_bound c (enqueues c m r)
+  pub tail : (r : ℕ) → min (m.cells.tail r) c.limit + 1 ≤ ticket_bound c (enqueues c m r)
+
+-- where the bound is within the limit on each ring, no call has ended for want of tickets
+pub record NoneSpent (c : Setup) (m : Machine) : Type 0 where
+  pub none : ((r : ℕ) → r < c.rings → ticket_bound c (enqueues c m r) ≤ c.limit) → (k r t : ℕ) (is_put : Bool) → Contains (m.part k).calls (Spent r t is_put) → ⊥

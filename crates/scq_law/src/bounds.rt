@@ -1,0 +1,55 @@
+//! How far a ring's counters are apart, and how many tickets a number of enqueues can use up. The
+//! functions do nothing: each stands for its contract.
+
+ghost use Rattle.std.specs.Prelude.{◌≡◌, ℕ, ◌<◌, List, length};
+ghost use Rattle.std.specs.List.{All};
+ghost use Rattle.scq_word.specs.declared.setup.Setup.{Setup};
+ghost use Rattle.scq_word.specs.Sizes.{n_of};
+ghost use Rattle.scq_core.specs.declared.step.Step.{Step};
+ghost use Rattle.scq_core.specs.Machine.{Machine};
+ghost use Rattle.scq_core.specs.Reach.{IsReachable};
+ghost use Rattle.scq_core.specs.Laws.{CountersBounded, ThresholdFloor};
+ghost use Rattle.scq_law.specs.Run.{Told, IsRun};
+ghost use Rattle.scq_law.specs.Bounds.{WithinWindow, ThresholdCovers, FailsBounded, TicketsBounded, NoneSpent};
+
+/// Tail, as far as it is below the limit, is at most `2n - 1` past Head on each ring of `n` indices.
+pub fn tail_is_within_the_window()
+    ensures { (c : Setup) (m : Machine) → IsReachable c m → WithinWindow c m }
+{}
+
+/// With `q` turns of a ring in flight, each finished place at or past Head has Threshold at least
+/// `(place - Head) + q + 2`. A turn is in flight from the draw of its ticket, below the limit, until
+/// it has taken an index or lowered Threshold.
+pub fn threshold_covers_the_finished()
+    ensures { (c : Setup) (m : Machine) → IsReachable c m → ThresholdCovers c m }
+{}
+
+/// Threshold is at least `a - k`, where `a` of the `k` seats are in a dequeue of the ring that has
+/// passed D1, and at most what a reset sets.
+pub fn threshold_has_a_floor()
+    ensures { (c : Setup) (m : Machine) → IsReachable c m → ThresholdFloor c m }
+{}
+
+/// Tail and Head pass the limit by at most the number of seats that keep a spent ticket.
+pub fn counters_are_bounded()
+    ensures { (c : Setup) (m : Machine) → IsReachable c m → CountersBounded c m }
+{}
+
+/// After each run, no more dequeue turns of a ring have failed since a put last ended there than what
+/// a reset sets and the number of seats together.
+pub fn fails_are_bounded()
+    ensures { (c : Setup) (opening : List (List ℕ)) (steps : List (ℕ × Step)) (told : Told) → length opening ≡ n_of c.order → All (λ (x : ℕ × Step). x.0 < c.seats) steps → IsRun c opening steps told → FailsBounded c told }
+{}
+
+/// Head is at most `bound(E) - 2n`, and Tail, as far as it is below the limit, at most `bound(E) - 1`,
+/// where `E` enqueues were begun on the ring, the opening puts among them, and
+/// `bound(E) = 4n + (E + 1) * (R + 1 + k) + k` for `k` seats and a Threshold that resets to `R`.
+pub fn tickets_are_bounded()
+    ensures { (c : Setup) (m : Machine) → IsReachable c m → TicketsBounded c m }
+{}
+
+/// While the bound for the enqueues begun is within the limit on each ring, no call has ended with
+/// Spent.
+pub fn none_is_spent_within_the_bound()
+    ensures { (c : Setup) (m : Machine) → IsReachable c m → NoneSpent c m }
+{}
