@@ -10,9 +10,11 @@ mod freshness;
 mod gets;
 mod lawful;
 mod names;
+mod order;
 mod tallies;
 
 pub use events::{Call, Event, PutName, Reply};
 pub use freshness::fresh;
 pub use lawful::lawful_calls;
 pub use names::once;
+pub use order::in_order;
