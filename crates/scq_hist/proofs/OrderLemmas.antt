@@ -1,11 +1,9 @@
 -- In order at one get, decided by a tally
-use Rattle.std.proofs.Common.{◌≡◌, ℕ, ◌<◌, ◌≤◌, ◌↔◌, List, length, IsTrue, leb, subst, arith}
-use Rattle.std.proofs.lemmas.Bool.{leb-true, le-leb}
+use Rattle.std.proofs.Common.{Bool, ◌≡◌, ℕ, ◌<◌, ◌≤◌, ◌↔◌, List, length, IsTrue, subst, arith}
 use Rattle.std.proofs.lemmas.Option.{slice_get_within}
-use Rattle.scq_hist.specs.Calls.{IsPut, IsFinishedAt, IsGetOf, IsPending}
-use Rattle.scq_hist.specs.Aspects.{IsLawful, AllClaimed, Precedes, IsInOrderAt, IsInOrder}
-use Rattle.scq_hist.specs.Counts.{IsCount}
-use Rattle.scq_hist.specs.Tallies.{IsTally, IsPutGotAt, NoPutGotAt}
+use Rattle.scq_hist.specs.Calls.{IsPut, IsFinishedAt, IsGetOf}
+use Rattle.scq_hist.specs.Aspects.{AllClaimed, Precedes, IsInOrderAt, IsInOrder}
+use Rattle.scq_hist.specs.Tallies.{IsPutGotAt, NoPutGotAt}
 use Rattle.scq_hist.specs.declared.events.Event.{Event}
 use Rattle.scq_hist.specs.declared.events.Event.TheVariants.{End}
 use Rattle.scq_hist.specs.declared.events.PutName.TheVariants.{Of}
@@ -13,7 +11,6 @@ use Rattle.scq_hist.specs.declared.events.Reply.TheVariants.{Got}
 use Rattle.scq_hist.proofs.NamesLemmas.{same_name}
 use Rattle.scq_hist.proofs.Puts.{SamePut, same_put}
 use Rattle.scq_hist.proofs.TallyLemmas.{names_from_get}
-use Rattle.scq_hist.proofs.Claims.{claims_from_tally, from_claims, few_from_claims}
 
 -- a get that ends at place e has got one put, which starts at one place
 same_got : (events : List Event) (e queue start s seat number r t : ℕ) (content : List ℕ) (put : IsPutGotAt events e queue start)
@@ -28,32 +25,22 @@ same_got events e queue start s seat number r t content put get other =
       counted = (let x = other.counted in cc);
     })
 
-pub in_order_from_claims : (opening : List (List ℕ)) (events : List Event) (e queue start : ℕ) → IsPutGotAt events e queue start
+in_order_from_claims : (opening : List (List ℕ)) (events : List Event) (e queue start : ℕ) → IsPutGotAt events e queue start
     → AllClaimed events queue e (Precedes opening events queue start) → IsInOrderAt opening events e
 in_order_from_claims opening events e queue start put all s seat number r t content get other =
     let same = same_got events e queue start s seat number r t content put get other in
     subst (λ x. AllClaimed events x e (Precedes opening events x t)) same.queue
     (subst (λ x. AllClaimed events queue e (Precedes opening events queue x)) same.start all)
 
-pub claims_from_in_order : (opening : List (List ℕ)) (events : List Event) (e queue start : ℕ) → IsPutGotAt events e queue start
+claims_from_in_order : (opening : List (List ℕ)) (events : List Event) (e queue start : ℕ) → IsPutGotAt events e queue start
     → IsInOrderAt opening events e → AllClaimed events queue e (Precedes opening events queue start)
 claims_from_in_order opening events e queue start put h = h put.s put.seat put.number queue start put.content put.get put.put
 
-pub early_decides : (opening : List (List ℕ)) (events : List Event) (e queue start u f p : ℕ) → IsLawful events → IsPutGotAt events e queue start
-    → IsTally events (IsFinishedAt opening events queue start) u f → IsCount (IsPending events queue e) p → f ≤ e
-    → IsTrue (leb u p) ↔ IsInOrderAt opening events e
-early_decides opening events e queue start u f p lawful put t count le = (
-  λ few. in_order_from_claims opening events e queue start put
-      (claims_from_tally events queue e u f p (IsFinishedAt opening events queue start) lawful t count le (leb-true u p few)),
-  λ h. le-leb u p (few_from_claims events queue e u f p (IsFinishedAt opening events queue start) t count (claims_from_in_order opening events e queue start put h)),
-)
-
-pub late_decides : (opening : List (List ℕ)) (events : List Event) (e queue start u f : ℕ) → IsPutGotAt events e queue start
-    → IsTally events (IsFinishedAt opening events queue start) u f → e < f
-    → IsTrue (leb f e) ↔ IsInOrderAt opening events e
-late_decides opening events e queue start u f put t lt = (
-  λ le. let l = leb-true f e le in absurd (omega arith),
-  λ h. (let l = from_claims events queue e u f (IsFinishedAt opening events queue start) t (claims_from_in_order opening events e queue start put h) in absurd (omega arith)),
+pub claims_decide : (opening : List (List ℕ)) (events : List Event) (e queue start : ℕ) (b : Bool) → IsPutGotAt events e queue start
+    → IsTrue b ↔ AllClaimed events queue e (IsFinishedAt opening events queue start) → IsTrue b ↔ IsInOrderAt opening events e
+claims_decide opening events e queue start b put test = (
+  λ h. in_order_from_claims opening events e queue start put (test.0 h),
+  λ h. test.1 (claims_from_in_order opening events e queue start put h),
 )
 
 pub no_put_in_order : (opening : List (List ℕ)) (events : List Event) (e : ℕ) → NoPutGotAt events e → IsInOrderAt opening events e

@@ -5,6 +5,7 @@
 #![tactic(auto)]
 
 mod calls;
+mod emptiness;
 mod events;
 mod freshness;
 mod gets;
@@ -13,6 +14,7 @@ mod names;
 mod order;
 mod tallies;
 
+pub use emptiness::empty_right;
 pub use events::{Call, Event, PutName, Reply};
 pub use freshness::fresh;
 pub use lawful::lawful_calls;

@@ -6,7 +6,7 @@ ghost use Rattle.scq_hist.specs.Tallies.{IsTally, IsPutGotAt, NoPutGotAt};
 use crate::calls::put_named;
 use crate::events::{Event, PutName};
 use crate::gets::{get_ending_at, pending_gets};
-use crate::tallies::{Tally, finished_tally, opening_tally};
+use crate::tallies::{Tally, are_claimed, finished_tally, opening_tally};
 use scq_word::Bytes;
 
 /// The seat's put that the get which ends at this place has got: the place of its Start, and its
@@ -41,7 +41,7 @@ fn is_in_order_at(tokens: Tally, events: &[Event], e: usize) -> bool
         None => true,
         Some((start, queue)) => {
             let tally = finished_tally(tokens, events, queue, start);
-            tally.claimed_from <= e && tally.ungot <= pending_gets(events, queue, e)
+            are_claimed(tally, pending_gets(events, queue, e), e)
         }
     }
 }
