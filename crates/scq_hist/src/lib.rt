@@ -13,6 +13,8 @@ mod lawful;
 mod names;
 mod order;
 mod tallies;
+#[cfg(test)]
+mod tests;
 
 pub use emptiness::empty_right;
 pub use events::{Call, Event, PutName, Reply};
