@@ -1,5 +1,5 @@
 -- A tally decides whether all its puts are claimed
-use Rattle.std.proofs.Common.{◌≡◌, ℕ, zero, suc, ◌<◌, ◌≤◌, ◌⊎◌, inl, inr, List, Option, Some, None, slice_get, length, sym, ap, subst, arith}
+use Rattle.std.proofs.Common.{Bool, IsTrue, ◌↔◌, ◌≡◌, ℕ, zero, suc, ◌<◌, ◌≤◌, ◌⊎◌, inl, inr, List, Option, Some, None, slice_get, length, sym, ap, subst, arith}
 use Rattle.std.proofs.lemmas.Bool.{cases_lt, cases_eq}
 use Rattle.std.proofs.lemmas.Option.{slice_get_within}
 use Rattle.scq_hist.specs.Calls.{Names, IsGot, IsGetOf, IsPending}
@@ -76,7 +76,7 @@ decide_get events name lawful = elim (find_first events name (length events)) [
   | inr none ↦ inr (λ got. let n = got.1 in none got.0 (slice_get_within events got.0 (End n.seat (Got name n.content)) n.ends) n)
 ]
 
-pub claims_from_tally : (events : List Event) (queue m u f p : ℕ) (P : PutName → Type 0) → IsLawful events → IsTally events P u f
+claims_from_tally : (events : List Event) (queue m u f p : ℕ) (P : PutName → Type 0) → IsLawful events → IsTally events P u f
     → IsCount (IsPending events queue m) p → f ≤ m → u ≤ p → AllClaimed events queue m P
 claims_from_tally events queue m u f p P lawful t count late few = record {
   claimed = λ name put. elim (decide_get events name lawful) [
@@ -92,10 +92,17 @@ late_claim events queue m P all l = elim (all.claimed l.name l.put) [
   | inr free ↦ free (l.e, names_from_get events l.name l.s l.e l.get)
 ]
 
-pub from_claims : (events : List Event) (queue m u f : ℕ) (P : PutName → Type 0) → IsTally events P u f → AllClaimed events queue m P → f ≤ m
+from_claims : (events : List Event) (queue m u f : ℕ) (P : PutName → Type 0) → IsTally events P u f → AllClaimed events queue m P → f ≤ m
 from_claims events queue m u f P t all = elim (cases_lt m f) [ inl lt ↦ absurd (late_claim events queue m P all (t.least m lt)) | inr le ↦ le ]
 
-pub few_from_claims : (events : List Event) (queue m u f p : ℕ) (P : PutName → Type 0) → IsTally events P u f
+few_from_claims : (events : List Event) (queue m u f p : ℕ) (P : PutName → Type 0) → IsTally events P u f
     → IsCount (IsPending events queue m) p → AllClaimed events queue m P → u ≤ p
 few_from_claims events queue m u f p P t count all =
     le_from_map (λ name. P name × (¬ IsGot events name)) (IsPending events queue m) u p t.ungot count all.matched
+
+pub claims_iff : (events : List Event) (queue m u f p : ℕ) (P : PutName → Type 0) (b : Bool) → IsLawful events → IsTally events P u f
+    → IsCount (IsPending events queue m) p → (IsTrue b ↔ ((f ≤ m) × (u ≤ p))) → IsTrue b ↔ AllClaimed events queue m P
+claims_iff events queue m u f p P b lawful t count test = (
+  λ h. let both = test.0 h in claims_from_tally events queue m u f p P lawful t count both.0 both.1,
+  λ all. test.1 (from_claims events queue m u f P t all, few_from_claims events queue m u f p P t count all),
+)

@@ -6,3 +6,4 @@ pub mod Pending
 pub mod TallyLemmas
 pub mod Claims
 pub mod Tokens
+pub mod OrderLemmas

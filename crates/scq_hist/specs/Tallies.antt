@@ -1,10 +1,13 @@
 -- Of some puts: how many no End has got, and from which moment on the others are claimed
 use Rattle.std.specs.Prelude.{◌≡◌, ℕ, ◌+◌, ◌<◌, ◌≤◌, ◌⊎◌, max, List, length}
-use Rattle.scq_hist.specs.Calls.{IsFinishedAt, IsGot, IsGetOf}
+use Rattle.scq_hist.specs.Calls.{IsCall, IsPut, IsFinishedAt, IsGot, IsGetOf}
+use Rattle.scq_hist.specs.Aspects.{AllClaimed, IsRightWithin}
+use Rattle.scq_hist.specs.declared.events.Call.TheVariants.{Get}
+use Rattle.scq_hist.specs.declared.events.Reply.TheVariants.{Nothing}
 use Rattle.scq_hist.specs.Counts.{IsCount}
 use Rattle.scq_hist.specs.declared.events.Event.{Event}
 use Rattle.scq_hist.specs.declared.events.PutName.{PutName}
-use Rattle.scq_hist.specs.declared.events.PutName.TheVariants.{Opening}
+use Rattle.scq_hist.specs.declared.events.PutName.TheVariants.{Opening, Of}
 
 -- one of these puts is got by a get that doesn't start before moment m
 pub record HasLateGet (events : List Event) (Puts : PutName → Type 0) (m : ℕ) : Type 0 where
@@ -59,3 +62,31 @@ pub record TalliesTokens (opening : List (List ℕ)) (events : List Event) (e go
   pub count : IsCount (λ name. IsFinishedAt opening events 0 0 name × IsGotBy events e name) got
   pub claimed : (name : PutName) (s d : ℕ) → IsFinishedAt opening events 0 0 name → d < e → IsGetOf events name s d → s < f
   pub least : (m : ℕ) → m < f → HasLateGet events (IsFinishedAt opening events 0 0) m
+
+-- the get that ends at place e has got a seat's put of this queue, which starts at place `start`
+pub record IsPutGotAt (events : List Event) (e queue start : ℕ) : Type 0 where
+  pub s : ℕ
+  pub seat : ℕ
+  pub number : ℕ
+  pub content : List ℕ
+  pub get : IsGetOf events (Of seat number) s e
+  pub put : IsPut events seat number queue content start
+
+pub record NoPutGotAt (events : List Event) (e : ℕ) : Type 0 where
+  pub none : (s seat number queue start : ℕ) (content : List ℕ) → IsGetOf events (Of seat number) s e → IsPut events seat number queue content start → ⊥
+
+-- a get of this queue that starts at place s ends with Nothing at place e
+pub record IsEmptyAt (events : List Event) (e queue s : ℕ) : Type 0 where
+  pub seat : ℕ
+  pub call : IsCall events seat (Get queue) s e Nothing
+
+pub record NoEmptyAt (events : List Event) (e : ℕ) : Type 0 where
+  pub none : (s seat queue : ℕ) → ¬ IsCall events seat (Get queue) s e Nothing
+
+-- if an Empty ends at place e, it is right
+pub record IsRightAt (opening : List (List ℕ)) (events : List Event) (e : ℕ) : Type 0 where
+  pub right : (s seat queue : ℕ) → IsCall events seat (Get queue) s e Nothing → IsRightWithin opening events queue s e
+
+-- at no moment after place s and up to i are all finished puts of the queue claimed
+pub record NotRightTill (opening : List (List ℕ)) (events : List Event) (queue s i : ℕ) : Type 0 where
+  pub none : (m : ℕ) → s < m → m ≤ i → ¬ AllClaimed events queue m (IsFinishedAt opening events queue m)

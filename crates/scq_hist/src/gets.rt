@@ -1,6 +1,6 @@
 //! The gets that have got a put, and those that never end.
 
-ghost use Rattle.std.specs.Prelude.{◌≡◌, ◌<◌, ◌≤◌, ◌↔◌, ℕ, suc, Some, IsTrue, MatchOption, length, slice_get};
+ghost use Rattle.std.specs.Prelude.{◌≡◌, ◌+◌, ◌<◌, ◌≤◌, ◌^◌, ◌↔◌, ℕ, suc, Some, IsTrue, MatchOption, length, slice_get};
 ghost use Rattle.scq_hist.specs.Calls.{IsGot, IsGetOf, IsPending};
 ghost use Rattle.scq_hist.specs.Aspects.{IsLawful};
 ghost use Rattle.scq_hist.specs.Counts.{IsCount};
@@ -90,16 +90,31 @@ fn never_ends(events: &[Event], queue: u32, s: usize) -> bool
     }
 }
 
+/// From the number of gets of this queue that started before place s and are under way at the end of
+/// the list to that of those which started up to place s.
+pub(crate) fn pending_after(pending: usize, events: &[Event], queue: u32, s: usize) -> usize
+    requires within { s < length events.now }
+    requires room { pending + 1 < 2 ^ 64 }
+    ensures few { result ≤ pending + 1 }
+    ensures count { IsCount (IsPending events.now queue s) pending
+        → IsCount (IsPending events.now queue (s + 1)) result }
+{
+    if never_ends(events, queue, s) {
+        pending + 1
+    } else {
+        pending
+    }
+}
+
 /// How many gets of this queue that started before this moment are under way at the end of the list.
 pub(crate) fn pending_gets(events: &[Event], queue: u32, moment: usize) -> usize
     requires { moment ≤ length events.now }
-    ensures { IsCount (IsPending events.now queue moment) result }
+    ensures few { result ≤ moment }
+    ensures count { IsCount (IsPending events.now queue moment) result }
 {
     let mut pending = 0;
     for s in 0..moment {
-        if never_ends(events, queue, s) {
-            pending += 1;
-        }
+        pending = pending_after(pending, events, queue, s);
     }
     pending
 }

@@ -5,14 +5,20 @@
 #![tactic(auto)]
 
 mod calls;
+mod emptiness;
 mod events;
 mod freshness;
 mod gets;
 mod lawful;
 mod names;
+mod order;
 mod tallies;
+#[cfg(test)]
+mod tests;
 
+pub use emptiness::empty_right;
 pub use events::{Call, Event, PutName, Reply};
 pub use freshness::fresh;
 pub use lawful::lawful_calls;
 pub use names::once;
+pub use order::in_order;

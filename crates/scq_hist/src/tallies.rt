@@ -1,4 +1,4 @@
-ghost use Rattle.std.specs.Prelude.{◌≡◌, ◌+◌, ◌<◌, ◌≤◌, ◌^◌, ℕ, List, MatchOption, length};
+ghost use Rattle.std.specs.Prelude.{◌≡◌, ◌+◌, ◌<◌, ◌≤◌, ◌^◌, ◌↔◌, ℕ, List, IsTrue, MatchOption, length};
 ghost use Rattle.scq_hist.specs.Calls.{IsFinishedAt};
 ghost use Rattle.scq_hist.specs.Aspects.{IsLawful};
 ghost use Rattle.scq_hist.specs.declared.events.Event.{Event};
@@ -124,4 +124,12 @@ pub(crate) fn finished_tally(tokens: Tally, events: &[Event], queue: u32, moment
         tally = tally_after(tally, events, queue, e);
     }
     tally
+}
+
+/// Whether all tallied puts are claimed at this moment, at which so many gets have started that never
+/// end.
+pub(crate) fn are_claimed(tally: Tally, pending: usize, moment: usize) -> bool
+    ensures { IsTrue result ↔ ((tally.claimed_from ≤ moment) × (tally.ungot ≤ pending)) }
+{
+    tally.claimed_from <= moment && tally.ungot <= pending
 }

@@ -1,3 +1,5 @@
 pub mod Answered
+pub mod Contents
+pub mod Refused
 mod Rows
 pub mod Told

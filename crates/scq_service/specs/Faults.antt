@@ -1,5 +1,7 @@
 -- What the program ends with.
 use Rattle.std.specs.Prelude.{ℕ, List, [], ◌++◌, Option, Some, None, codes, decimal}
+use Rattle.scq_frames.specs.declared.fault.FrameFault.{FrameFault}
+use Rattle.scq_frames.specs.declared.fault.FrameFault.TheVariants as frame
 use Rattle.scq_service.specs.declared.fault.Fault.{Fault}
 use Rattle.scq_service.specs.declared.fault.Fault.TheVariants.{Words, OpenFault, ReadFault, TooLarge, WriteFault, NoMemory}
 use Rattle.scq_service.specs.declared.fault.WordsFault.{WordsFault}
@@ -36,3 +38,14 @@ fault_line NoMemory = codes "out of memory\n"
 abbrev pub end_line : Option Fault → List ℕ
 end_line None = []
 end_line (Some fault) = fault_line fault
+
+-- a framer's fault as one of the file that it read
+abbrev pub fault_of_file : ℕ → FrameFault → Fault
+fault_of_file file frame.ReadFault = ReadFault file
+fault_of_file file (frame.TooLarge bytes) = TooLarge file
+fault_of_file file frame.NoMemory = NoMemory
+
+-- the number of bytes that a framer read of a file that is too large, and 0 at its other faults
+abbrev pub bytes_of_large : FrameFault → ℕ
+bytes_of_large (frame.TooLarge bytes) = bytes
+bytes_of_large _ = 0

@@ -5,10 +5,20 @@
 #![tactic(auto)]
 
 mod answering;
+#[cfg(test)]
+mod fakes;
 mod fault;
+mod outcome;
 mod output;
+mod run;
+mod serving;
 mod telling;
+#[cfg(test)]
+mod tests;
 mod words;
 mod writing;
 
 pub use fault::{Fault, WordsFault};
+pub use outcome::Outcome;
+pub use serving::serve;
+pub use telling::tell;

@@ -1,6 +1,6 @@
-ghost use Rattle.std.specs.Prelude.{◌≡◌, ◌++◌, codes, decimal, OnOk, OnErr};
+ghost use Rattle.std.specs.Prelude.{◌≡◌, ◌⊎◌, ◌++◌, codes, decimal, OnOk, OnErr};
 ghost use Rattle.scq_outside.specs.Faults.{Rose};
-ghost use Rattle.scq_service.specs.Faults.{fault_line};
+ghost use Rattle.scq_service.specs.Faults.{fault_line, end_line};
 ghost use Rattle.scq_service.specs.Writing.{told_with, WrotePart};
 
 use crate::writing::write_all;
@@ -32,4 +32,14 @@ fn write_about<K: Sink>(sink: &mut K, file: u32, what: &[u8]) -> Result<(), Fail
     write_all(sink, b"file ")?;
     write_all(sink, Buffer::new().format(file).as_bytes())?;
     write_all(sink, what)
+}
+
+/// Tells the fault, where there is one. Nothing depends on whether the sink takes it.
+pub fn tell_end<K: Sink>(sink: &mut K, fault: &Option<Fault>)
+    ensures told { Rose (K.faults sink.old) (K.faults sink.new) ⊎ (K.written sink.new ≡ told_with (K.written sink.old) (end_line fault.now)) }
+    ensures front { WrotePart (K.written sink.old) (K.written sink.new) (end_line fault.now) }
+{
+    if let Some(fault) = fault {
+        let _ = tell(sink, fault);
+    }
 }

@@ -1,0 +1,78 @@
+ghost use Rattle.std.specs.Prelude.{◌≡◌, ◌+◌, ◌<◌, ◌≤◌, ◌^◌, ◌↔◌, ℕ, List, IsTrue, MatchOption, length};
+ghost use Rattle.scq_hist.specs.Calls.{IsFinishedAt};
+ghost use Rattle.scq_hist.specs.Aspects.{IsLawful, IsRightWithin, IsEmptyRight};
+ghost use Rattle.scq_hist.specs.Tallies.{IsTally, IsEmptyAt, NoEmptyAt, IsRightAt};
+
+use crate::calls::call_under_way;
+use crate::events::{Call, Event, Reply};
+use crate::gets::{pending_after, pending_gets};
+use crate::tallies::{Tally, are_claimed, finished_tally, opening_tally, tally_after};
+use scq_word::Bytes;
+
+/// Whether at some moment between these two places all finished puts of the queue are claimed.
+fn is_right_within(tokens: Tally, events: &[Event], queue: u32, start: usize, end: usize) -> bool
+    requires lawful { IsLawful events.now }
+    requires order { start ≤ end }
+    requires within { end ≤ length events.now }
+    requires room { tokens.ungot + length events.now < 2 ^ 64 }
+    ensures { (opening : List (List ℕ))
+        → IsTally events.now (IsFinishedAt opening events.now 0 0) tokens.ungot tokens.claimed_from
+        → (IsTrue result ↔ IsRightWithin opening events.now queue start end) }
+{
+    let mut tally = finished_tally(tokens, events, queue, start);
+    let mut pending = pending_gets(events, queue, start);
+    for i in start..end {
+        tally = tally_after(tally, events, queue, i);
+        pending = pending_after(pending, events, queue, i);
+        if are_claimed(tally, pending, i + 1) {
+            return true;
+        }
+    }
+    false
+}
+
+/// The get that ends with Nothing at this place: the place of its Start, and its queue.
+fn empty_at(events: &[Event], e: usize) -> Option<(usize, u32)>
+    requires { e < length events.now }
+    ensures { MatchOption result (NoEmptyAt events.now e) (λ get. IsEmptyAt events.now e get.1 get.0) }
+{
+    match &events[e] {
+        Event::End {
+            seat,
+            reply: Reply::Nothing,
+        } => match call_under_way(events, *seat, e) {
+            Some((start, Call::Get { queue })) => Some((start, *queue)),
+            _ => None,
+        },
+        _ => None,
+    }
+}
+
+/// Whether an Empty that ends at this place, if one does, is right.
+fn is_right_at(tokens: Tally, events: &[Event], e: usize) -> bool
+    requires lawful { IsLawful events.now }
+    requires within { e < length events.now }
+    requires room { tokens.ungot + length events.now < 2 ^ 64 }
+    ensures { (opening : List (List ℕ))
+        → IsTally events.now (IsFinishedAt opening events.now 0 0) tokens.ungot tokens.claimed_from
+        → (IsTrue result ↔ IsRightAt opening events.now e) }
+{
+    match empty_at(events, e) {
+        None => true,
+        Some((start, queue)) => is_right_within(tokens, events, queue, start, e),
+    }
+}
+
+/// Whether each Empty has a moment inside its call at which all finished puts of its queue are claimed.
+pub fn empty_right(opening: &[Bytes], events: &[Event]) -> bool
+    requires { IsLawful events.now }
+    ensures { IsTrue result ↔ IsEmptyRight opening.now events.now }
+{
+    let tokens = opening_tally(opening, events);
+    for e in 0..events.len() {
+        if !is_right_at(tokens, events, e) {
+            return false;
+        }
+    }
+    true
+}

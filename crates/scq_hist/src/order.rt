@@ -1,0 +1,62 @@
+ghost use Rattle.std.specs.Prelude.{◌≡◌, ◌+◌, ◌<◌, ◌≤◌, ◌^◌, ◌↔◌, ℕ, List, IsTrue, MatchOption, length};
+ghost use Rattle.scq_hist.specs.Calls.{IsFinishedAt};
+ghost use Rattle.scq_hist.specs.Aspects.{IsLawful, IsInOrderAt, IsInOrder};
+ghost use Rattle.scq_hist.specs.Tallies.{IsTally, IsPutGotAt, NoPutGotAt};
+
+use crate::calls::put_named;
+use crate::events::{Event, PutName};
+use crate::gets::{get_ending_at, pending_gets};
+use crate::tallies::{Tally, are_claimed, finished_tally, opening_tally};
+use scq_word::Bytes;
+
+/// The seat's put that the get which ends at this place has got: the place of its Start, and its
+/// queue.
+fn put_got_at(events: &[Event], e: usize) -> Option<(usize, u32)>
+    requires lawful { IsLawful events.now }
+    requires within { e < length events.now }
+    ensures { MatchOption result
+        (NoPutGotAt events.now e)
+        (λ put. IsPutGotAt events.now e put.1 put.0) }
+{
+    match get_ending_at(events, e) {
+        Some((PutName::Of { seat, number }, _)) => match put_named(events, seat, number) {
+            Some((start, queue, _)) => Some((start, queue)),
+            None => None,
+        },
+        Some((PutName::Opening { .. }, _)) => None,
+        None => None,
+    }
+}
+
+/// Whether all that precede the put which the get that ends at this place has got are claimed by then.
+fn is_in_order_at(tokens: Tally, events: &[Event], e: usize) -> bool
+    requires lawful { IsLawful events.now }
+    requires within { e < length events.now }
+    requires room { tokens.ungot + length events.now < 2 ^ 64 }
+    ensures { (opening : List (List ℕ))
+        → IsTally events.now (IsFinishedAt opening events.now 0 0) tokens.ungot tokens.claimed_from
+        → (IsTrue result ↔ IsInOrderAt opening events.now e) }
+{
+    match put_got_at(events, e) {
+        None => true,
+        Some((start, queue)) => {
+            let tally = finished_tally(tokens, events, queue, start);
+            are_claimed(tally, pending_gets(events, queue, e), e)
+        }
+    }
+}
+
+/// Whether no put is got before one that precedes it, unless a get that is under way at the end of the
+/// list may have that one.
+pub fn in_order(opening: &[Bytes], events: &[Event]) -> bool
+    requires { IsLawful events.now }
+    ensures { IsTrue result ↔ IsInOrder opening.now events.now }
+{
+    let tokens = opening_tally(opening, events);
+    for e in 0..events.len() {
+        if !is_in_order_at(tokens, events, e) {
+            return false;
+        }
+    }
+    true
+}

@@ -1,0 +1,39 @@
+// The program `scq`: it makes the real files, standard output and standard error, calls `serve` of
+// `scq_service`, whose contract says what is written and why, and ends with its status. It has no
+// contract of its own: what a real file or stream holds, no clause can say.
+#![tactic(auto)]
+
+use scq_outside::{DiskFiles, StdSink};
+use scq_service::{Fault, serve, tell};
+use std::alloc::{AllocError, Global};
+use std::env::Env;
+use std::process::ExitCode;
+use std::{env, io};
+
+fn main(rt: HostRuntime) -> ExitCode {
+    let alloc = rt.alloc();
+    let mut files = DiskFiles::new(&rt);
+    let mut out = StdSink::output(rt.stdout());
+    let mut err = StdSink::errors(rt.stderr());
+    let status = match words(&rt, alloc) {
+        Ok(words) => serve(alloc, &words, &mut files, &mut out, &mut err).status,
+        Err(AllocError) => {
+            let _ = tell(&mut err, &Fault::NoMemory);
+            Fault::NoMemory.status()
+        }
+    };
+    ExitCode::from(status)
+}
+
+/// The program's arguments without its own name. Where one isn't text there are none, since then
+/// the words aren't understood.
+fn words(rt: &(impl Env + AllocGlobal), alloc: Global) -> Result<Vec<String>, AllocError> {
+    match env::args(rt) {
+        Ok(mut args) => {
+            let _ = args.next();
+            args.collect(alloc)
+        }
+        Err(error) if error.kind() == io::ErrorKind::OutOfMemory => Err(AllocError),
+        Err(_) => Ok(Vec::new(alloc)),
+    }
+}

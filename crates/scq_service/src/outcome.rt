@@ -1,0 +1,62 @@
+ghost use Rattle.std.specs.Prelude.{◌≡◌, Some, None};
+ghost use Rattle.scq_service.specs.Faults.{status_of_fault, fault_of_file, bytes_of_large};
+
+use crate::Fault;
+use scq_frames::FrameFault;
+
+/// How a run ended.
+#[derive(Drop)]
+pub struct Outcome<S> {
+    pub status: u8,
+    /// There exactly where the status isn't 0.
+    pub fault: Option<Fault>,
+    /// The sources that were got, in the order of the files.
+    pub sources: Vec<S>,
+    /// How many bytes were read of a file that is too large; 0 where none is.
+    pub read: u64,
+}
+
+impl<S> Outcome<S> {
+    pub(crate) fn whole(sources: Vec<S>) -> Outcome<S>
+        ensures status { result.status ≡ 0 }
+        ensures fault { result.fault ≡ None }
+        ensures sources { result.sources ≡ sources }
+    {
+        Outcome {
+            status: 0,
+            fault: None,
+            sources,
+            read: 0,
+        }
+    }
+
+    pub(crate) fn at(sources: Vec<S>, fault: Fault) -> Outcome<S>
+        ensures status { result.status ≡ status_of_fault fault }
+        ensures fault { result.fault ≡ Some fault }
+        ensures sources { result.sources ≡ sources }
+        ensures read { result.read ≡ 0 }
+    {
+        Outcome {
+            status: fault.status(),
+            fault: Some(fault),
+            sources,
+            read: 0,
+        }
+    }
+
+    pub(crate) fn of_file(sources: Vec<S>, file: u32, fault: FrameFault) -> Outcome<S>
+        ensures status { result.status ≡ status_of_fault (fault_of_file file fault) }
+        ensures fault { result.fault ≡ Some (fault_of_file file fault) }
+        ensures sources { result.sources ≡ sources }
+        ensures read { result.read ≡ bytes_of_large fault }
+    {
+        match fault {
+            FrameFault::ReadFault => Outcome::at(sources, Fault::ReadFault { file }),
+            FrameFault::TooLarge { bytes } => Outcome {
+                read: bytes,
+                ..Outcome::at(sources, Fault::TooLarge { file })
+            },
+            FrameFault::NoMemory => Outcome::at(sources, Fault::NoMemory),
+        }
+    }
+}
