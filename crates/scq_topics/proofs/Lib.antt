@@ -1,3 +1,4 @@
+pub mod DecimalPairs
 pub mod EntriesRead
 pub mod Found
 pub mod SumRun

@@ -5,6 +5,7 @@
 // declaration, and `find` is the number of a name in it.
 #![tactic(auto)]
 
+mod decimal;
 mod entry;
 mod kind;
 mod replies;

@@ -2,6 +2,7 @@ ghost use Rattle.std.specs.Prelude.{◌≡◌, IfOk, decimal};
 ghost use Rattle.scq_topics.specs.Reply.{reply_of};
 
 use crate::Kind;
+use crate::decimal::{MOST_DIGITS, write_decimal};
 use crate::sum::token_sum;
 use crate::words::word_count;
 use scq_word::{Bytes, NoMemory};
@@ -28,7 +29,9 @@ pub fn reply(alloc: Global, kind: Kind, payload: &[u8]) -> Result<Bytes, NoMemor
 fn number(alloc: Global, n: u64) -> Result<Bytes, NoMemory>
     ensures { IfOk result (λ bytes. bytes ≡ decimal n) }
 {
-    Ok(Bytes::from(n.to_string(alloc)?.into_bytes()))
+    let mut text = [0; MOST_DIGITS];
+    let start = write_decimal(n, &mut text);
+    Bytes::copy_of(alloc, &text[start..])
 }
 
 fn digest(alloc: Global, payload: &[u8]) -> Result<Bytes, NoMemory>
