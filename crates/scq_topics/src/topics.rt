@@ -28,7 +28,7 @@ pub enum TopicFault {
 }
 
 // A declared topic. Contracts see the bytes of its name, and its kind.
-#[derive(Default, Drop)]
+#[derive(Debug, Default, Drop)]
 struct Topic {
     name: ArrayVec<u8, MOST_NAME>,
     kind: Kind,
@@ -45,7 +45,7 @@ impl Model for Topic {
 
 /// The declared topics of a command line, which take no memory beside the value itself. Contracts
 /// see the list of the names and kinds, in order.
-#[derive(Drop)]
+#[derive(Debug, Drop)]
 pub struct Topics {
     topics: ArrayVec<Topic, MOST_TOPICS>,
 }
@@ -63,7 +63,7 @@ impl Topic {
     ghost use Rattle.scq_topics.specs.Topics.{has_name};
 
     fn new(name: &[u8], kind: Kind) -> Topic
-        requires { length name.now ≤ 32 }
+        requires { length name.now ≤ MOST_NAME }
         ensures { result ≡ (name.now, kind) }
     {
         let mut copy = ArrayVec::new();
