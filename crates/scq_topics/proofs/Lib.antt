@@ -1,4 +1,3 @@
-pub mod DecimalPairs
 pub mod EntriesRead
 pub mod Found
 pub mod SumRun

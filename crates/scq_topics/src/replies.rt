@@ -2,9 +2,9 @@ ghost use Rattle.std.specs.Prelude.{◌≡◌, IfOk, decimal};
 ghost use Rattle.scq_topics.specs.Reply.{reply_of};
 
 use crate::Kind;
-use crate::decimal::{MOST_DIGITS, write_decimal};
 use crate::sum::token_sum;
 use crate::words::word_count;
+use itoa::Buffer;
 use scq_word::{Bytes, NoMemory};
 use sha2::{Digest, Sha256};
 use std::alloc::Global;
@@ -29,9 +29,7 @@ pub fn reply(alloc: Global, kind: Kind, payload: &[u8]) -> Result<Bytes, NoMemor
 fn number(alloc: Global, n: u64) -> Result<Bytes, NoMemory>
     ensures { IfOk result (λ bytes. bytes ≡ decimal n) }
 {
-    let mut text = [0; MOST_DIGITS];
-    let start = write_decimal(n, &mut text);
-    Bytes::copy_of(alloc, &text[start..])
+    Bytes::copy_of(alloc, Buffer::new().format(n).as_bytes())
 }
 
 fn digest(alloc: Global, payload: &[u8]) -> Result<Bytes, NoMemory>

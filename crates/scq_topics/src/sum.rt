@@ -2,13 +2,13 @@ ghost use Rattle.std.specs.Prelude.{◌≡◌, ◌+◌, ◌*◌, ◌^◌, ◌<�
 ghost use Rattle.scq_topics.specs.Runs.{runs, is_space};
 ghost use Rattle.scq_topics.specs.Sum.{sum_of};
 
-use crate::decimal::MOST_DIGITS;
+// As many digits as the largest `u64` has. A longer token is no number, whatever its value.
+const MOST_DIGITS: usize = 20;
 
 // Any digit may follow a value below this one.
 const TENTH: u64 = u64::MAX / 10;
 
-// The sum of the tokens, where each is a number and the sum fits. A token of more digits than the
-// largest `u64` has is no number, whatever its value.
+// The sum of the tokens, where each is a number and the sum fits.
 pub fn token_sum(payload: &[u8]) -> Option<u64>
     ensures { result ≡ sum_of (runs is_space payload.now) }
 {

@@ -14,16 +14,16 @@ const MOST_TOPICS: usize = 16;
 #[derive(Clone, Copy, Debug, PartialEq, Eq, Error)]
 pub enum TopicFault {
     /// There is a 17th entry.
-    #[error("topic {at}: more than 16 topics")]
+    #[error("topics entry {at}: too many")]
     TooMany { at: u32 },
     /// The name is not 1 to 32 bytes, each an ASCII letter or digit, `_` or `.`.
-    #[error("topic {at}: not a name")]
+    #[error("topics entry {at}: bad name")]
     BadName { at: u32 },
     /// There is no `=`, or what stands after the first is no kind.
-    #[error("topic {at}: not a kind")]
+    #[error("topics entry {at}: bad kind")]
     BadKind { at: u32 },
     /// An earlier entry has this name.
-    #[error("topic {at}: declared twice")]
+    #[error("topics entry {at}: named twice")]
     Twice { at: u32 },
 }
 
