@@ -9,5 +9,7 @@ pub mod Floor
 pub mod Fits
 pub mod Starts
 pub mod Packing
+pub mod Indices
 pub mod Places
+pub mod Books
 pub mod Advancing
