@@ -3,6 +3,9 @@
 use Rattle.std.proofs.Common.{◌≡◌, ◌≢◌, ℕ, ◌+◌, ◌<◌, ◌≤◌, refl, sym, ◌∙◌, ap, inl, inr, arith, List, length, eq-eqb, ne_eqb, Option, Some, None}
 use Rattle.std.specs.Prelude.{slice_index_or, slice_set}
 use Rattle.std.specs.Option.{option_map}
+use Rattle.std.proofs.lemmas.List.{set-get_or, get_or_default}
+use Rattle.std.specs.Prelude.{Result, Ok, Err, OnOk, OnErr}
+use Rattle.scq_core.specs.declared.advance.ApplyFault.{ApplyFault}
 use Rattle.std.proofs.lemmas.List.{length-set, get_or-set_same, get_or-set_other}
 use Rattle.std.proofs.lemmas.Bool.{cases_eq}
 use Rattle.scq_word.specs.declared.setup.Setup.{Setup}
@@ -54,11 +57,11 @@ still : {A : Type 0} → (c : Setup) (f : RingBook → A) (rings : List RingBook
     → ◌≡◌ {A = ℕ → A} (λ q. f (ring_in c (slice_set rings r new) q)) (λ q. f (ring_in c rings q))
 still c f rings r new low same = field c f rings r new low ∙ rw same (put_same (λ q. f (ring_in c rings q)) r)
 
-same_cells : (t h x : ℕ → ℕ) (e : Entries) (t' h' x' : ℕ → ℕ) (e' : Entries) → t ≡ t' → h ≡ h' → x ≡ x' → e ≡ e'
+pub same_cells : (t h x : ℕ → ℕ) (e : Entries) (t' h' x' : ℕ → ℕ) (e' : Entries) → t ≡ t' → h ≡ h' → x ≡ x' → e ≡ e'
     → (let m : Cells = record { tail = t; head = h; threshold = x; entries = e } in m) ≡ record { tail = t'; head = h'; threshold = x'; entries = e' }
 same_cells t h x e t' h' x' e' a b d f = rw (a, b, d, f) refl
 
-same_entries : (w w' : ℕ → ℕ → ℕ) (y y' : ℕ → ℕ → List ℕ) → w ≡ w' → y ≡ y' → (let e : Entries = record { word = w; content = y } in e) ≡ record { word = w'; content = y' }
+pub same_entries : (w w' : ℕ → ℕ → ℕ) (y y' : ℕ → ℕ → List ℕ) → w ≡ w' → y ≡ y' → (let e : Entries = record { word = w; content = y } in e) ≡ record { word = w'; content = y' }
 same_entries w w' y y' a b = rw (a, b) refl
 
 abbrev words_in : Setup → RingBook → ℕ → ℕ
@@ -124,7 +127,7 @@ cells_turn c rings turn has low =
     ∙ ap (λ (w : Word). written (cells_of c rings) w (writes c turn x) (stores turn x y)) (sym (word_of-place c turn)) in
     wrote ∙ rw (found_is c rings turn, beside_is c rings turn) refl
 
-same_machine : (m n : Cells) (p q : ℕ → Part) (o : List (List ℕ)) → m ≡ n → p ≡ q
+pub same_machine : (m n : Cells) (p q : ℕ → Part) (o : List (List ℕ)) → m ≡ n → p ≡ q
     → (let b : Machine = record { cells = m; part = p; opening = o } in b) ≡ record { cells = n; part = q; opening = o }
 same_machine m n p q o a b = rw (a, b) refl
 
@@ -223,3 +226,26 @@ still_sound b k step rings seat sound low a =
       seats = length-set b.seats k seat ∙ sound.seats;
       reachable = by_step k step sound.reachable low next.0;
     }
+
+-- the seat that was lent is the one of its number
+pub seat_lent : (b : Book) (k : ℕ) (lent : Part) → IsSound b → k < b.setup.seats → lent ≡ slice_index_or b.seats k lent → lent ≡ part_in b.seats k
+seat_lent b k lent sound low is =
+    let within : k < length b.seats = omega (arith, sound.seats) in is ∙ get_or_default b.seats k lent idle_part within
+
+-- whatever the answer, the state stays sound
+pub applied_sound : (b : Book) (k : ℕ) (step : Step) (rings : List RingBook) (lent seat : Part) (r : Result (Unit {0}) ApplyFault) → IsSound b → k < b.setup.seats
+    → lent ≡ slice_index_or b.seats k lent → OnOk r (Advances b.setup step b.rings lent rings seat) → OnErr r ((rings ≡ b.rings) × (seat ≡ lent))
+    → IsSound (record b { rings = rings; seats = slice_set b.seats k seat })
+applied_sound b k step rings lent seat (Ok done) sound low is ok err = still_sound b k step rings seat sound low (rw (seat_lent b k lent sound low is) at ok)
+applied_sound b k step rings lent seat (Err fault) sound low is ok err =
+    rw (err.0, err.1, seat_lent b k lent sound low is, set-get_or b.seats k idle_part) sound
+
+-- and after an Ok it is the step's
+pub applied_steps : (b : Book) (k : ℕ) (step : Step) (rings : List RingBook) (lent seat : Part) (r : Result (Unit {0}) ApplyFault) → IsSound b → k < b.setup.seats
+    → lent ≡ slice_index_or b.seats k lent → OnOk r (Advances b.setup step b.rings lent rings seat)
+    → OnOk r (step_of b.setup (machine_of b) k step ≡ Some (machine_of (record b { rings = rings; seats = slice_set b.seats k seat })))
+applied_steps b k step rings lent seat (Ok done) sound low is ok =
+    let a : Advances b.setup step b.rings (part_in b.seats k) rings seat = rw (seat_lent b k lent sound low is) at ok in
+    let within : k < length b.seats = omega (arith, sound.seats) in
+    (advanced_machine b k step rings seat sound.rings within a (can_turn b k step a.turn sound a.enabled).ring).0
+applied_steps b k step rings lent seat (Err fault) sound low is ok = tt

@@ -13,3 +13,4 @@ pub mod Indices
 pub mod Places
 pub mod Books
 pub mod Advancing
+pub mod Filling
