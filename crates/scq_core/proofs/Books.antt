@@ -1,8 +1,7 @@
 -- A state as lists makes the machine's step: a ring with another word is the machine with that word written, and what a turn
 -- stands on is there on every reachable state.
-use Rattle.std.proofs.Common.{◌≡◌, ◌≢◌, ℕ, ◌+◌, ◌<◌, ◌≤◌, refl, sym, ◌∙◌, ap, inl, inr, arith, List, length, eq-eqb, ne_eqb, Option, Some, None}
+use Rattle.std.proofs.Common.{◌≡◌, ℕ, ◌<◌, refl, sym, ◌∙◌, ap, inl, inr, arith, List, length, eq-eqb, ne_eqb, Some}
 use Rattle.std.specs.Prelude.{slice_index_or, slice_set}
-use Rattle.std.specs.Option.{option_map}
 use Rattle.std.proofs.lemmas.List.{set-get_or, get_or_default}
 use Rattle.std.specs.Prelude.{Result, Ok, Err, OnOk, OnErr}
 use Rattle.scq_core.specs.declared.advance.ApplyFault.{ApplyFault}
@@ -16,15 +15,15 @@ use Rattle.scq_core.specs.declared.slot.Place.{Place}
 use Rattle.scq_core.specs.declared.slot.Place.TheVariants as place
 use Rattle.scq_core.specs.declared.slot.Slot.{Slot}
 use Rattle.scq_core.specs.Put.{put}
-use Rattle.scq_core.specs.Machine.{Cells, Entries, Part, Machine, Word, read, beside, written, put_entry}
-use Rattle.scq_core.specs.Table.{size, turn_of, word_of, writes, stores, after, cells_after, moved, step_of}
+use Rattle.scq_core.specs.Machine.{Cells, Entries, Part, Machine, Word, read, beside, written}
+use Rattle.scq_core.specs.Table.{turn_of, word_of, writes, stores, after, cells_after, moved, step_of}
 use Rattle.scq_core.specs.Start.{idle_part}
-use Rattle.scq_core.specs.Reach.{IsReachable, by_step}
-use Rattle.scq_core.specs.Rings.{RingBook, IsPlace, word_in, content_in, ring_with}
-use Rattle.scq_core.specs.Book.{Book, no_slot, no_ring, ring_in, slot_in, cells_of, part_in, machine_of, HasRings, IsSound}
+use Rattle.scq_core.specs.Reach.{by_step}
+use Rattle.scq_core.specs.Rings.{RingBook, IsPlace, ring_with}
+use Rattle.scq_core.specs.Book.{Book, no_slot, no_ring, ring_in, cells_of, part_in, machine_of, HasRings, IsSound}
 use Rattle.scq_core.specs.Turn.{ring_of, place_of, IsReady}
-use Rattle.scq_core.specs.Advance.{found_by, beside_by, CanTurn, rings_after, part_by, Advances}
-use Rattle.scq_core.specs.Laws.{Busy, IsSteady, WordsFit}
+use Rattle.scq_core.specs.Advance.{found_by, beside_by, CanTurn, rings_after, Advances}
+use Rattle.scq_core.specs.Laws.{Busy, WordsFit}
 use Rattle.scq_core.proofs.PutLemmas.{put_same}
 use Rattle.scq_core.proofs.Turns.{awake}
 use Rattle.scq_core.proofs.Steady.{has, steady}

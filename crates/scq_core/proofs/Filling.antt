@@ -1,5 +1,5 @@
 -- One more index of the full start, and the start's lists as the machine's start.
-use Rattle.std.proofs.Common.{◌≡◌, ◌≢◌, ℕ, zero, suc, ◌+◌, ◌<◌, ◌≤◌, refl, sym, ◌∙◌, ap, inl, inr, arith, List, [], ◌∷◌, length, eq-eqb, ne_eqb, add-one, subst, Bool, true, false}
+use Rattle.std.proofs.Common.{◌≡◌, ℕ, zero, suc, ◌+◌, ◌<◌, refl, sym, ◌∙◌, inl, inr, arith, List, [], ◌∷◌, length, eq-eqb, ne_eqb, add-one, subst, Bool, true, false}
 use Rattle.std.specs.Prelude.{◌-◌, slice_index_or, slice_set, replicate, ◌==◌, if◌then◌else◌}
 use Rattle.std.proofs.lemmas.List.{length-set, get_or-set_same, get_or-set_other, get_or_default, length-replicate, get_or-replicate}
 use Rattle.std.proofs.lemmas.Bool.{cases_eq}
@@ -9,7 +9,7 @@ use Rattle.scq_word.specs.Tickets.{slot_of}
 use Rattle.scq_word.specs.Words.{packed}
 use Rattle.scq_word.proofs.TicketLemmas.{slot_of_small}
 use Rattle.scq_core.specs.declared.slot.Slot.{Slot}
-use Rattle.scq_core.specs.Machine.{Cells, Part, Machine}
+use Rattle.scq_core.specs.Machine.{Part, Machine}
 use Rattle.scq_core.specs.Table.{size, zero_level, reset_level}
 use Rattle.scq_core.specs.Start.{unused, filled, filled_contents, start_cells, idle_part, start_of}
 use Rattle.scq_core.specs.Rings.{RingBook}

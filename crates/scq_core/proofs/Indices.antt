@@ -1,8 +1,7 @@
 -- Each entry of a reachable state has an index of the ring or the mark.
-use Rattle.std.proofs.Common.{◌≡◌, ℕ, ◌+◌, ◌<◌, ◌≤◌, List, refl, inl, inr, ◌⊎◌, arith, sym}
-use Rattle.std.specs.Prelude.{◌==◌, Some, if◌then◌else◌}
+use Rattle.std.proofs.Common.{ℕ, ◌<◌, List, inl, inr, arith}
+use Rattle.std.specs.Prelude.{◌==◌, if◌then◌else◌}
 use Rattle.std.proofs.lemmas.Bool.Decides.{eqb_tells}
-use Rattle.std.proofs.lemmas.Bool.{cases_Bool}
 use Rattle.scq_word.specs.declared.setup.Setup.{Setup}
 use Rattle.scq_word.specs.Sizes.{n_of}
 use Rattle.scq_word.specs.Words.{packed, mark_of, index_in, safe_in, cycle_in, is_none_in}
@@ -10,15 +9,14 @@ use Rattle.scq_word.specs.Entries.{IsIndexOrMark}
 use Rattle.scq_word.proofs.WordLemmas.{index_in-packed, index_in_small}
 use Rattle.scq_core.specs.declared.phase.Phase.{Phase}
 use Rattle.scq_core.specs.declared.phase.Phase.TheVariants.{AtE2, AtE4, AtD3, AtD4, AtD5}
-use Rattle.scq_core.specs.declared.step.Step.{Step}
 use Rattle.scq_core.specs.Machine.{Cells, Machine, read, put_entry}
-use Rattle.scq_core.specs.Table.{size, cycle, passed, turn_of, word_of, writes, cells_after, moved}
+use Rattle.scq_core.specs.Table.{size, cycle, passed, word_of, cells_after}
 use Rattle.scq_core.specs.Start.{start_of, filled, unused}
 use Rattle.scq_core.specs.Reach.{IsReachable, at_start, by_step}
 use Rattle.scq_core.specs.Laws.{Busy}
 use Rattle.scq_core.proofs.PutLemmas.{put_entry_cases}
 use Rattle.scq_core.proofs.Turns.{turned}
-use Rattle.scq_core.proofs.Entries.{some_slots, some_indices}
+use Rattle.scq_core.proofs.Entries.{some_slots}
 use Rattle.scq_core.proofs.Steady.{has, steady, either_way}
 use Rattle.scq_core.proofs.Limits.{filled_cases}
 

@@ -14,3 +14,4 @@ pub mod Places
 pub mod Books
 pub mod Advancing
 pub mod Filling
+pub mod Looks

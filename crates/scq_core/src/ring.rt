@@ -67,6 +67,23 @@ impl Ring {
         })
     }
 
+    /// An equal ring.
+    pub fn copy(&self, alloc: Global) -> Result<Ring, NoMemory>
+        ensures { IfOk result (λ copy. copy ≡ self.now) }
+    {
+        let mut slots = Vec::new(alloc);
+        slots.reserve_exact(self.slots.len())?;
+        for slot in &self.slots {
+            slots.push(slot.copy(alloc)?)?;
+        }
+        Ok(Ring {
+            tail: self.tail,
+            head: self.head,
+            threshold: self.threshold,
+            slots,
+        })
+    }
+
     pub fn read(&self, place: Place) -> u64
         requires { IsPlace self.now place }
         ensures { (past : Slot) → result ≡ word_in past self.now place }

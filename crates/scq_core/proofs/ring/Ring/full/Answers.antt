@@ -1,4 +1,4 @@
-use Rattle.std.proofs.Common.{◌≡◌, ◌<◌, List, length, get_or, ◌∙◌, ap, arith}
+use Rattle.std.proofs.Common.{◌≡◌, ◌<◌, length, get_or, ◌∙◌}
 use Rattle.scq_core.proofs.Filling.{filled_more}
 use Rattle.scq_core.proofs.ring.Ring.full.Goals as goal
 

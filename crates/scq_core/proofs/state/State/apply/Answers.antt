@@ -1,5 +1,5 @@
 -- The fields are a sound state as lists; so the turn can be made, and what was made of them is the machine's step.
-use Rattle.std.proofs.Common.{◌≡◌, ◌<◌, sym}
+use Rattle.std.proofs.Common.{◌≡◌, ◌<◌}
 use Rattle.std.specs.Prelude.{Some, OnOk}
 use Rattle.scq_core.specs.Table.{turn_of, step_of}
 use Rattle.scq_core.specs.Book.{Book, part_in, machine_of}
