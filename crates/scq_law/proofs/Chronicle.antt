@@ -1,10 +1,9 @@
 -- Each run has a ghost, and its history is tied to its state. Plan: the tie holds at the start, and is kept by each turn
 -- in two parts; what is told of the turn is what the two parts make.
-use Rattle.std.proofs.Common.{eqb-true, leb-true, lt-ltb, le-leb, ◌≡◌, ◌≢◌, ℕ, suc, ◌+◌, ◌-◌, ◌<◌, ◌≤◌, ◌⊎◌, inl, inr, true, false, List, [], ◌∷◌, ◌++◌, length, refl, ap, sym, ◌∙◌, subst, arith, eq-eqb, append-nil, length-append}
-use Rattle.std.specs.Prelude.{nat_le, nat_lt, ◌&&◌, ◌==◌, Option, Some, None, slice_index_or, All}
-use Rattle.std.specs.Option.{option_map}
+use Rattle.std.proofs.Common.{eqb-true, leb-true, lt-ltb, le-leb, ◌≡◌, ◌≢◌, ℕ, ◌+◌, ◌-◌, ◌<◌, ◌≤◌, ◌⊎◌, inl, inr, true, List, [], ◌∷◌, ◌++◌, length, refl, ap, sym, ◌∙◌, subst, arith, eq-eqb}
+use Rattle.std.specs.Prelude.{nat_le, nat_lt, ◌&&◌, ◌==◌, Some, None, slice_index_or, All}
 use Rattle.std.proofs.lemmas.Bool.{cases_Bool, cases_eq, and_parts, and_from}
-use Rattle.std.proofs.lemmas.Option.{option_and_then_some, slice_get-get_or}
+use Rattle.std.proofs.lemmas.Option.{slice_get-get_or}
 use Rattle.scq_word.specs.declared.setup.Setup.{Setup}
 use Rattle.scq_word.specs.Sizes.{n_of}
 use Rattle.scq_core.specs.declared.phase.Phase.{Phase}
@@ -12,32 +11,29 @@ use Rattle.scq_core.specs.declared.phase.Phase.TheVariants.{Idle}
 use Rattle.scq_core.specs.declared.step.Step.{Step}
 use Rattle.scq_core.specs.Put.{put}
 use Rattle.scq_core.specs.declared.ended.Ended.{Ended}
-use Rattle.scq_core.specs.Machine.{Machine, Part, read, beside}
+use Rattle.scq_core.specs.Machine.{Part, read, beside}
 use Rattle.scq_core.specs.Table.{size, zero_level, turn_of, moved, word_of}
-use Rattle.scq_core.proofs.PutLemmas.{put_here, put_else, put_same}
+use Rattle.scq_core.proofs.PutLemmas.{put_here, put_else}
 use Rattle.scq_core.proofs.Turns.{Begins, begins_put, begins_get, begins, awake}
 use Rattle.scq_hist.specs.declared.events.Event as history
 use Rattle.scq_hist.specs.declared.events.PutName.{PutName}
 use Rattle.scq_hist.specs.declared.events.PutName.TheVariants.{Opening}
-use Rattle.scq_hist.specs.declared.events.Reply.TheVariants.{Nothing, Spent}
-use Rattle.scq_law.specs.Run.{Told, reply_of, placer_after, starts, finishes, puts_after, told_after, told_by, told_first, told_along, first_placer, nobody, IsRun}
-use Rattle.scq_law.specs.Places.{call_of, opening_put}
+use Rattle.scq_law.specs.Run.{Told, reply_of, placer_after, starts, finishes, puts_after, told_after, told_first, first_placer, nobody, IsRun}
+use Rattle.scq_law.specs.Places.{opening_put}
 use Rattle.scq_law.proofs.Ghosts.{Ghost, placed, is_placed, stood, start_ghost}
-use Rattle.scq_law.proofs.Events.{Stance, resting, drawing, putting, landed, seeking, trying, missed, leaving, stance_of, Event, calm, drew, fell, laid, finished, entered, refused, began, died, saw_end, lifted, taken, lowered, emptied, overran, stance_by, ended_by, event}
+use Rattle.scq_law.proofs.Events.{Stance, resting, stance_of, Event, calm, drew, fell, laid, finished, entered, refused, began, died, saw_end, lifted, taken, lowered, emptied, overran, stance_by, ended_by, event}
 use Rattle.scq_law.proofs.Tale.{Tale, tale_start, tale_step, ghost_after}
-use Rattle.scq_law.proofs.Deed.{stance, Deed}
+use Rattle.scq_law.proofs.Deed.{stance}
 use Rattle.scq_law.proofs.Base.{based}
 use Rattle.scq_law.proofs.Full.{Stood, stands_at}
-use Rattle.scq_law.proofs.Scenes.{Scene, scene, ghost_next}
-use Rattle.scq_law.proofs.Roots.{IsRooted}
+use Rattle.scq_law.proofs.Scenes.{scene}
 use Rattle.scq_law.proofs.Throughout.{rooted, recorded, reached}
 use Rattle.scq_law.proofs.Decides.{decides}
 use Rattle.scq_law.proofs.ToldRuns.{all_along}
 use Rattle.scq_law.proofs.TiedTurns.{opens_call, tied_event}
-use Rattle.scq_law.proofs.Doing.{PutsNow, GetsNow, Doing, put_answer, get_answer}
-use Rattle.scq_law.proofs.Placings.{IsNamed, due, IsPlaced}
-use Rattle.scq_law.proofs.Tied.{calls_of, IsTied, IsFree, tied_put, tied_get, tied_on, tied_end, tied_done, tied_drew, tied_fell, tied_laid, tied_began, tied_died, tied_taken}
-use Rattle.scq_law.proofs.Tidings.{Within, within, starts_none, puts_none, ends_by, finishes_none, finishes_last, placer_by, placer_turn}
+use Rattle.scq_law.proofs.Placings.{IsNamed, IsPlaced}
+use Rattle.scq_law.proofs.Tied.{calls_of, IsTied}
+use Rattle.scq_law.proofs.Tidings.{Within, within, puts_none, ends_by, finishes_none, finishes_last, placer_by, placer_turn}
 
 -- the first part leaves it to the second who places
 placer_then : (c : Setup) (k : ℕ) (p : Part) (turn : Phase) (x : ℕ) (y : List ℕ) (puts : ℕ → ℕ) (placer : ℕ → ℕ → PutName) → (turn ≡ Idle → ⊥) → (turn ≡ p.phase) ⊎ ((p.phase ≡ Idle) × (p.spent ≡ None) × Begins c p.hand turn) → placer_by (event c turn x y) k (puts_after k p.phase turn puts) placer ≡ placer_by (event c turn x y) k puts placer

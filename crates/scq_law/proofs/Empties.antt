@@ -1,11 +1,11 @@
 -- Where a get ended with Nothing, or is leaving, it had seen at a moment of its call that each finished put's place had
 -- been drawn by a get. Kept while the history grows and tickets go on.
-use Rattle.std.proofs.Common.{◌≡◌, ◌≢◌, ℕ, suc, ◌+◌, ◌<◌, ◌≤◌, ◌⊎◌, inl, inr, Bool, true, List, [], ◌∷◌, ◌++◌, length, refl, ap, sym, ◌∙◌, subst, arith}
-use Rattle.std.specs.Prelude.{Option, Some, None, slice_get}
+use Rattle.std.proofs.Common.{◌≡◌, ◌≢◌, ℕ, suc, ◌<◌, ◌≤◌, ◌⊎◌, inl, inr, true, List, [], ◌∷◌, ◌++◌, length, ap, sym, ◌∙◌, subst, arith}
+use Rattle.std.specs.Prelude.{Some, slice_get}
 use Rattle.std.proofs.lemmas.Option.{slice_get_within}
-use Rattle.scq_hist.specs.Calls.{under_way, puts_before, IsCall, IsPut, IsDoneAt, IsFinishedAt}
+use Rattle.scq_hist.specs.Calls.{under_way, IsDoneAt, IsFinishedAt}
 use Rattle.scq_hist.proofs.UnderWay.{started}
-use Rattle.scq_hist.specs.declared.events.Call.TheVariants.{Put, Get}
+use Rattle.scq_hist.specs.declared.events.Call.TheVariants.{Get}
 use Rattle.scq_hist.specs.declared.events.Event.{Event}
 use Rattle.scq_hist.specs.declared.events.Event.TheVariants.{Start, End}
 use Rattle.scq_hist.specs.declared.events.PutName.{PutName}
@@ -74,7 +74,6 @@ pub record IsEmptied (opening : List (List ℕ)) (events : List Event) (placer :
   pub leaves : (k r h : ℕ) → stance k ≡ leaving r h → Emptying opening events placer puts gets since k r
 
 module _ (opening : List (List ℕ)) (events : List Event) (placer : ℕ → ℕ → PutName) (stance : ℕ → Stance) (puts : ℕ → ℕ → PutState) (gets : ℕ → ℕ → GetState) (since : ℕ → ℕ → ℕ) (was : IsEmptied opening events placer stance puts gets since) where
-
   -- an event is told
   pub emptied_grown : (x : Event) (stance2 : ℕ → Stance) → ((k r h : ℕ) → stance2 k ≡ leaving r h → (stance k ≡ leaving r h) × (seat_of x ≢ k)) → ((k : ℕ) → x ≡ End k Nothing → Emptied opening (events ++ x ∷ []) placer puts gets since (length events) k) → IsEmptied opening (events ++ x ∷ []) placer stance2 puts gets since
   emptied_grown x stance2 old new =
@@ -87,7 +86,9 @@ module _ (opening : List (List ℕ)) (events : List Event) (placer : ℕ → ℕ
                   let low = slice_get_within events e (End k Nothing) there in
                   let till = z.till in
                   record {
-                    r = z.r; s = z.s; m = z.m;
+                    r = z.r;
+                    s = z.s;
+                    m = z.m;
                     starts = kept_at events x z.s _ z.starts;
                     under = under_old events x k e (omega arith) ∙ z.under;
                     after = z.after;
@@ -117,7 +118,9 @@ module _ (opening : List (List ℕ)) (events : List Event) (placer : ℕ → ℕ
             λ e k at.
             let z = was.ends e k at in
             record {
-              r = z.r; s = z.s; m = z.m;
+              r = z.r;
+              s = z.s;
+              m = z.m;
               starts = z.starts;
               under = z.under;
               after = z.after;

@@ -1,7 +1,6 @@
 -- Each Empty in the history of a run is right, and so the history has its aspects. Plan: at the moment of its call that a
 -- get had seen so, each finished put's place had been drawn, and what is placed below Head is claimed.
-use Rattle.std.proofs.Common.{◌≡◌, ℕ, ◌<◌, ◌≤◌, inl, inr, List, length, sym, subst}
-use Rattle.std.specs.Prelude.{Some, slice_get}
+use Rattle.std.proofs.Common.{◌≡◌, ℕ, inl, inr, List, length, subst}
 use Rattle.std.proofs.lemmas.Bool.{cases_lt}
 use Rattle.scq_word.specs.declared.setup.Setup.{Setup}
 use Rattle.scq_word.specs.Sizes.{n_of}
@@ -14,7 +13,6 @@ use Rattle.scq_law.proofs.Claiming.{base, fresh, once, Ahead, all_claimed}
 use Rattle.scq_law.proofs.Ordered.{in_order}
 
 module _ (c : Setup) (opening : List (List ℕ)) (full : length opening ≡ n_of c.order) (told : Told) (chron : IsChronicle c opening told) where
-
   pub empty_right : IsEmptyRight opening told.events
   empty_right s e seat queue call =
       let z = chron.tied.emptied.ends e seat call.ends in

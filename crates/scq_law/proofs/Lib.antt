@@ -61,3 +61,4 @@ pub mod Claiming
 pub mod Ordered
 pub mod LaterLaws
 pub mod EmptyRight
+pub mod RunSteps

@@ -1,28 +1,22 @@
 -- The history of a run is in order. Plan: a put that ended with Done before another of its queue started has the lower
 -- place, for all places up to its own were drawn by then; so where the other was got, Head has passed the first.
-use Rattle.std.proofs.Common.{◌≡◌, ℕ, suc, ◌+◌, ◌-◌, ◌<◌, ◌≤◌, ◌⊎◌, inl, inr, true, List, length, refl, ap, sym, subst, arith}
-use Rattle.std.specs.Prelude.{Some, slice_get}
+use Rattle.std.proofs.Common.{◌≡◌, ℕ, ◌<◌, inl, inr, List, length, ap, sym, subst, arith}
 use Rattle.std.proofs.lemmas.Bool.{cases_lt}
 use Rattle.scq_word.specs.declared.setup.Setup.{Setup}
 use Rattle.scq_word.specs.Sizes.{n_of}
-use Rattle.scq_core.specs.declared.ended.Ended.TheVariants as ended
-use Rattle.scq_core.specs.Table.{size}
-use Rattle.scq_hist.specs.Calls.{puts_before, IsPut, IsDoneAt, IsFinishedAt}
+use Rattle.scq_hist.specs.Calls.{IsPut}
 use Rattle.scq_hist.specs.Aspects.{IsInOrder, Precedes, AllClaimed}
 use Rattle.scq_hist.proofs.Puts.{same_put}
-use Rattle.scq_hist.specs.declared.events.Call.TheVariants.{Put}
-use Rattle.scq_hist.specs.declared.events.Event.TheVariants.{Start}
 use Rattle.scq_hist.specs.declared.events.PutName.{PutName}
-use Rattle.scq_hist.specs.declared.events.PutName.TheVariants.{Opening, Of}
+use Rattle.scq_hist.specs.declared.events.PutName.TheVariants.{Of}
 use Rattle.scq_law.specs.Run.{Told}
-use Rattle.scq_law.specs.Places.{call_of}
 use Rattle.scq_law.proofs.Ghosts.{is_placed}
 use Rattle.scq_law.proofs.Placings.{IsNamed}
 use Rattle.scq_law.proofs.Base.{IsBased}
 use Rattle.scq_law.proofs.Records.{IsRecorded}
 use Rattle.scq_law.proofs.Throughout.{recorded}
 use Rattle.scq_law.proofs.Deed.{stance}
-use Rattle.scq_law.proofs.Settled.{Settled, settled}
+use Rattle.scq_law.proofs.Settled.{settled}
 use Rattle.scq_law.proofs.Chronicle.{IsToldTied, IsChronicle}
 use Rattle.scq_law.proofs.Claiming.{taken_at, base, Ahead, all_claimed}
 

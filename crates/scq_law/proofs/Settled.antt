@@ -1,6 +1,6 @@
 -- A put that is finished has its place, and the puts placed up to there had started by then.
-use Rattle.std.proofs.Common.{◌≡◌, ◌≢◌, ℕ, suc, ◌+◌, ◌-◌, ◌<◌, ◌≤◌, ◌⊎◌, inl, inr, Bool, true, false, List, length, refl, ap, sym, ◌∙◌, subst, arith}
-use Rattle.std.specs.Prelude.{Option, Some, None, slice_get}
+use Rattle.std.proofs.Common.{◌≡◌, ℕ, suc, ◌+◌, ◌-◌, ◌<◌, ◌≤◌, inl, inr, true, List, length, refl, ap, sym, subst, arith}
+use Rattle.std.specs.Prelude.{Some, slice_get}
 use Rattle.std.proofs.lemmas.Bool.{cases_lt}
 use Rattle.std.proofs.lemmas.Option.{slice_get_within, get_or_from_slice_get}
 use Rattle.scq_word.specs.declared.setup.Setup.{Setup}
@@ -24,7 +24,6 @@ use Rattle.scq_law.proofs.Placings.{IsNamed}
 use Rattle.scq_law.proofs.Tied.{IsTied, calls_of}
 
 module _ (c : Setup) (opening : List (List ℕ)) (full : length opening ≡ n_of c.order) (events : List history.Event) (begun : ℕ → ℕ) (placer : ℕ → ℕ → PutName) (stance : ℕ → Stance) (m : Machine) (g : Ghost) (t : IsTied c opening events begun placer stance (calls_of m) g) (based : IsBased c g m) (records : IsRecorded c g m) where
-
   -- the place of a put that is finished at a moment: an opening token's, or that of a put that ended with Done, as the
   -- record of its seat has it. The puts placed up to there started before it
   pub record Settled (queue moment : ℕ) (name : PutName) : Type 0 where
@@ -90,4 +89,3 @@ module _ (c : Setup) (opening : List (List ℕ)) (full : length opening ≡ n_of
   pub settled : (queue moment : ℕ) (name : PutName) → IsFinishedAt opening events queue moment name → Settled queue moment name
   settled queue moment (Opening j) is = subst (λ z. Settled z moment (Opening j)) (sym is.0) (settled_token moment j is.1)
   settled queue moment (Of k n) is = settled_done queue moment is.0 k n is.1 is.2
-

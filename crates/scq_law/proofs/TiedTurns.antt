@@ -1,44 +1,35 @@
 -- The tie is kept by a turn. Plan: a turn is told in two parts, first the Start of its call where the seat rested, then
 -- what its event does; where it decides that the ring is empty, no finished place is at or past Head.
-use Rattle.std.proofs.Common.{eqb-true, leb-true, lt-ltb, le-leb, ◌≡◌, ◌≢◌, ℕ, suc, ◌+◌, ◌-◌, ◌<◌, ◌≤◌, ◌⊎◌, inl, inr, true, false, List, [], ◌∷◌, ◌++◌, length, refl, ap, sym, ◌∙◌, subst, arith, eq-eqb, append-nil, length-append}
-use Rattle.std.specs.Prelude.{nat_le, nat_lt, ◌&&◌, ◌==◌, Option, Some, None, slice_index_or, All}
-use Rattle.std.specs.Option.{option_map}
-use Rattle.std.proofs.lemmas.Bool.{cases_Bool, cases_eq, and_parts, and_from}
-use Rattle.std.proofs.lemmas.Option.{option_and_then_some, slice_get-get_or}
+use Rattle.std.proofs.Common.{◌≡◌, ◌≢◌, ℕ, ◌+◌, ◌<◌, ◌≤◌, ◌⊎◌, inl, inr, true, false, List, [], ◌∷◌, ◌++◌, length, refl, ap, sym, ◌∙◌, subst, arith, append-nil, length-append}
+use Rattle.std.specs.Prelude.{None}
+use Rattle.std.proofs.lemmas.Bool.{cases_eq}
 use Rattle.scq_word.specs.declared.setup.Setup.{Setup}
 use Rattle.scq_word.specs.Sizes.{n_of}
 use Rattle.scq_core.specs.declared.phase.Phase.{Phase}
 use Rattle.scq_core.specs.declared.phase.Phase.TheVariants.{Idle}
-use Rattle.scq_core.specs.declared.step.Step.{Step}
 use Rattle.scq_core.specs.Put.{put}
-use Rattle.scq_core.specs.declared.ended.Ended.{Ended}
-use Rattle.scq_core.specs.Machine.{Machine, Part, read, beside}
-use Rattle.scq_core.specs.Table.{size, zero_level, turn_of, moved, word_of}
+use Rattle.scq_core.specs.Machine.{Machine, Part}
+use Rattle.scq_core.specs.Table.{size}
 use Rattle.scq_core.proofs.PutLemmas.{put_here, put_else, put_same}
-use Rattle.scq_core.proofs.Turns.{Begins, begins_put, begins_get, begins, awake}
+use Rattle.scq_core.proofs.Turns.{Begins, begins_put, begins_get}
 use Rattle.scq_hist.specs.declared.events.Event as history
 use Rattle.scq_hist.specs.declared.events.PutName.{PutName}
-use Rattle.scq_hist.specs.declared.events.PutName.TheVariants.{Opening}
 use Rattle.scq_hist.specs.declared.events.Reply.TheVariants.{Nothing, Spent}
-use Rattle.scq_law.specs.Run.{Told, reply_of, placer_after, starts, finishes, puts_after, told_after, told_by, told_first, told_along, first_placer, nobody, IsRun}
-use Rattle.scq_law.specs.Places.{call_of, opening_put}
-use Rattle.scq_law.proofs.Ghosts.{Ghost, placed, is_placed, stood, start_ghost}
-use Rattle.scq_law.proofs.Events.{Stance, resting, drawing, putting, landed, seeking, trying, missed, leaving, stance_of, Event, calm, drew, fell, laid, finished, entered, refused, began, died, saw_end, lifted, taken, lowered, emptied, overran, stance_by, ended_by, event}
-use Rattle.scq_law.proofs.Tale.{Tale, tale_start, tale_step, ghost_after}
+use Rattle.scq_law.specs.Run.{starts, puts_after}
+use Rattle.scq_law.specs.Places.{call_of}
+use Rattle.scq_law.proofs.Ghosts.{Ghost, placed, is_placed}
+use Rattle.scq_law.proofs.Events.{Stance, resting, drawing, putting, landed, seeking, trying, missed, leaving, stance_of, Event, calm, drew, fell, laid, finished, entered, refused, began, died, saw_end, lifted, taken, lowered, emptied, overran, stance_by, ended_by}
 use Rattle.scq_law.proofs.Deed.{stance, Deed}
-use Rattle.scq_law.proofs.Base.{based}
-use Rattle.scq_law.proofs.Full.{Stood, stands_at}
 use Rattle.scq_law.proofs.Scenes.{Scene, scene, ghost_next}
 use Rattle.scq_law.proofs.Roots.{IsRooted}
-use Rattle.scq_law.proofs.Throughout.{rooted}
 use Rattle.scq_law.proofs.Doing.{PutsNow, GetsNow, Doing, put_answer, get_answer}
-use Rattle.scq_law.proofs.Placings.{IsNamed, due, IsPlaced}
+use Rattle.scq_law.proofs.Placings.{due}
 use Rattle.scq_law.proofs.Tied.{calls_of, IsTied, IsFree, tied_put, tied_get, tied_on, tied_end, tied_done, tied_drew, tied_fell, tied_laid, tied_began, tied_died, tied_taken}
-use Rattle.scq_law.proofs.Tidings.{Within, within, starts_none, puts_none, ends_by, finishes_none, finishes_last, placer_by, placer_turn}
+use Rattle.scq_law.proofs.Tidings.{Within, starts_none, puts_none, ends_by, placer_by}
 use Rattle.std.proofs.lemmas.Bool.{cases_lt}
 use Rattle.scq_hist.specs.Calls.{IsFinishedAt}
 use Rattle.scq_hist.proofs.UnderWay.{started_within}
-use Rattle.scq_hist.specs.declared.events.Event.TheVariants.{Start, End}
+use Rattle.scq_hist.specs.declared.events.Event.TheVariants.{End}
 use Rattle.scq_law.specs.Bounds.{IsFinished}
 use Rattle.scq_law.proofs.Decides.{Decides, by_refusal, by_end, by_level}
 use Rattle.scq_law.proofs.Growing.{kept_at, under_old}
