@@ -62,3 +62,4 @@ pub mod Ordered
 pub mod LaterLaws
 pub mod EmptyRight
 pub mod RunSteps
+pub mod RunLaws

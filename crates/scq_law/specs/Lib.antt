@@ -1,4 +1,5 @@
 pub mod Run
+pub mod Runs
 pub mod Places
 pub mod Hands
 pub mod Later
