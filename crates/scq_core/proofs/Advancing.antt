@@ -1,5 +1,5 @@
 -- The pieces of a turn, put together: what was read, written and laid beside, and what became of the seat.
-use Rattle.std.proofs.Common.{◌≡◌, ℕ, ◌<◌, ◌+◌, refl, sym, ◌∙◌, ap, arith, Option, Some, List, length}
+use Rattle.std.proofs.Common.{◌≡◌, ℕ, ◌<◌, refl, sym, ◌∙◌, ap, arith, Option, Some, List, length}
 use Rattle.std.specs.Prelude.{is_some, unwrap_or, slice_index_or, slice_set, true}
 use Rattle.std.proofs.lemmas.List.{get_or_default}
 use Rattle.scq_word.specs.declared.setup.Setup.{Setup}
@@ -11,8 +11,8 @@ use Rattle.scq_core.specs.Machine.{Part}
 use Rattle.scq_core.specs.Table.{writes, stores, after, turn_of}
 use Rattle.scq_core.specs.Rings.{RingBook, IsPlace, word_in, content_in, ring_with}
 use Rattle.scq_core.specs.Book.{ring_in, no_slot, no_ring, HasRings}
-use Rattle.scq_core.specs.Turn.{ring_of, place_of, copied, started, IsReady}
-use Rattle.scq_core.specs.Advance.{found_by, beside_by, CanTurn, rings_after, part_by, Advances}
+use Rattle.scq_core.specs.Turn.{ring_of, place_of, copied, started}
+use Rattle.scq_core.specs.Advance.{found_by, beside_by, Advances}
 use Rattle.scq_core.proofs.Places.{enabled_turn, is_place}
 
 -- the ring that was indexed is the turn's

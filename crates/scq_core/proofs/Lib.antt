@@ -9,5 +9,9 @@ pub mod Floor
 pub mod Fits
 pub mod Starts
 pub mod Packing
+pub mod Indices
 pub mod Places
+pub mod Books
 pub mod Advancing
+pub mod Filling
+pub mod Looks

@@ -1,14 +1,14 @@
 -- The words that the table's code packs are those of the table.
-use Rattle.std.proofs.Common.{◌≡◌, ◌≢◌, ℕ, ◌+◌, ◌*◌, ◌/◌, ◌%◌, ◌^◌, ◌<◌, ◌≤◌, Bool, true, false, refl, sym, ◌∙◌, ap, inl, inr, arith, Option, Some, None}
-use Rattle.std.specs.Prelude.{◌-◌, ◌==◌, cond}
+use Rattle.std.proofs.Common.{◌≡◌, ℕ, ◌+◌, ◌*◌, ◌/◌, ◌^◌, ◌<◌, ◌≤◌, true, false, refl, sym, ◌∙◌, ap, inl, inr, arith, Option, Some, None}
+use Rattle.std.specs.Prelude.{◌==◌}
 use Rattle.std.proofs.lemmas.Nat.{le-div}
 use Rattle.std.proofs.lemmas.Bool.{cases_Bool}
 use Rattle.std.proofs.lemmas.Grind.{common_steps}
 use Rattle.scq_word.specs.declared.setup.Setup.{Setup}
 use Rattle.scq_word.specs.declared.entry.Entry.{Entry}
 use Rattle.scq_word.specs.Sizes.{n_of, slots_of}
-use Rattle.scq_word.specs.Words.{mark_of, packed, index_in, safe_in, cycle_in, is_none_in}
-use Rattle.scq_word.specs.Entries.{safe_bit, index_bits, word_of, index_of, entry_of}
+use Rattle.scq_word.specs.Words.{index_in, safe_in, is_none_in}
+use Rattle.scq_word.specs.Entries.{safe_bit, word_of, index_of, entry_of}
 use Rattle.scq_word.proofs.WordLemmas.{safe_in_bit}
 use Rattle.scq_word.proofs.TicketLemmas.{ticket_parts}
 use Rattle.scq_core.specs.Table.{size, cycle, passed}

@@ -1,9 +1,7 @@
 -- A step that is allowed is the turn that it begins or the seat's phase; places of a ring are words of the machine.
-use Rattle.std.proofs.Common.{◌≡◌, ℕ, ◌<◌, ◌+◌, Bool, true, false, refl, sym, ◌∙◌, ap, inl, inr, arith, Option, Some, None, List, [], ◌∷◌, length}
+use Rattle.std.proofs.Common.{◌≡◌, ℕ, ◌<◌, Bool, true, false, refl, Option, Some, None, List}
 use Rattle.std.specs.Prelude.{is_some, unwrap_or, if◌then◌else◌}
-use Rattle.std.proofs.lemmas.Bool.{cases_Bool}
 use Rattle.scq_word.specs.declared.setup.Setup.{Setup}
-use Rattle.scq_word.specs.Tickets.{slot_of}
 use Rattle.scq_word.proofs.TicketLemmas.{slot_of_small}
 use Rattle.scq_core.specs.declared.phase.Phase.{Phase}
 use Rattle.scq_core.specs.declared.phase.Phase.TheVariants.{Idle, AtE1, AtE2, AtE3, AtE4, AtE5, AtE6, AtD1, AtD2, AtD3, AtD4, AtD5, AtD6, AtD7, AtD8, AtD9, AtD10}
@@ -11,10 +9,9 @@ use Rattle.scq_core.specs.declared.step.Step.{Step}
 use Rattle.scq_core.specs.declared.step.Step.TheVariants.{E1, E1Again, E2, E3, E4, E5, E6, D1, D2, D3, D4, D5, D6, D7, D8, D9, D10}
 use Rattle.scq_core.specs.declared.slot.Place.{Place}
 use Rattle.scq_core.specs.declared.slot.Place.TheVariants as place
-use Rattle.scq_core.specs.declared.slot.Slot.{Slot}
-use Rattle.scq_core.specs.Machine.{Cells, Word, tail_of, head_of, threshold_of, entry_of, read, beside}
-use Rattle.scq_core.specs.Table.{size, turn_at, holds_index, word_of}
-use Rattle.scq_core.specs.Rings.{RingBook, IsPlace, word_in, content_in, ring_with}
+use Rattle.scq_core.specs.Machine.{Word, tail_of, head_of, threshold_of, entry_of, read, beside}
+use Rattle.scq_core.specs.Table.{size, turn_at, word_of}
+use Rattle.scq_core.specs.Rings.{RingBook, IsPlace, word_in, content_in}
 use Rattle.scq_core.specs.Book.{cells_of, ring_in, no_slot, HasRings}
 use Rattle.scq_core.specs.Turn.{ring_of, place_of, started}
 use Rattle.scq_core.proofs.Entries.{some_slots}

@@ -1,12 +1,12 @@
 -- One turn, on lists: a ring with another word, and the seat's part afterwards.
-use Rattle.std.specs.Prelude.{ℕ, ◌≡◌, ◌<◌, List, Option, Some, unwrap_or, slice_set}
+use Rattle.std.specs.Prelude.{ℕ, ◌≡◌, ◌<◌, List, Some, slice_set}
 use Rattle.scq_word.specs.declared.setup.Setup.{Setup}
 use Rattle.scq_core.specs.declared.phase.Phase.{Phase}
 use Rattle.scq_core.specs.declared.step.Step.{Step}
 use Rattle.scq_core.specs.Machine.{Part}
 use Rattle.scq_core.specs.Table.{writes, stores, after, turn_of}
 use Rattle.scq_core.specs.Rings.{RingBook, word_in, content_in, ring_with}
-use Rattle.scq_core.specs.Book.{HasRings, ring_in, no_slot}
+use Rattle.scq_core.specs.Book.{ring_in, no_slot}
 use Rattle.scq_core.specs.Turn.{ring_of, place_of, IsReady}
 
 -- the word that a turn finds, and the content beside it

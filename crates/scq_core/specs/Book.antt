@@ -1,7 +1,9 @@
 -- A state as lists, and the machine's state that it stands for.
-use Rattle.std.specs.Prelude.{ℕ, ◌≡◌, ◌-◌, ◌<◌, List, [], length, All, slice_index_or}
+use Rattle.std.specs.Prelude.{ℕ, ◌≡◌, ◌-◌, ◌<◌, List, [], length, slice_index_or}
 use Rattle.scq_word.specs.declared.setup.Setup.{Setup}
 use Rattle.scq_core.specs.declared.slot.Slot.{Slot}
+use Rattle.scq_core.specs.declared.slot.Place.{Place}
+use Rattle.scq_core.specs.declared.slot.Place.TheVariants.{Entry}
 use Rattle.scq_core.specs.Machine.{Cells, Part, Machine}
 use Rattle.scq_core.specs.Table.{size, zero_level}
 use Rattle.scq_core.specs.Start.{unused, idle_part}
@@ -46,6 +48,11 @@ machine_of b = record { cells = cells_of b.setup b.rings; part = part_in b.seats
 -- every ring has two slots for each index
 abbrev pub HasRings : Setup → List RingBook → Type 0
 HasRings c rings = (length rings ≡ c.rings) × ((r : ℕ) → r < c.rings → length (ring_in c rings r).slots ≡ size c)
+
+-- a place of any ring: a slot is one of so many
+abbrev pub IsPlaceOf : Setup → Place → Type 0
+IsPlaceOf c (Entry slot) = slot < size c
+IsPlaceOf c place = Unit {0}
 
 -- the lists are as long as the setup says, and steps reach the state
 pub record IsSound (b : Book) : Type 0 where

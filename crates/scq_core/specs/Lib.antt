@@ -8,3 +8,4 @@ pub mod Rings
 pub mod Book
 pub mod Turn
 pub mod Advance
+pub mod Fresh

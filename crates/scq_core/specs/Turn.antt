@@ -36,6 +36,11 @@ ring_of (AtD8 r h from) = r
 ring_of (AtD9 r h from to) = r
 ring_of (AtD10 r h leaving) = r
 
+-- the ring of the call that a seat is in the middle of
+abbrev pub ring_under_way : Phase → Option ℕ
+ring_under_way Idle = None
+ring_under_way phase = Some (ring_of phase)
+
 -- the place of it that the turn reads
 abbrev pub place_of : Setup → Phase → Place
 place_of c Idle = Tail

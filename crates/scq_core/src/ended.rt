@@ -1,4 +1,7 @@
-use scq_word::Bytes;
+ghost use Rattle.std.specs.Prelude.{◌≡◌, IfOk};
+
+use scq_word::{Bytes, NoMemory};
+use std::alloc::Global;
 
 /// A call that has ended, as its seat's record keeps it. `Done` ends an enqueue, `Got` and `Nothing` a
 /// dequeue: `Nothing` is what callers know as Empty, or Full on the ring of free indices. A place is
@@ -24,4 +27,38 @@ pub enum Ended {
         ticket: u64,
         put: bool,
     },
+}
+
+impl Ended {
+    /// An equal record of the call, with a copy of its content.
+    pub fn copy(&self, alloc: Global) -> Result<Ended, NoMemory>
+        ensures { IfOk result (λ copy. copy ≡ self.now) }
+    {
+        match self {
+            Ended::Done {
+                ring,
+                place,
+                content,
+            } => Ok(Ended::Done {
+                ring: *ring,
+                place: *place,
+                content: Bytes::copy_of(alloc, content.bytes())?,
+            }),
+            Ended::Got {
+                ring,
+                place,
+                content,
+            } => Ok(Ended::Got {
+                ring: *ring,
+                place: *place,
+                content: Bytes::copy_of(alloc, content.bytes())?,
+            }),
+            Ended::Nothing { ring } => Ok(Ended::Nothing { ring: *ring }),
+            Ended::Spent { ring, ticket, put } => Ok(Ended::Spent {
+                ring: *ring,
+                ticket: *ticket,
+                put: *put,
+            }),
+        }
+    }
 }

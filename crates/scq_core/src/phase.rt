@@ -1,4 +1,8 @@
-use scq_word::Bytes;
+ghost use Rattle.std.specs.Prelude.{◌≡◌, IfOk};
+ghost use Rattle.scq_core.specs.Turn.{IsOfGet};
+
+use scq_word::{Bytes, NoMemory};
+use std::alloc::Global;
 
 /// What a seat is in the middle of: its next step, with what it drew and loaded. `ticket` is the drawn
 /// one, and `word` the entry that was loaded.
@@ -99,4 +103,161 @@ pub enum Phase {
         ticket: u64,
         leaving: bool,
     },
+}
+
+impl Phase {
+    /// An equal phase, with a copy of its content.
+    pub fn copy(&self, alloc: Global) -> Result<Phase, NoMemory>
+        ensures { IfOk result (λ copy. copy ≡ self.now) }
+    {
+        match self {
+            Phase::Idle => Ok(Phase::Idle),
+            Phase::AtE1 {
+                ring,
+                index,
+                content,
+                least,
+            } => Ok(Phase::AtE1 {
+                ring: *ring,
+                index: *index,
+                content: Bytes::copy_of(alloc, content.bytes())?,
+                least: *least,
+            }),
+            Phase::AtE2 {
+                ring,
+                index,
+                content,
+                ticket,
+                least,
+            } => Ok(Phase::AtE2 {
+                ring: *ring,
+                index: *index,
+                content: Bytes::copy_of(alloc, content.bytes())?,
+                ticket: *ticket,
+                least: *least,
+            }),
+            Phase::AtE3 {
+                ring,
+                index,
+                content,
+                ticket,
+                word,
+            } => Ok(Phase::AtE3 {
+                ring: *ring,
+                index: *index,
+                content: Bytes::copy_of(alloc, content.bytes())?,
+                ticket: *ticket,
+                word: *word,
+            }),
+            Phase::AtE4 {
+                ring,
+                index,
+                content,
+                ticket,
+                word,
+            } => Ok(Phase::AtE4 {
+                ring: *ring,
+                index: *index,
+                content: Bytes::copy_of(alloc, content.bytes())?,
+                ticket: *ticket,
+                word: *word,
+            }),
+            Phase::AtE5 {
+                ring,
+                index,
+                content,
+                ticket,
+            } => Ok(Phase::AtE5 {
+                ring: *ring,
+                index: *index,
+                content: Bytes::copy_of(alloc, content.bytes())?,
+                ticket: *ticket,
+            }),
+            Phase::AtE6 {
+                ring,
+                index,
+                content,
+                ticket,
+            } => Ok(Phase::AtE6 {
+                ring: *ring,
+                index: *index,
+                content: Bytes::copy_of(alloc, content.bytes())?,
+                ticket: *ticket,
+            }),
+            _ => Ok(self.copy_of_get()),
+        }
+    }
+
+    // The same for what stands in a dequeue.
+    fn copy_of_get(&self) -> Phase
+        requires { IsOfGet self.now }
+        ensures { result ≡ self.now }
+    {
+        match self {
+            Phase::AtD1 { ring } => Phase::AtD1 { ring: *ring },
+            Phase::AtD2 { ring, least } => Phase::AtD2 {
+                ring: *ring,
+                least: *least,
+            },
+            Phase::AtD3 {
+                ring,
+                ticket,
+                least,
+            } => Phase::AtD3 {
+                ring: *ring,
+                ticket: *ticket,
+                least: *least,
+            },
+            Phase::AtD4 { ring, ticket } => Phase::AtD4 {
+                ring: *ring,
+                ticket: *ticket,
+            },
+            Phase::AtD5 { ring, ticket, word } => Phase::AtD5 {
+                ring: *ring,
+                ticket: *ticket,
+                word: *word,
+            },
+            Phase::AtD6 { ring, ticket } => Phase::AtD6 {
+                ring: *ring,
+                ticket: *ticket,
+            },
+            Phase::AtD7 {
+                ring,
+                ticket,
+                from,
+                to,
+            } => Phase::AtD7 {
+                ring: *ring,
+                ticket: *ticket,
+                from: *from,
+                to: *to,
+            },
+            Phase::AtD8 { ring, ticket, from } => Phase::AtD8 {
+                ring: *ring,
+                ticket: *ticket,
+                from: *from,
+            },
+            Phase::AtD9 {
+                ring,
+                ticket,
+                from,
+                to,
+            } => Phase::AtD9 {
+                ring: *ring,
+                ticket: *ticket,
+                from: *from,
+                to: *to,
+            },
+            Phase::AtD10 {
+                ring,
+                ticket,
+                leaving,
+            } => Phase::AtD10 {
+                ring: *ring,
+                ticket: *ticket,
+                leaving: *leaving,
+            },
+            _ => unreachable!(),
+        }
+    }
 }

@@ -1,9 +1,17 @@
-ghost use Rattle.std.specs.Prelude.{◌≡◌, ℕ, unwrap_or};
+ghost use Rattle.std.specs.Prelude.{◌≡◌, ℕ, ◌+◌, ◌<◌, IfOk, replicate, slice_set, unwrap_or, vec_len};
+ghost use Rattle.scq_word.specs.Sizes.{n_of};
+ghost use Rattle.scq_word.specs.Tickets.{slot_of};
+ghost use Rattle.scq_word.specs.Words.{packed};
+ghost use Rattle.scq_core.specs.Table.{size};
+ghost use Rattle.scq_core.specs.Book.{no_slot};
+ghost use Rattle.scq_core.specs.Fresh.{empty_ring, IsFullRing};
 ghost use Rattle.scq_core.specs.Rings.{IsPlace, word_in, content_in, ring_with};
 ghost use Rattle.scq_core.specs.declared.slot.Slot.{Slot};
 
 use crate::slot::{Place, Slot};
-use scq_word::Bytes;
+use crate::table::{ZERO_LEVEL, reset_level};
+use scq_word::{Bytes, Entry, NoMemory, Setup, pack, slot_of};
+use std::alloc::Global;
 use std::marker::Model;
 
 /// The words of one ring and the contents beside its entries. Threshold is kept as 2^32 more than its
@@ -25,6 +33,57 @@ impl Model for Ring {
 }
 
 impl Ring {
+    /// A ring in which nothing was ever placed.
+    #[tactic(auto, unfolding(crate::specs::Table::zero_level))]
+    pub fn empty(alloc: Global, setup: &Setup) -> Result<Ring, NoMemory>
+        ensures { IfOk result (λ ring. ring ≡ empty_ring setup.now) }
+    {
+        let first = u64::from(setup.shape().slots());
+        Ok(Ring {
+            tail: first,
+            head: first,
+            threshold: ZERO_LEVEL - 1,
+            slots: unused(alloc, setup)?,
+        })
+    }
+
+    /// A ring in which each index stands once, in order, as after as many puts.
+    pub fn full(alloc: Global, setup: &Setup, opening: &Vec<Bytes>) -> Result<Ring, NoMemory>
+        requires { vec_len opening.now ≡ n_of setup.now.order }
+        ensures { IfOk result (λ ring. IsFullRing setup.now opening.now.items ring) }
+    {
+        let shape = setup.shape();
+        let first = u64::from(shape.slots());
+        let mut slots = unused(alloc, setup)?;
+        for (index, content) in opening.iter().enumerate() {
+            let copy = Bytes::copy_of(alloc, content.bytes())?;
+            fill(setup, &mut slots, index as u32, copy);
+        }
+        Ok(Ring {
+            tail: first + u64::from(shape.n()),
+            head: first,
+            threshold: reset_level(setup),
+            slots,
+        })
+    }
+
+    /// An equal ring.
+    pub fn copy(&self, alloc: Global) -> Result<Ring, NoMemory>
+        ensures { IfOk result (λ copy. copy ≡ self.now) }
+    {
+        let mut slots = Vec::new(alloc);
+        slots.reserve_exact(self.slots.len())?;
+        for slot in &self.slots {
+            slots.push(slot.copy(alloc)?)?;
+        }
+        Ok(Ring {
+            tail: self.tail,
+            head: self.head,
+            threshold: self.threshold,
+            slots,
+        })
+    }
+
     pub fn read(&self, place: Place) -> u64
         requires { IsPlace self.now place }
         ensures { (past : Slot) → result ≡ word_in past self.now place }
@@ -66,4 +125,46 @@ impl Ring {
             }
         }
     }
+}
+
+// The slots of a ring in which nothing was ever placed.
+fn unused(alloc: Global, setup: &Setup) -> Result<Vec<Slot>, NoMemory>
+    ensures { IfOk result (λ slots. slots.items ≡ replicate (size setup.now) (no_slot setup.now)) }
+{
+    let shape = setup.shape();
+    let entry = Entry {
+        cycle: 0,
+        safe: true,
+        index: None,
+    };
+    let word = pack(shape, entry);
+    let mut slots = Vec::new(alloc);
+    slots.reserve_exact(shape.slots() as usize)?;
+    for _ in 0..shape.slots() {
+        slots.push(Slot {
+            word,
+            content: Bytes::from(Vec::new(alloc)),
+        })?;
+    }
+    Ok(slots)
+}
+
+// Places an index at the ticket of the first turn that has its number.
+fn fill(setup: &Setup, slots: &mut Vec<Slot>, index: u32, content: Bytes)
+    requires many { vec_len slots.old ≡ size setup.now }
+    requires own { index < n_of setup.now.order }
+    ensures { slots.new.items ≡ slice_set slots.old.items (slot_of (size setup.now) (size setup.now + index))
+        (record { word = packed (size setup.now) 1 1 index; content = content }) }
+{
+    let shape = setup.shape();
+    let entry = Entry {
+        cycle: 1,
+        safe: true,
+        index: Some(index),
+    };
+    let at = slot_of(shape, u64::from(shape.slots() + index)) as usize;
+    slots[at] = Slot {
+        word: pack(shape, entry),
+        content,
+    };
 }

@@ -1,5 +1,6 @@
-ghost use Rattle.std.specs.Prelude.{◌≡◌, ℕ, List, ◌<◌, is_some, unwrap_or, IfOk, OnOk, OnErr};
-ghost use Rattle.scq_core.specs.Table.{turn_of, after, stores, without};
+ghost use Rattle.std.specs.Option.{option_copied};
+ghost use Rattle.std.specs.Prelude.{◌-◌, length, slice_get, ◌≡◌, ℕ, List, ◌<◌, is_some, unwrap_or, IfOk, OnOk, OnErr};
+ghost use Rattle.scq_core.specs.Table.{turn_of, after, stores, without, holds_index};
 ghost use Rattle.scq_core.specs.Start.{idle_part};
 ghost use Rattle.scq_core.specs.Turn.{copied, IsReady};
 
@@ -40,6 +41,48 @@ impl Seat {
             spent: None,
             calls: Vec::new(alloc),
         }
+    }
+
+    /// An equal part.
+    pub fn copy(&self, alloc: Global) -> Result<Seat, NoMemory>
+        ensures { IfOk result (λ copy. copy ≡ self.now) }
+    {
+        let mut calls = Vec::new(alloc);
+        calls.reserve_exact(self.calls.len())?;
+        for ended in &self.calls {
+            calls.push(ended.copy(alloc)?)?;
+        }
+        Ok(Seat {
+            phase: self.phase.copy(alloc)?,
+            hand: self.hand.as_slice().to_vec(alloc)?,
+            spent: self.spent,
+            calls,
+        })
+    }
+
+    pub fn phase(&self) -> &Phase
+        ensures { result.now ≡ self.now.phase }
+    {
+        &self.phase
+    }
+
+    pub fn holds(&self, index: u32) -> bool
+        ensures { result ≡ holds_index self.now.hand index }
+    {
+        self.hand.contains(&index)
+    }
+
+    pub fn spent(&self) -> Option<u64>
+        ensures { result ≡ self.now.spent }
+    {
+        self.spent
+    }
+
+    /// The newest call of its record.
+    pub fn last(&self) -> Option<&Ended>
+        ensures { option_copied result ≡ slice_get self.now.calls (length self.now.calls - 1) }
+    {
+        self.calls.last()
     }
 
     /// Whether a line of the table allows the step.

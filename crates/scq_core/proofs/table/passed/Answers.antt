@@ -1,6 +1,6 @@
-use Rattle.std.proofs.Common.{◌≡◌, ℕ, ◌∙◌, ap, ◌<◌, ◌/◌, ◌^◌}
+use Rattle.std.proofs.Common.{◌≡◌, ℕ, ◌∙◌, ap}
 use Rattle.scq_word.specs.declared.entry.Entry.{Entry}
-use Rattle.scq_word.specs.Sizes.{n_of, slots_of}
+use Rattle.scq_word.specs.Sizes.{slots_of}
 use Rattle.scq_word.specs.Tickets.{cycle_of}
 use Rattle.scq_word.specs.Entries.{word_of, entry_of}
 use Rattle.scq_core.proofs.Packing.{cycle_fits, passed_moved, passed_marked}

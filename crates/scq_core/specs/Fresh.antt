@@ -1,0 +1,31 @@
+-- The rings of the start as lists: one in which nothing was ever placed, and one in which each index stands.
+use Rattle.std.specs.Prelude.{ℕ, ◌≡◌, ◌+◌, ◌-◌, List, ◌∷◌, length, replicate, slice_index_or}
+use Rattle.scq_word.specs.declared.setup.Setup.{Setup}
+use Rattle.scq_word.specs.Sizes.{n_of}
+use Rattle.scq_core.specs.declared.slot.Slot.{Slot}
+use Rattle.scq_core.specs.Table.{size, zero_level, reset_level}
+use Rattle.scq_core.specs.Start.{filled, filled_contents}
+use Rattle.scq_core.specs.Rings.{RingBook}
+use Rattle.scq_core.specs.Book.{no_slot}
+
+abbrev pub empty_ring : Setup → RingBook
+empty_ring c =
+    record { tail = size c; head = size c; threshold = zero_level - 1; slots = replicate (size c) (no_slot c) }
+
+-- the indices below a count stand in these slots, each with its opening content
+pub record IsFilled (c : Setup) (opening : List (List ℕ)) (count : ℕ) (slots : List Slot) : Type 0 where
+  pub many : length slots ≡ size c
+  pub words : (s : ℕ) → (slice_index_or slots s (no_slot c)).word ≡ filled (size c) count s
+  pub contents : (s : ℕ) → (slice_index_or slots s (no_slot c)).content ≡ filled_contents (size c) opening count s
+
+pub record IsFullRing (c : Setup) (opening : List (List ℕ)) (ring : RingBook) : Type 0 where
+  pub tail : ring.tail ≡ size c + n_of c.order
+  pub head : ring.head ≡ size c
+  pub threshold : ring.threshold ≡ reset_level c
+  pub slots : IsFilled c opening (n_of c.order) ring.slots
+
+-- ring 0 of the start, and so many rings more
+pub record IsStart (c : Setup) (opening : List (List ℕ)) (more : ℕ) (rings : List RingBook) : Type 0 where
+  pub first : RingBook
+  pub full : IsFullRing c opening first
+  pub all : rings ≡ first ∷ replicate more (empty_ring c)
