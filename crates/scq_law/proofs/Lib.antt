@@ -37,6 +37,11 @@ pub mod From
 pub mod Deeds
 pub mod Causes
 pub mod Scenes
+pub mod Growing
+pub mod Doing
+pub mod Placings
+pub mod Takings
+pub mod Tied
 pub mod Stances
 pub mod Roots
 pub mod HandLemmas
@@ -47,4 +52,8 @@ pub mod Small
 pub mod Throughout
 pub mod PlaceLaws
 pub mod HandLaws
+pub mod Tidings
+pub mod Chronicle
+pub mod Claiming
+pub mod Ordered
 pub mod LaterLaws

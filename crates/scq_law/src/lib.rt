@@ -4,4 +4,5 @@
 #![tactic(auto)]
 
 pub mod bounds;
+pub mod history;
 pub mod laws;

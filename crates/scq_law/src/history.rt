@@ -1,0 +1,31 @@
+//! Laws of the history of every run, of any number of steps, where seats may stop for ever in the middle
+//! of a call. The functions do nothing: each stands for its contract.
+
+ghost use Rattle.std.specs.Prelude.{◌≡◌, ℕ, ◌<◌, List, length};
+ghost use Rattle.std.specs.List.{All};
+ghost use Rattle.scq_word.specs.declared.setup.Setup.{Setup};
+ghost use Rattle.scq_word.specs.Sizes.{n_of};
+ghost use Rattle.scq_core.specs.declared.step.Step.{Step};
+ghost use Rattle.scq_hist.specs.Aspects.{IsLawful, IsFresh, IsOnce, IsInOrder};
+ghost use Rattle.scq_law.specs.Run.{Told, IsRun};
+
+/// The events of each seat alternate, beginning with a Start, and each reply suits its call.
+pub fn histories_are_lawful()
+    ensures { (c : Setup) (opening : List (List ℕ)) (steps : List (ℕ × Step)) (told : Told) → length opening ≡ n_of c.order → All (λ (x : ℕ × Step). x.0 < c.seats) steps → IsRun c opening steps told → IsLawful told.events }
+{}
+
+/// Each Got names a put of the same queue and content that is an opening token or started before.
+pub fn histories_are_fresh()
+    ensures { (c : Setup) (opening : List (List ℕ)) (steps : List (ℕ × Step)) (told : Told) → length opening ≡ n_of c.order → All (λ (x : ℕ × Step). x.0 < c.seats) steps → IsRun c opening steps told → IsFresh opening told.events }
+{}
+
+/// No two Gots name the same put.
+pub fn histories_are_once()
+    ensures { (c : Setup) (opening : List (List ℕ)) (steps : List (ℕ × Step)) (told : Told) → length opening ≡ n_of c.order → All (λ (x : ℕ × Step). x.0 < c.seats) steps → IsRun c opening steps told → IsOnce told.events }
+{}
+
+/// No put is got before one that was put wholly before it, unless a get that is still under way may
+/// have that one.
+pub fn histories_are_in_order()
+    ensures { (c : Setup) (opening : List (List ℕ)) (steps : List (ℕ × Step)) (told : Told) → length opening ≡ n_of c.order → All (λ (x : ℕ × Step). x.0 < c.seats) steps → IsRun c opening steps told → IsInOrder opening told.events }
+{}
