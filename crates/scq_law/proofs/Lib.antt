@@ -57,3 +57,5 @@ pub mod Chronicle
 pub mod Claiming
 pub mod Ordered
 pub mod LaterLaws
+pub mod Adding
+pub mod Making

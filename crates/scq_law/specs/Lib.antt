@@ -1,5 +1,9 @@
 pub mod Run
 pub mod Places
 pub mod Hands
-pub mod Later
 pub mod Bounds
+pub mod Later
+pub mod Acts
+pub mod Names
+pub mod Replay
+pub mod Telling

@@ -3,6 +3,12 @@
 // in the other files of `specs/`, and the layers above cite them as the contracts of the module `laws`.
 #![tactic(auto)]
 
+mod act;
 pub mod bounds;
 pub mod history;
 pub mod laws;
+mod replayed;
+mod replaying;
+mod telling;
+
+pub use replayed::{ReplayFault, Replayed};
