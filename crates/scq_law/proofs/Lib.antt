@@ -41,7 +41,9 @@ pub mod Growing
 pub mod Doing
 pub mod Placings
 pub mod Takings
+pub mod Empties
 pub mod Tied
+pub mod Settled
 pub mod Stances
 pub mod Roots
 pub mod HandLemmas
@@ -53,9 +55,13 @@ pub mod Throughout
 pub mod PlaceLaws
 pub mod HandLaws
 pub mod Tidings
+pub mod TiedTurns
 pub mod Chronicle
 pub mod Claiming
 pub mod Ordered
 pub mod LaterLaws
 pub mod Adding
 pub mod Making
+pub mod EmptyRight
+pub mod RunSteps
+pub mod RunLaws

@@ -5,8 +5,8 @@ use Rattle.std.specs.Prelude.{Some}
 use Rattle.std.proofs.lemmas.Bool.{cases_eq}
 use Rattle.scq_word.specs.declared.setup.Setup.{Setup}
 use Rattle.scq_core.specs.Put.{put}
-use Rattle.scq_core.specs.Machine.{put_entry}
-use Rattle.scq_core.proofs.PutLemmas.{put_else, put_entry_here}
+use Rattle.scq_core.specs.Machine.{Machine, put_entry}
+use Rattle.scq_core.proofs.PutLemmas.{put_else, put_entry_here, put_entry_or, put_entry_same}
 use Rattle.scq_hist.specs.Calls.{IsPut}
 use Rattle.scq_hist.specs.Aspects.{IsAnswer}
 use Rattle.scq_hist.proofs.Puts.{one_start}
@@ -17,14 +17,19 @@ use Rattle.scq_hist.specs.declared.events.Event.TheVariants.{Start, End}
 use Rattle.scq_hist.specs.declared.events.PutName.{PutName}
 use Rattle.scq_hist.specs.declared.events.PutName.TheVariants.{Of}
 use Rattle.scq_hist.specs.declared.events.Reply.{Reply}
-use Rattle.scq_hist.specs.declared.events.Reply.TheVariants.{Done, Got}
+use Rattle.scq_hist.specs.declared.events.Reply.TheVariants.{Done, Got, Nothing}
 use Rattle.scq_law.specs.Places.{Maker, call_of}
 use Rattle.scq_law.proofs.Ghosts.{Ghost, fresh, pending, failed, placed, unopened, opened, dead, took, is_placed, with_put, with_get}
-use Rattle.scq_law.proofs.Events.{Stance, resting, drawing, putting, landed, seeking, trying, missed}
+use Rattle.scq_law.proofs.Events.{Stance, resting, drawing, putting, landed, seeking, trying, missed, leaving}
 use Rattle.scq_law.proofs.Growing.{under_now, under_old}
 use Rattle.scq_law.proofs.Doing.{PutsNow, GetsNow, Doing, IsCalled, called_put, called_get, called_end, called_on, put_answer, get_answer}
 use Rattle.scq_law.proofs.Placings.{IsNamed, due, Landing, IsPlaced, placed_grown, placed_on, placed_drawn, placed_laid, put_entry_else}
+use Rattle.scq_law.proofs.Empties.{Emptying, Emptied, IsEmptied, emptied_grown, emptied_kept}
 use Rattle.scq_law.proofs.Takings.{IsTaken, taken_grown, taken_kept, taken_drawn, taken_taken}
+
+-- how many calls each seat's record has
+abbrev pub calls_of : Machine → ℕ → ℕ
+calls_of m k = length (m.part k).calls
 
 pub record IsTied (c : Setup) (opening : List (List ℕ)) (events : List history.Event) (begun : ℕ → ℕ) (placer : ℕ → ℕ → PutName) (stance : ℕ → Stance) (calls : ℕ → ℕ) (g : Ghost) : Type 0 where
   pub origin : ℕ → ℕ → ℕ
@@ -33,6 +38,7 @@ pub record IsTied (c : Setup) (opening : List (List ℕ)) (events : List history
   pub called : IsCalled events begun stance
   pub placed : IsPlaced c opening events begun placer stance calls g.puts origin
   pub taken : IsTaken events placer g.puts g.gets origin since ended
+  pub emptied : IsEmptied opening events placer stance g.puts g.gets since
   -- a put that has placed its index has the name of its place
   pub lands : (k r i t : ℕ) (w : List ℕ) → stance k ≡ landed r i w t → placer r t ≡ Of k (begun k)
 
@@ -64,6 +70,14 @@ module _ (c : Setup) (opening : List (List ℕ)) (events : List history.Event) (
         | inr apart ↦ rw (ne_eqb j k apart) low
       ]
 
+  -- where only this seat's stance changes, a seat that leaves did so
+  leaves_else : (s : Stance) → ((r h : ℕ) → s ≢ leaving r h) → (j r h : ℕ) → put stance k s j ≡ leaving r h → (stance j ≡ leaving r h) × (k ≢ j)
+  leaves_else s none j r h is =
+      elim (cases_eq j k) [
+        | inl same ↦ absurd (none r h (sym (rw (eq-eqb j k same) refl) ∙ is))
+        | inr apart ↦ (sym (put_else stance k s j apart) ∙ is, λ e. apart (sym e))
+      ]
+
   -- a resting seat starts a put
   pub tied_put : (r i : ℕ) (w : List ℕ) → stance k ≡ resting → IsFree g k → IsTied c opening (events ++ Start k (Put r w) ∷ []) (put begun k (begun k + 1)) placer (put stance k (drawing r i w)) calls g
   tied_put r i w rests free =
@@ -81,6 +95,7 @@ module _ (c : Setup) (opening : List (List ℕ)) (events : List history.Event) (
             (λ j. omega arith)
             (λ j is. absurd (cc));
         taken = taken_grown events placer g.puts g.gets tied.origin tied.since tied.ended tied.taken (Start k (Put r w)) (other_opens free) (λ j name y is. cc);
+        emptied = emptied_grown opening events placer stance g.puts g.gets tied.since tied.emptied (Start k (Put r w)) (put stance k (drawing r i w)) (leaves_else (drawing r i w) (λ a b z. cc)) (λ j z. absurd (cc));
         lands =
             λ j q x t y is.
             let old = lands_else stance k (drawing r i w) (λ a b d z e. cc) j q x t y is in
@@ -99,6 +114,7 @@ module _ (c : Setup) (opening : List (List ℕ)) (events : List history.Event) (
             placed_grown c opening events begun placer stance calls g.puts tied.origin tied.placed (Start k (Get r)) begun (put stance k (seeking r)) calls (other_pends free)
             (due_else (seeking r) (omega arith)) (λ j. omega arith) (λ j is. absurd (cc));
         taken = taken_grown events placer g.puts g.gets tied.origin tied.since tied.ended tied.taken (Start k (Get r)) (other_opens free) (λ j name y is. cc);
+        emptied = emptied_grown opening events placer stance g.puts g.gets tied.since tied.emptied (Start k (Get r)) (put stance k (seeking r)) (leaves_else (seeking r) (λ a b z. cc)) (λ j z. absurd (cc));
         lands =
             λ j q x t y is.
             let old = lands_else stance k (seeking r) (λ a b d z e. cc) j q x t y is in
@@ -106,8 +122,8 @@ module _ (c : Setup) (opening : List (List ℕ)) (events : List history.Event) (
       }
 
   -- a call goes on
-  pub tied_on : (s : Stance) (calls2 : ℕ → ℕ) → Doing events (begun k) k s → due s ≤ due (stance k) → ((j : ℕ) → calls j ≤ calls2 j) → ((r i t : ℕ) (w : List ℕ) → s ≡ landed r i w t → placer r t ≡ Of k (begun k)) → IsTied c opening events begun placer (put stance k s) calls2 g
-  tied_on s calls2 now less calls_rise here =
+  pub tied_on : (s : Stance) (calls2 : ℕ → ℕ) → Doing events (begun k) k s → due s ≤ due (stance k) → ((j : ℕ) → calls j ≤ calls2 j) → ((r i t : ℕ) (w : List ℕ) → s ≡ landed r i w t → placer r t ≡ Of k (begun k)) → ((r h : ℕ) → s ≡ leaving r h → Emptying opening events placer g.puts g.gets tied.since k r) → IsTied c opening events begun placer (put stance k s) calls2 g
+  tied_on s calls2 now less calls_rise here leave =
       record {
         origin = tied.origin;
         since = tied.since;
@@ -115,6 +131,13 @@ module _ (c : Setup) (opening : List (List ℕ)) (events : List history.Event) (
         called = called_on events begun stance k s tied.called now;
         placed = placed_on c opening events begun placer stance calls g.puts tied.origin tied.placed (put stance k s) calls2 (due_else s less) calls_rise;
         taken = tied.taken;
+        emptied =
+            emptied_kept opening events placer stance g.puts g.gets tied.since tied.emptied placer (put stance k s) g.puts g.gets tied.since (λ q u z. (z, refl)) (λ q u z. (z, refl))
+            (λ j q u at.
+            elim (cases_eq j k) [
+              | inl same ↦ inr (subst (λ v. Emptying opening events placer g.puts g.gets tied.since v q) (sym same) (leave q u (sym (rw (eq-eqb j k same) refl) ∙ at)))
+              | inr apart ↦ inl (sym (put_else stance k s j apart) ∙ at)
+            ]);
         lands =
             λ j r i t w is.
             elim (cases_eq j k) [
@@ -124,8 +147,8 @@ module _ (c : Setup) (opening : List (List ℕ)) (events : List history.Event) (
       }
 
   -- a call ends, and neither with Done nor with Got
-  pub tied_end : (reply : Reply) (calls2 : ℕ → ℕ) → IsAnswer (events ++ End k reply ∷ []) k (length events) reply → reply ≢ Done → ((name : PutName) (w : List ℕ) → reply ≢ Got name w) → IsFree g k → ((j : ℕ) → calls j ≤ calls2 j) → IsTied c opening (events ++ End k reply ∷ []) begun placer (put stance k resting) calls2 g
-  tied_end reply calls2 answer no_done no_got free calls_rise =
+  pub tied_end : (reply : Reply) (calls2 : ℕ → ℕ) → IsAnswer (events ++ End k reply ∷ []) k (length events) reply → reply ≢ Done → ((name : PutName) (w : List ℕ) → reply ≢ Got name w) → IsFree g k → ((j : ℕ) → calls j ≤ calls2 j) → (reply ≡ Nothing → Emptied opening (events ++ End k reply ∷ []) placer g.puts g.gets tied.since (length events) k) → IsTied c opening (events ++ End k reply ∷ []) begun placer (put stance k resting) calls2 g
+  tied_end reply calls2 answer no_done no_got free calls_rise empty =
       record {
         origin = tied.origin;
         since = tied.since;
@@ -135,6 +158,12 @@ module _ (c : Setup) (opening : List (List ℕ)) (events : List history.Event) (
             placed_grown c opening events begun placer stance calls g.puts tied.origin tied.placed (End k reply) begun (put stance k resting) calls2 (other_pends free)
             (due_else resting (omega arith)) calls_rise (λ j is. absurd (no_done cc));
         taken = taken_grown events placer g.puts g.gets tied.origin tied.since tied.ended tied.taken (End k reply) (other_opens free) (λ j name y is. no_got name y cc);
+        emptied =
+            emptied_grown opening events placer stance g.puts g.gets tied.since tied.emptied (End k reply) (put stance k resting) (leaves_else resting (λ a b z. cc))
+            (λ j z.
+            let nothing : reply ≡ Nothing = cc in
+            let seat : k ≡ j = cc in
+            subst (λ v. Emptied opening (events ++ End k reply ∷ []) placer g.puts g.gets tied.since (length events) v) seat (empty nothing));
         lands =
             λ j q x t y is.
             let old = lands_else stance k resting (λ a b d z e. cc) j q x t y is in
@@ -175,6 +204,7 @@ module _ (c : Setup) (opening : List (List ℕ)) (events : List history.Event) (
               later = λ u le. elim (tied.placed.early r u) [ inl none ↦ omega arith | inr less ↦ less ];
             }));
         taken = taken_grown events placer g.puts g.gets tied.origin tied.since tied.ended tied.taken (End k Done) (other_opens free) (λ j name y is. cc);
+        emptied = emptied_grown opening events placer stance g.puts g.gets tied.since tied.emptied (End k Done) (put stance k resting) (leaves_else resting (λ a b z. cc)) (λ j z. absurd (cc));
         lands =
             λ j q x u y is.
             let old = lands_else stance k resting (λ a b d z e. cc) j q x u y is in
@@ -203,6 +233,10 @@ module _ (c : Setup) (opening : List (List ℕ)) (events : List history.Event) (
             (λ q u full. put_entry_else g.puts r t (pending k i) q u (apart q u full))
             (λ q u full. refl)
             (λ q u full. put_entry_else tied.origin r t now.s q u (apart q u full));
+        emptied =
+            emptied_kept opening events placer stance g.puts g.gets tied.since tied.emptied placer (put stance k (putting r i w t)) (put_entry g.puts r t (pending k i)) g.gets tied.since
+            (λ q u full. (ap is_placed (put_entry_else g.puts r t (pending k i) q u (apart q u full)) ∙ full, refl)) (λ q u z. (z, refl))
+            (λ j q u at. inl (leaves_else (putting r i w t) (λ a b z. cc) j q u at).0);
         lands =
             λ j q x u y is.
             let old = lands_else stance k (putting r i w t) (λ a b d z e. cc) j q x u y is in
@@ -231,6 +265,10 @@ module _ (c : Setup) (opening : List (List ℕ)) (events : List history.Event) (
             (λ q u full. put_entry_else g.puts r t (failed time i found) q u (apart q u full))
             (λ q u full. refl)
             (λ q u full. put_entry_else tied.origin r t (tied.origin r t) q u (apart q u full));
+        emptied =
+            emptied_kept opening events placer stance g.puts g.gets tied.since tied.emptied placer (put stance k (drawing r i w)) (put_entry g.puts r t (failed time i found)) g.gets tied.since
+            (λ q u full. (ap is_placed (put_entry_else g.puts r t (failed time i found) q u (apart q u full)) ∙ full, refl)) (λ q u z. (z, refl))
+            (λ j q u at. inl (leaves_else (drawing r i w) (λ a b z. cc) j q u at).0);
         lands =
             λ j q x u y is.
             let old = lands_else stance k (drawing r i w) (λ a b d z e. cc) j q x u y is in
@@ -259,6 +297,11 @@ module _ (c : Setup) (opening : List (List ℕ)) (events : List history.Event) (
             (λ q u full. put_entry_else g.puts r t (placed i w (call_of k number)) q u (apart q u full))
             (λ q u full. put_entry_else placer r t (Of k (begun k)) q u (apart q u full))
             (λ q u full. refl);
+        emptied =
+            emptied_kept opening events placer stance g.puts g.gets tied.since tied.emptied placer2 (put stance k (landed r i w t)) (put_entry g.puts r t (placed i w (call_of k number))) g.gets tied.since
+            (λ q u full. (ap is_placed (put_entry_else g.puts r t (placed i w (call_of k number)) q u (apart q u full)) ∙ full, put_entry_else placer r t (Of k (begun k)) q u (apart q u full)))
+            (λ q u z. (z, refl))
+            (λ j q u at. inl (leaves_else (landed r i w t) (λ a b z. cc) j q u at).0);
         lands =
             λ j q x u y at.
             elim (cases_eq j k) [
@@ -289,6 +332,12 @@ module _ (c : Setup) (opening : List (List ℕ)) (events : List history.Event) (
             (λ j same. let seat : k ≡ j = cc in rw (← seat) now.under)
             (inr (started_within events k (length events) now.s now.under))
             (λ u j n at le. let none = above u le in absurd (cc));
+        emptied =
+            emptied_kept opening events placer stance g.puts g.gets tied.since tied.emptied placer (put stance k (trying r h)) g.puts (put_entry g.gets r h (opened k)) (put_entry tied.since r h now.s) (λ q u z. (z, refl))
+            (λ q u some.
+            let far : q ≡ r → u ≡ h → ⊥ = λ ring ticket. some (rw (ring, ticket) is) in
+            (λ at. some (sym (put_entry_else g.gets r h (opened k) q u far) ∙ at), put_entry_else tied.since r h now.s q u far))
+            (λ j q u at. inl (leaves_else (trying r h) (λ a b z. cc) j q u at).0);
         lands =
             λ j q x u y at.
             let old = lands_else stance k (trying r h) (λ a b d z e. cc) j q x u y at in
@@ -310,6 +359,10 @@ module _ (c : Setup) (opening : List (List ℕ)) (events : List history.Event) (
             (λ j same. absurd (cc))
             (tied.taken.early r h)
             (λ u j n at le. refl);
+        emptied =
+            emptied_kept opening events placer stance g.puts g.gets tied.since tied.emptied placer (put stance k (missed r h)) g.puts (put_entry g.gets r h dead) (put_entry tied.since r h (tied.since r h)) (λ q u z. (z, refl))
+            (λ q u some. (λ at. elim (put_entry_or g.gets r h dead q u) [ inl a ↦ let was = a.2 in cc | inr a ↦ some (sym a.1 ∙ at) ], ap (λ (f : ℕ → ℕ → ℕ). f q u) (put_entry_same tied.since r h)))
+            (λ j q u at. inl (leaves_else (missed r h) (λ a b z. cc) j q u at).0);
         lands =
             λ j q x u y at.
             let old = lands_else stance k (missed r h) (λ a b d z e. cc) j q x u y at in
@@ -335,6 +388,12 @@ module _ (c : Setup) (opening : List (List ℕ)) (events : List history.Event) (
             taken_taken events placer g.puts g.gets tied.origin tied.since tied.ended tied.taken r h (λ j n at. cc) k number i w b is only there
             (rw (← start) now.starts)
             (tied.placed.early r h);
+        emptied =
+            emptied_grown opening events placer stance g.puts (put_entry g.gets r h (took k number)) tied.since
+            (emptied_kept opening events placer stance g.puts g.gets tied.since tied.emptied placer stance g.puts (put_entry g.gets r h (took k number)) tied.since (λ q u z. (z, refl))
+            (λ q u some. (λ at. elim (put_entry_or g.gets r h (took k number) q u) [ inl a ↦ let was = a.2 in cc | inr a ↦ some (sym a.1 ∙ at) ], refl))
+            (λ j q u at. inl at))
+            (End k (Got (placer r h) w)) (put stance k resting) (leaves_else resting (λ a b z. cc)) (λ j z. absurd (cc));
         lands =
             λ j q x u y at.
             let old = lands_else stance k resting (λ a b d z e. cc) j q x u y at in

@@ -54,7 +54,7 @@ IsFinished c m r p = IsDone m r p ⊎ IsOpening c r p
 pub record ThresholdCovers (c : Setup) (m : Machine) : Type 0 where
   pub covers : (r p : ℕ) → IsFinished c m r p → m.cells.head r ≤ p → zero_level + p + flights c m r + 2 ≤ m.cells.threshold r + m.cells.head r
 
--- since a put last ended on a ring no more dequeue turns have failed there than a reset sets and there are seats
+-- since a put last ended with Done on a ring, or since the start, no more dequeue turns have failed there than a reset sets and there are seats
 pub record FailsBounded (c : Setup) (told : Told) : Type 0 where
   pub fails : (r : ℕ) → told.fails r ≤ reset_of c + c.seats
 

@@ -1,4 +1,5 @@
 pub mod Run
+pub mod Runs
 pub mod Places
 pub mod Hands
 pub mod Bounds
@@ -7,3 +8,4 @@ pub mod Acts
 pub mod Names
 pub mod Replay
 pub mod Telling
+pub mod History

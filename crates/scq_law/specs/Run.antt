@@ -21,7 +21,8 @@ use Rattle.scq_hist.specs.declared.events.Reply.{Reply}
 use Rattle.scq_hist.specs.declared.events.Reply.TheVariants.{Done, Got, Nothing, Spent}
 
 -- what is told of a run: the state that it has led to, the events so far, how many puts each seat has begun, the put that
--- placed at each place of each ring, and for each ring how often a put has ended and how many dequeue turns failed since
+-- placed at each place of each ring, and for each ring how often a put has ended with Done and how many dequeue turns failed
+-- since the last of these, or since the start
 pub record Told : Type 0 where
   pub state : Machine
   pub events : List Event
@@ -129,6 +130,7 @@ told_along c told (x ∷ xs) = option_and_then (λ next. told_along c next xs) (
 abbrev pub told_of : Setup → List (List ℕ) → List (ℕ × Step) → Option Told
 told_of c opening steps = told_along c (told_first c opening) steps
 
--- these steps are a run, and this is told of it
+-- these steps are a run, and this is told of it. That there is an opening content for each index, and that the seats of
+-- the steps are the setup's, is asked beside it where a law speaks of every run
 pub record IsRun (c : Setup) (opening : List (List ℕ)) (steps : List (ℕ × Step)) (told : Told) : Type 0 where
   pub told_is : told_of c opening steps ≡ Some told

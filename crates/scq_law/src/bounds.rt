@@ -35,8 +35,8 @@ pub fn counters_are_bounded()
     ensures { (c : Setup) (m : Machine) → IsReachable c m → CountersBounded c m }
 {}
 
-/// After each run, no more dequeue turns of a ring have failed since a put last ended there than what
-/// a reset sets and the number of seats together.
+/// After each run, no more dequeue turns of a ring have failed since a put last ended there with Done, or
+/// since the start, than what a reset sets and the number of seats together.
 pub fn fails_are_bounded()
     ensures { (c : Setup) (opening : List (List ℕ)) (steps : List (ℕ × Step)) (told : Told) → length opening ≡ n_of c.order → All (λ (x : ℕ × Step). x.0 < c.seats) steps → IsRun c opening steps told → FailsBounded c told }
 {}

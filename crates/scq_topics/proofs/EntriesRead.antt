@@ -1,5 +1,5 @@
 -- The entries of a text, read one after another.
-use Rattle.std.proofs.Common.{◌≡◌, ℕ, ◌+◌, ◌<◌, ◌≤◌, List, [], ◌∷◌, ◌++◌, length, drop, take, map, get_or, sym, ap, ◌∙◌, Option, Some, None}
+use Rattle.std.proofs.Common.{◌≡◌, arith, ℕ, ◌+◌, ◌<◌, ◌≤◌, List, [], ◌∷◌, ◌++◌, length, drop, take, map, get_or, sym, ap, ◌∙◌, Option, Some, None}
 use Rattle.std.specs.Option.{option_or}
 use Rattle.std.proofs.lemmas.List.{at_drop_more, at_drop_all, take_more, take_all, map-append}
 use Rattle.scq_topics.specs.declared.kind.Kind.{Kind}
@@ -59,9 +59,10 @@ first_fault-met entries fault n topics entry met next read e =
     ∙ read.later
 
 -- once all entries are read, there is no fault, and the topics are those that they declare
-pub IsRead-all : (entries : List (List ℕ)) (fault : Option TopicFault) (n : ℕ) (topics : List (List ℕ × Kind)) → length entries ≤ n
+pub IsRead-all : (entries : List (List ℕ)) (fault : Option TopicFault) (n : ℕ) (topics : List (List ℕ × Kind)) → n ≡ length entries
     → IsRead entries fault n topics → (None ≡ fault) × (topics ≡ map declared_by entries)
-IsRead-all entries fault n topics past read = (
-  sym (at_drop_all (first_fault topics) entries n past) ∙ read.later,
-  read.earlier ∙ ap (map declared_by) (take_all n entries past),
-)
+IsRead-all entries fault n topics all read =
+    let past : length entries ≤ n = omega arith in (
+      sym (at_drop_all (first_fault topics) entries n past) ∙ read.later,
+      read.earlier ∙ ap (map declared_by) (take_all n entries past),
+    )

@@ -4,6 +4,7 @@ ghost use Rattle.scq_topics.specs.Reply.{reply_of};
 use crate::Kind;
 use crate::sum::token_sum;
 use crate::words::word_count;
+use itoa::Buffer;
 use scq_word::{Bytes, NoMemory};
 use sha2::{Digest, Sha256};
 use std::alloc::Global;
@@ -28,7 +29,7 @@ pub fn reply(alloc: Global, kind: Kind, payload: &[u8]) -> Result<Bytes, NoMemor
 fn number(alloc: Global, n: u64) -> Result<Bytes, NoMemory>
     ensures { IfOk result (λ bytes. bytes ≡ decimal n) }
 {
-    Ok(Bytes::from(n.to_string(alloc)?.into_bytes()))
+    Bytes::copy_of(alloc, Buffer::new().format(n).as_bytes())
 }
 
 fn digest(alloc: Global, payload: &[u8]) -> Result<Bytes, NoMemory>

@@ -82,9 +82,7 @@ fn replies_are_the_worked_ones(rt: HostRuntime) -> Result<(), Fail> {
         ),
     ];
     for (kind, payload, want) in rows.iter() {
-        let bytes = reply(rt.alloc(), *kind, *payload)
-            .ok()
-            .expect(&rt, "memory");
+        let bytes = reply(rt.alloc(), *kind, *payload)?;
         assert_eq!(rt; bytes.bytes(), *want);
     }
     Ok(())

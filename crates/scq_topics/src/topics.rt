@@ -14,21 +14,21 @@ const MOST_TOPICS: usize = 16;
 #[derive(Clone, Copy, Debug, PartialEq, Eq, Error)]
 pub enum TopicFault {
     /// There is a 17th entry.
-    #[error("topic {at}: more than 16 topics")]
+    #[error("topics entry {at}: too many")]
     TooMany { at: u32 },
     /// The name is not 1 to 32 bytes, each an ASCII letter or digit, `_` or `.`.
-    #[error("topic {at}: not a name")]
+    #[error("topics entry {at}: bad name")]
     BadName { at: u32 },
     /// There is no `=`, or what stands after the first is no kind.
-    #[error("topic {at}: not a kind")]
+    #[error("topics entry {at}: bad kind")]
     BadKind { at: u32 },
     /// An earlier entry has this name.
-    #[error("topic {at}: declared twice")]
+    #[error("topics entry {at}: named twice")]
     Twice { at: u32 },
 }
 
 // A declared topic. Contracts see the bytes of its name, and its kind.
-#[derive(Default, Drop)]
+#[derive(Debug, Default, Drop)]
 struct Topic {
     name: ArrayVec<u8, MOST_NAME>,
     kind: Kind,
@@ -45,7 +45,7 @@ impl Model for Topic {
 
 /// The declared topics of a command line, which take no memory beside the value itself. Contracts
 /// see the list of the names and kinds, in order.
-#[derive(Drop)]
+#[derive(Debug, Drop)]
 pub struct Topics {
     topics: ArrayVec<Topic, MOST_TOPICS>,
 }
@@ -63,7 +63,7 @@ impl Topic {
     ghost use Rattle.scq_topics.specs.Topics.{has_name};
 
     fn new(name: &[u8], kind: Kind) -> Topic
-        requires { length name.now ≤ 32 }
+        requires { length name.now ≤ MOST_NAME }
         ensures { result ≡ (name.now, kind) }
     {
         let mut copy = ArrayVec::new();

@@ -1,6 +1,6 @@
 -- Each iteration has the next entry. A fault of it is the first fault of all; else the entry joins
 -- the topics, and the first fault of the rest is that of all.
-use Rattle.std.proofs.Common.{◌≡◌, ℕ, [], length, ap, sym, ◌∙◌, Some, Result, Ok, Err, arith, rules, tests, eqb, Bool}
+use Rattle.std.proofs.Common.{◌≡◌, ℕ, [], length, ap, sym, ◌∙◌, Some, Result, Ok, Err, rules, tests, eqb, Bool}
 use Rattle.std.proofs.lemmas.Iterator.Splits.{YieldsList-from_slice_split}
 use Rattle.std.proofs.lemmas.Iterator.Consumers.{YieldsList-turn, YieldsList-end}
 use Rattle.std.proofs.lemmas.List.{length_push}
@@ -42,11 +42,11 @@ returns-clause-refused c =
     let entries = entries_of c.args.text.now in
     let all = YieldsList-from_slice_split _ is_comma c.args.text.now (cc) (cc) (cc) (λ x b q k. search (rules, tests)) in
     let end = YieldsList-end all c.loop-entry.yielded _ c.loop-entry.yielded_by _ _ c.in-None.is c.next.ensures.steps in
-    (IsRead-all entries (first_fault [] entries) (length c.loop-entry.yielded) c.loop-entry.topics (omega (arith, end.1)) c.loop-entry.invariant).0
+    (IsRead-all entries (first_fault [] entries) (length c.loop-entry.yielded) c.loop-entry.topics end.1 c.loop-entry.invariant).0
 
 pub returns-clause-declared : goal.returns-clause-declared
 returns-clause-declared c =
     let entries = entries_of c.args.text.now in
     let all = YieldsList-from_slice_split _ is_comma c.args.text.now (cc) (cc) (cc) (λ x b q k. search (rules, tests)) in
     let end = YieldsList-end all c.loop-entry.yielded _ c.loop-entry.yielded_by _ _ c.in-None.is c.next.ensures.steps in
-    (IsRead-all entries (first_fault [] entries) (length c.loop-entry.yielded) c.loop-entry.topics (omega (arith, end.1)) c.loop-entry.invariant).1
+    (IsRead-all entries (first_fault [] entries) (length c.loop-entry.yielded) c.loop-entry.topics end.1 c.loop-entry.invariant).1
