@@ -102,10 +102,10 @@ placed_told : (c : Setup) (r i t e : ℕ) (w : List ℕ) (x : ℕ) (y : List ℕ
 placed_told c r i t e w x y q a b names placer same old s u =
     elim (cases_eq x e) [
       | inl hit ↦ rw (eq-eqb x e hit) (
-            elim (put_entry_or names r t (Some a) s u) [
-              | inl here ↦ rw here.2 (put_entry_cases (λ _ _ v. a ≡ v) placer r t b s u (λ _ _. same) (λ apart. absurd (apart here.0 here.1)))
-              | inr apart ↦ rw apart.1 (put_entry_cases (λ _ _ v. placer_in c names s u ≡ v) placer r t b s u (λ ring place. absurd (apart.0 ring place)) (λ _. old s u))
-            ])
+          elim (put_entry_or names r t (Some a) s u) [
+            | inl here ↦ rw here.2 (put_entry_cases (λ _ _ v. a ≡ v) placer r t b s u (λ _ _. same) (λ apart. absurd (apart here.0 here.1)))
+            | inr apart ↦ rw apart.1 (put_entry_cases (λ _ _ v. placer_in c names s u ≡ v) placer r t b s u (λ ring place. absurd (apart.0 ring place)) (λ _. old s u))
+          ])
       | inr miss ↦ rw (ne_eqb x e miss) (old s u)
     ]
 
@@ -196,7 +196,7 @@ shown c k step turn told old middle new low shows enabled within same setup stat
     λ r u ex. ap (λ v. Of k v) (ap (λ (v : List ℕ). slice_index v k) (tells.puts ∙ exchange_begins_none k before.phase step middle.puts.items r u ex ∙ puts_old) ∙ shows.puts.each k) in
     let placed : (r u : ℕ) → placer_in c (name_at new.names.items) r u ≡ placer_after k turn x told.puts told.placer r u =
     λ r u. ap (λ (o : Option PutName). unwrap_or o (first_placer c r u)) (tells.names r u ∙ ap (λ (p : Part). names_by act p.phase name (name_at middle.names.items) r u) is ∙ ap (λ (g : ℕ → ℕ → Option PutName). names_by act (after c turn x y before).phase name g r u) names_old)
-        ∙ placer_told c k before.phase step turn x y before name (name_at old.names.items) told.puts told.placer t counted shows.placer r u in
+    ∙ placer_told c k before.phase step turn x y before name (name_at old.names.items) told.puts told.placer t counted shows.placer r u in
     let placer_is : placer_in c (name_at new.names.items) ≡ placer_after k turn x told.puts told.placer = λ i r u. placed r u i in
     record {
       setup = ap (λ (s : Book). s.setup) tells.state ∙ setup;
@@ -239,9 +239,8 @@ made c seat step told old later new act phase low shows reach setup steps at is 
     subst
     (λ (a : Act). Tells c seat a ((moved c told.state seat t.turn).part seat) middle new)
     act_is
-    (subst (λ (m : Machine). Tells c seat act (m.part seat) middle new) t.next tells) in
-    (
-        told_after c seat t.turn told,
-        ap (option_map (λ turn. told_after c seat turn told)) t.enabled,
-        shown c seat step t.turn told old middle new low shows t.enabled within refl (setup ∙ shows.setup) t.next adds
+    (subst (λ (m : Machine). Tells c seat act (m.part seat) middle new) t.next tells) in (
+      told_after c seat t.turn told,
+      ap (option_map (λ turn. told_after c seat turn told)) t.enabled,
+      shown c seat step t.turn told old middle new low shows t.enabled within refl (setup ∙ shows.setup) t.next adds,
     )

@@ -65,3 +65,5 @@ pub mod Making
 pub mod EmptyRight
 pub mod RunSteps
 pub mod RunLaws
+pub mod Rising
+pub mod Replays

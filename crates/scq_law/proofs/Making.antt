@@ -1,66 +1,26 @@
--- What is told of more and more steps of a run: it is told by one step after another, of reachable states, and its counts are
--- at most the number of steps.
+-- What is told of more and more steps of a run. Its counts are at most the number of steps.
 use Rattle.std.proofs.Common.{◌≡◌, ℕ, ◌+◌, ◌^◌, ◌<◌, ◌≤◌, List, [], ◌∷◌, ◌++◌, length, take, get_or, inl, inr, refl, sym, ◌∙◌, ap, subst, arith}
 use Rattle.std.specs.Prelude.{Option, Some, None, IsSome, slice_index}
 use Rattle.std.specs.Option.{option_and_then, option_map}
-use Rattle.std.specs.List.{All}
 use Rattle.std.proofs.lemmas.List.{take_more, length-take-le}
 use Rattle.scq_word.specs.declared.setup.Setup.{Setup}
-use Rattle.scq_word.specs.Sizes.{n_of}
 use Rattle.scq_core.specs.declared.phase.Phase.{Phase}
 use Rattle.scq_core.specs.declared.phase.Phase.TheVariants.{Idle, AtE1, AtD10}
 use Rattle.scq_core.specs.declared.step.Step.{Step}
 use Rattle.scq_core.specs.Put.{put}
-use Rattle.scq_core.specs.Reach.{IsReachable, at_start}
 use Rattle.scq_core.proofs.PutLemmas.{put_cases}
 use Rattle.scq_law.specs.declared.telling.Telling.{Telling}
-use Rattle.scq_law.specs.Run.{Told, puts_after, resets_after, fails_after, is_reset, told_after, told_by, told_first, told_along, told_of}
+use Rattle.scq_law.specs.Run.{Told, puts_after, resets_after, fails_after, is_reset, told_after, told_by, told_first, told_along, told_of, IsRun}
 use Rattle.scq_law.specs.Replay.{Counts, StopsAt}
 use Rattle.scq_law.specs.Telling.{Shows, HasRoom}
-use Rattle.scq_law.proofs.ToldRuns.{all_along, turn_reaches, tells}
+use Rattle.scq_law.proofs.ToldRuns.{tells}
+use Rattle.scq_law.proofs.RunSteps.{run_last, run_stops}
 
 -- the steps are a run, and this shows what is told of it
 pub record IsTold (c : Setup) (opening : List (List ℕ)) (steps : List (ℕ × Step)) (t : Telling) : Type 0 where
   pub told : Told
-  pub is_run : told_of c opening steps ≡ Some told
+  pub run : IsRun c opening steps told
   pub shows : Shows c told t
-
--- what is told of steps and then of more
-joined : (c : Setup) (o : Option Told) (xs ys : List (ℕ × Step)) → ((t : Told) → told_along c t (xs ++ ys) ≡ option_and_then (λ u. told_along c u ys) (told_along c t xs))
-    → option_and_then (λ t. told_along c t (xs ++ ys)) o ≡ option_and_then (λ u. told_along c u ys) (option_and_then (λ t. told_along c t xs) o)
-joined c None xs ys rest = refl
-joined c (Some t) xs ys rest = rest t
-
-pub told_along-append : (c : Setup) (xs ys : List (ℕ × Step)) (t : Told) → told_along c t (xs ++ ys) ≡ option_and_then (λ u. told_along c u ys) (told_along c t xs)
-told_along-append c [] ys t = refl
-told_along-append c (x ∷ xs) ys t = joined c (told_by c t x) xs ys (told_along-append c xs ys)
-
-and_then_some : {A : Type 0} → (o : Option A) → option_and_then (λ x. Some x) o ≡ o
-and_then_some None = refl
-and_then_some (Some x) = refl
-
--- what is told of one step more
-pub told_of-more : (c : Setup) (opening : List (List ℕ)) (steps : List (ℕ × Step)) (at : ℕ) (x : ℕ × Step) (told : Told) → at < length steps → x ≡ get_or steps at x → told_of c opening (take at steps) ≡ Some told
-    → told_of c opening (take (at + 1) steps) ≡ told_by c told x
-told_of-more c opening steps at x told low is run =
-    ap (λ (xs : List (ℕ × Step)). told_of c opening xs) (take_more steps at x low ∙ ap (λ (y : ℕ × Step). take at steps ++ y ∷ []) (sym is))
-    ∙ told_along-append c (take at steps) (x ∷ []) (told_first c opening)
-    ∙ ap (λ (o : Option Told). option_and_then (λ u. told_along c u (x ∷ [])) o) run
-    ∙ and_then_some (told_by c told x)
-
--- a run leads to a reachable state
-pub run_reaches : (c : Setup) (opening : List (List ℕ)) (steps : List (ℕ × Step)) (told : Told) → length opening ≡ n_of c.order → All (λ (x : ℕ × Step). x.0 < c.seats) steps → told_of c opening steps ≡ Some told → IsReachable c told.state
-run_reaches c opening steps told full seats run =
-    all_along
-    c
-    (λ (t : Told). IsReachable c t.state)
-    (λ t k s turn low enabled reach. turn_reaches c t.state k s turn low enabled reach)
-    steps
-    (told_first c opening)
-    told
-    seats
-    run
-    (at_start opening full)
 
 -- no count is above a number
 pub record IsFew (n : ℕ) (told : Told) : Type 0 where
@@ -112,7 +72,7 @@ few_along c n (x ∷ xs) told last few e =
 -- so after the first steps of a list there is room in each count
 pub run_room : (c : Setup) (opening : List (List ℕ)) (steps : List (ℕ × Step)) (at : ℕ) (t : Telling) → at < length steps → length steps < 2 ^ 64 → IsTold c opening (take at steps) t → HasRoom t
 run_room c opening steps at t low small told =
-    let few = few_along c 0 (take at steps) (told_first c opening) told.told (record { puts = λ k. omega arith; resets = λ r. omega arith; fails = λ r. omega arith }) told.is_run in
+    let few = few_along c 0 (take at steps) (told_first c opening) told.told (record { puts = λ k. omega arith; resets = λ r. omega arith; fails = λ r. omega arith }) told.run.told_is in
     let many : length (take at steps) ≡ at = length-take-le at steps (omega arith) in
     record {
       puts = λ k. (let h = few.puts k in let e = told.shows.puts.each k in omega arith);
@@ -120,14 +80,34 @@ run_room c opening steps at t low small told =
       fails = λ r. (let h = few.fails r in let e = told.shows.fails.each r in omega arith);
     }
 
+-- the first steps and one more
+pub more : {X : Type 0} → (xs : List X) (at : ℕ) (x : X) → at < length xs → x ≡ get_or xs at x → take (at + 1) xs ≡ take at xs ++ x ∷ []
+more xs at x low is = take_more xs at x low ∙ ap (λ y. take at xs ++ y ∷ []) (sym is)
+
 -- one step more
 pub one_more : (c : Setup) (opening : List (List ℕ)) (steps : List (ℕ × Step)) (at : ℕ) (x : ℕ × Step) (old new : Telling) → at < length steps → x ≡ get_or steps at x → (told : IsTold c opening (take at steps) old)
     → (next : Told) × (told_by c told.told x ≡ Some next) × Shows c next new → IsTold c opening (take (at + 1) steps) new
 one_more c opening steps at x old new low is told after =
-    record { told = after.0; is_run = told_of-more c opening steps at x told.told low is told.is_run ∙ after.1; shows = after.2 }
+    record {
+      told = after.0;
+      run =
+          subst
+          (λ (xs : List (ℕ × Step)). IsRun c opening xs after.0)
+          (sym (more steps at x low is))
+          (run_last c opening (take at steps) told.told after.0 x told.run after.1);
+      shows = after.2;
+    }
 
 -- where one step more is not enabled
 pub stops : (c : Setup) (opening : List (List ℕ)) (steps : List (ℕ × Step)) (at : ℕ) (x : ℕ × Step) (old : Telling) → at < length steps → x ≡ get_or steps at x → (told : IsTold c opening (take at steps) old)
     → told_by c told.told x ≡ None → StopsAt c opening steps at
 stops c opening steps at x old low is told none =
-    record { within = low; before = rw told.is_run refl; here = told_of-more c opening steps at x told.told low is told.is_run ∙ none }
+    record {
+      within = low;
+      before = rw told.run.told_is refl;
+      here =
+          subst
+          (λ (xs : List (ℕ × Step)). told_of c opening xs ≡ None)
+          (sym (more steps at x low is))
+          (run_stops c opening (take at steps) told.told x told.run none);
+    }

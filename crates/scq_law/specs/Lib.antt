@@ -9,3 +9,4 @@ pub mod Names
 pub mod Replay
 pub mod Telling
 pub mod History
+pub mod Moments

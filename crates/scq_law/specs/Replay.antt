@@ -1,12 +1,10 @@
 -- What replaying steps gives: what is told of them, and where they stop being a run.
-use Rattle.std.specs.Prelude.{◌≡◌, ◌≢◌, ℕ, ◌+◌, ◌<◌, ◌≤◌, List, length, take, Some, None, IsSome, slice_index}
+use Rattle.std.specs.Prelude.{◌≡◌, ℕ, ◌+◌, ◌<◌, List, length, take, Some, None, IsSome, slice_index}
 use Rattle.scq_word.specs.declared.setup.Setup.{Setup}
 use Rattle.scq_core.specs.declared.step.Step.{Step}
-use Rattle.scq_core.specs.Machine.{Machine}
 use Rattle.scq_core.specs.Book.{machine_of}
-use Rattle.scq_core.specs.Laws.{RankRises, CountersRise, CatchUpLags}
 use Rattle.scq_law.specs.declared.replayed.Replayed.{Replayed}
-use Rattle.scq_law.specs.Run.{Told, told_of}
+use Rattle.scq_law.specs.Run.{Told, told_of, IsRun}
 
 -- a list of so many counts: what it has at each place, and 0 past its end
 pub record Counts (many : ℕ) (counts : List ℕ) (count : ℕ → ℕ) : Type 0 where
@@ -16,7 +14,7 @@ pub record Counts (many : ℕ) (counts : List ℕ) (count : ℕ → ℕ) : Type 
 -- the steps are a run, and this is what is told of it
 pub record ShowsRun (c : Setup) (opening : List (List ℕ)) (steps : List (ℕ × Step)) (replayed : Replayed) : Type 0 where
   pub told : Told
-  pub is_run : told_of c opening steps ≡ Some told
+  pub run : IsRun c opening steps told
   pub setup : replayed.state.setup ≡ c
   pub state : machine_of replayed.state ≡ told.state
   pub events : replayed.events.items ≡ told.events

@@ -14,3 +14,4 @@ pub mod runs;
 mod telling;
 
 pub use replayed::{ReplayFault, Replayed};
+pub use replaying::replay;

@@ -190,12 +190,7 @@ fn ended(state: &State, seat: u32) -> Option<&Ended>
     }
 }
 
-fn reply_of(
-    alloc: Global,
-    setup: &Setup,
-    names: &[Names],
-    ended: &Ended,
-) -> Result<Reply, NoMemory>
+fn reply_of(alloc: Global, setup: &Setup, names: &[Names], ended: &Ended) -> Result<Reply, NoMemory>
     ensures { IfOk result (λ reply. reply ≡ reply_of (placer_in setup.now (name_at names.now)) ended.now) }
 {
     match ended {

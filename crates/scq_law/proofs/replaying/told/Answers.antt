@@ -2,7 +2,8 @@ use Rattle.std.proofs.Common.{◌≡◌, ℕ, ◌<◌, refl, rules, sym, ◌∙�
 use Rattle.std.proofs.lemmas.List.Elements.{All-take}
 use Rattle.scq_core.specs.declared.step.Step.{Step}
 use Rattle.scq_law.specs.Replay.{StopsAt}
-use Rattle.scq_law.proofs.Making.{run_room, run_reaches, one_more, stops}
+use Rattle.scq_law.proofs.Making.{run_room, one_more, stops}
+use Rattle.scq_law.proofs.RunLaws.{run_reaches}
 use Rattle.scq_law.proofs.replaying.told.Goals as goal
 
 pub make-requires-clause-room : goal.make-requires-clause-room
@@ -12,7 +13,7 @@ make-requires-clause-room c =
 pub make-requires-clause-shown : goal.make-requires-clause-shown
 make-requires-clause-shown c =
     let seats = All-take (λ (x : ℕ × Step). x.0 < c.args.setup.seats) c.loop-at.at c.args.steps.now c.requires.seats in
-    (c.loop-at.invariant.told, c.loop-at.invariant.shows, run_reaches c.args.setup c.args.opening.items _ c.loop-at.invariant.told (sym c.args.opening.ok.0 ∙ c.requires.opening) seats c.loop-at.invariant.is_run)
+    (c.loop-at.invariant.told, c.loop-at.invariant.shows, run_reaches c.args.setup c.args.opening.items _ c.loop-at.invariant.told (sym c.args.opening.ok.0 ∙ c.requires.opening) seats c.loop-at.invariant.run)
 
 pub returns-in-Err-NotEnabled-clause-not_enabled : goal.returns-in-Err-NotEnabled-clause-not_enabled
 returns-in-Err-NotEnabled-clause-not_enabled c =
