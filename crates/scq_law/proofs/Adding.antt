@@ -1,7 +1,7 @@
 -- What an enabled turn adds to what is told, by its seat's phase and the step: the lists that the replay keeps go on showing it.
 -- Plan: `taken` says which turns there are for a phase and a step; one lemma for each part of what is told, by cases on it;
 -- `shown` puts them together.
-use Rattle.std.proofs.Common.{◌≡◌, ℕ, ◌+◌, ◌<◌, true, List, [], ◌∷◌, ◌++◌, length, inl, inr, refl, sym, ◌∙◌, ap, subst, eq-eqb, ne_eqb}
+use Rattle.std.proofs.Common.{◌≡◌, ℕ, ◌+◌, ◌<◌, true, List, ◌++◌, length, inl, inr, refl, sym, ◌∙◌, ap, subst, eq-eqb, ne_eqb}
 use Rattle.std.specs.Prelude.{◌==◌, if◌then◌else◌, Option, Some, None, is_some, slice_index, slice_set, unwrap_or}
 use Rattle.std.specs.Option.{option_map}
 use Rattle.std.proofs.lemmas.Bool.{cases_eq}
@@ -28,7 +28,7 @@ use Rattle.scq_hist.specs.declared.events.Event.{Event}
 use Rattle.scq_hist.specs.declared.events.PutName.{PutName}
 use Rattle.scq_hist.specs.declared.events.PutName.TheVariants.{Of}
 use Rattle.scq_law.specs.declared.act.Act.{Act}
-use Rattle.scq_law.specs.declared.act.Act.TheVariants.{Begins, Exchanges, Settles, Fails, Moves}
+use Rattle.scq_law.specs.declared.act.Act.TheVariants.{Exchanges, Settles}
 use Rattle.scq_core.specs.Book.{Book}
 use Rattle.scq_law.specs.declared.telling.Telling.{Telling}
 use Rattle.scq_law.specs.Run.{Told, first_placer, starts, end_of, finishes, puts_after, placer_after, is_reset, resets_after, fails_after, told_after, told_by}

@@ -1,7 +1,7 @@
 -- What is told of more and more steps of a run. Its counts are at most the number of steps.
-use Rattle.std.proofs.Common.{◌≡◌, ℕ, ◌+◌, ◌^◌, ◌<◌, ◌≤◌, List, [], ◌∷◌, ◌++◌, length, take, get_or, inl, inr, refl, sym, ◌∙◌, ap, subst, arith}
-use Rattle.std.specs.Prelude.{Option, Some, None, IsSome, slice_index}
-use Rattle.std.specs.Option.{option_and_then, option_map}
+use Rattle.std.proofs.Common.{◌≡◌, ℕ, ◌+◌, ◌^◌, ◌<◌, ◌≤◌, List, [], ◌∷◌, ◌++◌, length, take, get_or, refl, sym, ◌∙◌, ap, subst, arith}
+use Rattle.std.specs.Prelude.{Option, Some, None}
+use Rattle.std.specs.Option.{option_and_then}
 use Rattle.std.proofs.lemmas.List.{take_more, length-take-le}
 use Rattle.scq_word.specs.declared.setup.Setup.{Setup}
 use Rattle.scq_core.specs.declared.phase.Phase.{Phase}
@@ -10,8 +10,8 @@ use Rattle.scq_core.specs.declared.step.Step.{Step}
 use Rattle.scq_core.specs.Put.{put}
 use Rattle.scq_core.proofs.PutLemmas.{put_cases}
 use Rattle.scq_law.specs.declared.telling.Telling.{Telling}
-use Rattle.scq_law.specs.Run.{Told, puts_after, resets_after, fails_after, is_reset, told_after, told_by, told_first, told_along, told_of, IsRun}
-use Rattle.scq_law.specs.Replay.{Counts, StopsAt}
+use Rattle.scq_law.specs.Run.{Told, puts_after, resets_after, fails_after, told_after, told_by, told_first, told_along, told_of, IsRun}
+use Rattle.scq_law.specs.Replay.{StopsAt}
 use Rattle.scq_law.specs.Telling.{Shows, HasRoom}
 use Rattle.scq_law.proofs.ToldRuns.{tells}
 use Rattle.scq_law.proofs.RunSteps.{run_last, run_stops}

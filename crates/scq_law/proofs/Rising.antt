@@ -1,5 +1,5 @@
 -- How words rise along a run. Plan: more steps of a run lead to a later state, of which `later_rises` and `never_back` tell.
-use Rattle.std.proofs.Common.{◌≡◌, ℕ, ◌+◌, ◌-◌, ◌<◌, ◌≤◌, List, [], ◌∷◌, ◌++◌, length, take, drop, refl, sym, ◌∙◌, ap, subst, arith}
+use Rattle.std.proofs.Common.{◌≡◌, ℕ, ◌+◌, ◌-◌, ◌<◌, ◌≤◌, List, [], ◌∷◌, ◌++◌, length, take, drop, refl, sym, ◌∙◌, ap, arith}
 use Rattle.std.specs.Prelude.{Option, Some, None}
 use Rattle.std.specs.Option.{option_and_then, option_map}
 use Rattle.std.specs.List.{All}
@@ -8,13 +8,12 @@ use Rattle.std.proofs.lemmas.List.Elements.{All-take, All-drop}
 use Rattle.scq_word.specs.declared.setup.Setup.{Setup}
 use Rattle.scq_word.specs.Sizes.{n_of}
 use Rattle.scq_core.specs.declared.step.Step.{Step}
-use Rattle.scq_core.specs.Machine.{Machine}
 use Rattle.scq_core.specs.Table.{moved}
 use Rattle.scq_core.specs.Reach.{IsReachable}
 use Rattle.scq_core.proofs.Fits.{catch_up_lags}
 use Rattle.scq_law.specs.Later.{IsLater, at_once}
 use Rattle.scq_law.specs.Later as later
-use Rattle.scq_law.specs.Run.{Told, told_by, told_first, told_along, told_of, IsRun}
+use Rattle.scq_law.specs.Run.{Told, told_by, told_first, told_along, told_of}
 use Rattle.scq_law.specs.Moments.{IsMoment, RisesThroughout}
 use Rattle.scq_law.proofs.ToldRuns.{all_along}
 use Rattle.scq_law.proofs.RunLaws.{run_reaches, later_rises, never_back}

@@ -1,4 +1,4 @@
-use Rattle.std.proofs.Common.{◌≡◌, ℕ, ◌<◌, refl, rules, sym, ◌∙◌, ap, subst, Err}
+use Rattle.std.proofs.Common.{◌≡◌, ℕ, ◌<◌, rules, sym, ◌∙◌, ap, subst, Err}
 use Rattle.std.proofs.lemmas.List.Elements.{All-take}
 use Rattle.scq_core.specs.declared.step.Step.{Step}
 use Rattle.scq_law.specs.Replay.{StopsAt}
