@@ -60,6 +60,10 @@ pub mod Chronicle
 pub mod Claiming
 pub mod Ordered
 pub mod LaterLaws
+pub mod Adding
+pub mod Making
 pub mod EmptyRight
 pub mod RunSteps
 pub mod RunLaws
+pub mod Rising
+pub mod Replays

@@ -2,6 +2,11 @@ pub mod Run
 pub mod Runs
 pub mod Places
 pub mod Hands
-pub mod Later
 pub mod Bounds
+pub mod Later
+pub mod Acts
+pub mod Names
+pub mod Replay
+pub mod Telling
 pub mod History
+pub mod Moments

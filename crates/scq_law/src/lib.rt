@@ -4,7 +4,14 @@
 // `runs`. That the history of every run has the four aspects is a contract of the module `history`.
 #![tactic(auto)]
 
+mod act;
 pub mod bounds;
 pub mod history;
 pub mod laws;
+mod replayed;
+mod replaying;
 pub mod runs;
+mod telling;
+
+pub use replayed::{ReplayFault, Replayed};
+pub use replaying::replay;

@@ -1,0 +1,92 @@
+ghost use Rattle.std.specs.Prelude.{◌≡◌, ℕ, ◌+◌, ◌<◌, ◌≤◌, Err, IfOk, vec_len};
+ghost use Rattle.std.specs.List.{All};
+ghost use Rattle.scq_word.specs.Sizes.{n_of};
+ghost use Rattle.scq_core.specs.declared.step.Step.{Step as StepOf};
+ghost use Rattle.scq_core.specs.Table.{reset_of};
+ghost use Rattle.scq_core.specs.Book.{machine_of};
+ghost use Rattle.scq_core.specs.Laws.{CountersBounded, ThresholdFloor};
+ghost use Rattle.scq_hist.specs.Aspects.{IsLawful, IsFresh, IsOnce, IsInOrder, IsEmptyRight};
+ghost use Rattle.scq_law.specs.Hands.{OneHand};
+ghost use Rattle.scq_law.specs.Places.{PlacesOnce};
+ghost use Rattle.scq_law.specs.Bounds.{WithinWindow, ThresholdCovers, TicketsBounded, NoneSpent};
+ghost use Rattle.scq_law.specs.Moments.{RisesThroughout};
+ghost use Rattle.scq_law.specs.Replay.{ShowsRun, StopsAt};
+
+use crate::replayed::{ReplayFault, Replayed};
+use crate::telling::Telling;
+use scq_core::{ApplyFault, Step};
+use scq_word::{Bytes, Setup};
+use std::alloc::Global;
+
+/// Makes the steps one after another from the start, where the opening contents stand in ring 0, and
+/// tells what is told of them. After each run the laws of the machine hold.
+pub fn replay(
+    alloc: Global,
+    setup: Setup,
+    opening: Vec<Bytes>,
+    steps: &[(u32, Step)],
+) -> Result<Replayed, ReplayFault>
+    requires opening { vec_len opening ≡ n_of setup.order }
+    requires seats { All (λ (x : ℕ × StepOf). x.0 < setup.seats) steps.now }
+
+    ensures run { IfOk result (ShowsRun setup opening.items steps.now) }
+    ensures not_enabled { (at : ℕ) → result ≡ Err (ReplayFault.NotEnabled at) → StopsAt setup opening.items steps.now at }
+
+    // The state that the run has led to.
+    ensures one_hand { IfOk result (λ replayed. OneHand setup (machine_of replayed.state)) }
+    ensures places_once { IfOk result (λ replayed. PlacesOnce setup (machine_of replayed.state)) }
+    ensures counters_bounded { IfOk result (λ replayed. CountersBounded setup (machine_of replayed.state)) }
+    ensures threshold_floor { IfOk result (λ replayed. ThresholdFloor setup (machine_of replayed.state)) }
+    ensures within_window { IfOk result (λ replayed. WithinWindow setup (machine_of replayed.state)) }
+    ensures threshold_covers { IfOk result (λ replayed. ThresholdCovers setup (machine_of replayed.state)) }
+    ensures tickets_bounded { IfOk result (λ replayed. TicketsBounded setup (machine_of replayed.state)) }
+    ensures none_spent { IfOk result (λ replayed. NoneSpent setup (machine_of replayed.state)) }
+
+    // Its history and counts.
+    ensures lawful { IfOk result (λ replayed. IsLawful replayed.events.items) }
+    ensures fresh { IfOk result (λ replayed. IsFresh opening.items replayed.events.items) }
+    ensures once { IfOk result (λ replayed. IsOnce replayed.events.items) }
+    ensures in_order { IfOk result (λ replayed. IsInOrder opening.items replayed.events.items) }
+    ensures empty_right { IfOk result (λ replayed. IsEmptyRight opening.items replayed.events.items) }
+    ensures fails_bounded { IfOk result (λ replayed. All (λ fails. fails ≤ reset_of setup + setup.seats) replayed.fails.items) }
+
+    // All along it.
+    ensures rises { RisesThroughout setup opening.items steps.now }
+{
+    told(alloc, setup, opening, steps)
+}
+
+// The steps one after another, and what is told of them.
+fn told(
+    alloc: Global,
+    setup: Setup,
+    opening: Vec<Bytes>,
+    steps: &[(u32, Step)],
+) -> Result<Replayed, ReplayFault>
+    requires opening { vec_len opening ≡ n_of setup.order }
+    requires seats { All (λ (x : ℕ × StepOf). x.0 < setup.seats) steps.now }
+    ensures run { IfOk result (ShowsRun setup opening.items steps.now) }
+    ensures not_enabled { (at : ℕ) → result ≡ Err (ReplayFault.NotEnabled at) → StopsAt setup opening.items steps.now at }
+{
+    let mut telling = Telling::first(alloc, setup, opening)?;
+    for (at, (seat, step)) in steps.iter().enumerate() {
+        match telling.make(&setup, *seat, step) {
+            Ok(()) => {}
+            Err(ApplyFault::NotEnabled) => return Err(ReplayFault::NotEnabled { at: at as u64 }),
+            Err(ApplyFault::NoMemory) => return Err(ReplayFault::NoMemory),
+        }
+    }
+    let Telling {
+        state,
+        events,
+        resets,
+        fails,
+        ..
+    } = telling;
+    Ok(Replayed {
+        state,
+        events,
+        resets,
+        fails,
+    })
+}
