@@ -22,3 +22,6 @@ pub use ended::Ended;
 pub use phase::Phase;
 pub use state::State;
 pub use step::Step;
+
+#[cfg(test)]
+mod tests;
