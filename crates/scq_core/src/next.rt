@@ -1,8 +1,10 @@
 ghost use Rattle.std.specs.Prelude.{◌≡◌, ℕ, ◌<◌, List, None, unwrap_or};
-ghost use Rattle.scq_core.specs.declared.phase.Phase.TheVariants.{AtE2, AtD3};
+ghost use Rattle.scq_core.specs.declared.phase.Phase.TheVariants.{AtE1, AtE2, AtD3};
+ghost use Rattle.scq_core.specs.declared.ended.Ended.TheVariants.{Done};
+ghost use Rattle.scq_word.specs.Words.{rank_in};
 ghost use Rattle.scq_word.specs.Entries.{IsIndexOrMark};
 ghost use Rattle.scq_core.specs.Machine.{Part};
-ghost use Rattle.scq_core.specs.Table.{after, stores};
+ghost use Rattle.scq_core.specs.Table.{size, after, stores};
 ghost use Rattle.scq_core.specs.Turn.{copied, part_after, laid_by, IsOfGet, IsReady};
 
 use crate::ended::Ended;
@@ -48,117 +50,57 @@ pub fn next_of(setup: &Setup, turn: Phase, found: u64, copy: Bytes) -> Next
         → unwrap_or (laid_by result) beside ≡ stores turn found beside }
 {
     match turn {
-        Phase::AtE1 {
-            ring,
-            index,
-            content,
-            ..
-        } => {
-            if found >= setup.limit() {
-                Next::Spends {
-                    ring,
-                    ticket: found,
-                    put: true,
-                }
-            } else {
-                Next::Goes(Phase::AtE2 {
-                    ring,
-                    index,
-                    content,
-                    ticket: found,
-                    least: 0,
-                })
-            }
-        }
-        Phase::AtE2 {
-            ring,
-            index,
-            content,
-            ticket,
-            ..
-        } => seen_by_put(setup, ring, index, content, ticket, found),
-        Phase::AtE3 {
-            ring,
-            index,
-            content,
-            ticket,
-            word,
-        } => {
+        Phase::AtE1 { ring, index, content, .. } => drawn_by_put(setup, ring, index, content, found),
+        Phase::AtE2 { ring, index, content, ticket, .. } => seen_by_put(setup, ring, index, content, ticket, found),
+        Phase::AtE3 { ring, index, content, ticket, word } => {
             if found <= ticket {
-                Next::Goes(Phase::AtE4 {
-                    ring,
-                    index,
-                    content,
-                    ticket,
-                    word,
-                })
+                Next::Goes(Phase::AtE4 { ring, index, content, ticket, word })
             } else {
-                Next::Goes(Phase::AtE1 {
-                    ring,
-                    index,
-                    content,
-                    least: ticket + 1,
-                })
+                Next::Goes(Phase::AtE1 { ring, index, content, least: ticket + 1 })
             }
         }
-        Phase::AtE4 {
-            ring,
-            index,
-            content,
-            ticket,
-            word,
-        } => {
+        Phase::AtE4 { ring, index, content, ticket, word } => {
             if found == word {
-                Next::Places {
-                    ring,
-                    index,
-                    content,
-                    ticket,
-                    laid: copy,
-                }
+                Next::Places { ring, index, content, ticket, laid: copy }
             } else {
-                Next::Goes(Phase::AtE2 {
-                    ring,
-                    index,
-                    content,
-                    ticket,
-                    least: rank(unpack(setup.shape(), found)),
-                })
+                missed_by_put(setup, ring, index, content, ticket, found)
             }
         }
-        Phase::AtE5 {
-            ring,
-            index,
-            content,
-            ticket,
-        } => {
-            if found == reset_level(setup) {
-                Next::Ends(Ended::Done {
-                    ring,
-                    place: ticket,
-                    content,
-                })
-            } else {
-                Next::Goes(Phase::AtE6 {
-                    ring,
-                    index,
-                    content,
-                    ticket,
-                })
-            }
+        Phase::AtE5 { ring, index, content, ticket } if found != reset_level(setup) => {
+            Next::Goes(Phase::AtE6 { ring, index, content, ticket })
         }
-        Phase::AtE6 {
-            ring,
-            content,
-            ticket,
-            ..
-        } => Next::Ends(Ended::Done {
-            ring,
-            place: ticket,
-            content,
-        }),
+        Phase::AtE5 { ring, ticket, content, .. } => finished(ring, ticket, content),
+        Phase::AtE6 { ring, ticket, content, .. } => finished(ring, ticket, content),
         turn => next_of_get(setup, turn, found, copy),
     }
+}
+
+// An enqueue has drawn a ticket, which is the value that it found.
+fn drawn_by_put(setup: &Setup, ring: u32, index: u32, content: Bytes, found: u64) -> Next
+    ensures part { (least : ℕ) (beside : List ℕ) (p : Part) → after setup.now (AtE1 ring index content least) found beside p ≡ part_after result p }
+    ensures laid { laid_by result ≡ None }
+{
+    if found >= setup.limit() {
+        Next::Spends { ring, ticket: found, put: true }
+    } else {
+        Next::Goes(Phase::AtE2 { ring, index, content, ticket: found, least: 0 })
+    }
+}
+
+// An enqueue's exchange found another word than it had loaded: it looks again, with the same ticket.
+fn missed_by_put(setup: &Setup, ring: u32, index: u32, content: Bytes, ticket: u64, found: u64) -> Next
+    requires { IsIndexOrMark setup.now.order found }
+    ensures { result ≡ Next.Goes (AtE2 ring index content ticket (rank_in (size setup.now) found)) }
+{
+    let least = rank(unpack(setup.shape(), found));
+    Next::Goes(Phase::AtE2 { ring, index, content, ticket, least })
+}
+
+// An enqueue has placed its index, and Threshold is reset.
+fn finished(ring: u32, place: u64, content: Bytes) -> Next
+    ensures { result ≡ Next.Ends (Done ring place content) }
+{
+    Next::Ends(Ended::Done { ring, place, content })
 }
 
 // An enqueue has loaded the entry of its slot: it may fill an earlier cycle's entry without an index,
