@@ -25,3 +25,5 @@ pub use step::Step;
 
 #[cfg(test)]
 mod tests;
+#[cfg(test)]
+mod traces;

@@ -50,27 +50,87 @@ pub fn next_of(setup: &Setup, turn: Phase, found: u64, copy: Bytes) -> Next
         → unwrap_or (laid_by result) beside ≡ stores turn found beside }
 {
     match turn {
-        Phase::AtE1 { ring, index, content, .. } => drawn_by_put(setup, ring, index, content, found),
-        Phase::AtE2 { ring, index, content, ticket, .. } => seen_by_put(setup, ring, index, content, ticket, found),
-        Phase::AtE3 { ring, index, content, ticket, word } => {
+        Phase::AtE1 {
+            ring,
+            index,
+            content,
+            ..
+        } => drawn_by_put(setup, ring, index, content, found),
+        Phase::AtE2 {
+            ring,
+            index,
+            content,
+            ticket,
+            ..
+        } => seen_by_put(setup, ring, index, content, ticket, found),
+        Phase::AtE3 {
+            ring,
+            index,
+            content,
+            ticket,
+            word,
+        } => {
             if found <= ticket {
-                Next::Goes(Phase::AtE4 { ring, index, content, ticket, word })
+                Next::Goes(Phase::AtE4 {
+                    ring,
+                    index,
+                    content,
+                    ticket,
+                    word,
+                })
             } else {
-                Next::Goes(Phase::AtE1 { ring, index, content, least: ticket + 1 })
+                Next::Goes(Phase::AtE1 {
+                    ring,
+                    index,
+                    content,
+                    least: ticket + 1,
+                })
             }
         }
-        Phase::AtE4 { ring, index, content, ticket, word } => {
+        Phase::AtE4 {
+            ring,
+            index,
+            content,
+            ticket,
+            word,
+        } => {
             if found == word {
-                Next::Places { ring, index, content, ticket, laid: copy }
+                Next::Places {
+                    ring,
+                    index,
+                    content,
+                    ticket,
+                    laid: copy,
+                }
             } else {
                 missed_by_put(setup, ring, index, content, ticket, found)
             }
         }
-        Phase::AtE5 { ring, index, content, ticket } if found != reset_level(setup) => {
-            Next::Goes(Phase::AtE6 { ring, index, content, ticket })
+        Phase::AtE5 {
+            ring,
+            index,
+            content,
+            ticket,
+        } if found != reset_level(setup) => {
+            Next::Goes(Phase::AtE6 {
+                ring,
+                index,
+                content,
+                ticket,
+            })
         }
-        Phase::AtE5 { ring, ticket, content, .. } => finished(ring, ticket, content),
-        Phase::AtE6 { ring, ticket, content, .. } => finished(ring, ticket, content),
+        Phase::AtE5 {
+            ring,
+            ticket,
+            content,
+            ..
+        } => finished(ring, ticket, content),
+        Phase::AtE6 {
+            ring,
+            ticket,
+            content,
+            ..
+        } => finished(ring, ticket, content),
         turn => next_of_get(setup, turn, found, copy),
     }
 }
@@ -81,26 +141,53 @@ fn drawn_by_put(setup: &Setup, ring: u32, index: u32, content: Bytes, found: u64
     ensures laid { laid_by result ≡ None }
 {
     if found >= setup.limit() {
-        Next::Spends { ring, ticket: found, put: true }
+        Next::Spends {
+            ring,
+            ticket: found,
+            put: true,
+        }
     } else {
-        Next::Goes(Phase::AtE2 { ring, index, content, ticket: found, least: 0 })
+        Next::Goes(Phase::AtE2 {
+            ring,
+            index,
+            content,
+            ticket: found,
+            least: 0,
+        })
     }
 }
 
 // An enqueue's exchange found another word than it had loaded: it looks again, with the same ticket.
-fn missed_by_put(setup: &Setup, ring: u32, index: u32, content: Bytes, ticket: u64, found: u64) -> Next
+fn missed_by_put(
+    setup: &Setup,
+    ring: u32,
+    index: u32,
+    content: Bytes,
+    ticket: u64,
+    found: u64,
+) -> Next
     requires { IsIndexOrMark setup.now.order found }
     ensures { result ≡ Next.Goes (AtE2 ring index content ticket (rank_in (size setup.now) found)) }
 {
     let least = rank(unpack(setup.shape(), found));
-    Next::Goes(Phase::AtE2 { ring, index, content, ticket, least })
+    Next::Goes(Phase::AtE2 {
+        ring,
+        index,
+        content,
+        ticket,
+        least,
+    })
 }
 
 // An enqueue has placed its index, and Threshold is reset.
 fn finished(ring: u32, place: u64, content: Bytes) -> Next
     ensures { result ≡ Next.Ends (Done ring place content) }
 {
-    Next::Ends(Ended::Done { ring, place, content })
+    Next::Ends(Ended::Done {
+        ring,
+        place,
+        content,
+    })
 }
 
 // An enqueue has loaded the entry of its slot: it may fill an earlier cycle's entry without an index,
