@@ -9,10 +9,11 @@ use Rattle.scq_core.specs.Rings.{RingBook, word_in, content_in, ring_with}
 use Rattle.scq_core.specs.Book.{ring_in, no_slot}
 use Rattle.scq_core.specs.Turn.{ring_of, place_of, IsReady}
 
--- the word that a turn finds, and the content beside it
+-- the word that a turn finds
 abbrev pub found_by : Setup → List RingBook → Phase → ℕ
 found_by c rings turn = word_in (no_slot c) (ring_in c rings (ring_of turn)) (place_of c turn)
 
+-- the content beside the word that a turn finds
 abbrev pub beside_by : Setup → List RingBook → Phase → List ℕ
 beside_by c rings turn = content_in (no_slot c) (ring_in c rings (ring_of turn)) (place_of c turn)
 
@@ -21,7 +22,7 @@ pub record CanTurn (c : Setup) (rings : List RingBook) (turn : Phase) : Type 0 w
   pub ring : ring_of turn < c.rings
   pub ready : IsReady c turn (found_by c rings turn)
 
--- the rings after the turn, and the seat's part
+-- the rings after the turn: one word of one ring is another, and beside an entry its content
 abbrev pub rings_after : Setup → List RingBook → Phase → List RingBook
 rings_after c rings turn =
     slice_set
@@ -29,6 +30,7 @@ rings_after c rings turn =
     (ring_of turn)
     (ring_with (ring_in c rings (ring_of turn)) (place_of c turn) (writes c turn (found_by c rings turn)) (stores turn (found_by c rings turn) (beside_by c rings turn)))
 
+-- the seat's part after the turn
 abbrev pub part_by : Setup → List RingBook → Phase → Part → Part
 part_by c rings turn p = after c turn (found_by c rings turn) (beside_by c rings turn) p
 

@@ -10,6 +10,7 @@ use Rattle.scq_core.specs.Start.{unused, idle_part}
 use Rattle.scq_core.specs.Reach.{IsReachable}
 use Rattle.scq_core.specs.Rings.{RingBook}
 
+-- the setup, the rings and the seats by number, and the opening contents
 pub record Book : Type 0 where
   pub setup : Setup
   pub rings : List RingBook
@@ -23,12 +24,15 @@ no_slot c = record { word = unused (size c); content = [] }
 abbrev pub no_ring : Setup → RingBook
 no_ring c = record { tail = size c; head = size c; threshold = zero_level - 1; slots = [] }
 
+-- the ring of a number
 abbrev pub ring_in : Setup → List RingBook → ℕ → RingBook
 ring_in c rings r = slice_index_or rings r (no_ring c)
 
+-- the slot of a number in it
 abbrev pub slot_in : Setup → List RingBook → ℕ → ℕ → Slot
 slot_in c rings r s = slice_index_or (ring_in c rings r).slots s (no_slot c)
 
+-- the words and contents of the machine
 abbrev pub cells_of : Setup → List RingBook → Cells
 cells_of c rings =
     record {
@@ -38,6 +42,7 @@ cells_of c rings =
       entries = record { word = λ r s. (slot_in c rings r s).word; content = λ r s. (slot_in c rings r s).content };
     }
 
+-- the part of the seat of a number
 abbrev pub part_in : List Part → ℕ → Part
 part_in seats k = slice_index_or seats k idle_part
 

@@ -8,6 +8,7 @@ use Rattle.scq_core.specs.Start.{filled, filled_contents}
 use Rattle.scq_core.specs.Rings.{RingBook}
 use Rattle.scq_core.specs.Book.{no_slot}
 
+-- Head and Tail at the size of a ring, Threshold at -1, and no slot used
 abbrev pub empty_ring : Setup → RingBook
 empty_ring c =
     record { tail = size c; head = size c; threshold = zero_level - 1; slots = replicate (size c) (no_slot c) }
@@ -18,6 +19,7 @@ pub record IsFilled (c : Setup) (opening : List (List ℕ)) (count : ℕ) (slots
   pub words : (s : ℕ) → (slice_index_or slots s (no_slot c)).word ≡ filled (size c) count s
   pub contents : (s : ℕ) → (slice_index_or slots s (no_slot c)).content ≡ filled_contents (size c) opening count s
 
+-- the ring in which each index stands, as after as many puts
 pub record IsFullRing (c : Setup) (opening : List (List ℕ)) (ring : RingBook) : Type 0 where
   pub tail : ring.tail ≡ size c + n_of c.order
   pub head : ring.head ≡ size c

@@ -1,4 +1,5 @@
--- A tally decides whether all its puts are claimed
+-- A tally decides whether all its puts are claimed. Plan: in a list it can be told whether a put is got; a get that starts too
+-- late shows that the moment is too early, and the two counts are compared by a one-to-one map
 use Rattle.std.proofs.Common.{Bool, IsTrue, ◌↔◌, ◌≡◌, ℕ, zero, suc, ◌<◌, ◌≤◌, ◌⊎◌, inl, inr, List, Option, Some, None, slice_get, length, sym, ap, subst, arith}
 use Rattle.std.proofs.lemmas.Bool.{cases_lt, cases_eq}
 use Rattle.std.proofs.lemmas.Option.{slice_get_within}

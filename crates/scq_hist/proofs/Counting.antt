@@ -1,4 +1,5 @@
--- Counts, and that a count is at most another exactly where there is a one-to-one map
+-- Counts, and that a count is at most another exactly where there is a one-to-one map. Plan: a map sends a list of different
+-- members into the other list, and each that is sent takes one place away; back, members at one place of the two lists are partners
 use Rattle.std.proofs.Common.{◌≡◌, ℕ, suc, ◌+◌, ◌-◌, ◌≤◌, ◌⊎◌, inl, inr, List, [], ◌∷◌, length, refl, sym, ap, ◌∙◌, subst, arith}
 use Rattle.scq_hist.specs.Counts.{AtMostAsMany, Member, Distinct, IsCount}
 

@@ -7,3 +7,5 @@ pub mod TallyLemmas
 pub mod Claims
 pub mod Tokens
 pub mod OrderLemmas
+pub mod Overtaken
+pub mod Longer

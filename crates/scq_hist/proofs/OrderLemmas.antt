@@ -1,4 +1,5 @@
--- In order at one get, decided by a tally
+-- In order at one get. A get that ends at a place has got one put, which starts at one place, so what is decided for these
+-- two places is decided for all
 use Rattle.std.proofs.Common.{Bool, ◌≡◌, ℕ, ◌<◌, ◌≤◌, ◌↔◌, List, length, IsTrue, subst, arith}
 use Rattle.std.proofs.lemmas.Option.{slice_get_within}
 use Rattle.scq_hist.specs.Calls.{IsPut, IsFinishedAt, IsGetOf}

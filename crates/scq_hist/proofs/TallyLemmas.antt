@@ -1,4 +1,5 @@
--- A tally grows by one put at a time, and decides whether all its puts are claimed
+-- A tally grows by one put at a time. Plan: a put has one get, and ends with Done at one place, so the put that ends at place e
+-- is new there; then it is one more that isn't got, or its get's Start moves the moment from which all are claimed
 use Rattle.std.proofs.Common.{◌≡◌, ℕ, ◌+◌, ◌⊎◌, inl, inr, List, Some, sym, subst, arith}
 use Rattle.std.proofs.lemmas.Bool.{cases_order, cases_lt, cases_eq}
 use Rattle.scq_hist.specs.Calls.{under_way, IsDoneAt, IsFinishedAt, Names, IsGot, IsGetOf}

@@ -1,4 +1,5 @@
--- The tally of the opening tokens
+-- The tally of the opening tokens. Plan: count those that are got, by the Ends that are the first to name one, event by event;
+-- there are as many tokens as contents, and those that are left are the rest
 use Rattle.std.proofs.Common.{◌≡◌, ℕ, zero, suc, ◌+◌, ◌-◌, ◌<◌, ◌≤◌, max, ◌⊎◌, inl, inr, List, length, refl, ap, subst, arith, add-one}
 use Rattle.std.proofs.lemmas.Bool.{cases_lt, cases_eq}
 use Rattle.std.proofs.lemmas.Option.{slice_get_within}

@@ -1,4 +1,5 @@
--- What `under_way` tells of the events
+-- What `under_way` tells of the events. Plan: by induction on the moment, each event either starts or ends the seat's call or
+-- leaves it as it was
 use Rattle.std.proofs.Common.{◌≡◌, ℕ, zero, suc, ◌<◌, ◌≤◌, ◌==◌, List, Option, Some, None, slice_get, length, refl, sym, ◌∙◌, subst, inl, inr, ◌⊎◌, arith, eq-eqb}
 use Rattle.std.proofs.lemmas.Bool.{cases_order, cases_lt, cond-true}
 use Rattle.std.proofs.lemmas.Bool.Decides.{eqb_tells}

@@ -63,7 +63,9 @@ fn is_right_at(tokens: Tally, events: &[Event], e: usize) -> bool
     }
 }
 
-/// Whether each Empty has a moment inside its call at which all finished puts of its queue are claimed.
+/// Empty is right: whether each Empty has a moment inside its call at which every finished put of its
+/// queue is claimed, by a get that has started or, if no End has got it, by one that never ends.
+/// `opening` has the contents of the tokens that stand in queue 0 before the list.
 pub fn empty_right(opening: &[Bytes], events: &[Event]) -> bool
     requires { IsLawful events.now }
     ensures { IsTrue result ↔ IsEmptyRight opening.now events.now }

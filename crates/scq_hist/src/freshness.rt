@@ -70,8 +70,9 @@ fn is_fresh_at(opening: &[Bytes], events: &[Event], e: usize) -> bool
     }
 }
 
-/// Whether each Got names a put of the same queue and content that is an opening token or started
-/// before.
+/// Fresh: whether each Got names a put of the same queue and content that is an opening token or
+/// started before, so that nothing is taken that was never put. `opening` has the contents of the
+/// tokens that stand in queue 0 before the list.
 pub fn fresh(opening: &[Bytes], events: &[Event]) -> bool
     requires { IsLawful events.now }
     ensures { IsTrue result ↔ IsFresh opening.now events.now }

@@ -26,7 +26,8 @@ fn is_in_place(events: &[Event], i: usize) -> bool
     }
 }
 
-/// Whether each seat's events alternate, beginning with a Start, and each reply suits its call.
+/// Lawful: whether each seat's events alternate, beginning with a Start, and each reply suits its call.
+/// The other tests are of lawful lists.
 pub fn lawful_calls(events: &[Event]) -> bool
     ensures { IsTrue result ↔ IsLawful events.now }
 {

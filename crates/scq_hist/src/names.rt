@@ -16,7 +16,7 @@ fn names_new(events: &[Event], e: usize) -> bool
     }
 }
 
-/// Whether no two Gots name the same put.
+/// Once: whether no two Gots name the same put, so that nothing is taken twice.
 pub fn once(events: &[Event]) -> bool
     requires { IsLawful events.now }
     ensures { IsTrue result ↔ IsOnce events.now }

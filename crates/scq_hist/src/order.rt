@@ -46,8 +46,9 @@ fn is_in_order_at(tokens: Tally, events: &[Event], e: usize) -> bool
     }
 }
 
-/// Whether no put is got before one that precedes it, unless a get that is under way at the end of the
-/// list may have that one.
+/// In order: whether no put is got before one that precedes it, unless a get that is under way at the
+/// end of the list may have that one. A put precedes those of its queue that start after its End with
+/// Done; an opening token precedes every put of queue 0. `opening` has the tokens' contents.
 pub fn in_order(opening: &[Bytes], events: &[Event]) -> bool
     requires { IsLawful events.now }
     ensures { IsTrue result ↔ IsInOrder opening.now events.now }

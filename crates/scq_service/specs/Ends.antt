@@ -15,10 +15,11 @@ use Rattle.scq_service.specs.declared.fault.Fault.TheVariants.{OpenFault, ReadFa
 abbrev pub output_of : List (List ℕ) → List ℕ
 output_of contents = one_thread_output [] length_reply contents
 
--- how large each content is, and how many bytes of each source were read and are left
+-- how large each content is
 abbrev pub sizes : List (List ℕ) → List (Option ℕ)
 sizes contents = map (λ content. Some (length content)) contents
 
+-- so many bytes that were read, and what each source has left, where it tells
 abbrev pub read_and_left : {S : Type 0} → (S → Option (List ℕ)) → ℕ → List S → List (Option ℕ)
 read_and_left left read sources = map (λ source. option_map (λ bytes. read + length bytes) (left source)) sources
 

@@ -1,0 +1,57 @@
+-- A longer list says the same of its first events, and is lawful where its last event is in its place
+use Rattle.std.proofs.Common.{◌≡◌, ℕ, zero, suc, ◌<◌, ◌≤◌, inl, inr, List, [], ◌∷◌, ◌++◌, length, length-append, slice_get, Option, Some, None, refl, sym, ◌∙◌, subst, arith}
+use Rattle.std.proofs.lemmas.Bool.{cases_order}
+use Rattle.std.proofs.lemmas.Option.{slice_get_past, slice_get_within}
+use Rattle.scq_hist.specs.Calls.{under_way, puts_before, IsCall}
+use Rattle.scq_hist.specs.Aspects.{IsLawful, IsInPlace}
+use Rattle.scq_hist.specs.declared.events.Call.{Call}
+use Rattle.scq_hist.specs.declared.events.Event.{Event}
+use Rattle.scq_hist.specs.declared.events.Event.TheVariants.{Start, End}
+use Rattle.scq_hist.specs.declared.events.Reply.{Reply}
+
+pub same_event : (events more : List Event) (i : ℕ) → i < length events → slice_get (events ++ more) i ≡ slice_get events i
+same_event [] more i lt = absurd (omega arith)
+same_event (x ∷ xs) more zero lt = refl
+same_event (x ∷ xs) more (suc i) lt = same_event xs more i (omega arith)
+
+pub last_event : (events : List Event) (event : Event) → slice_get (events ++ event ∷ []) (length events) ≡ Some event
+last_event [] event = refl
+last_event (x ∷ xs) event = last_event xs event
+
+pub same_under_way : (events more : List Event) (seat m : ℕ) → m ≤ length events → under_way (events ++ more) seat m ≡ under_way events seat m
+same_under_way events more seat zero le = refl
+same_under_way events more seat (suc m) le =
+    rw (same_event events more m (omega arith), same_under_way events more seat m (omega arith)) refl
+
+pub same_puts_before : (events more : List Event) (seat m : ℕ) → m ≤ length events → puts_before (events ++ more) seat m ≡ puts_before events seat m
+same_puts_before events more seat zero le = refl
+same_puts_before events more seat (suc m) le =
+    rw (same_event events more m (omega arith), same_puts_before events more seat m (omega arith)) refl
+
+pub same_call : (events more : List Event) (seat s e : ℕ) (call : Call) (reply : Reply) → IsCall events seat call s e reply → IsCall (events ++ more) seat call s e reply
+same_call events more seat s e call reply c =
+    let here = slice_get_within events e (End seat reply) c.ends in
+    let start = slice_get_within events s (Start seat call) c.starts in
+    record {
+      starts = same_event events more s start ∙ c.starts;
+      under_way_till = same_under_way events more seat e (omega arith) ∙ c.under_way_till;
+      ends = same_event events more e here ∙ c.ends;
+    }
+
+still_in_place : (events more : List Event) (i : ℕ) (event : Event) → i < length events → IsInPlace events i (Some event) → IsInPlace (events ++ more) i (Some event)
+still_in_place events more i (Start seat call) lt h = same_under_way events more seat i (omega arith) ∙ h
+still_in_place events more i (End seat reply) lt h =
+    record { s = h.s; call = h.call; is_call = same_call events more seat h.s i h.call reply h.is_call; suits = h.suits }
+
+pub lawful_more : (events : List Event) (event : Event) → IsLawful events → IsInPlace (events ++ event ∷ []) (length events) (Some event) → IsLawful (events ++ event ∷ [])
+lawful_more events event lawful last i = elim (cases_order i (length events)) [
+  | inl here ↦ subst (λ k. IsInPlace (events ++ event ∷ []) k (slice_get (events ++ event ∷ []) k)) (sym here)
+      (subst (λ o. IsInPlace (events ++ event ∷ []) (length events) o) (sym (last_event events event)) last)
+  | inr w ↦ elim w [
+    | inl lt ↦ subst (λ o. IsInPlace (events ++ event ∷ []) i o) (sym (same_event events (event ∷ []) i lt)) (before (slice_get events i) refl lt)
+    | inr gt ↦ subst (λ o. IsInPlace (events ++ event ∷ []) i o) (sym (slice_get_past (events ++ event ∷ []) i (simp length-append (omega arith)))) tt
+  ]
+] where
+  before : (o : Option Event) → slice_get events i ≡ o → i < length events → IsInPlace (events ++ event ∷ []) i o
+  before None e lt = tt
+  before (Some x) e lt = still_in_place events (event ∷ []) i x lt (subst (λ o. IsInPlace events i o) e (lawful i))
