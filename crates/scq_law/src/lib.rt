@@ -12,6 +12,8 @@ mod replayed;
 mod replaying;
 pub mod runs;
 mod telling;
+#[cfg(test)]
+mod tests;
 
 pub use replayed::{ReplayFault, Replayed};
 pub use replaying::replay;

@@ -1,0 +1,400 @@
+ghost use Rattle.std.specs.Prelude.{◌≡◌, ℕ, ◌^◌, ◌<◌, ◌≤◌, IfOk, vec_len};
+ghost use Rattle.std.specs.List.{All};
+ghost use Rattle.scq_core.specs.declared.step.Step.{Step as StepOf};
+ghost use Rattle.scq_hist.specs.Aspects.{IsLawful};
+
+use crate::{ReplayFault, Replayed, replay};
+use scq_core::{Ended, State, Step};
+use scq_hist::{Call, Event, PutName, Reply, empty_right, fresh, in_order, lawful_calls, once};
+use scq_word::{Bytes, NoMemory, Setup};
+use std::alloc::Global;
+use std::process::Abort;
+use std::test::Fail;
+
+// Each line of a table is a seat, its steps, and behind `=` a ring with its Head, Tail, Threshold and
+// entries, its resets and fails, what the seat's newest call was, or `-` where it is in the middle of one, and behind `:` the
+// events that the line adds. `E1/1/0/x` is E1 on ring 1 of index 0 with content x, and `D1/1` is D1 on
+// ring 1. The put `1.2` is the second of seat 1, and `token 0` is the first opening put.
+fn number(text: Option<&str>) -> Result<u32, Fail> {
+    Ok(text.ok_or("a number is missing")?.parse::<u32>()?)
+}
+
+fn step_of(alloc: Global, text: &str) -> Result<Step, Fail> {
+    let mut parts = text.split('/');
+    let name = parts.next().ok_or("no step")?;
+    match name {
+        "E1" => Ok(Step::E1 {
+            ring: number(parts.next())?,
+            index: number(parts.next())?,
+            content: bytes_of(alloc, parts.next().ok_or("no content")?)?,
+        }),
+        "D1" => Ok(Step::D1 {
+            ring: number(parts.next())?,
+        }),
+        _ => bare_step(name),
+    }
+}
+
+fn bytes_of(alloc: Global, text: &str) -> Result<Bytes, Fail> {
+    Bytes::copy_of(alloc, text.as_bytes()).map_err(|_| Fail::from("memory"))
+}
+
+fn bare_step(name: &str) -> Result<Step, Fail> {
+    match name {
+        "E1Again" => Ok(Step::E1Again),
+        "E2" => Ok(Step::E2),
+        "E3" => Ok(Step::E3),
+        "E4" => Ok(Step::E4),
+        "E5" => Ok(Step::E5),
+        "E6" => Ok(Step::E6),
+        "D2" => Ok(Step::D2),
+        "D3" => Ok(Step::D3),
+        "D4" => Ok(Step::D4),
+        "D5" => Ok(Step::D5),
+        "D6" => Ok(Step::D6),
+        "D7" => Ok(Step::D7),
+        "D8" => Ok(Step::D8),
+        "D9" => Ok(Step::D9),
+        "D10" => Ok(Step::D10),
+        _ => Err(Fail::from("no such step")),
+    }
+}
+
+fn opening(alloc: Global) -> Result<Vec<Bytes>, NoMemory>
+    ensures { IfOk result (λ opening. vec_len opening ≡ 2) }
+{
+    Ok(vec![in alloc; Bytes::copy_of(alloc, b"a")?, Bytes::copy_of(alloc, b"b")?]?)
+}
+
+// From the start of a setup with two indices, rings and seats, and the opening contents `a` and `b`.
+fn replayed(alloc: Global, limit: u64, steps: &[(u32, Step)]) -> Result<Replayed, ReplayFault>
+    requires seats { All (λ (x : ℕ × StepOf). x.0 < 2) steps.now }
+    requires limit { (16 ≤ limit) × (limit ≤ 2 ^ 60) }
+    ensures lawful { IfOk result (λ replayed. IsLawful replayed.events.items) }
+    ensures setup { IfOk result (λ replayed. (replayed.state.setup.order ≡ 1) × (replayed.state.setup.rings ≡ 2) × (replayed.state.setup.seats ≡ 2)) }
+{
+    let setup = Setup {
+        order: 1,
+        rings: 2,
+        seats: 2,
+        limit,
+    };
+    replay(alloc, setup, opening(alloc)?, steps)
+}
+
+// A line taken apart.
+#[derive(Drop)]
+struct Line<'a> {
+    seat: u32,
+    steps: &'a str,
+    ring: u32,
+    words: &'a str,
+    events: &'a str,
+}
+
+fn parse(line: &str) -> Result<Line, Fail>
+    ensures { IfOk result (λ line. (line.seat < 2) × (line.ring < 2)) }
+{
+    let (made, want) = line.split_once(" = ").ok_or("no words")?;
+    let (seat, steps) = made.split_once(" ").ok_or("no seat")?;
+    let (words, events) = want.split_once(":").ok_or("no events")?;
+    let seat = number(Some(seat))?;
+    let ring = number(words.split_whitespace().next())?;
+    if seat < 2 && ring < 2 {
+        Ok(Line {
+            seat,
+            steps,
+            ring,
+            words,
+            events,
+        })
+    } else {
+        Err(Fail::from("no such seat or ring"))
+    }
+}
+
+// The seat's steps of a line.
+fn push_steps(
+    alloc: Global,
+    seat: u32,
+    text: &str,
+    steps: &mut Vec<(u32, Step)>,
+) -> Result<(), Fail>
+    requires seat { seat < 2 }
+    requires seats { All (λ (x : ℕ × StepOf). x.0 < 2) steps.old.items }
+    ensures { All (λ (x : ℕ × StepOf). x.0 < 2) steps.new.items }
+{
+    for word in text.split_whitespace() {
+        steps.push((seat, step_of(alloc, word)?))?;
+    }
+    Ok(())
+}
+
+// What a line tells of the ring and of the seat's newest call.
+fn shown(alloc: Global, state: &State, line: &Line) -> Result<String, Fail>
+    requires seat { line.now.seat < state.now.setup.seats }
+    requires ring { line.now.ring < state.now.setup.rings }
+    requires order { state.now.setup.order ≡ 1 }
+{
+    let ring = line.ring;
+    let (head, tail, threshold) = (state.head(ring), state.tail(ring), state.threshold(ring));
+    let entries = format!(in alloc;
+        "{} {} {} {}",
+        state.entry(ring, 0),
+        state.entry(ring, 1),
+        state.entry(ring, 2),
+        state.entry(ring, 3)
+    )?;
+    Ok(format!(in alloc; "{ring} {head} {tail} {threshold} {entries}")?)
+}
+
+fn counts(alloc: Global, replayed: &Replayed, ring: u32) -> Result<String, Fail> {
+    let resets = replayed.resets.get(ring as usize).ok_or("no resets")?;
+    let fails = replayed.fails.get(ring as usize).ok_or("no fails")?;
+    Ok(format!(in alloc; "{resets}/{fails}")?)
+}
+
+fn call(alloc: Global, state: &State, seat: u32) -> Result<String, Fail>
+    requires { seat < state.now.setup.seats }
+{
+    if state.idle(seat) {
+        newest(alloc, state.last(seat))
+    } else {
+        Ok(String::from_str(alloc, "-")?)
+    }
+}
+
+fn newest(alloc: Global, last: Option<&Ended>) -> Result<String, Fail> {
+    match last {
+        None => Ok(String::from_str(alloc, "no call")?),
+        Some(Ended::Done { place, .. }) => Ok(format!(in alloc; "done {place}")?),
+        Some(Ended::Got { place, content, .. }) => {
+            let text = std::str::from_utf8(content.bytes())?;
+            Ok(format!(in alloc; "got {place} {text}")?)
+        }
+        Some(Ended::Nothing { .. }) => Ok(String::from_str(alloc, "nothing")?),
+        Some(Ended::Spent { ticket, .. }) => Ok(format!(in alloc; "spent {ticket}")?),
+    }
+}
+
+fn event_text(alloc: Global, event: &Event) -> Result<String, Fail> {
+    match event {
+        Event::Start {
+            seat,
+            call: Call::Put { queue, content },
+        } => {
+            let text = std::str::from_utf8(content.bytes())?;
+            Ok(format!(in alloc; " {seat} put {queue} {text},")?)
+        }
+        Event::Start {
+            seat,
+            call: Call::Get { queue },
+        } => Ok(format!(in alloc; " {seat} get {queue},")?),
+        Event::End { seat, reply } => end_text(alloc, *seat, reply),
+    }
+}
+
+fn end_text(alloc: Global, seat: u32, reply: &Reply) -> Result<String, Fail> {
+    match reply {
+        Reply::Done => Ok(format!(in alloc; " {seat} done,")?),
+        Reply::Got { name, content } => {
+            let text = std::str::from_utf8(content.bytes())?;
+            match name {
+                PutName::Opening { number } => {
+                    Ok(format!(in alloc; " {seat} got token {number} {text},")?)
+                }
+                PutName::Of { seat: of, number } => {
+                    Ok(format!(in alloc; " {seat} got {of}.{number} {text},")?)
+                }
+            }
+        }
+        Reply::Nothing => Ok(format!(in alloc; " {seat} nothing,")?),
+        Reply::Spent => Ok(format!(in alloc; " {seat} spent,")?),
+    }
+}
+
+fn events_text(alloc: Global, events: &[Event]) -> Result<String, Fail> {
+    let mut text = String::new(alloc);
+    for event in events {
+        text.push_str(event_text(alloc, event)?.as_str())?;
+    }
+    Ok(text)
+}
+
+// The history of each cut of the steps passes the five tests.
+fn judge(rt: &(impl Abort + AllocGlobal), limit: u64, steps: &[(u32, Step)]) -> Result<(), Fail>
+    requires seats { All (λ (x : ℕ × StepOf). x.0 < 2) steps.now }
+    requires limit { (16 ≤ limit) × (limit ≤ 2 ^ 60) }
+{
+    let tokens = opening(rt.alloc()).map_err(|_| "memory")?;
+    let events = replayed(rt.alloc(), limit, steps)?.events;
+    assert!(rt;
+        lawful_calls(&events)
+            && fresh(&tokens, &events)
+            && once(&events)
+            && in_order(&tokens, &events)
+            && empty_right(&tokens, &events)
+    );
+    Ok(())
+}
+
+// What was replayed up to a line, with the events after those that were seen before.
+fn compare(
+    rt: &(impl Abort + AllocGlobal),
+    line: &Line,
+    seen: usize,
+    replayed: &Replayed,
+) -> Result<(), Fail>
+    requires seat { line.now.seat < replayed.now.state.setup.seats }
+    requires ring { line.now.ring < replayed.now.state.setup.rings }
+    requires order { replayed.now.state.setup.order ≡ 1 }
+{
+    let alloc = rt.alloc();
+    let words = shown(alloc, &replayed.state, line)?;
+    let counts = counts(alloc, replayed, line.ring)?;
+    let call = call(alloc, &replayed.state, line.seat)?;
+    let events = events_text(alloc, replayed.events.get(seen..).ok_or("no events")?)?;
+    let told = format!(in alloc; "{words} {counts} {call}")?;
+    assert_eq!(rt; told.as_str(), line.words);
+    assert_eq!(rt; events.as_str(), line.events);
+    Ok(())
+}
+
+// Replays a table line by line, and judges the history of each cut.
+fn run(rt: &(impl Abort + AllocGlobal), limit: u64, table: &str) -> Result<(), Fail>
+    requires { (16 ≤ limit) × (limit ≤ 2 ^ 60) }
+{
+    let alloc = rt.alloc();
+    let mut steps = Vec::new(alloc);
+    let mut seen = 0;
+    for line in table.lines() {
+        let line = parse(line)?;
+        push_steps(alloc, line.seat, line.steps, &mut steps)?;
+        let replayed = replayed(alloc, limit, &steps)?;
+        compare(rt, &line, seen, &replayed)?;
+        seen = replayed.events.len();
+    }
+    judge_cuts(rt, limit, &steps)
+}
+
+fn judge_cuts(
+    rt: &(impl Abort + AllocGlobal),
+    limit: u64,
+    steps: &[(u32, Step)],
+) -> Result<(), Fail>
+    requires seats { All (λ (x : ℕ × StepOf). x.0 < 2) steps.now }
+    requires limit { (16 ≤ limit) × (limit ≤ 2 ^ 60) }
+{
+    for cut in 0..steps.len() {
+        judge(rt, limit, &steps[..cut])?;
+    }
+    Ok(())
+}
+
+const LIMIT: u64 = 1 << 60;
+
+// A put, its get, and six gets that find nothing: the last leaves Threshold at -1, and the next looks no further.
+const ALONE: &str = "\
+0 D1/0 D2 D3 D4 = 0 5 6 5 15 13 7 7 0/0 got 4 a: 0 get 0, 0 got token 0 a,
+0 E1/1/0/x E2 E4 E5 E6 = 1 4 5 5 12 7 7 7 1/0 done 4: 0 put 1 x, 0 done,
+0 D1/1 D2 D3 D4 = 1 5 5 5 15 7 7 7 1/0 got 4 x: 0 get 1, 0 got 0.1 x,
+0 D1/1 D2 D3 D5 D6 D7 D10 = 1 6 6 4 15 15 7 7 1/1 nothing: 0 get 1, 0 nothing,
+0 D1/1 D2 D3 D5 D6 D7 D10 = 1 7 7 3 15 15 15 7 1/2 nothing: 0 get 1, 0 nothing,
+0 D1/1 D2 D3 D5 D6 D7 D10 = 1 8 8 2 15 15 15 15 1/3 nothing: 0 get 1, 0 nothing,
+0 D1/1 D2 D3 D5 D6 D7 D10 = 1 9 9 1 23 15 15 15 1/4 nothing: 0 get 1, 0 nothing,
+0 D1/1 D2 D3 D5 D6 D7 D10 = 1 10 10 0 23 23 15 15 1/5 nothing: 0 get 1, 0 nothing,
+0 D1/1 D2 D3 D5 D6 D7 D10 = 1 11 11 -1 23 23 23 15 1/6 nothing: 0 get 1, 0 nothing,
+0 D1/1 = 1 11 11 -1 23 23 23 15 1/6 nothing: 0 get 1, 0 nothing,";
+
+// While seat 0 has loaded the entry of its message, gets of seat 1 find nothing and pass that entry: it is marked
+// unsafe. Later an enqueue finds the mark, looks at Head, and may place.
+const CLAIMED: &str = "\
+0 D1/0 D2 D3 D4 = 0 5 6 5 15 13 7 7 0/0 got 4 a: 0 get 0, 0 got token 0 a,
+1 D1/0 D2 D3 D4 = 0 6 6 5 15 15 7 7 0/0 got 5 b: 1 get 0, 1 got token 1 b,
+0 E1/1/0/x E2 E4 E5 E6 = 1 4 5 5 12 7 7 7 1/0 done 4: 0 put 1 x, 0 done,
+0 D1/1 D2 D3 = 1 5 5 5 12 7 7 7 1/0 -: 0 get 1,
+1 E1/1/1/y E2 E4 E5 = 1 5 6 5 12 13 7 7 2/0 done 5: 1 put 1 y, 1 done,
+1 D1/1 D2 D3 D4 = 1 6 6 5 12 15 7 7 2/0 got 5 y: 1 get 1, 1 got 1.1 y,
+1 D1/1 D2 D3 D5 D6 D7 D10 = 1 7 7 4 12 15 15 7 2/1 nothing: 1 get 1, 1 nothing,
+1 D1/1 D2 D3 D5 D6 D7 D10 = 1 8 8 3 12 15 15 15 2/2 nothing: 1 get 1, 1 nothing,
+1 D1/1 D2 D3 D5 D6 D7 D10 = 1 9 9 2 8 15 15 15 2/3 nothing: 1 get 1, 1 nothing,
+0 D4 = 1 9 9 2 11 15 15 15 2/3 got 4 x: 0 got 0.1 x,
+1 E1/1/1/y E2 E4 E5 E6 = 1 9 10 5 11 21 15 15 3/0 done 9: 1 put 1 y, 1 done,
+0 E1/1/0/v E2 E4 E5 = 1 9 11 5 11 21 20 15 4/0 done 10: 0 put 1 v, 0 done,
+1 D1/1 D2 D3 D4 = 1 10 11 5 11 23 20 15 4/0 got 9 y: 1 get 1, 1 got 1.2 y,
+1 E1/1/1/w E2 E4 E5 = 1 10 12 5 11 23 20 21 5/0 done 11: 1 put 1 w, 1 done,
+1 D1/1 D2 D3 D4 = 1 11 12 5 11 23 23 21 5/0 got 10 v: 1 get 1, 1 got 0.2 v,
+1 E1/1/0/u E2 E3 E4 E5 = 1 11 13 5 28 23 23 21 6/0 done 12: 1 put 1 u, 1 done,";
+
+// The slow enqueue of seat 0 finds its slot passed, and draws another ticket.
+const SKIPPED: &str = "\
+0 D1/0 D2 D3 D4 = 0 5 6 5 15 13 7 7 0/0 got 4 a: 0 get 0, 0 got token 0 a,
+1 D1/0 D2 D3 D4 = 0 6 6 5 15 15 7 7 0/0 got 5 b: 1 get 0, 1 got token 1 b,
+0 E1/1/0/x = 1 4 5 -1 7 7 7 7 0/0 -: 0 put 1 x,
+1 E1/1/1/y E2 E4 E5 E6 = 1 4 6 5 7 13 7 7 1/0 done 5: 1 put 1 y, 1 done,
+1 D1/1 D2 D3 D5 D6 D10 D2 D3 D4 = 1 6 6 4 15 15 7 7 1/1 got 5 y: 1 get 1, 1 got 1.1 y,
+0 E2 E1Again E2 E4 E5 E6 = 1 6 7 5 15 15 12 7 2/0 done 6: 0 done,";
+
+// Ring 0 is emptied, and answers so.
+const EMPTIED: &str = "\
+0 D1/0 D2 D3 D4 = 0 5 6 5 15 13 7 7 0/0 got 4 a: 0 get 0, 0 got token 0 a,
+0 D1/0 D2 D3 D4 = 0 6 6 5 15 15 7 7 0/0 got 5 b: 0 get 0, 0 got token 1 b,
+0 D1/0 D2 D3 D5 D6 D7 D10 = 0 7 7 4 15 15 15 7 0/1 nothing: 0 get 0, 0 nothing,";
+
+// Ten tickets are left below a limit of 16; the eleventh put draws the limit.
+const SPENT: &str = "\
+0 D1/0 D2 D3 D4 E1/0/0/c E2 E4 E5 = 0 5 7 5 15 13 12 7 1/0 done 6: 0 get 0, 0 got token 0 a, 0 put 0 c, 0 done,
+0 D1/0 D2 D3 D4 E1/0/1/d E2 E4 E5 = 0 6 8 5 15 15 12 13 2/0 done 7: 0 get 0, 0 got token 1 b, 0 put 0 d, 0 done,
+0 D1/0 D2 D3 D4 E1/0/0/e E2 E4 E5 = 0 7 9 5 20 15 15 13 3/0 done 8: 0 get 0, 0 got 0.1 c, 0 put 0 e, 0 done,
+0 D1/0 D2 D3 D4 E1/0/1/f E2 E4 E5 = 0 8 10 5 20 21 15 15 4/0 done 9: 0 get 0, 0 got 0.2 d, 0 put 0 f, 0 done,
+0 D1/0 D2 D3 D4 E1/0/0/g E2 E4 E5 = 0 9 11 5 23 21 20 15 5/0 done 10: 0 get 0, 0 got 0.3 e, 0 put 0 g, 0 done,
+0 D1/0 D2 D3 D4 E1/0/1/h E2 E4 E5 = 0 10 12 5 23 23 20 21 6/0 done 11: 0 get 0, 0 got 0.4 f, 0 put 0 h, 0 done,
+0 D1/0 D2 D3 D4 E1/0/0/i E2 E4 E5 = 0 11 13 5 28 23 23 21 7/0 done 12: 0 get 0, 0 got 0.5 g, 0 put 0 i, 0 done,
+0 D1/0 D2 D3 D4 E1/0/1/j E2 E4 E5 = 0 12 14 5 28 29 23 23 8/0 done 13: 0 get 0, 0 got 0.6 h, 0 put 0 j, 0 done,
+0 D1/0 D2 D3 D4 E1/0/0/k E2 E4 E5 = 0 13 15 5 31 29 28 23 9/0 done 14: 0 get 0, 0 got 0.7 i, 0 put 0 k, 0 done,
+0 D1/0 D2 D3 D4 E1/0/1/l E2 E4 E5 = 0 14 16 5 31 31 28 29 10/0 done 15: 0 get 0, 0 got 0.8 j, 0 put 0 l, 0 done,
+0 D1/0 D2 D3 D4 = 0 15 16 5 31 31 31 29 10/0 got 14 k: 0 get 0, 0 got 0.9 k,
+0 E1/0/0/m = 0 15 17 5 31 31 31 29 10/0 spent 16: 0 put 0 m, 0 spent,";
+
+#[test]
+fn tables_are_replayed(rt: HostRuntime) -> Result<(), Fail> {
+    for table in [ALONE, CLAIMED, SKIPPED, EMPTIED] {
+        run(&rt, LIMIT, table)?;
+    }
+    run(&rt, 16, SPENT)
+}
+
+// The place of the first step that is not enabled is told: a step out of turn, an index that is not in
+// the hand, a ring that is not there.
+#[test]
+fn steps_out_of_turn_stop_a_replay(rt: HostRuntime) -> Result<(), Fail> {
+    let alloc = rt.alloc();
+    for (limit, text, at) in [
+        (LIMIT, "E2", 0),
+        (LIMIT, "D1/0 D2 D2", 2),
+        (LIMIT, "E1/1/0/x", 0),
+        (LIMIT, "D1/0 D2 D3 D4 E1/1/0/x E2 E4 E4", 7),
+        (LIMIT, "D1/2", 0),
+    ] {
+        let mut steps = Vec::new(alloc);
+        push_steps(alloc, 0, text, &mut steps)?;
+        let fault = replayed(alloc, limit, &steps).err();
+        assert_eq!(rt; fault, Some(ReplayFault::NotEnabled { at }), "{text}");
+    }
+    Ok(())
+}
+
+// After a spent ticket no call begins.
+#[test]
+fn a_spent_seat_begins_nothing(rt: HostRuntime) -> Result<(), Fail> {
+    let alloc = rt.alloc();
+    let mut steps = Vec::new(alloc);
+    for _ in 0..5 {
+        push_steps(alloc, 0, "D1/0 D2 D3 D4 E1/0/0/x E2 E4 E5", &mut steps)?;
+        push_steps(alloc, 0, "D1/0 D2 D3 D4 E1/0/1/y E2 E4 E5", &mut steps)?;
+    }
+    push_steps(alloc, 0, "D1/0 D2 D3 D4 E1/0/0/x D1/0", &mut steps)?;
+    let fault = replayed(alloc, 16, &steps).err();
+    assert_eq!(rt; fault, Some(ReplayFault::NotEnabled { at: 85 }));
+    Ok(())
+}
