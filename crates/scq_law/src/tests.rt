@@ -335,6 +335,20 @@ const SKIPPED: &str = "\
 1 D1/1 D2 D3 D5 D6 D10 D2 D3 D4 = 1 6 6 4 15 15 7 7 1/1 got 5 y: 1 get 1, 1 got 1.1 y,
 0 E2 E1Again E2 E4 E5 E6 = 1 6 7 5 15 15 12 7 2/0 done 6: 0 done,";
 
+// While seat 0 has loaded the entry of its message, Tail comes as far past Head as it can: twice the indices, less one.
+const WIDEST: &str = "\
+0 D1/0 D2 D3 D4 = 0 5 6 5 15 13 7 7 0/0 got 4 a: 0 get 0, 0 got token 0 a,
+1 D1/0 D2 D3 D4 = 0 6 6 5 15 15 7 7 0/0 got 5 b: 1 get 0, 1 got token 1 b,
+0 E1/1/0/x E2 E4 E5 E6 = 1 4 5 5 12 7 7 7 1/0 done 4: 0 put 1 x, 0 done,
+1 E1/1/1/y E2 E4 E5 = 1 4 6 5 12 13 7 7 2/0 done 5: 1 put 1 y, 1 done,
+0 D1/1 D2 D3 = 1 5 6 5 12 13 7 7 2/0 -: 0 get 1,
+1 D1/1 D2 D3 D4 = 1 6 6 5 12 15 7 7 2/0 got 5 y: 1 get 1, 1 got 1.1 y,
+1 D1/1 D2 D3 D5 D6 D7 D10 = 1 7 7 4 12 15 15 7 2/1 nothing: 1 get 1, 1 nothing,
+1 D1/1 D2 D3 D5 D6 D7 D10 = 1 8 8 3 12 15 15 15 2/2 nothing: 1 get 1, 1 nothing,
+1 E1/1/1/z E2 E1Again E2 E4 E5 E6 = 1 8 10 5 12 21 15 15 3/0 done 9: 1 put 1 z, 1 done,
+0 D4 = 1 8 10 5 15 21 15 15 3/0 got 4 x: 0 got 0.1 x,
+0 E1/1/0/v E2 E4 E5 = 1 8 11 5 15 21 20 15 4/0 done 10: 0 put 1 v, 0 done,";
+
 // Ring 0 is emptied, and answers so.
 const EMPTIED: &str = "\
 0 D1/0 D2 D3 D4 = 0 5 6 5 15 13 7 7 0/0 got 4 a: 0 get 0, 0 got token 0 a,
@@ -358,7 +372,7 @@ const SPENT: &str = "\
 
 #[test]
 fn tables_are_replayed(rt: HostRuntime) -> Result<(), Fail> {
-    for table in [ALONE, CLAIMED, SKIPPED, EMPTIED] {
+    for table in [ALONE, CLAIMED, SKIPPED, WIDEST, EMPTIED] {
         run(&rt, LIMIT, table)?;
     }
     run(&rt, 16, SPENT)
