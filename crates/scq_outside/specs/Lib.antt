@@ -1,6 +1,4 @@
-pub mod Calls
 pub mod Faults
 pub mod Memory
-pub mod Readable
 pub mod Table
 pub mod Written

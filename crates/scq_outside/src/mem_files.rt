@@ -1,33 +1,17 @@
 ghost use Rattle.std.specs.Prelude.{◌≡◌, ℕ, List, Some, if◌then◌else◌, OnOk, OnErr};
-ghost use Rattle.scq_outside.specs.Readable.{Readable};
 ghost use Rattle.std.specs.Str.{bytes_eq};
 
 use crate::{Failed, Files, MemSource};
 use scq_word::NoMemory;
 use std::alloc::Global;
 use std::collections::HashMap;
-use std::marker::Model;
-
-/// A source that was added: none of its reads has failed.
-#[derive(Drop)]
-struct Unfailed {
-    source: MemSource,
-}
-
-impl Model for Unfailed {
-    ghost Value = { Readable };
-
-    ghost view = { λ u. u.source };
-
-    ghost invariant = { λ u. u.source.faults ≡ 0 };
-}
 
 /// Files in memory: what was added and not yet given out. A name that is missing, or was given
 /// out, is a fault, and nothing else is.
 #[derive(Drop)]
 pub struct MemFiles {
     alloc: Global,
-    sources: HashMap<String, Unfailed>,
+    sources: HashMap<String, MemSource>,
     faults: u64,
 }
 
@@ -46,14 +30,13 @@ impl MemFiles {
     }
 
     pub fn add(&mut self, name: &str, source: MemSource) -> Result<(), NoMemory>
-        requires missing { table_of self.old name.now ≡ None }
-        requires unfailed { source.faults ≡ 0 }
-        ensures added { OnOk result ((other : List ℕ) → table_of self.new other ≡ (if bytes_eq name.now other then Some source.left else table_of self.old other)) }
+        requires { table_of self.old name.now ≡ None }
+        ensures added { OnOk result ((other : List ℕ) → table_of self.new other ≡ (if bytes_eq name.now other then Some source else table_of self.old other)) }
         ensures unchanged { OnErr result ((other : List ℕ) → table_of self.new other ≡ table_of self.old other) }
         ensures faults { faults_of self.new ≡ faults_of self.old }
     {
         let name = String::from_str(self.alloc, name)?;
-        self.sources.insert(name, Unfailed { source })?;
+        self.sources.insert(name, source)?;
         Ok(())
     }
 }
@@ -69,7 +52,7 @@ impl Files for MemFiles {
 
     fn source(&mut self, name: &str) -> Result<MemSource, Failed> {
         match self.sources.remove(name) {
-            Some(added) => Ok(added.source),
+            Some(source) => Ok(source),
             None => {
                 self.faults = self.faults.saturating_add(1);
                 Err(Failed)

@@ -1,9 +1,5 @@
 pub mod Answered
-pub mod Begun
 pub mod Contents
-pub mod Judging
-pub mod Endings
-pub mod Pieces
-pub mod Seen
+pub mod Refused
 mod Rows
 pub mod Told

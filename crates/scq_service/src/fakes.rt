@@ -1,66 +1,118 @@
-// What tests read: memory in pieces of one size, and lines that never end.
-ghost use Rattle.std.specs.Prelude.{◌≡◌, ◌<◌, IsTrue, IfOk, None};
-ghost use Rattle.scq_outside.specs.Calls.{are_pieces};
+// Files that are read byte by byte and sinks that are written so, of which one read or write fails.
+ghost use Rattle.std.specs.Prelude.{None};
 
-use scq_outside::{Failed, Files, MemSource, Source};
-use scq_word::NoMemory;
+use scq_outside::{Failed, Files, Sink, Source};
 use std::alloc::Global;
 
-/// So many pieces of one size.
-#[tactic(auto, using(crate::proofs::Pieces::pieces_replicate))]
-pub fn pieces_of(alloc: Global, piece: u32, count: usize) -> Result<Vec<u32>, NoMemory>
-    ensures { IfOk result (λ pieces. IsTrue (are_pieces pieces.items)) }
-{
-    Ok(vec![in alloc; piece.max(1); count]?)
-}
-
-/// Gives the bytes in pieces of at most one size, and fails at the read of this number, if there is
-/// one.
-pub fn source_of(
-    alloc: Global,
-    bytes: &[u8],
-    piece: u32,
-    fails: Option<u32>,
-) -> Result<MemSource, NoMemory>
-    ensures { IfOk result (λ source. source.faults ≡ 0) }
-{
-    let pieces = pieces_of(alloc, piece, bytes.len())?;
-    let mut failing = Vec::new(alloc);
-    if let Some(read) = fails {
-        failing.push(read)?;
-    }
-    Ok(MemSource::new(bytes.to_vec(alloc)?, pieces, failing))
-}
-
-/// Gives lines that never end.
+/// Gives one byte to a read, and fails at the read of this number. Without bytes it gives lines
+/// that never end.
 #[derive(Drop)]
-pub struct Endless;
+pub struct Slow {
+    bytes: Option<Vec<u8>>,
+    fails: u32,
+    reads: u32,
+    faults: u64,
+}
 
-impl Source for Endless {
-    ghost faults = { λ _. 0 };
+impl Source for Slow {
+    ghost faults = { λ source. source.faults };
 
     ghost left = { λ _. None };
 
     fn read(&mut self, into: &mut [u8]) -> Result<usize, Failed> {
-        into.fill(b'x');
-        let last = into.len() - 1;
-        into[last] = b'\n';
-        Ok(into.len())
+        let Some(bytes) = &self.bytes else {
+            into.fill(b'x');
+            let last = into.len() - 1;
+            into[last] = b'\n';
+            return Ok(into.len());
+        };
+        let at = self.reads as usize;
+        self.reads = self.reads.saturating_add(1);
+        if self.reads == self.fails {
+            self.faults = self.faults.saturating_add(1);
+            return Err(Failed);
+        }
+        match bytes.get(at) {
+            Some(byte) => {
+                into[0] = *byte;
+                Ok(1)
+            }
+            None => Ok(0),
+        }
     }
 }
 
-/// Gives an endless source, whatever its name.
+/// Gives one slow source, whatever its name.
 #[derive(Drop)]
-pub struct EndlessFiles;
+pub struct SlowFiles {
+    bytes: Option<Vec<u8>>,
+    fails: u32,
+}
 
-impl Files for EndlessFiles {
-    type Src = Endless;
+impl SlowFiles {
+    pub fn new(bytes: Vec<u8>, fails: u32) -> SlowFiles {
+        SlowFiles {
+            bytes: Some(bytes),
+            fails,
+        }
+    }
+
+    pub fn endless() -> SlowFiles {
+        SlowFiles {
+            bytes: None,
+            fails: 0,
+        }
+    }
+}
+
+impl Files for SlowFiles {
+    type Src = Slow;
 
     ghost faults = { λ _. 0 };
 
     ghost table = { λ _. None };
 
-    fn source(&mut self, _name: &str) -> Result<Endless, Failed> {
-        Ok(Endless)
+    fn source(&mut self, _name: &str) -> Result<Slow, Failed> {
+        Ok(Slow {
+            bytes: self.bytes.take(),
+            fails: self.fails,
+            reads: 0,
+            faults: 0,
+        })
+    }
+}
+
+/// Takes one byte of a piece, and fails at the write of this number.
+#[derive(Drop)]
+pub struct Narrow {
+    pub bytes: Vec<u8>,
+    fails: u32,
+    writes: u32,
+    faults: u64,
+}
+
+impl Narrow {
+    pub fn new(alloc: Global, fails: u32) -> Narrow {
+        Narrow {
+            bytes: Vec::new(alloc),
+            fails,
+            writes: 0,
+            faults: 0,
+        }
+    }
+}
+
+impl Sink for Narrow {
+    ghost faults = { λ sink. sink.faults };
+
+    ghost written = { λ _. None };
+
+    fn write(&mut self, piece: &[u8]) -> Result<usize, Failed> {
+        self.writes = self.writes.saturating_add(1);
+        if self.writes == self.fails || self.bytes.push(piece[0]).is_err() {
+            self.faults = self.faults.saturating_add(1);
+            return Err(Failed);
+        }
+        Ok(1)
     }
 }

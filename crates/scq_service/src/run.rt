@@ -18,7 +18,7 @@ pub fn run<F: Files, K: Sink>(
     files: &mut F,
     out: &mut K,
 ) -> Outcome<F::Src>
-    ensures ends { Ends F.Src.faults F.Src.left (names_in (map string_bytes words.now)) (record { old = F.table files.old; new = F.table files.new })
+    ensures ends { Ends F.Src.faults F.Src.left (F.table files.old) (names_in (map string_bytes words.now))
         (record { old = F.faults files.old; new = F.faults files.new }) (record { old = K.faults out.old; new = K.faults out.new })
         (record { old = K.written out.old; new = K.written out.new })
         result.status result.fault result.sources.items result.read }
@@ -37,7 +37,7 @@ fn run_file<F: Files, K: Sink>(
     files: &mut F,
     out: &mut K,
 ) -> Outcome<F::Src>
-    ensures ends { Ends F.Src.faults F.Src.left (name.now ∷ []) (record { old = F.table files.old; new = F.table files.new })
+    ensures ends { Ends F.Src.faults F.Src.left (F.table files.old) (name.now ∷ [])
         (record { old = F.faults files.old; new = F.faults files.new }) (record { old = K.faults out.old; new = K.faults out.new })
         (record { old = K.written out.old; new = K.written out.new })
         result.status result.fault result.sources.items result.read }

@@ -1,12 +1,9 @@
 use Rattle.std.proofs.Common.{Some}
-use Rattle.std.specs.Str.{bytes_eq}
 use Rattle.std.specs.String.{string_bytes}
 use Rattle.std.proofs.lemmas.Map.Text.{hash_map_updates_text}
-use Rattle.scq_outside.proofs.Mapped.{mapped}
 use Rattle.scq_outside.proofs.mem_files.MemFiles.add.Goals as goal
 
 pub returns-clause-added : goal.returns-clause-added
 returns-clause-added c = λ other.
     let changed = hash_map_updates_text (string_bytes c.in_ok-name.name) c.args.self.now.sources c.insert.new.self (Some c.args.source) c.in_ok-insert.ensures.updates other
-    in let named = rw c.in_ok-name.ensures.ok at changed
-    in mapped (λ source. source.left) (bytes_eq c.args.name.now other) _ (Some c.args.source) _ named
+    in rw c.in_ok-name.ensures.ok at changed

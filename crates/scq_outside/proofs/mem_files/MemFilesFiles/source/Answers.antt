@@ -1,11 +1,8 @@
 use Rattle.std.proofs.Common.{ap, Some, None}
-use Rattle.std.specs.Str.{bytes_eq}
 use mathlib.Core.Path.{fun_ext}
 use Rattle.std.proofs.lemmas.Map.Text.{hash_map_updates_text}
-use Rattle.scq_outside.proofs.Mapped.{mapped}
 use Rattle.scq_outside.proofs.mem_files.MemFilesFiles.source.Goals as goal
 
 pub returns-in-Some-clause-given : goal.returns-in-Some-clause-given
 returns-in-Some-clause-given c =
-    ap Some (fun_ext (λ other. mapped (λ source. source.left) (bytes_eq c.args.name.now other) _ None _
-    (hash_map_updates_text c.args.name.now c.args.self.now.sources c.remove.new.self None c.remove.ensures.updates other)))
+    ap Some (fun_ext (hash_map_updates_text c.args.name.now c.args.self.now.sources c.remove.new.self None c.remove.ensures.updates))
