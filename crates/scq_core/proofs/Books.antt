@@ -14,9 +14,9 @@ use Rattle.scq_core.specs.declared.step.Step.{Step}
 use Rattle.scq_core.specs.declared.slot.Place.{Place}
 use Rattle.scq_core.specs.declared.slot.Place.TheVariants as place
 use Rattle.scq_core.specs.declared.slot.Slot.{Slot}
-use Rattle.scq_core.specs.Put.{put}
-use Rattle.scq_core.specs.Machine.{Cells, Entries, Part, Machine, Word, read, beside, written}
-use Rattle.scq_core.specs.Table.{turn_of, word_of, writes, stores, after, cells_after, moved, step_of}
+use Rattle.scq_core.specs.Updated.{updated}
+use Rattle.scq_core.specs.Machine.{Cells, Entries, Part, Machine, Location, read, beside, written}
+use Rattle.scq_core.specs.Table.{turn_of, location_of, writes, stores, after, cells_after, moved, step_of}
 use Rattle.scq_core.specs.Start.{idle_part}
 use Rattle.scq_core.specs.Reach.{by_step}
 use Rattle.scq_core.specs.Rings.{RingBook, IsPlace, ring_with}
@@ -24,14 +24,14 @@ use Rattle.scq_core.specs.Book.{Book, no_slot, no_ring, ring_in, cells_of, part_
 use Rattle.scq_core.specs.Turn.{ring_of, place_of, IsReady}
 use Rattle.scq_core.specs.Advance.{found_by, beside_by, CanTurn, rings_after, Advances}
 use Rattle.scq_core.specs.Laws.{Busy, WordsFit}
-use Rattle.scq_core.proofs.PutLemmas.{put_same}
+use Rattle.scq_core.proofs.UpdatedLemmas.{updated_same}
 use Rattle.scq_core.proofs.Turns.{awake}
 use Rattle.scq_core.proofs.Steady.{has, steady}
 use Rattle.scq_core.proofs.Fits.{words_fit}
 use Rattle.scq_core.proofs.Indices.{HasIndices, has_indices}
-use Rattle.scq_core.proofs.Places.{word_at, word_of-place, read-place, beside-place, is_place}
+use Rattle.scq_core.proofs.Places.{location_at, location_of-place, read-place, beside-place, is_place}
 
-set_at : {A : Type 0} → (xs : List A) (i : ℕ) (x d : A) → i < length xs → (j : ℕ) → slice_index_or (slice_set xs i x) j d ≡ put (λ k. slice_index_or xs k d) i x j
+set_at : {A : Type 0} → (xs : List A) (i : ℕ) (x d : A) → i < length xs → (j : ℕ) → slice_index_or (slice_set xs i x) j d ≡ updated (λ k. slice_index_or xs k d) i x j
 set_at xs i x d low j =
     elim (cases_eq j i) [
       | inl same ↦ rw (same, eq-eqb i i refl) (get_or-set_same xs i x d low)
@@ -39,22 +39,22 @@ set_at xs i x d low j =
     ]
 
 -- a list that is written is the function of its places that is written
-pub set_is : {A : Type 0} → (xs : List A) (i : ℕ) (x d : A) → i < length xs → (λ j. slice_index_or (slice_set xs i x) j d) ≡ put (λ j. slice_index_or xs j d) i x
+pub set_is : {A : Type 0} → (xs : List A) (i : ℕ) (x d : A) → i < length xs → (λ j. slice_index_or (slice_set xs i x) j d) ≡ updated (λ j. slice_index_or xs j d) i x
 set_is xs i x d low k j = set_at xs i x d low j k
 
-put_of : {A B : Type 0} → (f : A → B) (g : ℕ → A) (i : ℕ) (x : A) (j : ℕ) → f (put g i x j) ≡ put (λ k. f (g k)) i (f x) j
-put_of f g i x j =
+updated_of : {A B : Type 0} → (f : A → B) (g : ℕ → A) (i : ℕ) (x : A) (j : ℕ) → f (updated g i x j) ≡ updated (λ k. f (g k)) i (f x) j
+updated_of f g i x j =
     elim (cases_eq j i) [ inl same ↦ rw (eq-eqb j i same) refl | inr apart ↦ rw (ne_eqb j i apart) refl ]
 
 -- what is read off each ring, after one of them was changed
 field : {A : Type 0} → (c : Setup) (f : RingBook → A) (rings : List RingBook) (r : ℕ) (new : RingBook) → r < length rings
-    → (λ q. f (ring_in c (slice_set rings r new) q)) ≡ put (λ q. f (ring_in c rings q)) r (f new)
-field c f rings r new low k j = (ap f (set_at rings r new (no_ring c) low j) ∙ put_of f (ring_in c rings) r new j) k
+    → (λ q. f (ring_in c (slice_set rings r new) q)) ≡ updated (λ q. f (ring_in c rings q)) r (f new)
+field c f rings r new low k j = (ap f (set_at rings r new (no_ring c) low j) ∙ updated_of f (ring_in c rings) r new j) k
 
 -- and where it did not change there
 still : {A : Type 0} → (c : Setup) (f : RingBook → A) (rings : List RingBook) (r : ℕ) (new : RingBook) → r < length rings → f new ≡ f (ring_in c rings r)
     → ◌≡◌ {A = ℕ → A} (λ q. f (ring_in c (slice_set rings r new) q)) (λ q. f (ring_in c rings q))
-still c f rings r new low same = field c f rings r new low ∙ rw same (put_same (λ q. f (ring_in c rings q)) r)
+still c f rings r new low same = field c f rings r new low ∙ rw same (updated_same (λ q. f (ring_in c rings q)) r)
 
 pub same_cells : (t h x : ℕ → ℕ) (e : Entries) (t' h' x' : ℕ → ℕ) (e' : Entries) → t ≡ t' → h ≡ h' → x ≡ x' → e ≡ e'
     → (let m : Cells = record { tail = t; head = h; threshold = x; entries = e } in m) ≡ record { tail = t'; head = h'; threshold = x'; entries = e' }
@@ -70,18 +70,18 @@ abbrev contents_in : Setup → RingBook → ℕ → List ℕ
 contents_in c ring s = (slice_index_or ring.slots s (no_slot c)).content
 
 slot_word : (c : Setup) (ring : RingBook) (s : ℕ) (new : Slot) → s < length ring.slots
-    → (λ z. (slice_index_or (slice_set ring.slots s new) z (no_slot c)).word) ≡ put (words_in c ring) s new.word
+    → (λ z. (slice_index_or (slice_set ring.slots s new) z (no_slot c)).word) ≡ updated (words_in c ring) s new.word
 slot_word c ring s new low k z =
-    (ap (λ (x : Slot). x.word) (set_at ring.slots s new (no_slot c) low z) ∙ put_of (λ (x : Slot). x.word) (λ j. slice_index_or ring.slots j (no_slot c)) s new z) k
+    (ap (λ (x : Slot). x.word) (set_at ring.slots s new (no_slot c) low z) ∙ updated_of (λ (x : Slot). x.word) (λ j. slice_index_or ring.slots j (no_slot c)) s new z) k
 
 slot_content : (c : Setup) (ring : RingBook) (s : ℕ) (new : Slot) → s < length ring.slots
-    → (λ z. (slice_index_or (slice_set ring.slots s new) z (no_slot c)).content) ≡ put (contents_in c ring) s new.content
+    → (λ z. (slice_index_or (slice_set ring.slots s new) z (no_slot c)).content) ≡ updated (contents_in c ring) s new.content
 slot_content c ring s new low k z =
-    (ap (λ (x : Slot). x.content) (set_at ring.slots s new (no_slot c) low z) ∙ put_of (λ (x : Slot). x.content) (λ j. slice_index_or ring.slots j (no_slot c)) s new z) k
+    (ap (λ (x : Slot). x.content) (set_at ring.slots s new (no_slot c) low z) ∙ updated_of (λ (x : Slot). x.content) (λ j. slice_index_or ring.slots j (no_slot c)) s new z) k
 
 -- a ring with another word at a place is the machine with that word written
 pub write_cells : (c : Setup) (rings : List RingBook) (r : ℕ) (p : Place) (x : ℕ) (y : List ℕ) → r < length rings → IsPlace (ring_in c rings r) p
-    → cells_of c (slice_set rings r (ring_with (ring_in c rings r) p x y)) ≡ written (cells_of c rings) (word_at r p) x y
+    → cells_of c (slice_set rings r (ring_with (ring_in c rings r) p x y)) ≡ written (cells_of c rings) (location_at r p) x y
 write_cells c rings r place.Tail x y low at =
     let new : RingBook = ring_with (ring_in c rings r) place.Tail x y in
     same_cells _ _ _ _ _ _ _ _ (field c (λ (q : RingBook). q.tail) rings r new low) (still c (λ (q : RingBook). q.head) rings r new low refl)
@@ -100,19 +100,19 @@ write_cells c rings r place.Threshold x y low at =
 write_cells c rings r (place.Entry slot) x y low at =
     let ring : RingBook = ring_in c rings r in
     let new : RingBook = ring_with ring (place.Entry slot) x y in
-    let word : words_in c new ≡ put (words_in c ring) slot x = slot_word c ring slot (record { word = x; content = y }) at in
-    let content : contents_in c new ≡ put (contents_in c ring) slot y = slot_content c ring slot (record { word = x; content = y }) at in
+    let word : words_in c new ≡ updated (words_in c ring) slot x = slot_word c ring slot (record { word = x; content = y }) at in
+    let content : contents_in c new ≡ updated (contents_in c ring) slot y = slot_content c ring slot (record { word = x; content = y }) at in
     same_cells _ _ _ _ _ _ _ _ (still c (λ (q : RingBook). q.tail) rings r new low refl) (still c (λ (q : RingBook). q.head) rings r new low refl)
     (still c (λ (q : RingBook). q.threshold) rings r new low refl)
     (same_entries _ _ _ _
-    (field c (words_in c) rings r new low ∙ ap (λ (f : ℕ → ℕ). put (λ q. words_in c (ring_in c rings q)) r f) word)
-    (field c (contents_in c) rings r new low ∙ ap (λ (f : ℕ → List ℕ). put (λ q. contents_in c (ring_in c rings q)) r f) content))
+    (field c (words_in c) rings r new low ∙ ap (λ (f : ℕ → ℕ). updated (λ q. words_in c (ring_in c rings q)) r f) word)
+    (field c (contents_in c) rings r new low ∙ ap (λ (f : ℕ → List ℕ). updated (λ q. contents_in c (ring_in c rings q)) r f) content))
 
-found_is : (c : Setup) (rings : List RingBook) (turn : Phase) → read (cells_of c rings) (word_of c turn) ≡ found_by c rings turn
-found_is c rings turn = rw (word_of-place c turn) (read-place c rings (ring_of turn) (place_of c turn))
+found_is : (c : Setup) (rings : List RingBook) (turn : Phase) → read (cells_of c rings) (location_of c turn) ≡ found_by c rings turn
+found_is c rings turn = rw (location_of-place c turn) (read-place c rings (ring_of turn) (place_of c turn))
 
-beside_is : (c : Setup) (rings : List RingBook) (turn : Phase) → beside (cells_of c rings) (word_of c turn) ≡ beside_by c rings turn
-beside_is c rings turn = rw (word_of-place c turn) (beside-place c rings (ring_of turn) (place_of c turn))
+beside_is : (c : Setup) (rings : List RingBook) (turn : Phase) → beside (cells_of c rings) (location_of c turn) ≡ beside_by c rings turn
+beside_is c rings turn = rw (location_of-place c turn) (beside-place c rings (ring_of turn) (place_of c turn))
 
 -- the cells after a turn
 cells_turn : (c : Setup) (rings : List RingBook) (turn : Phase) → HasRings c rings → ring_of turn < c.rings → cells_of c (rings_after c rings turn) ≡ cells_after c turn (cells_of c rings)
@@ -121,9 +121,9 @@ cells_turn c rings turn has low =
     let within : ring_of turn < length rings = omega (arith, has.0) in
     let x = found_by c rings turn in
     let y = beside_by c rings turn in
-    let wrote : cells_of c (rings_after c rings turn) ≡ written (cells_of c rings) (word_of c turn) (writes c turn x) (stores turn x y) =
+    let wrote : cells_of c (rings_after c rings turn) ≡ written (cells_of c rings) (location_of c turn) (writes c turn x) (stores turn x y) =
     write_cells c rings (ring_of turn) (place_of c turn) (writes c turn x) (stores turn x y) within at
-    ∙ ap (λ (w : Word). written (cells_of c rings) w (writes c turn x) (stores turn x y)) (sym (word_of-place c turn)) in
+    ∙ ap (λ (location : Location). written (cells_of c rings) location (writes c turn x) (stores turn x y)) (sym (location_of-place c turn)) in
     wrote ∙ rw (found_is c rings turn, beside_is c rings turn) refl
 
 pub same_machine : (m n : Cells) (p q : ℕ → Part) (o : List (List ℕ)) → m ≡ n → p ≡ q
@@ -157,9 +157,9 @@ pub advanced_machine : (b : Book) (k : ℕ) (step : Step) (rings : List RingBook
 advanced_machine b k step rings seat has low a on =
     let c = b.setup in
     let cells : cells_of c rings ≡ cells_after c a.turn (cells_of c b.rings) = ap (cells_of c) a.words ∙ cells_turn c b.rings a.turn has on in
-    let part : part_in (slice_set b.seats k seat) ≡ put (part_in b.seats) k (after c a.turn (read (cells_of c b.rings) (word_of c a.turn)) (beside (cells_of c b.rings) (word_of c a.turn)) (part_in b.seats k)) =
+    let part : part_in (slice_set b.seats k seat) ≡ updated (part_in b.seats) k (after c a.turn (read (cells_of c b.rings) (location_of c a.turn)) (beside (cells_of c b.rings) (location_of c a.turn)) (part_in b.seats k)) =
     set_is b.seats k seat idle_part low
-    ∙ ap (put (part_in b.seats) k) (a.part ∙ rw (found_is c b.rings a.turn, beside_is c b.rings a.turn) refl) in
+    ∙ ap (updated (part_in b.seats) k) (a.part ∙ rw (found_is c b.rings a.turn, beside_is c b.rings a.turn) refl) in
     let there : machine_of (record b { rings = rings; seats = slice_set b.seats k seat }) ≡ moved c (machine_of b) k a.turn = same_machine _ _ _ _ b.opening cells part in
     (rw a.enabled (ap Some (sym there)), rw a.words (rings_kept c b.rings a.turn has on))
 
@@ -184,7 +184,7 @@ ring_low c m hand (AtD9 r h from to) busy = busy.0
 ring_low c m hand (AtD10 r h leaving) busy = busy.0
 
 -- what the arithmetic of a turn stands on
-ready_turn : (c : Setup) (m : Cells) (hand : List ℕ) (turn : Phase) → Busy c m hand turn → WordsFit c m → HasIndices c m → (turn ≡ Idle → ⊥) → IsReady c turn (read m (word_of c turn))
+ready_turn : (c : Setup) (m : Cells) (hand : List ℕ) (turn : Phase) → Busy c m hand turn → WordsFit c m → HasIndices c m → (turn ≡ Idle → ⊥) → IsReady c turn (read m (location_of c turn))
 ready_turn c m hand Idle busy fit all wakes = wakes refl
 ready_turn c m hand (AtE1 r i w l) busy fit all wakes = fit.tail r
 ready_turn c m hand (AtE2 r i w t l) busy fit all wakes = (busy.1.lawful, all.entries r _)
@@ -210,7 +210,7 @@ can_turn b k step turn sound enabled =
     let m = machine_of b in
     let busy : Busy c m.cells (m.part k).hand turn = has c m.cells (m.part k) step turn ((steady c m sound.reachable).busy k) enabled in
     let wakes : turn ≡ Idle → ⊥ = awake c (m.part k).hand (m.part k).spent (m.part k).phase step turn enabled in
-    let ready : IsReady c turn (read m.cells (word_of c turn)) = ready_turn c m.cells (m.part k).hand turn busy (words_fit c m sound.reachable) (has_indices c m sound.reachable) wakes in
+    let ready : IsReady c turn (read m.cells (location_of c turn)) = ready_turn c m.cells (m.part k).hand turn busy (words_fit c m sound.reachable) (has_indices c m sound.reachable) wakes in
     record { ring = ring_low c m.cells (m.part k).hand turn busy; ready = rw (← found_is c b.rings turn) ready }
 
 -- so a step keeps a state sound

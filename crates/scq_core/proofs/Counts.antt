@@ -1,27 +1,27 @@
 -- A sum over the parts of seats: when one part changes, and where each part gives at most 1.
 use Rattle.std.proofs.Common.{◌≡◌, ℕ, zero, suc, ◌+◌, ◌<◌, ◌≤◌, refl, inl, inr, arith}
 use Rattle.std.proofs.lemmas.Bool.{cases_eq}
-use Rattle.scq_core.specs.Put.{put}
+use Rattle.scq_core.specs.Updated.{updated}
 use Rattle.scq_core.specs.Machine.{Part}
 use Rattle.scq_core.specs.Laws.{total}
-use Rattle.scq_core.proofs.PutLemmas.{put_here, put_else}
+use Rattle.scq_core.proofs.UpdatedLemmas.{updated_here, updated_else}
 
 -- a changed part of a seat that is not counted
-pub total_beyond : (f : Part → ℕ) (part : ℕ → Part) (k : ℕ) (p : Part) (n : ℕ) → n ≤ k → total f (put part k p) n ≡ total f part n
+pub total_beyond : (f : Part → ℕ) (part : ℕ → Part) (k : ℕ) (p : Part) (n : ℕ) → n ≤ k → total f (updated part k p) n ≡ total f part n
 total_beyond f part k p zero le = refl
 total_beyond f part k p (suc n) le =
-    rw (put_else part k p n (λ e. omega arith), total_beyond f part k p n (omega arith)) refl
+    rw (updated_else part k p n (λ e. omega arith), total_beyond f part k p n (omega arith)) refl
 
 -- the sum moves by what the changed part gives more or less
-pub total_put : (f : Part → ℕ) (part : ℕ → Part) (k : ℕ) (p : Part) (n : ℕ) → k < n → total f (put part k p) n + f (part k) ≡ total f part n + f p
-total_put f part k p zero less = absurd (omega arith)
-total_put f part k p (suc n) less =
+pub total_updated : (f : Part → ℕ) (part : ℕ → Part) (k : ℕ) (p : Part) (n : ℕ) → k < n → total f (updated part k p) n + f (part k) ≡ total f part n + f p
+total_updated f part k p zero less = absurd (omega arith)
+total_updated f part k p (suc n) less =
     elim (cases_eq n k) [
       | inl same ↦
-          rw (same, put_here part k p, total_beyond f part k p k (omega arith)) (omega arith)
+          rw (same, updated_here part k p, total_beyond f part k p k (omega arith)) (omega arith)
       | inr apart ↦
-          let rest = total_put f part k p n (omega arith) in
-          rw (put_else part k p n apart) (omega arith)
+          let rest = total_updated f part k p n (omega arith) in
+          rw (updated_else part k p n apart) (omega arith)
     ]
 
 -- at most the number of seats

@@ -7,7 +7,7 @@ use Rattle.scq_word.specs.Words.{packed, mark_of, index_in, safe_in, cycle_in, i
 use Rattle.scq_word.proofs.WordLemmas.{index_in-packed, safe_in-packed, cycle_in-packed, safe_in_bit, index_in_small, rank_in-empty, rank_in-safe, rank_in-unsafe, rank_in_range, packed-parts}
 use Rattle.scq_word.proofs.TicketLemmas.{ticket_parts}
 use Rattle.std.proofs.Math.Nat.{mul-le-mul_right, mul-le-mul_left}
-use Rattle.scq_core.specs.Table.{size, cycle, passed, zero_level, reset_of}
+use Rattle.scq_core.specs.Table.{ring_slots, cycle, passed, zero_level, reset_value}
 use Rattle.scq_core.specs.Laws.{IsAbove}
 
 -- there are at least two indices
@@ -18,11 +18,11 @@ some_indices c = let o = c.order_in_range in let low : 2 ^ 1 ≤ 2 ^ c.order = p
 pub few_indices : (c : Setup) → n_of c.order ≤ 4096
 few_indices c = let o = c.order_in_range in let high : 2 ^ c.order ≤ 2 ^ 12 = pow_mono o.1 in omega arith
 
-pub some_slots : (c : Setup) → 0 < size c
+pub some_slots : (c : Setup) → 0 < ring_slots c
 some_slots c = omega (arith, some_indices c)
 
 -- an index is below the mark
-pub below_mark : (c : Setup) (i : ℕ) → i < n_of c.order → i < mark_of (size c)
+pub below_mark : (c : Setup) (i : ℕ) → i < n_of c.order → i < mark_of (ring_slots c)
 below_mark c i small = omega (arith, some_indices c)
 
 -- a word with the mark has no index
@@ -107,9 +107,9 @@ taking_rises m e some =
     ]
 
 -- what a later dequeue does to an entry raises its rank, or the entry is marked unsafe already
-pub passing_rises : (c : Setup) (h e : ℕ) → cycle_in (size c) e < cycle c h → IsAbove (size c) e (passed c h e)
+pub passing_rises : (c : Setup) (h e : ℕ) → cycle_in (ring_slots c) e < cycle c h → IsAbove (ring_slots c) e (passed c h e)
 passing_rises c h e later =
-    let m = size c in
+    let m = ring_slots c in
     let some = some_slots c in
     let bit = safe_in_bit m e in
     elim (cases_Bool (is_none_in m e)) [
@@ -130,7 +130,7 @@ passing_rises c h e later =
     ]
 
 -- the limit of tickets leaves room for a few turns of a ring, and is at most 2^60
-pub limit_high : (c : Setup) → 4 * size c ≤ c.limit
+pub limit_high : (c : Setup) → 4 * ring_slots c ≤ c.limit
 limit_high c = let l = c.limit_in_range in omega arith
 
 pub limit_low : (c : Setup) → c.limit ≤ 2 ^ 60
@@ -149,47 +149,47 @@ unfolding zero_level
 zero_level_is = refl
 
 -- what they use of the number that a reset sets: it reaches over the window and every other seat, and is small
-pub reset_covers : (c : Setup) → n_of c.order + 1 ≤ reset_of c
-unfolding reset_of
+pub reset_covers : (c : Setup) → n_of c.order + 1 ≤ reset_value c
+unfolding reset_value
 reset_covers c = let some = some_indices c in omega arith
 
-pub reset_reaches : (c : Setup) → size c + c.seats ≤ reset_of c + 1
-unfolding reset_of
+pub reset_reaches : (c : Setup) → ring_slots c + c.seats ≤ reset_value c + 1
+unfolding reset_value
 reset_reaches c = let some = some_indices c in let s = c.seats_in_range in omega arith
 
-pub reset_small : (c : Setup) → reset_of c < 2 ^ 16
-unfolding reset_of
+pub reset_small : (c : Setup) → reset_value c < 2 ^ 16
+unfolding reset_value
 reset_small c = let few = few_indices c in omega arith
 
 -- the cycle of a ticket below the limit, times the slots, is below the limit
-pub cycle_lawful : (c : Setup) (t : ℕ) → t < c.limit → cycle c t * size c < c.limit
-cycle_lawful c t low = let parts = ticket_parts (size c) t in omega arith
+pub cycle_lawful : (c : Setup) (t : ℕ) → t < c.limit → cycle c t * ring_slots c < c.limit
+cycle_lawful c t low = let parts = ticket_parts (ring_slots c) t in omega arith
 
 -- a word of such a cycle is one of 64 bits
-pub packed_fits : (c : Setup) (z s i : ℕ) → z * size c < c.limit → s < 2 → i < size c → packed (size c) z s i < 2 ^ 64
+pub packed_fits : (c : Setup) (z s i : ℕ) → z * ring_slots c < c.limit → s < 2 → i < ring_slots c → packed (ring_slots c) z s i < 2 ^ 64
 unfolding packed
 packed_fits c z s i low bit small =
     let few = few_indices c in
     let high = limit_low c in
-    let one : s * size c ≤ 1 * size c = mul-le-mul_right (size c) (omega arith) in
+    let one : s * ring_slots c ≤ 1 * ring_slots c = mul-le-mul_right (ring_slots c) (omega arith) in
     omega arith
 
-pub word_fits : (c : Setup) (w : ℕ) → cycle_in (size c) w * size c < c.limit → w < 2 ^ 64
+pub word_fits : (c : Setup) (w : ℕ) → cycle_in (ring_slots c) w * ring_slots c < c.limit → w < 2 ^ 64
 word_fits c w low =
     let some = some_slots c in
-    let fits = packed_fits c (cycle_in (size c) w) (safe_in (size c) w) (index_in (size c) w) low (safe_in_bit (size c) w) (index_in_small (size c) w some) in
-    rw (packed-parts (size c) w) at fits
+    let fits = packed_fits c (cycle_in (ring_slots c) w) (safe_in (ring_slots c) w) (index_in (ring_slots c) w) low (safe_in_bit (ring_slots c) w) (index_in_small (ring_slots c) w some) in
+    rw (packed-parts (ring_slots c) w) at fits
 
 -- and its rank is far below
-pub rank_fits : (c : Setup) (w : ℕ) → cycle_in (size c) w * size c < c.limit → rank_in (size c) w < 2 ^ 61
+pub rank_fits : (c : Setup) (w : ℕ) → cycle_in (ring_slots c) w * ring_slots c < c.limit → rank_in (ring_slots c) w < 2 ^ 61
 rank_fits c w low =
     let some = some_indices c in
     let high = limit_low c in
-    let range = rank_in_range (size c) w in
-    let four : cycle_in (size c) w * 4 ≤ cycle_in (size c) w * size c = mul-le-mul_left (cycle_in (size c) w) (omega arith) in
+    let range = rank_in_range (ring_slots c) w in
+    let four : cycle_in (ring_slots c) w * 4 ≤ cycle_in (ring_slots c) w * ring_slots c = mul-le-mul_left (cycle_in (ring_slots c) w) (omega arith) in
     omega arith
 
-pub few_slots : (c : Setup) → size c ≤ 8192
+pub few_slots : (c : Setup) → ring_slots c ≤ 8192
 few_slots c = let few = few_indices c in omega arith
 
 -- a word that has changed never comes back

@@ -10,7 +10,7 @@ use Rattle.scq_word.specs.Words.{packed}
 use Rattle.scq_word.proofs.TicketLemmas.{slot_of_small}
 use Rattle.scq_core.specs.declared.slot.Slot.{Slot}
 use Rattle.scq_core.specs.Machine.{Part, Machine}
-use Rattle.scq_core.specs.Table.{size, zero_level, reset_level}
+use Rattle.scq_core.specs.Table.{ring_slots, zero_level, reset_level}
 use Rattle.scq_core.specs.Start.{unused, filled, filled_contents, start_cells, idle_part, start_of}
 use Rattle.scq_core.specs.Rings.{RingBook}
 use Rattle.scq_core.specs.Book.{no_slot, no_ring, ring_in, cells_of, part_in, machine_of, HasRings, IsSound}
@@ -19,23 +19,23 @@ use Rattle.scq_core.specs.Reach.{IsReachable, at_start}
 use Rattle.scq_core.proofs.Entries.{some_slots}
 use Rattle.scq_core.proofs.Books.{same_cells, same_entries, same_machine}
 
-more_word : (c : Setup) (count : ℕ) (slots : List Slot) (new : Slot) → length slots ≡ size c → new.word ≡ packed (size c) 1 1 count
-    → ((s : ℕ) → (slice_index_or slots s (no_slot c)).word ≡ filled (size c) count s) → (s : ℕ)
-    → (slice_index_or (slice_set slots (slot_of (size c) (size c + count)) new) s (no_slot c)).word ≡ filled (size c) (suc count) s
+more_word : (c : Setup) (count : ℕ) (slots : List Slot) (new : Slot) → length slots ≡ ring_slots c → new.word ≡ packed (ring_slots c) 1 1 count
+    → ((s : ℕ) → (slice_index_or slots s (no_slot c)).word ≡ filled (ring_slots c) count s) → (s : ℕ)
+    → (slice_index_or (slice_set slots (slot_of (ring_slots c) (ring_slots c + count)) new) s (no_slot c)).word ≡ filled (ring_slots c) (suc count) s
 more_word c count slots new many is old s =
-    let at = slot_of (size c) (size c + count) in
-    let low : at < length slots = rw many (slot_of_small (size c) (size c + count) (some_slots c)) in
+    let at = slot_of (ring_slots c) (ring_slots c + count) in
+    let low : at < length slots = rw many (slot_of_small (ring_slots c) (ring_slots c + count) (some_slots c)) in
     elim (cases_eq s at) [
       | inl same ↦ rw (same, get_or-set_same slots at new (no_slot c) low, eq-eqb at at refl) is
       | inr apart ↦ rw (get_or-set_other slots at s new (no_slot c) apart, ne_eqb s at apart) (old s)
     ]
 
-more_content : (c : Setup) (opening : List (List ℕ)) (count : ℕ) (slots : List Slot) (new : Slot) → length slots ≡ size c → new.content ≡ slice_index_or opening count []
-    → ((s : ℕ) → (slice_index_or slots s (no_slot c)).content ≡ filled_contents (size c) opening count s) → (s : ℕ)
-    → (slice_index_or (slice_set slots (slot_of (size c) (size c + count)) new) s (no_slot c)).content ≡ filled_contents (size c) opening (suc count) s
+more_content : (c : Setup) (opening : List (List ℕ)) (count : ℕ) (slots : List Slot) (new : Slot) → length slots ≡ ring_slots c → new.content ≡ slice_index_or opening count []
+    → ((s : ℕ) → (slice_index_or slots s (no_slot c)).content ≡ filled_contents (ring_slots c) opening count s) → (s : ℕ)
+    → (slice_index_or (slice_set slots (slot_of (ring_slots c) (ring_slots c + count)) new) s (no_slot c)).content ≡ filled_contents (ring_slots c) opening (suc count) s
 more_content c opening count slots new many is old s =
-    let at = slot_of (size c) (size c + count) in
-    let low : at < length slots = rw many (slot_of_small (size c) (size c + count) (some_slots c)) in
+    let at = slot_of (ring_slots c) (ring_slots c + count) in
+    let low : at < length slots = rw many (slot_of_small (ring_slots c) (ring_slots c + count) (some_slots c)) in
     elim (cases_eq s at) [
       | inl same ↦ rw (same, get_or-set_same slots at new (no_slot c) low, eq-eqb at at refl) is
       | inr apart ↦ rw (get_or-set_other slots at s new (no_slot c) apart, ne_eqb s at apart) (old s)
@@ -44,13 +44,13 @@ more_content c opening count slots new many is old s =
 -- one more index was placed
 pub filled_more : (c : Setup) (opening : List (List ℕ)) (count : ℕ) (slots later : List Slot) (copy item : List ℕ) → IsFilled c opening count slots
     → count < length opening → copy ≡ item → item ≡ slice_index_or opening count item
-    → later ≡ slice_set slots (slot_of (size c) (size c + count)) (record { word = packed (size c) 1 1 count; content = copy })
+    → later ≡ slice_set slots (slot_of (ring_slots c) (ring_slots c + count)) (record { word = packed (ring_slots c) 1 1 count; content = copy })
     → IsFilled c opening (count + 1) later
 filled_more c opening count slots later copy item was low copied is changed =
     let content : copy ≡ slice_index_or opening count [] = copied ∙ is ∙ get_or_default opening count item [] low in
-    let new : Slot = record { word = packed (size c) 1 1 count; content = copy } in
+    let new : Slot = record { word = packed (ring_slots c) 1 1 count; content = copy } in
     rw (add-one, changed) (record {
-      many = length-set slots (slot_of (size c) (size c + count)) new ∙ was.many;
+      many = length-set slots (slot_of (ring_slots c) (ring_slots c + count)) new ∙ was.many;
       words = more_word c count slots new was.many refl was.words;
       contents = more_content c opening count slots new was.many content was.contents;
     })
@@ -67,10 +67,10 @@ either_same true x = refl
 either_same false x = refl
 
 slots_many : (c : Setup) (opening : List (List ℕ)) (full : RingBook) (more : ℕ) → IsFullRing c opening full → more + 1 ≡ c.rings
-    → (r : ℕ) → r < c.rings → length (ring_in c (full ∷ replicate more (empty_ring c)) r).slots ≡ size c
+    → (r : ℕ) → r < c.rings → length (ring_in c (full ∷ replicate more (empty_ring c)) r).slots ≡ ring_slots c
 slots_many c opening full more is many zero low = is.slots.many
 slots_many c opening full more is many (suc r) low =
-    rw (get_or-replicate more r (empty_ring c) (no_ring c) (omega arith)) (length-replicate (size c) (no_slot c))
+    rw (get_or-replicate more r (empty_ring c) (no_ring c) (omega arith)) (length-replicate (ring_slots c) (no_slot c))
 
 first_or : {A : Type 0} → (c : Setup) (f : RingBook → A) (full : RingBook) (more : ℕ) (a b : A) → f full ≡ a → f (empty_ring c) ≡ b → f (no_ring c) ≡ b
     → (r : ℕ) → f (ring_in c (full ∷ replicate more (empty_ring c)) r) ≡ (if r == 0 then a else b)
@@ -79,24 +79,24 @@ first_or c f full more a b first other past (suc r) =
     rw (ne_eqb (suc r) 0 (λ e. absurd (omega arith))) (replicate_read (λ (ring : RingBook). f ring ≡ b) more (empty_ring c) (no_ring c) other past r)
 
 words_or : (c : Setup) (opening : List (List ℕ)) (full : RingBook) (more : ℕ) → IsFullRing c opening full → (r s : ℕ)
-    → (slice_index_or (ring_in c (full ∷ replicate more (empty_ring c)) r).slots s (no_slot c)).word ≡ (if r == 0 then filled (size c) (n_of c.order) s else unused (size c))
+    → (slice_index_or (ring_in c (full ∷ replicate more (empty_ring c)) r).slots s (no_slot c)).word ≡ (if r == 0 then filled (ring_slots c) (n_of c.order) s else unused (ring_slots c))
 words_or c opening full more is r s =
-    first_or c (λ (ring : RingBook). (slice_index_or ring.slots s (no_slot c)).word) full more (filled (size c) (n_of c.order) s) (unused (size c)) (is.slots.words s)
-    (replicate_read (λ (slot : Slot). slot.word ≡ unused (size c)) (size c) (no_slot c) (no_slot c) refl refl s) refl r
+    first_or c (λ (ring : RingBook). (slice_index_or ring.slots s (no_slot c)).word) full more (filled (ring_slots c) (n_of c.order) s) (unused (ring_slots c)) (is.slots.words s)
+    (replicate_read (λ (slot : Slot). slot.word ≡ unused (ring_slots c)) (ring_slots c) (no_slot c) (no_slot c) refl refl s) refl r
 
 contents_or : (c : Setup) (opening : List (List ℕ)) (full : RingBook) (more : ℕ) → IsFullRing c opening full → (r s : ℕ)
-    → (slice_index_or (ring_in c (full ∷ replicate more (empty_ring c)) r).slots s (no_slot c)).content ≡ (if r == 0 then filled_contents (size c) opening (n_of c.order) s else [])
+    → (slice_index_or (ring_in c (full ∷ replicate more (empty_ring c)) r).slots s (no_slot c)).content ≡ (if r == 0 then filled_contents (ring_slots c) opening (n_of c.order) s else [])
 contents_or c opening full more is r s =
-    first_or c (λ (ring : RingBook). (slice_index_or ring.slots s (no_slot c)).content) full more (filled_contents (size c) opening (n_of c.order) s) [] (is.slots.contents s)
-    (replicate_read (λ (slot : Slot). slot.content ≡ []) (size c) (no_slot c) (no_slot c) refl refl s) refl r
+    first_or c (λ (ring : RingBook). (slice_index_or ring.slots s (no_slot c)).content) full more (filled_contents (ring_slots c) opening (n_of c.order) s) [] (is.slots.contents s)
+    (replicate_read (λ (slot : Slot). slot.content ≡ []) (ring_slots c) (no_slot c) (no_slot c) refl refl s) refl r
 
 -- the cells of the start
 pub start_cells_are : (c : Setup) (opening : List (List ℕ)) (full : RingBook) (more : ℕ) → IsFullRing c opening full
     → cells_of c (full ∷ replicate more (empty_ring c)) ≡ start_cells c opening
 start_cells_are c opening full more is =
     same_cells _ _ _ _ _ _ _ _
-    (λ k r. first_or c (λ (ring : RingBook). ring.tail) full more (size c + n_of c.order) (size c) is.tail refl refl r k)
-    (λ k r. (first_or c (λ (ring : RingBook). ring.head) full more (size c) (size c) is.head refl refl r ∙ either_same (r == 0) (size c)) k)
+    (λ k r. first_or c (λ (ring : RingBook). ring.tail) full more (ring_slots c + n_of c.order) (ring_slots c) is.tail refl refl r k)
+    (λ k r. (first_or c (λ (ring : RingBook). ring.head) full more (ring_slots c) (ring_slots c) is.head refl refl r ∙ either_same (r == 0) (ring_slots c)) k)
     (λ k r. first_or c (λ (ring : RingBook). ring.threshold) full more (reset_level c) (zero_level - 1) is.threshold refl refl r k)
     (same_entries _ _ _ _ (λ k r s. words_or c opening full more is r s k) (λ k r s. contents_or c opening full more is r s k))
 

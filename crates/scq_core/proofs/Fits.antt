@@ -4,10 +4,10 @@ use Rattle.scq_word.specs.declared.setup.Setup.{Setup}
 use Rattle.std.specs.Prelude.{Some}
 use Rattle.scq_core.specs.declared.step.Step.{Step}
 use Rattle.scq_core.specs.Machine.{Machine, read, beside}
-use Rattle.scq_core.specs.Table.{word_of, writes, stores, after, step_of}
+use Rattle.scq_core.specs.Table.{location_of, writes, stores, after, step_of}
 use Rattle.scq_core.specs.Reach.{IsReachable}
 use Rattle.scq_core.specs.Laws.{RankRises, CountersRise, WordsFit, ChangesOne, CatchUpLags}
-use Rattle.scq_core.proofs.PutLemmas.{put_else}
+use Rattle.scq_core.proofs.UpdatedLemmas.{updated_else}
 use Rattle.scq_core.proofs.Turns.{turned}
 use Rattle.scq_core.proofs.Entries.{limit_low, few_seats, zero_level_is, reset_small, word_fits}
 use Rattle.scq_core.proofs.Ranks.{rank_rises, counters_rise}
@@ -45,15 +45,15 @@ step_rises c m m' k s reach e =
 pub step_changes : (c : Setup) (m m' : Machine) (k : ℕ) (s : Step) → step_of c m k s ≡ Some m' → ChangesOne m k m'
 step_changes c m m' k s e =
     let t = turned c m k s m' e in
-    let x = read m.cells (word_of c t.turn) in
-    let y = beside m.cells (word_of c t.turn) in
+    let x = read m.cells (location_of c t.turn) in
+    let y = beside m.cells (location_of c t.turn) in
     rw t.next
     (record {
-      word = word_of c t.turn;
+      location = location_of c t.turn;
       value = writes c t.turn x;
       content = stores t.turn x y;
       cells = refl;
-      parts = λ j apart. put_else m.part k (after c t.turn x y (m.part k)) j apart;
+      parts = λ j apart. updated_else m.part k (after c t.turn x y (m.part k)) j apart;
       opening = refl;
     })
 

@@ -8,17 +8,17 @@ use Rattle.scq_word.specs.Words.{safe_in, cycle_in, is_none_in}
 use Rattle.scq_core.specs.declared.phase.Phase.{Phase}
 use Rattle.scq_core.specs.declared.phase.Phase.TheVariants.{Idle, AtE1, AtE2, AtE3, AtE4, AtE5, AtE6, AtD1, AtD2, AtD3, AtD4, AtD5, AtD6, AtD7, AtD8, AtD9, AtD10}
 use Rattle.scq_core.specs.declared.step.Step.{Step}
-use Rattle.scq_core.specs.Put.{put}
+use Rattle.scq_core.specs.Updated.{updated}
 use Rattle.scq_core.specs.Machine.{Cells, Part, Machine, read, beside}
-use Rattle.scq_core.specs.Table.{size, cycle, zero_level, reset_level, turn_of, word_of, after, cells_after, moved}
+use Rattle.scq_core.specs.Table.{ring_slots, cycle, zero_level, reset_level, turn_of, location_of, after, cells_after, moved}
 use Rattle.scq_core.specs.Start.{start_of}
 use Rattle.scq_core.specs.Reach.{IsReachable, at_start, by_step}
 use Rattle.scq_core.specs.Laws.{word_at, dequeues, dequeues_of, ThresholdFloor}
-use Rattle.scq_core.proofs.PutLemmas.{put_or, put_cases}
+use Rattle.scq_core.proofs.UpdatedLemmas.{updated_or, updated_cases}
 use Rattle.scq_core.proofs.Turns.{turned, Begins, begins_put, begins_get, begins, awake}
 use Rattle.scq_core.proofs.Entries.{zero_level_is, some_seats}
 use Rattle.scq_core.proofs.Steady.{either_way}
-use Rattle.scq_core.proofs.Counts.{total_put, total_few, total_none}
+use Rattle.scq_core.proofs.Counts.{total_updated, total_few, total_none}
 
 -- a seat counts at most once
 pub dequeues_bit : (r : ℕ) (phase : Phase) → dequeues r phase ≤ 1
@@ -47,7 +47,7 @@ dequeues_turn c p s turn r e =
 
 -- the phase of a seat after its turn
 abbrev phase_then : Setup → Cells → Part → Phase → Phase
-phase_then c m p turn = (after c turn (read m (word_of c turn)) (beside m (word_of c turn)) p).phase
+phase_then c m p turn = (after c turn (read m (location_of c turn)) (beside m (location_of c turn)) p).phase
 
 -- what a turn does to a ring's Threshold and dequeues: it ends at 0 or above, or falls by no more than the seat counts less
 pub record Falls (level before later was now : ℕ) : Type 0 where
@@ -58,9 +58,9 @@ same_falls : (level x was now : ℕ) → now ≤ was → Falls level x x was now
 same_falls level x was now le = record { falls = inr (omega arith) }
 
 -- a Threshold that is only read
-read_falls : (m : Cells) (q r was now : ℕ) → now ≤ was → Falls zero_level (m.threshold r) (put m.threshold q (m.threshold q) r) was now
+read_falls : (m : Cells) (q r was now : ℕ) → now ≤ was → Falls zero_level (m.threshold r) (updated m.threshold q (m.threshold q) r) was now
 read_falls m q r was now le =
-    elim (put_or m.threshold q (m.threshold q) r) [
+    elim (updated_or m.threshold q (m.threshold q) r) [
       | inl here ↦ rw here.1 (rw here.0 (record { falls = inr (omega arith) }))
       | inr there ↦ rw there.1 (record { falls = inr (omega arith) })
     ]
@@ -70,9 +70,9 @@ to_part : (r b : ℕ) (t : Bool) (x y : Part) → dequeues r x.phase ≤ b → d
 to_part r b t x y left right = either_way (λ (v : Part). dequeues r v.phase ≤ b) t x y left right
 
 -- a Threshold that falls by one where a dequeue of its ring ends
-ending_falls : (m : Cells) (q h r : ℕ) (leaving : Bool) → Falls zero_level (m.threshold r) (put m.threshold q (m.threshold q - 1) r) (dequeues r (AtD10 q h leaving)) 0
+ending_falls : (m : Cells) (q h r : ℕ) (leaving : Bool) → Falls zero_level (m.threshold r) (updated m.threshold q (m.threshold q - 1) r) (dequeues r (AtD10 q h leaving)) 0
 ending_falls m q h r leaving =
-    elim (put_or m.threshold q (m.threshold q - 1) r) [
+    elim (updated_or m.threshold q (m.threshold q - 1) r) [
       | inl here ↦
           let one : dequeues r (AtD10 q h leaving) ≡ 1 = rw (eq-eqb q r (sym here.0)) refl in
           rw here.1 (rw here.0 (record { falls = inr (let e : dequeues q (AtD10 q h leaving) ≡ 1 = rw here.0 at one in omega arith) }))
@@ -80,9 +80,9 @@ ending_falls m q h r leaving =
     ]
 
 -- a dequeue that goes past D1, where Threshold is at 0 or above
-passing_falls : (m : Cells) (q r l : ℕ) → zero_level ≤ m.threshold q → Falls zero_level (m.threshold r) (put m.threshold q (m.threshold q) r) 0 (dequeues r (AtD2 q l))
+passing_falls : (m : Cells) (q r l : ℕ) → zero_level ≤ m.threshold q → Falls zero_level (m.threshold r) (updated m.threshold q (m.threshold q) r) 0 (dequeues r (AtD2 q l))
 passing_falls m q r l high =
-    elim (put_or m.threshold q (m.threshold q) r) [
+    elim (updated_or m.threshold q (m.threshold q) r) [
       | inl here ↦ rw here.1 (record { falls = inl high })
       | inr there ↦
           let none : dequeues r (AtD2 q l) ≡ 0 = rw (ne_eqb q r (λ e. there.0 (sym e))) refl in
@@ -90,9 +90,9 @@ passing_falls m q r l high =
     ]
 
 -- one that goes on, where Threshold was above 0
-staying_falls : (m : Cells) (q h r l : ℕ) (leaving : Bool) → zero_level < m.threshold q → Falls zero_level (m.threshold r) (put m.threshold q (m.threshold q - 1) r) (dequeues r (AtD10 q h leaving)) (dequeues r (AtD2 q l))
+staying_falls : (m : Cells) (q h r l : ℕ) (leaving : Bool) → zero_level < m.threshold q → Falls zero_level (m.threshold r) (updated m.threshold q (m.threshold q - 1) r) (dequeues r (AtD10 q h leaving)) (dequeues r (AtD2 q l))
 staying_falls m q h r l leaving high =
-    elim (put_or m.threshold q (m.threshold q - 1) r) [
+    elim (updated_or m.threshold q (m.threshold q - 1) r) [
       | inl here ↦ rw here.1 (record { falls = inl (omega arith) })
       | inr there ↦ rw there.1 (record { falls = inr (omega arith) })
     ]
@@ -108,13 +108,13 @@ falls_turn c m p (AtE2 q i w t l) r awake =
     _
     _
     _
-    (to_part r 0 (nat_lt (cycle_in (size c) x) (cycle c t) && is_none_in (size c) x) _ _ (to_part r 0 (safe_in (size c) x == 1) _ _ (omega arith) (omega arith)) (omega arith))
+    (to_part r 0 (nat_lt (cycle_in (ring_slots c) x) (cycle c t) && is_none_in (ring_slots c) x) _ _ (to_part r 0 (safe_in (ring_slots c) x == 1) _ _ (omega arith) (omega arith)) (omega arith))
 falls_turn c m p (AtE3 q i w t e) r awake = same_falls _ _ _ _ (to_part r 0 (nat_le (m.head q) t) _ _ (omega arith) (omega arith))
 falls_turn c m p (AtE4 q i w t e) r awake = same_falls _ _ _ _ (to_part r 0 (word_at c m q t == e) _ _ (omega arith) (omega arith))
 falls_turn c m p (AtE5 q i w t) r awake =
     read_falls m q r _ _ (to_part r 0 (m.threshold q == reset_level c) _ _ (omega arith) (omega arith))
 falls_turn c m p (AtE6 q i w t) r awake =
-    elim (put_or m.threshold q (reset_level c) r) [
+    elim (updated_or m.threshold q (reset_level c) r) [
       | inl here ↦ rw here.1 (record { falls = inl (omega arith) })
       | inr there ↦ rw there.1 (record { falls = inr (omega arith) })
     ]
@@ -123,7 +123,7 @@ falls_turn c m p (AtD1 q) r awake =
     (nat_lt (m.threshold q) zero_level)
     _
     _
-    (λ (v : Part). Falls zero_level (m.threshold r) (put m.threshold q (m.threshold q) r) 0 (dequeues r v.phase))
+    (λ (v : Part). Falls zero_level (m.threshold r) (updated m.threshold q (m.threshold q) r) 0 (dequeues r v.phase))
     (λ _. read_falls m q r 0 0 (omega arith))
     (λ high. passing_falls m q r 0 (ltb-false _ _ high))
 falls_turn c m p (AtD2 q l) r awake =
@@ -135,7 +135,7 @@ falls_turn c m p (AtD3 q h l) r awake =
     _
     _
     _
-    (to_part r (dequeues r (AtD3 q h l)) (cycle_in (size c) x == cycle c h) _ _ (omega arith) (to_part r (dequeues r (AtD3 q h l)) (nat_lt (cycle_in (size c) x) (cycle c h)) _ _ (omega arith) (omega arith)))
+    (to_part r (dequeues r (AtD3 q h l)) (cycle_in (ring_slots c) x == cycle c h) _ _ (omega arith) (to_part r (dequeues r (AtD3 q h l)) (nat_lt (cycle_in (ring_slots c) x) (cycle c h)) _ _ (omega arith) (omega arith)))
 falls_turn c m p (AtD4 q h) r awake = same_falls _ _ _ _ (omega arith)
 falls_turn c m p (AtD5 q h e) r awake =
     same_falls _ _ _ _ (to_part r (dequeues r (AtD5 q h e)) (word_at c m q h == e) _ _ (omega arith) (omega arith))
@@ -152,29 +152,29 @@ falls_turn c m p (AtD10 q h false) r awake =
     (nat_le (m.threshold q) zero_level)
     _
     _
-    (λ (v : Part). Falls zero_level (m.threshold r) (put m.threshold q (m.threshold q - 1) r) (dequeues r (AtD10 q h false)) (dequeues r v.phase))
+    (λ (v : Part). Falls zero_level (m.threshold r) (updated m.threshold q (m.threshold q - 1) r) (dequeues r (AtD10 q h false)) (dequeues r v.phase))
     (λ _. ending_falls m q h r false)
     (λ high. staying_falls m q h r (h + 1) false (leb-false _ _ high))
 
 -- no turn lifts Threshold above what a reset sets
 ceiling_turn : (c : Setup) (m : Cells) (turn : Phase) → ((r : ℕ) → m.threshold r ≤ reset_level c) → (r : ℕ) → (cells_after c turn m).threshold r ≤ reset_level c
-ceiling_turn c m (AtE5 q i w t) low r = put_cases (λ (a v : ℕ). v ≤ reset_level c) m.threshold q _ r (λ _. low q) (λ _. low r)
-ceiling_turn c m (AtE6 q i w t) low r = put_cases (λ (a v : ℕ). v ≤ reset_level c) m.threshold q _ r (λ _. omega arith) (λ _. low r)
-ceiling_turn c m (AtD1 q) low r = put_cases (λ (a v : ℕ). v ≤ reset_level c) m.threshold q _ r (λ _. low q) (λ _. low r)
+ceiling_turn c m (AtE5 q i w t) low r = updated_cases (λ (a v : ℕ). v ≤ reset_level c) m.threshold q _ r (λ _. low q) (λ _. low r)
+ceiling_turn c m (AtE6 q i w t) low r = updated_cases (λ (a v : ℕ). v ≤ reset_level c) m.threshold q _ r (λ _. omega arith) (λ _. low r)
+ceiling_turn c m (AtD1 q) low r = updated_cases (λ (a v : ℕ). v ≤ reset_level c) m.threshold q _ r (λ _. low q) (λ _. low r)
 ceiling_turn c m (AtD10 q h leaving) low r =
-    put_cases (λ (a v : ℕ). v ≤ reset_level c) m.threshold q _ r (λ _. let le = low q in omega arith) (λ _. low r)
+    updated_cases (λ (a v : ℕ). v ≤ reset_level c) m.threshold q _ r (λ _. let le = low q in omega arith) (λ _. low r)
 ceiling_turn c m turn low r = low r
 
 -- a turn keeps floor and ceiling
 floor_turn : (c : Setup) (m : Machine) (k : ℕ) (s : Step) (turn : Phase) → k < c.seats → turn_of c (m.part k) s ≡ Some turn → ThresholdFloor c m → ThresholdFloor c (moved c m k turn)
 floor_turn c m k s turn low e was =
     let p = m.part k in
-    let x = read m.cells (word_of c turn) in
-    let y = beside m.cells (word_of c turn) in
+    let x = read m.cells (location_of c turn) in
+    let y = beside m.cells (location_of c turn) in
     record {
       floor =
           λ r.
-          let sum = total_put (λ (q : Part). dequeues r q.phase) m.part k (after c turn x y p) c.seats low in
+          let sum = total_updated (λ (q : Part). dequeues r q.phase) m.part k (after c turn x y p) c.seats low in
           let few = total_few (λ (q : Part). dequeues r q.phase) (moved c m k turn).part (λ q. dequeues_bit r q.phase) c.seats in
           let floor = was.floor r in
           let counted = dequeues_turn c p s turn r e in

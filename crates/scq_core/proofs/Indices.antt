@@ -9,12 +9,12 @@ use Rattle.scq_word.specs.Entries.{IsIndexOrMark}
 use Rattle.scq_word.proofs.WordLemmas.{index_in-packed, index_in_small}
 use Rattle.scq_core.specs.declared.phase.Phase.{Phase}
 use Rattle.scq_core.specs.declared.phase.Phase.TheVariants.{AtE2, AtE4, AtD3, AtD4, AtD5}
-use Rattle.scq_core.specs.Machine.{Cells, Machine, read, put_entry}
-use Rattle.scq_core.specs.Table.{size, cycle, passed, word_of, cells_after}
+use Rattle.scq_core.specs.Machine.{Cells, Machine, read, updated_entry}
+use Rattle.scq_core.specs.Table.{ring_slots, cycle, passed, location_of, cells_after}
 use Rattle.scq_core.specs.Start.{start_of, filled, unused}
 use Rattle.scq_core.specs.Reach.{IsReachable, at_start, by_step}
 use Rattle.scq_core.specs.Laws.{Busy}
-use Rattle.scq_core.proofs.PutLemmas.{put_entry_cases}
+use Rattle.scq_core.proofs.UpdatedLemmas.{updated_entry_cases}
 use Rattle.scq_core.proofs.Turns.{turned}
 use Rattle.scq_core.proofs.Entries.{some_slots}
 use Rattle.scq_core.proofs.Steady.{has, steady, either_way}
@@ -24,44 +24,44 @@ use Rattle.scq_core.proofs.Limits.{filled_cases}
 pub record HasIndices (c : Setup) (m : Cells) : Type 0 where
   pub entries : (r s : ℕ) → IsIndexOrMark c.order (m.entries.word r s)
 
-marked : (c : Setup) (cyc safe : ℕ) → IsIndexOrMark c.order (packed (size c) cyc safe (mark_of (size c)))
+marked : (c : Setup) (cyc safe : ℕ) → IsIndexOrMark c.order (packed (ring_slots c) cyc safe (mark_of (ring_slots c)))
 marked c cyc safe =
-    let some = some_slots c in inr (index_in-packed (size c) cyc safe (mark_of (size c)) (omega arith))
+    let some = some_slots c in inr (index_in-packed (ring_slots c) cyc safe (mark_of (ring_slots c)) (omega arith))
 
-placed : (c : Setup) (cyc safe i : ℕ) → i < n_of c.order → IsIndexOrMark c.order (packed (size c) cyc safe i)
+placed : (c : Setup) (cyc safe i : ℕ) → i < n_of c.order → IsIndexOrMark c.order (packed (ring_slots c) cyc safe i)
 placed c cyc safe i small =
-    inl (rw (index_in-packed (size c) cyc safe i (omega arith)) small)
+    inl (rw (index_in-packed (ring_slots c) cyc safe i (omega arith)) small)
 
-kept : (c : Setup) (cyc safe e : ℕ) → IsIndexOrMark c.order e → IsIndexOrMark c.order (packed (size c) cyc safe (index_in (size c) e))
+kept : (c : Setup) (cyc safe e : ℕ) → IsIndexOrMark c.order e → IsIndexOrMark c.order (packed (ring_slots c) cyc safe (index_in (ring_slots c) e))
 kept c cyc safe e valid =
-    rw (index_in-packed (size c) cyc safe (index_in (size c) e) (index_in_small (size c) e (some_slots c))) valid
+    rw (index_in-packed (ring_slots c) cyc safe (index_in (ring_slots c) e) (index_in_small (ring_slots c) e (some_slots c))) valid
 
 passed_valid : (c : Setup) (h e : ℕ) → IsIndexOrMark c.order e → IsIndexOrMark c.order (passed c h e)
 passed_valid c h e valid =
     either_way
     (λ (v : ℕ). IsIndexOrMark c.order v)
-    (is_none_in (size c) e)
-    (packed (size c) (cycle c h) (safe_in (size c) e) (mark_of (size c)))
-    (packed (size c) (cycle_in (size c) e) 0 (index_in (size c) e))
-    (marked c (cycle c h) (safe_in (size c) e))
-    (kept c (cycle_in (size c) e) 0 e valid)
+    (is_none_in (ring_slots c) e)
+    (packed (ring_slots c) (cycle c h) (safe_in (ring_slots c) e) (mark_of (ring_slots c)))
+    (packed (ring_slots c) (cycle_in (ring_slots c) e) 0 (index_in (ring_slots c) e))
+    (marked c (cycle c h) (safe_in (ring_slots c) e))
+    (kept c (cycle_in (ring_slots c) e) 0 e valid)
 
 passed_here : (c : Setup) (h e x : ℕ) → IsIndexOrMark c.order x → IsIndexOrMark c.order (if x == e then passed c h e else x)
 passed_here c h e x valid =
     elim (eqb_tells x e) [ inl is ↦ rw is.0 (rw (← is.1) (passed_valid c h x valid)) | inr other ↦ rw other.0 valid ]
 
-written_valid : (c : Setup) (m : Cells) (r s x : ℕ) → HasIndices c m → IsIndexOrMark c.order x → (q z : ℕ) → IsIndexOrMark c.order (put_entry m.entries.word r s x q z)
+written_valid : (c : Setup) (m : Cells) (r s x : ℕ) → HasIndices c m → IsIndexOrMark c.order x → (q z : ℕ) → IsIndexOrMark c.order (updated_entry m.entries.word r s x q z)
 written_valid c m r s x all valid q z =
-    put_entry_cases (λ (a b v : ℕ). IsIndexOrMark c.order v) m.entries.word r s x q z (λ _ _. valid) (λ _. all.entries q z)
+    updated_entry_cases (λ (a b v : ℕ). IsIndexOrMark c.order v) m.entries.word r s x q z (λ _ _. valid) (λ _. all.entries q z)
 
 -- a turn leaves each entry so
 indices_after : (c : Setup) (m : Cells) (hand : List ℕ) (turn : Phase) → Busy c m hand turn → HasIndices c m → HasIndices c (cells_after c turn m)
 indices_after c m hand (AtE2 r i w t l) busy all =
     record { entries = written_valid c m r _ _ all (all.entries r _) }
 indices_after c m hand (AtE4 r i w t e) busy all =
-    let x = read m (word_of c (AtE4 r i w t e)) in
+    let x = read m (location_of c (AtE4 r i w t e)) in
     record {
-      entries = written_valid c m r _ _ all (either_way (λ (v : ℕ). IsIndexOrMark c.order v) (x == e) (packed (size c) (cycle c t) 1 i) x (placed c (cycle c t) 1 i busy.0.index) (all.entries r _));
+      entries = written_valid c m r _ _ all (either_way (λ (v : ℕ). IsIndexOrMark c.order v) (x == e) (packed (ring_slots c) (cycle c t) 1 i) x (placed c (cycle c t) 1 i busy.0.index) (all.entries r _));
     }
 indices_after c m hand (AtD3 r h l) busy all =
     record { entries = written_valid c m r _ _ all (all.entries r _) }
@@ -78,9 +78,9 @@ indices_start c opening =
           either_way
           (λ (v : ℕ). IsIndexOrMark c.order v)
           (r == 0)
-          (filled (size c) (n_of c.order) s)
-          (unused (size c))
-          (filled_cases (λ (v : ℕ). IsIndexOrMark c.order v) (size c) (n_of c.order) s (marked c 0 1) (λ j low. placed c 1 1 j low))
+          (filled (ring_slots c) (n_of c.order) s)
+          (unused (ring_slots c))
+          (filled_cases (λ (v : ℕ). IsIndexOrMark c.order v) (ring_slots c) (n_of c.order) s (marked c 0 1) (λ j low. placed c 1 1 j low))
           (marked c 0 1);
     }
 

@@ -1,4 +1,4 @@
-pub mod PutLemmas
+pub mod UpdatedLemmas
 pub mod Turns
 pub mod Entries
 pub mod Ranks

@@ -12,16 +12,16 @@ use Rattle.scq_core.specs.declared.phase.Phase.{Phase}
 use Rattle.scq_core.specs.declared.phase.Phase.TheVariants.{Idle, AtE1, AtE2, AtE3, AtE4, AtD2, AtD3, AtD4, AtD5, AtD6, AtD7, AtD8, AtD9}
 use Rattle.scq_core.specs.declared.step.Step.{Step}
 use Rattle.scq_core.specs.Machine.{Cells, Part, Machine, read, beside, written, entry_of}
-use Rattle.scq_core.specs.Put.{put}
-use Rattle.scq_core.specs.Table.{size, cycle, passed, turn_of, word_of, after, cells_after, moved}
+use Rattle.scq_core.specs.Updated.{updated}
+use Rattle.scq_core.specs.Table.{ring_slots, cycle, passed, turn_of, location_of, after, cells_after, moved}
 use Rattle.scq_core.specs.Start.{start_of, filled, unused}
 use Rattle.scq_core.specs.Reach.{IsReachable, at_start, by_step}
 use Rattle.scq_core.specs.Laws.{word_at, Busy, IsSteady, spent_of, spent_seats, CountersBounded, CyclesBounded}
-use Rattle.scq_core.proofs.PutLemmas.{put_cases, put_entry_cases}
+use Rattle.scq_core.proofs.UpdatedLemmas.{updated_cases, updated_entry_cases}
 use Rattle.scq_core.proofs.Turns.{turned}
 use Rattle.scq_core.proofs.Entries.{some_slots, some_indices, below_mark, limit_high, cycle_lawful}
 use Rattle.scq_core.proofs.Steady.{has, keeps_none, steady, either_way}
-use Rattle.scq_core.proofs.Counts.{total_put, total_few}
+use Rattle.scq_core.proofs.Counts.{total_updated, total_few}
 
 spent_bit : (o : Option ℕ) → spent_of o ≤ 1
 spent_bit None = omega arith
@@ -29,32 +29,32 @@ spent_bit (Some t) = omega arith
 
 -- the number of a seat that keeps a ticket, after its turn
 abbrev spent_then : Setup → Cells → Part → Phase → ℕ
-spent_then c m p turn = spent_of (after c turn (read m (word_of c turn)) (beside m (word_of c turn)) p).spent
+spent_then c m p turn = spent_of (after c turn (read m (location_of c turn)) (beside m (location_of c turn)) p).spent
 
-put_within : (f : ℕ → ℕ) (q x r bound : ℕ) → x ≤ bound → f r ≤ bound → put f q x r ≤ bound
-put_within f q x r bound new old = put_cases (λ (a v : ℕ). v ≤ bound) f q x r (λ _. new) (λ _. old)
+updated_within : (f : ℕ → ℕ) (q x r bound : ℕ) → x ≤ bound → f r ≤ bound → updated f q x r ≤ bound
+updated_within f q x r bound new old = updated_cases (λ (a v : ℕ). v ≤ bound) f q x r (λ _. new) (λ _. old)
 
 -- Tail after a turn, where Tail and Head stood within a bound: one further where the seat now keeps a ticket
 tail_after : (c : Setup) (m : Cells) (p : Part) (turn : Phase) (b : ℕ) → Busy c m p.hand turn → ((r : ℕ) → m.tail r ≤ c.limit + b) → ((r : ℕ) → m.head r ≤ c.limit + b) → (r : ℕ) → (cells_after c turn m).tail r ≤ c.limit + (b + spent_then c m p turn)
 tail_after c m p Idle b busy tails heads r =
-    let here = tails 0 in let there = tails r in put_within m.tail 0 _ r _ (omega arith) (omega arith)
+    let here = tails 0 in let there = tails r in updated_within m.tail 0 _ r _ (omega arith) (omega arith)
 tail_after c m p (AtE1 q i w l) b busy tails heads r =
     let here = tails q in
     let there = tails r in
     elim (cases_Bool (nat_le c.limit (m.tail q))) [
-      | inl past ↦ rw past (put_within m.tail q _ r _ (omega arith) (omega arith))
+      | inl past ↦ rw past (updated_within m.tail q _ r _ (omega arith) (omega arith))
       | inr under ↦
           let low = leb-false c.limit (m.tail q) under in
-          rw under (put_within m.tail q _ r _ (omega arith) (omega arith))
+          rw under (updated_within m.tail q _ r _ (omega arith) (omega arith))
     ]
 tail_after c m p (AtD6 q h) b busy tails heads r =
-    let here = tails q in let there = tails r in put_within m.tail q _ r _ (omega arith) (omega arith)
+    let here = tails q in let there = tails r in updated_within m.tail q _ r _ (omega arith) (omega arith)
 tail_after c m p (AtD7 q h from to) b busy tails heads r =
     let here = tails q in
     let there = tails r in
     let head = heads q in
     let catch = busy.2.behind_head in
-    put_within
+    updated_within
     m.tail
     q
     _
@@ -63,7 +63,7 @@ tail_after c m p (AtD7 q h from to) b busy tails heads r =
     (either_way (λ (v : ℕ). v ≤ c.limit + (b + spent_then c m p (AtD7 q h from to))) (m.tail q == from) to (m.tail q) (omega arith) (omega arith))
     (omega arith)
 tail_after c m p (AtD9 q h from to) b busy tails heads r =
-    let here = tails q in let there = tails r in put_within m.tail q _ r _ (omega arith) (omega arith)
+    let here = tails q in let there = tails r in updated_within m.tail q _ r _ (omega arith) (omega arith)
 tail_after c m p turn b busy tails heads r = let there = tails r in omega arith
 
 -- and Head
@@ -72,23 +72,23 @@ head_after c m p (AtD2 q l) b heads r =
     let here = heads q in
     let there = heads r in
     elim (cases_Bool (nat_le c.limit (m.head q))) [
-      | inl past ↦ rw past (put_within m.head q _ r _ (omega arith) (omega arith))
+      | inl past ↦ rw past (updated_within m.head q _ r _ (omega arith) (omega arith))
       | inr under ↦
           let low = leb-false c.limit (m.head q) under in
-          rw under (put_within m.head q _ r _ (omega arith) (omega arith))
+          rw under (updated_within m.head q _ r _ (omega arith) (omega arith))
     ]
 head_after c m p (AtE3 q i w t e) b heads r =
-    let here = heads q in let there = heads r in put_within m.head q _ r _ (omega arith) (omega arith)
+    let here = heads q in let there = heads r in updated_within m.head q _ r _ (omega arith) (omega arith)
 head_after c m p (AtD8 q h from) b heads r =
-    let here = heads q in let there = heads r in put_within m.head q _ r _ (omega arith) (omega arith)
+    let here = heads q in let there = heads r in updated_within m.head q _ r _ (omega arith) (omega arith)
 head_after c m p turn b heads r = let there = heads r in omega arith
 
 -- the seats that keep a ticket after a turn are those before, and the turn's own where it drew at or past the limit
 spent_moves : (c : Setup) (m : Machine) (k : ℕ) (turn : Phase) → k < c.seats → (m.part k).spent ≡ None → spent_seats c m + spent_then c m.cells (m.part k) turn ≡ spent_seats c (moved c m k turn)
 spent_moves c m k turn low none =
-    let x = read m.cells (word_of c turn) in
-    let y = beside m.cells (word_of c turn) in
-    let sum = total_put (λ (p : Part). spent_of p.spent) m.part k (after c turn x y (m.part k)) c.seats low in
+    let x = read m.cells (location_of c turn) in
+    let y = beside m.cells (location_of c turn) in
+    let sum = total_updated (λ (p : Part). spent_of p.spent) m.part k (after c turn x y (m.part k)) c.seats low in
     let zero_before : spent_of (m.part k).spent ≡ 0 = rw none refl in
     omega arith
 
@@ -115,8 +115,8 @@ bounded_start c opening =
           either_way
           (λ (v : ℕ). v ≤ c.limit + spent_seats c (start_of c opening))
           (r == 0)
-          (size c + n_of c.order)
-          (size c)
+          (ring_slots c + n_of c.order)
+          (ring_slots c)
           (omega arith)
           (omega arith);
       head = λ r. omega arith;
@@ -132,13 +132,13 @@ counters_bounded c m (by_step {m = b} seat step reach low e) =
     (bounded_turn c b seat step t.turn low (steady c b reach) (counters_bounded c b reach) t.enabled)
 
 -- the word of an entry that is written: of a lawful cycle where it and the old one are
-entry_lawful : (c : Setup) (m : Cells) (r s x : ℕ) (y : List ℕ) → CyclesBounded c m → cycle_in (size c) x * size c < c.limit → CyclesBounded c (written m (entry_of r s) x y)
+entry_lawful : (c : Setup) (m : Cells) (r s x : ℕ) (y : List ℕ) → CyclesBounded c m → cycle_in (ring_slots c) x * ring_slots c < c.limit → CyclesBounded c (written m (entry_of r s) x y)
 entry_lawful c m r s x y was new =
     record {
       cycles =
           λ q z.
-          put_entry_cases
-          (λ (a b v : ℕ). cycle_in (size c) v * size c < c.limit)
+          updated_entry_cases
+          (λ (a b v : ℕ). cycle_in (ring_slots c) v * ring_slots c < c.limit)
           m.entries.word
           r
           s
@@ -150,21 +150,21 @@ entry_lawful c m r s x y was new =
     }
 
 -- the cycle of a word that a dequeue with a later ticket leaves
-passed_lawful : (c : Setup) (h e : ℕ) → h < c.limit → cycle_in (size c) e * size c < c.limit → cycle_in (size c) (passed c h e) * size c < c.limit
+passed_lawful : (c : Setup) (h e : ℕ) → h < c.limit → cycle_in (ring_slots c) e * ring_slots c < c.limit → cycle_in (ring_slots c) (passed c h e) * ring_slots c < c.limit
 passed_lawful c h e low was =
     let some = some_slots c in
-    let bit = safe_in_bit (size c) e in
+    let bit = safe_in_bit (ring_slots c) e in
     either_way
-    (λ (v : ℕ). cycle_in (size c) v * size c < c.limit)
-    (is_none_in (size c) e)
+    (λ (v : ℕ). cycle_in (ring_slots c) v * ring_slots c < c.limit)
+    (is_none_in (ring_slots c) e)
     _
     _
-    (rw (cycle_in-packed (size c) (cycle c h) (safe_in (size c) e) (mark_of (size c)) (omega arith) bit) (cycle_lawful c h low))
-    (rw (cycle_in-packed (size c) (cycle_in (size c) e) 0 (index_in (size c) e) (index_in_small (size c) e some) (omega arith)) was)
+    (rw (cycle_in-packed (ring_slots c) (cycle c h) (safe_in (ring_slots c) e) (mark_of (ring_slots c)) (omega arith) bit) (cycle_lawful c h low))
+    (rw (cycle_in-packed (ring_slots c) (cycle_in (ring_slots c) e) 0 (index_in (ring_slots c) e) (index_in_small (ring_slots c) e some) (omega arith)) was)
 
 -- each turn keeps the cycles of entries lawful
 cycles_turn : (c : Setup) (m : Cells) (hand : List ℕ) (turn : Phase) → Busy c m hand turn → CyclesBounded c m → CyclesBounded c (cells_after c turn m)
-cycles_turn c m hand (AtE2 r i w t l) busy was = entry_lawful c m r (slot_of (size c) t) _ _ was (was.cycles r _)
+cycles_turn c m hand (AtE2 r i w t l) busy was = entry_lawful c m r (slot_of (ring_slots c) t) _ _ was (was.cycles r _)
 cycles_turn c m hand (AtE4 r i w t e) busy was =
     let low = below_mark c i busy.0.index in
     let drawn = busy.1 in
@@ -172,18 +172,18 @@ cycles_turn c m hand (AtE4 r i w t e) busy was =
     c
     m
     r
-    (slot_of (size c) t)
+    (slot_of (ring_slots c) t)
     _
     _
     was
     (either_way
-    (λ (v : ℕ). cycle_in (size c) v * size c < c.limit)
+    (λ (v : ℕ). cycle_in (ring_slots c) v * ring_slots c < c.limit)
     (word_at c m r t == e)
     _
     _
-    (rw (cycle_in-packed (size c) (cycle c t) 1 i (omega arith) (omega arith)) (cycle_lawful c t drawn.lawful))
+    (rw (cycle_in-packed (ring_slots c) (cycle c t) 1 i (omega arith) (omega arith)) (cycle_lawful c t drawn.lawful))
     (was.cycles r _))
-cycles_turn c m hand (AtD3 r h l) busy was = entry_lawful c m r (slot_of (size c) h) _ _ was (was.cycles r _)
+cycles_turn c m hand (AtD3 r h l) busy was = entry_lawful c m r (slot_of (ring_slots c) h) _ _ was (was.cycles r _)
 cycles_turn c m hand (AtD4 r h) busy was =
     let some = some_slots c in
     let x = word_at c m r h in
@@ -191,24 +191,24 @@ cycles_turn c m hand (AtD4 r h) busy was =
     c
     m
     r
-    (slot_of (size c) h)
+    (slot_of (ring_slots c) h)
     _
     _
     was
-    (rw (cycle_in-packed (size c) (cycle_in (size c) x) (safe_in (size c) x) (mark_of (size c)) (omega arith) (safe_in_bit (size c) x)) (was.cycles r _))
+    (rw (cycle_in-packed (ring_slots c) (cycle_in (ring_slots c) x) (safe_in (ring_slots c) x) (mark_of (ring_slots c)) (omega arith) (safe_in_bit (ring_slots c) x)) (was.cycles r _))
 cycles_turn c m hand (AtD5 r h e) busy was =
     entry_lawful
     c
     m
     r
-    (slot_of (size c) h)
+    (slot_of (ring_slots c) h)
     _
     _
     was
     (elim (cases_eq (word_at c m r h) e) [
       | inl same ↦
           rw (eq-eqb (word_at c m r h) e same)
-          (passed_lawful c h e busy.1.lawful (rw same at (was.cycles r (slot_of (size c) h))))
+          (passed_lawful c h e busy.1.lawful (rw same at (was.cycles r (slot_of (ring_slots c) h))))
       | inr apart ↦ rw (ne_eqb (word_at c m r h) e apart) (was.cycles r _)
     ])
 cycles_turn c m hand turn busy was = record { cycles = was.cycles }
@@ -230,23 +230,23 @@ cycles_start c opening =
     let high = limit_high c in
     let indices = some_indices c in
     let some = some_slots c in
-    let empty : cycle_in (size c) (unused (size c)) * size c < c.limit =
-    rw (cycle_in-packed (size c) 0 1 (mark_of (size c)) (omega arith) (omega arith)) (omega arith) in
+    let empty : cycle_in (ring_slots c) (unused (ring_slots c)) * ring_slots c < c.limit =
+    rw (cycle_in-packed (ring_slots c) 0 1 (mark_of (ring_slots c)) (omega arith) (omega arith)) (omega arith) in
     record {
       cycles =
           λ r s.
           either_way
-          (λ (v : ℕ). cycle_in (size c) v * size c < c.limit)
+          (λ (v : ℕ). cycle_in (ring_slots c) v * ring_slots c < c.limit)
           (r == 0)
           _
           _
           (filled_cases
-          (λ (v : ℕ). cycle_in (size c) v * size c < c.limit)
-          (size c)
+          (λ (v : ℕ). cycle_in (ring_slots c) v * ring_slots c < c.limit)
+          (ring_slots c)
           (n_of c.order)
           s
           empty
-          (λ j low. rw (cycle_in-packed (size c) 1 1 j (omega arith) (omega arith)) (omega arith)))
+          (λ j low. rw (cycle_in-packed (ring_slots c) 1 1 j (omega arith) (omega arith)) (omega arith)))
           empty;
     }
 

@@ -12,11 +12,11 @@ use Rattle.scq_core.specs.declared.phase.Phase.{Phase}
 use Rattle.scq_core.specs.declared.phase.Phase.TheVariants.{Idle, AtE1, AtE2, AtE3, AtE4, AtE5, AtE6, AtD1, AtD2, AtD3, AtD4, AtD5, AtD6, AtD7, AtD8, AtD9, AtD10}
 use Rattle.scq_core.specs.declared.step.Step.{Step}
 use Rattle.scq_core.specs.Machine.{Cells, Part, Machine, read, beside}
-use Rattle.scq_core.specs.Table.{size, cycle, zero_level, reset_level, turn_of, word_of, after, cells_after, moved}
+use Rattle.scq_core.specs.Table.{ring_slots, cycle, zero_level, reset_level, turn_of, location_of, after, cells_after, moved}
 use Rattle.scq_core.specs.Start.{start_of}
 use Rattle.scq_core.specs.Reach.{IsReachable, at_start, by_step}
 use Rattle.scq_core.specs.Laws.{IsAbove, RankRises, CountersRise, word_at, Drawn, Lags, Busy, IsSteady}
-use Rattle.scq_core.proofs.PutLemmas.{put_here, put_cases}
+use Rattle.scq_core.proofs.UpdatedLemmas.{updated_here, updated_cases}
 use Rattle.scq_core.proofs.Turns.{turned, Begins, begins_put, begins_get, begins, awake}
 use Rattle.scq_core.proofs.Entries.{above_rank, above_trans}
 use Rattle.scq_core.proofs.Ranks.{rank_rises, counters_rise}
@@ -37,32 +37,32 @@ has c m p s turn busy e =
 drawn_lasts : (c : Setup) (counter later t : ℕ) → counter ≤ later → Drawn c counter t → Drawn c later t
 drawn_lasts c counter later t up drawn = record { first = drawn.first; below = omega arith; lawful = drawn.lawful }
 
-lags_lasts : (c : Setup) (t e now later : ℕ) → IsAbove (size c) now later → Lags c t e now → Lags c t e later
+lags_lasts : (c : Setup) (t e now later : ℕ) → IsAbove (ring_slots c) now later → Lags c t e now → Lags c t e later
 lags_lasts c t e now later up lags =
-    record { earlier = lags.earlier; above = above_trans (size c) e now later lags.above up }
+    record { earlier = lags.earlier; above = above_trans (ring_slots c) e now later lags.above up }
 
-least_lasts : (c : Setup) (l now later : ℕ) → IsAbove (size c) now later → l ≤ rank_in (size c) now → l ≤ rank_in (size c) later
-least_lasts c l now later up low = let le = above_rank (size c) now later up in omega arith
+least_lasts : (c : Setup) (l now later : ℕ) → IsAbove (ring_slots c) now later → l ≤ rank_in (ring_slots c) now → l ≤ rank_in (ring_slots c) later
+least_lasts c l now later up low = let le = above_rank (ring_slots c) now later up in omega arith
 
 -- what a seat has lasts while ranks and counters only rise
 pub lasts : (c : Setup) (m n : Cells) (hand : List ℕ) (phase : Phase) → RankRises c m n → CountersRise m n → Busy c m hand phase → Busy c n hand phase
 lasts c m n hand Idle ranks up busy = tt
 lasts c m n hand (AtE1 r i w l) ranks up busy = let le = up.tail r in (busy.0, omega arith)
 lasts c m n hand (AtE2 r i w t l) ranks up busy =
-    (busy.0, drawn_lasts c _ _ t (up.tail r) busy.1, least_lasts c l _ _ (ranks.rises r (slot_of (size c) t)) busy.2)
+    (busy.0, drawn_lasts c _ _ t (up.tail r) busy.1, least_lasts c l _ _ (ranks.rises r (slot_of (ring_slots c) t)) busy.2)
 lasts c m n hand (AtE3 r i w t e) ranks up busy =
-    (busy.0, drawn_lasts c _ _ t (up.tail r) busy.1, lags_lasts c t e _ _ (ranks.rises r (slot_of (size c) t)) busy.2, busy.3, busy.4)
+    (busy.0, drawn_lasts c _ _ t (up.tail r) busy.1, lags_lasts c t e _ _ (ranks.rises r (slot_of (ring_slots c) t)) busy.2, busy.3, busy.4)
 lasts c m n hand (AtE4 r i w t e) ranks up busy =
-    (busy.0, drawn_lasts c _ _ t (up.tail r) busy.1, lags_lasts c t e _ _ (ranks.rises r (slot_of (size c) t)) busy.2, busy.3)
+    (busy.0, drawn_lasts c _ _ t (up.tail r) busy.1, lags_lasts c t e _ _ (ranks.rises r (slot_of (ring_slots c) t)) busy.2, busy.3)
 lasts c m n hand (AtE5 r i w t) ranks up busy = (busy.0, drawn_lasts c _ _ t (up.tail r) busy.1, busy.2)
 lasts c m n hand (AtE6 r i w t) ranks up busy = (busy.0, drawn_lasts c _ _ t (up.tail r) busy.1, busy.2)
 lasts c m n hand (AtD1 r) ranks up busy = busy
 lasts c m n hand (AtD2 r l) ranks up busy = let le = up.head r in (busy.0, omega arith)
 lasts c m n hand (AtD3 r h l) ranks up busy =
-    (busy.0, drawn_lasts c _ _ h (up.head r) busy.1, least_lasts c l _ _ (ranks.rises r (slot_of (size c) h)) busy.2)
+    (busy.0, drawn_lasts c _ _ h (up.head r) busy.1, least_lasts c l _ _ (ranks.rises r (slot_of (ring_slots c) h)) busy.2)
 lasts c m n hand (AtD4 r h) ranks up busy = (busy.0, drawn_lasts c _ _ h (up.head r) busy.1)
 lasts c m n hand (AtD5 r h e) ranks up busy =
-    (busy.0, drawn_lasts c _ _ h (up.head r) busy.1, lags_lasts c h e _ _ (ranks.rises r (slot_of (size c) h)) busy.2)
+    (busy.0, drawn_lasts c _ _ h (up.head r) busy.1, lags_lasts c h e _ _ (ranks.rises r (slot_of (ring_slots c) h)) busy.2)
 lasts c m n hand (AtD6 r h) ranks up busy = (busy.0, drawn_lasts c _ _ h (up.head r) busy.1)
 lasts c m n hand (AtD7 r h from to) ranks up busy =
     let tail = up.tail r in
@@ -78,7 +78,7 @@ lasts c m n hand (AtD10 r h leaving) ranks up busy = (busy.0, drawn_lasts c _ _ 
 
 -- a seat's part after its turn on these cells
 abbrev part_after : Setup → Phase → Cells → Part → Part
-part_after c turn m p = after c turn (read m (word_of c turn)) (beside m (word_of c turn)) p
+part_after c turn m p = after c turn (read m (location_of c turn)) (beside m (location_of c turn)) p
 
 -- a turn that draws a ticket lifts its counter
 abbrev Draws : Cells → Cells → Phase → Type 0
@@ -87,12 +87,12 @@ Draws m n (AtD2 r l) = m.head r < n.head r
 Draws m n turn = Unit {0}
 
 draws : (c : Setup) (m : Cells) (turn : Phase) → Draws m (cells_after c turn m) turn
-draws c m (AtE1 r i w l) = let here = put_here m.tail r (m.tail r + 1) in omega arith
-draws c m (AtD2 r l) = let here = put_here m.head r (m.head r + 1) in omega arith
+draws c m (AtE1 r i w l) = let here = updated_here m.tail r (m.tail r + 1) in omega arith
+draws c m (AtD2 r l) = let here = updated_here m.head r (m.head r + 1) in omega arith
 draws c m turn = tt
 
 -- what a seat has after its own turn, of any cells n in which ranks and counters rose
-own : (c : Setup) (m n : Cells) (p : Part) (turn : Phase) → (turn ≡ Idle → ⊥) → ((r : ℕ) → size c ≤ m.tail r) → ((r : ℕ) → size c ≤ m.head r) → RankRises c m n → CountersRise m n → Draws m n turn → Busy c m p.hand turn → Busy c n p.hand turn → Busy c n (part_after c turn m p).hand (part_after c turn m p).phase
+own : (c : Setup) (m n : Cells) (p : Part) (turn : Phase) → (turn ≡ Idle → ⊥) → ((r : ℕ) → ring_slots c ≤ m.tail r) → ((r : ℕ) → ring_slots c ≤ m.head r) → RankRises c m n → CountersRise m n → Draws m n turn → Busy c m p.hand turn → Busy c n p.hand turn → Busy c n (part_after c turn m p).hand (part_after c turn m p).phase
 own c m n p Idle awake tails heads ranks up drew was now = absurd (awake refl)
 own c m n p (AtE1 r i w l) awake tails heads ranks up drew was now =
     elim (cases_Bool (nat_le c.limit (m.tail r))) [
@@ -103,17 +103,17 @@ own c m n p (AtE1 r i w l) awake tails heads ranks up drew was now =
     ]
 own c m n p (AtE2 r i w t l) awake tails heads ranks up drew was now =
     let x = word_at c m r t in
-    elim (cases_Bool (nat_lt (cycle_in (size c) x) (cycle c t) && is_none_in (size c) x)) [
+    elim (cases_Bool (nat_lt (cycle_in (ring_slots c) x) (cycle c t) && is_none_in (ring_slots c) x)) [
       | inl fits ↦
-          let both = and_parts (nat_lt (cycle_in (size c) x) (cycle c t)) (is_none_in (size c) x) fits in
+          let both = and_parts (nat_lt (cycle_in (ring_slots c) x) (cycle c t)) (is_none_in (ring_slots c) x) fits in
           let lags : Lags c t x (word_at c n r t) =
-          record { earlier = ltb-true _ _ both.0; above = ranks.rises r (slot_of (size c) t) } in
-          elim (cases_eq (safe_in (size c) x) 1) [
-            | inl safe ↦ rw (fits, eq-eqb (safe_in (size c) x) 1 safe) (now.0, now.1, lags, both.1)
+          record { earlier = ltb-true _ _ both.0; above = ranks.rises r (slot_of (ring_slots c) t) } in
+          elim (cases_eq (safe_in (ring_slots c) x) 1) [
+            | inl safe ↦ rw (fits, eq-eqb (safe_in (ring_slots c) x) 1 safe) (now.0, now.1, lags, both.1)
             | inr unsafe ↦
-                let bit = safe_in_bit (size c) x in
-                let zero_bit : safe_in (size c) x ≡ 0 = omega arith in
-                rw (fits, ne_eqb (safe_in (size c) x) 1 unsafe) (now.0, now.1, lags, both.1, zero_bit)
+                let bit = safe_in_bit (ring_slots c) x in
+                let zero_bit : safe_in (ring_slots c) x ≡ 0 = omega arith in
+                rw (fits, ne_eqb (safe_in (ring_slots c) x) 1 unsafe) (now.0, now.1, lags, both.1, zero_bit)
           ]
       | inr fails ↦ let drawn = now.1 in rw fails (now.0, omega arith)
     ]
@@ -125,7 +125,7 @@ own c m n p (AtE3 r i w t e) awake tails heads ranks up drew was now =
 own c m n p (AtE4 r i w t e) awake tails heads ranks up drew was now =
     elim (cases_Bool (word_at c m r t == e)) [
       | inl hit ↦ rw hit (now.0.ring, now.1, now.0.index)
-      | inr miss ↦ rw miss (now.0, now.1, above_rank _ _ _ (ranks.rises r (slot_of (size c) t)))
+      | inr miss ↦ rw miss (now.0, now.1, above_rank _ _ _ (ranks.rises r (slot_of (ring_slots c) t)))
     ]
 own c m n p (AtE5 r i w t) awake tails heads ranks up drew was now =
     elim (cases_Bool (m.threshold r == reset_level c)) [ inl high ↦ rw high tt | inr low ↦ rw low now ]
@@ -141,13 +141,13 @@ own c m n p (AtD2 r l) awake tails heads ranks up drew was now =
     ]
 own c m n p (AtD3 r h l) awake tails heads ranks up drew was now =
     let x = word_at c m r h in
-    elim (cases_Bool (cycle_in (size c) x == cycle c h)) [
+    elim (cases_Bool (cycle_in (ring_slots c) x == cycle c h)) [
       | inl same ↦ rw same (now.0, now.1)
       | inr other ↦
-          elim (cases_Bool (nat_lt (cycle_in (size c) x) (cycle c h))) [
+          elim (cases_Bool (nat_lt (cycle_in (ring_slots c) x) (cycle c h))) [
             | inl lower ↦
                 rw (other, lower)
-                (now.0, now.1, record { earlier = ltb-true _ _ lower; above = ranks.rises r (slot_of (size c) h) })
+                (now.0, now.1, record { earlier = ltb-true _ _ lower; above = ranks.rises r (slot_of (ring_slots c) h) })
             | inr higher ↦ rw (other, higher) (now.0, now.1)
           ]
     ]
@@ -155,7 +155,7 @@ own c m n p (AtD4 r h) awake tails heads ranks up drew was now = tt
 own c m n p (AtD5 r h e) awake tails heads ranks up drew was now =
     elim (cases_Bool (word_at c m r h == e)) [
       | inl hit ↦ rw hit (now.0, now.1)
-      | inr miss ↦ rw miss (now.0, now.1, above_rank _ _ _ (ranks.rises r (slot_of (size c) h)))
+      | inr miss ↦ rw miss (now.0, now.1, above_rank _ _ _ (ranks.rises r (slot_of (ring_slots c) h)))
     ]
 own c m n p (AtD6 r h) awake tails heads ranks up drew was now =
     let tail = up.tail r in
@@ -212,8 +212,8 @@ kept_after c (AtD2 r l) x y p =
 kept_after c Idle x y p = inl refl
 kept_after c (AtE2 r i w t l) x y p =
     inl
-    (either_way (λ (q : Part). q.spent ≡ p.spent) (nat_lt (cycle_in (size c) x) (cycle c t) && is_none_in (size c) x) _ _
-    (either_way (λ (q : Part). q.spent ≡ p.spent) (safe_in (size c) x == 1) _ _ refl refl) refl)
+    (either_way (λ (q : Part). q.spent ≡ p.spent) (nat_lt (cycle_in (ring_slots c) x) (cycle c t) && is_none_in (ring_slots c) x) _ _
+    (either_way (λ (q : Part). q.spent ≡ p.spent) (safe_in (ring_slots c) x == 1) _ _ refl refl) refl)
 kept_after c (AtE3 r i w t e) x y p = inl (either_way (λ (q : Part). q.spent ≡ p.spent) (nat_le x t) _ _ refl refl)
 kept_after c (AtE4 r i w t e) x y p = inl (either_way (λ (q : Part). q.spent ≡ p.spent) (x == e) _ _ refl refl)
 kept_after c (AtE5 r i w t) x y p = inl (either_way (λ (q : Part). q.spent ≡ p.spent) (x == reset_level c) _ _ refl refl)
@@ -221,8 +221,8 @@ kept_after c (AtE6 r i w t) x y p = inl refl
 kept_after c (AtD1 r) x y p = inl (either_way (λ (q : Part). q.spent ≡ p.spent) (nat_lt x zero_level) _ _ refl refl)
 kept_after c (AtD3 r h l) x y p =
     inl
-    (either_way (λ (q : Part). q.spent ≡ p.spent) (cycle_in (size c) x == cycle c h) _ _ refl
-    (either_way (λ (q : Part). q.spent ≡ p.spent) (nat_lt (cycle_in (size c) x) (cycle c h)) _ _ refl refl))
+    (either_way (λ (q : Part). q.spent ≡ p.spent) (cycle_in (ring_slots c) x == cycle c h) _ _ refl
+    (either_way (λ (q : Part). q.spent ≡ p.spent) (nat_lt (cycle_in (ring_slots c) x) (cycle c h)) _ _ refl refl))
 kept_after c (AtD4 r h) x y p = inl refl
 kept_after c (AtD5 r h e) x y p = inl (either_way (λ (q : Part). q.spent ≡ p.spent) (x == e) _ _ refl refl)
 kept_after c (AtD6 r h) x y p = inl (either_way (λ (q : Part). q.spent ≡ p.spent) (nat_le x (h + 1)) _ _ refl refl)
@@ -234,10 +234,10 @@ kept_after c (AtD10 r h false) x y p = inl (either_way (λ (q : Part). q.spent �
 
 own_kept : (c : Setup) (m : Cells) (p : Part) (turn : Phase) → p.spent ≡ None → (t : ℕ) → (part_after c turn m p).spent ≡ Some t → ((part_after c turn m p).phase ≡ Idle) × (c.limit ≤ t)
 own_kept c m p turn none t e =
-    elim (kept_after c turn (read m (word_of c turn)) (beside m (word_of c turn)) p) [
+    elim (kept_after c turn (read m (location_of c turn)) (beside m (location_of c turn)) p) [
       | inl same ↦ let clash : ◌≡◌ {A = Option ℕ} None (Some t) = cc in absurd (cc)
       | inr keeps ↦
-          let is : read m (word_of c turn) ≡ t = cc in
+          let is : read m (location_of c turn) ≡ t = cc in
           (keeps.1, rw (← is) keeps.2)
     ]
 
@@ -267,7 +267,7 @@ steady_turn c m k s turn steady e =
     record {
       busy =
           λ j.
-          put_cases
+          updated_cases
           (λ (_ : ℕ) (v : Part). Busy c n v.hand v.phase)
           m.part
           k
@@ -277,7 +277,7 @@ steady_turn c m k s turn steady e =
           (λ _. lasts c m.cells n (m.part j).hand (m.part j).phase ranks up (steady.busy j));
       kept =
           λ j.
-          put_cases
+          updated_cases
           (λ (_ : ℕ) (v : Part). (t : ℕ) → v.spent ≡ Some t → (v.phase ≡ Idle) × (c.limit ≤ t))
           m.part
           k
@@ -297,7 +297,7 @@ steady_start c opening =
       kept = λ k t keeps. absurd (let clash : ◌≡◌ {A = Option ℕ} None (Some t) = keeps in cc);
       tails =
           λ r.
-          either_way (λ (v : ℕ). size c ≤ v) (r == 0) (size c + n_of c.order) (size c) (omega arith) (omega arith);
+          either_way (λ (v : ℕ). ring_slots c ≤ v) (r == 0) (ring_slots c + n_of c.order) (ring_slots c) (omega arith) (omega arith);
       heads = λ r. omega arith;
     }
 

@@ -5,7 +5,7 @@ use Rattle.scq_core.specs.declared.slot.Slot.{Slot}
 use Rattle.scq_core.specs.declared.slot.Place.{Place}
 use Rattle.scq_core.specs.declared.slot.Place.TheVariants.{Entry}
 use Rattle.scq_core.specs.Machine.{Cells, Part, Machine}
-use Rattle.scq_core.specs.Table.{size, zero_level}
+use Rattle.scq_core.specs.Table.{ring_slots, zero_level}
 use Rattle.scq_core.specs.Start.{unused, idle_part}
 use Rattle.scq_core.specs.Reach.{IsReachable}
 use Rattle.scq_core.specs.Rings.{RingBook}
@@ -19,10 +19,10 @@ pub record Book : Type 0 where
 
 -- past the last slot and the last ring stands what was never used
 abbrev pub no_slot : Setup → Slot
-no_slot c = record { word = unused (size c); content = [] }
+no_slot c = record { word = unused (ring_slots c); content = [] }
 
 abbrev pub no_ring : Setup → RingBook
-no_ring c = record { tail = size c; head = size c; threshold = zero_level - 1; slots = [] }
+no_ring c = record { tail = ring_slots c; head = ring_slots c; threshold = zero_level - 1; slots = [] }
 
 -- the ring of a number
 abbrev pub ring_in : Setup → List RingBook → ℕ → RingBook
@@ -52,11 +52,11 @@ machine_of b = record { cells = cells_of b.setup b.rings; part = part_in b.seats
 
 -- every ring has two slots for each index
 abbrev pub HasRings : Setup → List RingBook → Type 0
-HasRings c rings = (length rings ≡ c.rings) × ((r : ℕ) → r < c.rings → length (ring_in c rings r).slots ≡ size c)
+HasRings c rings = (length rings ≡ c.rings) × ((r : ℕ) → r < c.rings → length (ring_in c rings r).slots ≡ ring_slots c)
 
 -- a place of any ring: a slot is one of so many
 abbrev pub IsPlaceOf : Setup → Place → Type 0
-IsPlaceOf c (Entry slot) = slot < size c
+IsPlaceOf c (Entry slot) = slot < ring_slots c
 IsPlaceOf c place = Unit {0}
 
 -- the lists are as long as the setup says, and steps reach the state

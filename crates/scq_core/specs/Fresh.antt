@@ -3,26 +3,26 @@ use Rattle.std.specs.Prelude.{ℕ, ◌≡◌, ◌+◌, ◌-◌, List, ◌∷◌,
 use Rattle.scq_word.specs.declared.setup.Setup.{Setup}
 use Rattle.scq_word.specs.Sizes.{n_of}
 use Rattle.scq_core.specs.declared.slot.Slot.{Slot}
-use Rattle.scq_core.specs.Table.{size, zero_level, reset_level}
+use Rattle.scq_core.specs.Table.{ring_slots, zero_level, reset_level}
 use Rattle.scq_core.specs.Start.{filled, filled_contents}
 use Rattle.scq_core.specs.Rings.{RingBook}
 use Rattle.scq_core.specs.Book.{no_slot}
 
--- Head and Tail at the size of a ring, Threshold at -1, and no slot used
+-- Head and Tail at the number of slots, Threshold at -1, and no slot used
 abbrev pub empty_ring : Setup → RingBook
 empty_ring c =
-    record { tail = size c; head = size c; threshold = zero_level - 1; slots = replicate (size c) (no_slot c) }
+    record { tail = ring_slots c; head = ring_slots c; threshold = zero_level - 1; slots = replicate (ring_slots c) (no_slot c) }
 
 -- the indices below a count stand in these slots, each with its opening content
 pub record IsFilled (c : Setup) (opening : List (List ℕ)) (count : ℕ) (slots : List Slot) : Type 0 where
-  pub many : length slots ≡ size c
-  pub words : (s : ℕ) → (slice_index_or slots s (no_slot c)).word ≡ filled (size c) count s
-  pub contents : (s : ℕ) → (slice_index_or slots s (no_slot c)).content ≡ filled_contents (size c) opening count s
+  pub many : length slots ≡ ring_slots c
+  pub words : (s : ℕ) → (slice_index_or slots s (no_slot c)).word ≡ filled (ring_slots c) count s
+  pub contents : (s : ℕ) → (slice_index_or slots s (no_slot c)).content ≡ filled_contents (ring_slots c) opening count s
 
 -- the ring in which each index stands, as after as many puts
 pub record IsFullRing (c : Setup) (opening : List (List ℕ)) (ring : RingBook) : Type 0 where
-  pub tail : ring.tail ≡ size c + n_of c.order
-  pub head : ring.head ≡ size c
+  pub tail : ring.tail ≡ ring_slots c + n_of c.order
+  pub head : ring.head ≡ ring_slots c
   pub threshold : ring.threshold ≡ reset_level c
   pub slots : IsFilled c opening (n_of c.order) ring.slots
 

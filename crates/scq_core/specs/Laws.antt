@@ -6,8 +6,8 @@ use Rattle.scq_word.specs.Tickets.{slot_of}
 use Rattle.scq_word.specs.Words.{safe_in, cycle_in, is_none_in, rank_in}
 use Rattle.scq_core.specs.declared.phase.Phase.{Phase}
 use Rattle.scq_core.specs.declared.phase.Phase.TheVariants.{Idle, AtE1, AtE2, AtE3, AtE4, AtE5, AtE6, AtD1, AtD2, AtD3, AtD4, AtD5, AtD6, AtD7, AtD8, AtD9, AtD10}
-use Rattle.scq_core.specs.Machine.{Cells, Part, Machine, Word, written}
-use Rattle.scq_core.specs.Table.{size, cycle, zero_level, reset_level, holds_index}
+use Rattle.scq_core.specs.Machine.{Cells, Part, Machine, Location, written}
+use Rattle.scq_core.specs.Table.{ring_slots, cycle, zero_level, reset_level, holds_index}
 
 -- an entry's word is as it was, or of a higher rank: so a word that has changed never comes back
 pub record IsAbove (m e now : ℕ) : Type 0 where
@@ -15,7 +15,7 @@ pub record IsAbove (m e now : ℕ) : Type 0 where
 
 -- each entry is as it was, or its rank rose
 pub record RankRises (c : Setup) (before later : Cells) : Type 0 where
-  pub rises : (r s : ℕ) → IsAbove (size c) (before.entries.word r s) (later.entries.word r s)
+  pub rises : (r s : ℕ) → IsAbove (ring_slots c) (before.entries.word r s) (later.entries.word r s)
 
 -- Tail and Head never fall
 pub record CountersRise (before later : Cells) : Type 0 where
@@ -24,7 +24,7 @@ pub record CountersRise (before later : Cells) : Type 0 where
 
 -- the word of the entry of a ticket's slot
 abbrev pub word_at : Setup → Cells → ℕ → ℕ → ℕ
-word_at c m r t = m.entries.word r (slot_of (size c) t)
+word_at c m r t = m.entries.word r (slot_of (ring_slots c) t)
 
 -- an enqueue that still has its index: ring and index are in range, and the index is in the seat's hand
 pub record Offers (c : Setup) (hand : List ℕ) (r i : ℕ) : Type 0 where
@@ -34,14 +34,14 @@ pub record Offers (c : Setup) (hand : List ℕ) (r i : ℕ) : Type 0 where
 
 -- a ticket that was drawn from a counter and is a turn of the ring
 pub record Drawn (c : Setup) (counter t : ℕ) : Type 0 where
-  pub first : size c ≤ t
+  pub first : ring_slots c ≤ t
   pub below : t < counter
   pub lawful : t < c.limit
 
 -- a loaded word of a cycle before the ticket's, which stands there still or never again
 pub record Lags (c : Setup) (t e now : ℕ) : Type 0 where
-  pub earlier : cycle_in (size c) e < cycle c t
-  pub above : IsAbove (size c) e now
+  pub earlier : cycle_in (ring_slots c) e < cycle c t
+  pub above : IsAbove (ring_slots c) e now
 
 -- a catch-up: Tail was at `from`, Head is at or past `to`
 pub record CatchesUp (tail head from to : ℕ) : Type 0 where
@@ -54,17 +54,17 @@ abbrev pub Busy : Setup → Cells → List ℕ → Phase → Type 0
 Busy c m hand Idle = Unit {0}
 Busy c m hand (AtE1 r i w l) = Offers c hand r i × (l ≤ m.tail r)
 Busy c m hand (AtE2 r i w t l) =
-    Offers c hand r i × Drawn c (m.tail r) t × (l ≤ rank_in (size c) (word_at c m r t))
+    Offers c hand r i × Drawn c (m.tail r) t × (l ≤ rank_in (ring_slots c) (word_at c m r t))
 Busy c m hand (AtE3 r i w t e) =
-    Offers c hand r i × Drawn c (m.tail r) t × Lags c t e (word_at c m r t) × (is_none_in (size c) e ≡ true) × (safe_in (size c) e ≡ 0)
+    Offers c hand r i × Drawn c (m.tail r) t × Lags c t e (word_at c m r t) × (is_none_in (ring_slots c) e ≡ true) × (safe_in (ring_slots c) e ≡ 0)
 Busy c m hand (AtE4 r i w t e) =
-    Offers c hand r i × Drawn c (m.tail r) t × Lags c t e (word_at c m r t) × (is_none_in (size c) e ≡ true)
+    Offers c hand r i × Drawn c (m.tail r) t × Lags c t e (word_at c m r t) × (is_none_in (ring_slots c) e ≡ true)
 Busy c m hand (AtE5 r i w t) = (r < c.rings) × Drawn c (m.tail r) t × (i < n_of c.order)
 Busy c m hand (AtE6 r i w t) = (r < c.rings) × Drawn c (m.tail r) t × (i < n_of c.order)
 Busy c m hand (AtD1 r) = r < c.rings
 Busy c m hand (AtD2 r l) = (r < c.rings) × (l ≤ m.head r)
 Busy c m hand (AtD3 r h l) =
-    (r < c.rings) × Drawn c (m.head r) h × (l ≤ rank_in (size c) (word_at c m r h))
+    (r < c.rings) × Drawn c (m.head r) h × (l ≤ rank_in (ring_slots c) (word_at c m r h))
 Busy c m hand (AtD4 r h) = (r < c.rings) × Drawn c (m.head r) h
 Busy c m hand (AtD5 r h e) = (r < c.rings) × Drawn c (m.head r) h × Lags c h e (word_at c m r h)
 Busy c m hand (AtD6 r h) = (r < c.rings) × Drawn c (m.head r) h
@@ -79,8 +79,8 @@ Busy c m hand (AtD10 r h leaving) = (r < c.rings) × Drawn c (m.head r) h
 pub record IsSteady (c : Setup) (m : Machine) : Type 0 where
   pub busy : (k : ℕ) → Busy c m.cells (m.part k).hand (m.part k).phase
   pub kept : (k t : ℕ) → (m.part k).spent ≡ Some t → ((m.part k).phase ≡ Idle) × (c.limit ≤ t)
-  pub tails : (r : ℕ) → size c ≤ m.cells.tail r
-  pub heads : (r : ℕ) → size c ≤ m.cells.head r
+  pub tails : (r : ℕ) → ring_slots c ≤ m.cells.tail r
+  pub heads : (r : ℕ) → ring_slots c ≤ m.cells.head r
 
 -- the sum of a number over the parts of the seats below k
 abbrev pub total : (Part → ℕ) → (ℕ → Part) → ℕ → ℕ
@@ -126,7 +126,7 @@ pub record ThresholdFloor (c : Setup) (m : Machine) : Type 0 where
 
 -- the cycle of each entry is that of a ticket below the limit
 pub record CyclesBounded (c : Setup) (m : Cells) : Type 0 where
-  pub cycles : (r s : ℕ) → cycle_in (size c) (m.entries.word r s) * size c < c.limit
+  pub cycles : (r s : ℕ) → cycle_in (ring_slots c) (m.entries.word r s) * ring_slots c < c.limit
 
 -- every word is one of 64 bits, with room for a step
 pub record WordsFit (c : Setup) (m : Cells) : Type 0 where
@@ -137,10 +137,10 @@ pub record WordsFit (c : Setup) (m : Cells) : Type 0 where
 
 -- a step changes at most one word, with the content beside it where it is an entry, and its own seat's part
 pub record ChangesOne (before : Machine) (seat : ℕ) (later : Machine) : Type 0 where
-  pub word : Word
+  pub location : Location
   pub value : ℕ
   pub content : List ℕ
-  pub cells : later.cells ≡ written before.cells word value content
+  pub cells : later.cells ≡ written before.cells location value content
   pub parts : (k : ℕ) → k ≢ seat → later.part k ≡ before.part k
   pub opening : later.opening ≡ before.opening
 

@@ -1,4 +1,4 @@
-pub mod Put
+pub mod Updated
 pub mod Machine
 pub mod Table
 pub mod Start

@@ -3,7 +3,7 @@
 use Rattle.std.specs.Prelude.{ℕ, List, [], Option}
 use Rattle.scq_core.specs.declared.ended.Ended.{Ended}
 use Rattle.scq_core.specs.declared.phase.Phase.{Phase}
-use Rattle.scq_core.specs.Put.{put}
+use Rattle.scq_core.specs.Updated.{updated}
 
 -- the entries by ring and slot: the word, and the content that its put placed with it. A put's exchange writes both; a
 -- dequeue changes the word alone, and the content that stays means nothing until the next put
@@ -30,36 +30,36 @@ pub record Machine : Type 0 where
   pub part : ℕ → Part
   pub opening : List (List ℕ)
 
--- one word of one ring
-pub data Word : Type 0 where
-  tail_of : (ring : ℕ) → Word
-  head_of : (ring : ℕ) → Word
-  threshold_of : (ring : ℕ) → Word
-  entry_of : (ring slot : ℕ) → Word
+-- where a word of a ring stands: at Tail, Head or Threshold, or in a slot
+pub data Location : Type 0 where
+  tail_of : (ring : ℕ) → Location
+  head_of : (ring : ℕ) → Location
+  threshold_of : (ring : ℕ) → Location
+  entry_of : (ring slot : ℕ) → Location
 
--- what stands in a word
-abbrev pub read : Cells → Word → ℕ
+-- what stands at a location
+abbrev pub read : Cells → Location → ℕ
 read m (tail_of r) = m.tail r
 read m (head_of r) = m.head r
 read m (threshold_of r) = m.threshold r
 read m (entry_of r s) = m.entries.word r s
 
 -- what stands beside it: the content of an entry
-abbrev pub beside : Cells → Word → List ℕ
+abbrev pub beside : Cells → Location → List ℕ
 beside m (tail_of r) = []
 beside m (head_of r) = []
 beside m (threshold_of r) = []
 beside m (entry_of r s) = m.entries.content r s
 
-abbrev pub put_entry : {A : Type 0} → (ℕ → ℕ → A) → ℕ → ℕ → A → ℕ → ℕ → A
-put_entry f r s x = put f r (put (f r) s x)
+abbrev pub updated_entry : {A : Type 0} → (ℕ → ℕ → A) → ℕ → ℕ → A → ℕ → ℕ → A
+updated_entry f r s x = updated f r (updated (f r) s x)
 
 -- the cells with one word changed, and beside an entry its content
-abbrev pub written : Cells → Word → ℕ → List ℕ → Cells
-written m (tail_of r) x y = record m { tail = put m.tail r x }
-written m (head_of r) x y = record m { head = put m.head r x }
-written m (threshold_of r) x y = record m { threshold = put m.threshold r x }
+abbrev pub written : Cells → Location → ℕ → List ℕ → Cells
+written m (tail_of r) x y = record m { tail = updated m.tail r x }
+written m (head_of r) x y = record m { head = updated m.head r x }
+written m (threshold_of r) x y = record m { threshold = updated m.threshold r x }
 written m (entry_of r s) x y =
     record m {
-      entries = record { word = put_entry m.entries.word r s x; content = put_entry m.entries.content r s y };
+      entries = record { word = updated_entry m.entries.word r s x; content = updated_entry m.entries.content r s y };
     }

@@ -6,7 +6,7 @@ use Rattle.scq_word.specs.Tickets.{slot_of}
 use Rattle.scq_word.specs.Words.{mark_of, packed}
 use Rattle.scq_core.specs.declared.phase.Phase.TheVariants.{Idle}
 use Rattle.scq_core.specs.Machine.{Cells, Part, Machine}
-use Rattle.scq_core.specs.Table.{zero_level, reset_level, size}
+use Rattle.scq_core.specs.Table.{zero_level, reset_level, ring_slots}
 
 -- the word of an entry that was never used
 abbrev pub unused : ℕ → ℕ
@@ -26,13 +26,13 @@ filled_contents m opening (suc j) slot =
 abbrev pub start_cells : Setup → List (List ℕ) → Cells
 start_cells c opening =
     record {
-      tail = λ r. if r == 0 then size c + n_of c.order else size c;
-      head = λ r. size c;
+      tail = λ r. if r == 0 then ring_slots c + n_of c.order else ring_slots c;
+      head = λ r. ring_slots c;
       threshold = λ r. if r == 0 then reset_level c else zero_level - 1;
       entries =
           record {
-            word = λ r s. if r == 0 then filled (size c) (n_of c.order) s else unused (size c);
-            content = λ r s. if r == 0 then filled_contents (size c) opening (n_of c.order) s else [];
+            word = λ r s. if r == 0 then filled (ring_slots c) (n_of c.order) s else unused (ring_slots c);
+            content = λ r s. if r == 0 then filled_contents (ring_slots c) opening (n_of c.order) s else [];
           };
     }
 

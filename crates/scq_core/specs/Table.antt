@@ -1,5 +1,8 @@
 -- The step table. A seat's next step is its phase, or the first step of a call that it begins: its turn. A turn reads
 -- one word of one ring, writes that word and nothing else there, and changes its own seat's part.
+-- The letters: c setup; m cells, or the whole state; p a seat's part; r ring; i index; w content of a put; t ticket of an
+-- enqueue; h ticket of a dequeue; e word of the entry that was loaded; l least number that the step will find, at an
+-- entry its rank; x word that the turn finds; y content beside it.
 use Rattle.std.specs.Prelude.{ℕ, ◌+◌, ◌-◌, ◌*◌, ◌^◌, Bool, true, false, ◌==◌, ◌&&◌, not, nat_lt, nat_le, if◌then◌else◌, List, [], ◌∷◌, ◌++◌, filter, Option, Some, None}
 use Rattle.std.specs.List.{list_any}
 use Rattle.std.specs.Option.{option_map}
@@ -13,30 +16,30 @@ use Rattle.scq_core.specs.declared.phase.Phase.{Phase}
 use Rattle.scq_core.specs.declared.phase.Phase.TheVariants.{Idle, AtE1, AtE2, AtE3, AtE4, AtE5, AtE6, AtD1, AtD2, AtD3, AtD4, AtD5, AtD6, AtD7, AtD8, AtD9, AtD10}
 use Rattle.scq_core.specs.declared.step.Step.{Step}
 use Rattle.scq_core.specs.declared.step.Step.TheVariants.{E1, E1Again, E2, E3, E4, E5, E6, D1, D2, D3, D4, D5, D6, D7, D8, D9, D10}
-use Rattle.scq_core.specs.Put.{put}
-use Rattle.scq_core.specs.Machine.{Cells, Part, Machine, Word, tail_of, head_of, threshold_of, entry_of, read, beside, written}
+use Rattle.scq_core.specs.Updated.{updated}
+use Rattle.scq_core.specs.Machine.{Cells, Part, Machine, Location, tail_of, head_of, threshold_of, entry_of, read, beside, written}
 
 -- the word that stands for a Threshold of 0
 unfoldable pub zero_level : ℕ
 zero_level = 2 ^ 32
 
 -- what Threshold is reset to after a put
-unfoldable pub reset_of : Setup → ℕ
-reset_of c = 3 * n_of c.order - 1
+unfoldable pub reset_value : Setup → ℕ
+reset_value c = 3 * n_of c.order - 1
 
 -- the word of that
 abbrev pub reset_level : Setup → ℕ
-reset_level c = zero_level + reset_of c
+reset_level c = zero_level + reset_value c
 
--- the size of a ring, and what is read off a ticket and off a word there
-abbrev pub size : Setup → ℕ
-size c = slots_of c.order
+-- how many slots a ring has: 2n. Then the cycle of a ticket there, and the location of the entry in its slot
+abbrev pub ring_slots : Setup → ℕ
+ring_slots c = slots_of c.order
 
 abbrev pub cycle : Setup → ℕ → ℕ
-cycle c ticket = cycle_of (size c) ticket
+cycle c ticket = cycle_of (ring_slots c) ticket
 
-abbrev pub entry_at : Setup → ℕ → ℕ → Word
-entry_at c ring ticket = entry_of ring (slot_of (size c) ticket)
+abbrev pub entry_at : Setup → ℕ → ℕ → Location
+entry_at c ring ticket = entry_of ring (slot_of (ring_slots c) ticket)
 
 -- a hand with this index taken out
 abbrev pub without : ℕ → List ℕ → List ℕ
@@ -71,40 +74,40 @@ turn_at c hand spent phase step = None
 abbrev pub turn_of : Setup → Part → Step → Option Phase
 turn_of c p step = turn_at c p.hand p.spent p.phase step
 
--- the word that a turn reads. Idle is no turn: its line is never used
-abbrev pub word_of : Setup → Phase → Word
-word_of c Idle = tail_of 0
-word_of c (AtE1 r i w l) = tail_of r
-word_of c (AtE2 r i w t l) = entry_at c r t
-word_of c (AtE3 r i w t e) = head_of r
-word_of c (AtE4 r i w t e) = entry_at c r t
-word_of c (AtE5 r i w t) = threshold_of r
-word_of c (AtE6 r i w t) = threshold_of r
-word_of c (AtD1 r) = threshold_of r
-word_of c (AtD2 r l) = head_of r
-word_of c (AtD3 r h l) = entry_at c r h
-word_of c (AtD4 r h) = entry_at c r h
-word_of c (AtD5 r h e) = entry_at c r h
-word_of c (AtD6 r h) = tail_of r
-word_of c (AtD7 r h from to) = tail_of r
-word_of c (AtD8 r h from) = head_of r
-word_of c (AtD9 r h from to) = tail_of r
-word_of c (AtD10 r h leaving) = threshold_of r
+-- the location that a turn reads. Idle is no turn: its line is never used
+abbrev pub location_of : Setup → Phase → Location
+location_of c Idle = tail_of 0
+location_of c (AtE1 r i w l) = tail_of r
+location_of c (AtE2 r i w t l) = entry_at c r t
+location_of c (AtE3 r i w t e) = head_of r
+location_of c (AtE4 r i w t e) = entry_at c r t
+location_of c (AtE5 r i w t) = threshold_of r
+location_of c (AtE6 r i w t) = threshold_of r
+location_of c (AtD1 r) = threshold_of r
+location_of c (AtD2 r l) = head_of r
+location_of c (AtD3 r h l) = entry_at c r h
+location_of c (AtD4 r h) = entry_at c r h
+location_of c (AtD5 r h e) = entry_at c r h
+location_of c (AtD6 r h) = tail_of r
+location_of c (AtD7 r h from to) = tail_of r
+location_of c (AtD8 r h from) = head_of r
+location_of c (AtD9 r h from to) = tail_of r
+location_of c (AtD10 r h leaving) = threshold_of r
 
 -- an entry that a dequeue with a later ticket found: moved to that ticket's cycle where it has no index, else marked unsafe
 abbrev pub passed : Setup → ℕ → ℕ → ℕ
 passed c h e =
-    if is_none_in (size c) e
-    then packed (size c) (cycle c h) (safe_in (size c) e) (mark_of (size c))
-    else packed (size c) (cycle_in (size c) e) 0 (index_in (size c) e)
+    if is_none_in (ring_slots c) e
+    then packed (ring_slots c) (cycle c h) (safe_in (ring_slots c) e) (mark_of (ring_slots c))
+    else packed (ring_slots c) (cycle_in (ring_slots c) e) 0 (index_in (ring_slots c) e)
 
 -- what a turn writes where it found x; a turn that only reads writes what it found
 abbrev pub writes : Setup → Phase → ℕ → ℕ
 writes c (AtE1 r i w l) x = x + 1
-writes c (AtE4 r i w t e) x = if x == e then packed (size c) (cycle c t) 1 i else x
+writes c (AtE4 r i w t e) x = if x == e then packed (ring_slots c) (cycle c t) 1 i else x
 writes c (AtE6 r i w t) x = reset_level c
 writes c (AtD2 r l) x = x + 1
-writes c (AtD4 r h) x = packed (size c) (cycle_in (size c) x) (safe_in (size c) x) (mark_of (size c))
+writes c (AtD4 r h) x = packed (ring_slots c) (cycle_in (ring_slots c) x) (safe_in (ring_slots c) x) (mark_of (ring_slots c))
 writes c (AtD5 r h e) x = if x == e then passed c h e else x
 writes c (AtD7 r h from to) x = if x == from then to else x
 writes c (AtD10 r h leaving) x = x - 1
@@ -132,24 +135,24 @@ abbrev pub after : Setup → Phase → ℕ → List ℕ → Part → Part
 after c Idle x y p = p
 after c (AtE1 r i w l) x y p = if nat_le c.limit x then spends r x true p else goes_on (AtE2 r i w x 0) p
 after c (AtE2 r i w t l) x y p =
-    if nat_lt (cycle_in (size c) x) (cycle c t) && is_none_in (size c) x
-    then (if safe_in (size c) x == 1 then goes_on (AtE4 r i w t x) p else goes_on (AtE3 r i w t x) p)
+    if nat_lt (cycle_in (ring_slots c) x) (cycle c t) && is_none_in (ring_slots c) x
+    then (if safe_in (ring_slots c) x == 1 then goes_on (AtE4 r i w t x) p else goes_on (AtE3 r i w t x) p)
     else goes_on (AtE1 r i w (t + 1)) p
 after c (AtE3 r i w t e) x y p = if nat_le x t then goes_on (AtE4 r i w t e) p else goes_on (AtE1 r i w (t + 1)) p
 after c (AtE4 r i w t e) x y p =
     if x == e
     then goes_on (AtE5 r i w t) (record p { hand = without i p.hand })
-    else goes_on (AtE2 r i w t (rank_in (size c) x)) p
+    else goes_on (AtE2 r i w t (rank_in (ring_slots c) x)) p
 after c (AtE5 r i w t) x y p = if x == reset_level c then ends (Done r t w) p else goes_on (AtE6 r i w t) p
 after c (AtE6 r i w t) x y p = ends (Done r t w) p
 after c (AtD1 r) x y p = if nat_lt x zero_level then ends (Nothing r) p else goes_on (AtD2 r 0) p
 after c (AtD2 r l) x y p = if nat_le c.limit x then spends r x false p else goes_on (AtD3 r x 0) p
 after c (AtD3 r h l) x y p =
-    if cycle_in (size c) x == cycle c h
+    if cycle_in (ring_slots c) x == cycle c h
     then goes_on (AtD4 r h) p
-    else (if nat_lt (cycle_in (size c) x) (cycle c h) then goes_on (AtD5 r h x) p else goes_on (AtD6 r h) p)
-after c (AtD4 r h) x y p = ends (Got r h y) (record p { hand = p.hand ++ index_in (size c) x ∷ [] })
-after c (AtD5 r h e) x y p = if x == e then goes_on (AtD6 r h) p else goes_on (AtD3 r h (rank_in (size c) x)) p
+    else (if nat_lt (cycle_in (ring_slots c) x) (cycle c h) then goes_on (AtD5 r h x) p else goes_on (AtD6 r h) p)
+after c (AtD4 r h) x y p = ends (Got r h y) (record p { hand = p.hand ++ index_in (ring_slots c) x ∷ [] })
+after c (AtD5 r h e) x y p = if x == e then goes_on (AtD6 r h) p else goes_on (AtD3 r h (rank_in (ring_slots c) x)) p
 after c (AtD6 r h) x y p = if nat_le x (h + 1) then goes_on (AtD7 r h x (h + 1)) p else goes_on (AtD10 r h false) p
 after c (AtD7 r h from to) x y p = if x == from then goes_on (AtD10 r h true) p else goes_on (AtD8 r h from) p
 after c (AtD8 r h from) x y p = goes_on (AtD9 r h from x) p
@@ -160,16 +163,16 @@ after c (AtD10 r h false) x y p = if nat_le x zero_level then ends (Nothing r) p
 -- the cells after a turn
 abbrev pub cells_after : Setup → Phase → Cells → Cells
 cells_after c turn m =
-    let word = word_of c turn in
-    written m word (writes c turn (read m word)) (stores turn (read m word) (beside m word))
+    let location = location_of c turn in
+    written m location (writes c turn (read m location)) (stores turn (read m location) (beside m location))
 
 -- the state after a turn of a seat
 abbrev pub moved : Setup → Machine → ℕ → Phase → Machine
 moved c m seat turn =
-    let word = word_of c turn in
+    let location = location_of c turn in
     record {
       cells = cells_after c turn m.cells;
-      part = put m.part seat (after c turn (read m.cells word) (beside m.cells word) (m.part seat));
+      part = updated m.part seat (after c turn (read m.cells location) (beside m.cells location) (m.part seat));
       opening = m.opening;
     }
 

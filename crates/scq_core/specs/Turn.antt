@@ -14,7 +14,7 @@ use Rattle.scq_core.specs.declared.slot.Place.TheVariants.{Tail, Head, Threshold
 use Rattle.scq_core.specs.declared.next.Next.{Next}
 use Rattle.scq_core.specs.declared.next.Next.TheVariants.{Goes, Ends, Spends, Places, Takes}
 use Rattle.scq_core.specs.Machine.{Part}
-use Rattle.scq_core.specs.Table.{size, goes_on, ends, spends, without}
+use Rattle.scq_core.specs.Table.{ring_slots, goes_on, ends, spends, without}
 
 -- the ring of a turn
 abbrev pub ring_of : Phase → ℕ
@@ -45,16 +45,16 @@ ring_under_way phase = Some (ring_of phase)
 abbrev pub place_of : Setup → Phase → Place
 place_of c Idle = Tail
 place_of c (AtE1 r i w l) = Tail
-place_of c (AtE2 r i w t l) = Entry (slot_of (size c) t)
+place_of c (AtE2 r i w t l) = Entry (slot_of (ring_slots c) t)
 place_of c (AtE3 r i w t e) = Head
-place_of c (AtE4 r i w t e) = Entry (slot_of (size c) t)
+place_of c (AtE4 r i w t e) = Entry (slot_of (ring_slots c) t)
 place_of c (AtE5 r i w t) = Threshold
 place_of c (AtE6 r i w t) = Threshold
 place_of c (AtD1 r) = Threshold
 place_of c (AtD2 r l) = Head
-place_of c (AtD3 r h l) = Entry (slot_of (size c) h)
-place_of c (AtD4 r h) = Entry (slot_of (size c) h)
-place_of c (AtD5 r h e) = Entry (slot_of (size c) h)
+place_of c (AtD3 r h l) = Entry (slot_of (ring_slots c) h)
+place_of c (AtD4 r h) = Entry (slot_of (ring_slots c) h)
+place_of c (AtD5 r h e) = Entry (slot_of (ring_slots c) h)
 place_of c (AtD6 r h) = Tail
 place_of c (AtD7 r h from to) = Tail
 place_of c (AtD8 r h from) = Head

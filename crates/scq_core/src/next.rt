@@ -4,7 +4,7 @@ ghost use Rattle.scq_core.specs.declared.ended.Ended.TheVariants.{Done};
 ghost use Rattle.scq_word.specs.Words.{rank_in};
 ghost use Rattle.scq_word.specs.Entries.{IsIndexOrMark};
 ghost use Rattle.scq_core.specs.Machine.{Part};
-ghost use Rattle.scq_core.specs.Table.{size, after, stores};
+ghost use Rattle.scq_core.specs.Table.{ring_slots, after, stores};
 ghost use Rattle.scq_core.specs.Turn.{copied, part_after, laid_by, IsOfGet, IsReady};
 
 use crate::ended::Ended;
@@ -167,7 +167,7 @@ fn missed_by_put(
     found: u64,
 ) -> Next
     requires { IsIndexOrMark setup.now.order found }
-    ensures { result ≡ Next.Goes (AtE2 ring index content ticket (rank_in (size setup.now) found)) }
+    ensures { result ≡ Next.Goes (AtE2 ring index content ticket (rank_in (ring_slots setup.now) found)) }
 {
     let least = rank(unpack(setup.shape(), found));
     Next::Goes(Phase::AtE2 {

@@ -2,7 +2,7 @@ ghost use Rattle.std.specs.Prelude.{◌≡◌, ℕ, ◌+◌, ◌<◌, IfOk, repl
 ghost use Rattle.scq_word.specs.Sizes.{n_of};
 ghost use Rattle.scq_word.specs.Tickets.{slot_of};
 ghost use Rattle.scq_word.specs.Words.{packed};
-ghost use Rattle.scq_core.specs.Table.{size};
+ghost use Rattle.scq_core.specs.Table.{ring_slots};
 ghost use Rattle.scq_core.specs.Book.{no_slot};
 ghost use Rattle.scq_core.specs.Fresh.{empty_ring, IsFullRing};
 ghost use Rattle.scq_core.specs.Rings.{IsPlace, word_in, content_in, ring_with};
@@ -129,7 +129,7 @@ impl Ring {
 
 // The slots of a ring in which nothing was ever placed.
 fn unused(alloc: Global, setup: &Setup) -> Result<Vec<Slot>, NoMemory>
-    ensures { IfOk result (λ slots. slots.items ≡ replicate (size setup.now) (no_slot setup.now)) }
+    ensures { IfOk result (λ slots. slots.items ≡ replicate (ring_slots setup.now) (no_slot setup.now)) }
 {
     let shape = setup.shape();
     let entry = Entry {
@@ -151,10 +151,10 @@ fn unused(alloc: Global, setup: &Setup) -> Result<Vec<Slot>, NoMemory>
 
 // Places an index at the ticket of the first turn that has its number.
 fn fill(setup: &Setup, slots: &mut Vec<Slot>, index: u32, content: Bytes)
-    requires many { vec_len slots.old ≡ size setup.now }
+    requires many { vec_len slots.old ≡ ring_slots setup.now }
     requires own { index < n_of setup.now.order }
-    ensures { slots.new.items ≡ slice_set slots.old.items (slot_of (size setup.now) (size setup.now + index))
-        (record { word = packed (size setup.now) 1 1 index; content = content }) }
+    ensures { slots.new.items ≡ slice_set slots.old.items (slot_of (ring_slots setup.now) (ring_slots setup.now + index))
+        (record { word = packed (ring_slots setup.now) 1 1 index; content = content }) }
 {
     let shape = setup.shape();
     let entry = Entry {

@@ -37,7 +37,7 @@ impl Model for State {
 
 impl State {
     ghost use Rattle.scq_core.specs.declared.phase.Phase.TheVariants.{Idle};
-    ghost use Rattle.scq_core.specs.Table.{step_of, size, zero_level, holds_index};
+    ghost use Rattle.scq_core.specs.Table.{step_of, ring_slots, zero_level, holds_index};
     ghost use Rattle.scq_core.specs.Turn.{ring_under_way};
     ghost use Rattle.scq_core.specs.Start.{start_of};
     ghost use Rattle.scq_core.specs.Book.{machine_of, ring_in, no_slot, IsPlaceOf};
@@ -123,7 +123,7 @@ impl State {
     /// The word of an entry.
     pub fn entry(&self, ring: u32, slot: u32) -> u64
         requires ring { ring < self.now.setup.rings }
-        requires slot { slot < size self.now.setup }
+        requires slot { slot < ring_slots self.now.setup }
         ensures { result ≡ (machine_of self.now).cells.entries.word ring slot }
     {
         self.word(ring, Place::Entry { slot })

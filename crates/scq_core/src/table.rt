@@ -4,7 +4,7 @@ ghost use Rattle.scq_word.specs.Tickets.{slot_of};
 ghost use Rattle.scq_word.specs.Words.{mark_of, packed, safe_in, cycle_in};
 ghost use Rattle.scq_word.specs.Entries.{IsIndexOrMark};
 ghost use Rattle.scq_core.specs.declared.slot.Place.TheVariants.{Entry as EntryPlace};
-ghost use Rattle.scq_core.specs.Table.{size, cycle, reset_level, passed, writes};
+ghost use Rattle.scq_core.specs.Table.{ring_slots, cycle, reset_level, passed, writes};
 ghost use Rattle.scq_core.specs.Turn.{ring_of, place_of, IsReady};
 
 use crate::phase::Phase;
@@ -65,7 +65,7 @@ pub fn place_of(setup: &Setup, turn: &Phase) -> Place
 }
 
 fn entry_at(setup: &Setup, ticket: u64) -> Place
-    ensures { result ≡ EntryPlace (slot_of (size setup.now) ticket) }
+    ensures { result ≡ EntryPlace (slot_of (ring_slots setup.now) ticket) }
 {
     Place::Entry {
         slot: slot_of(setup.shape(), ticket),
@@ -99,7 +99,7 @@ pub fn written(setup: &Setup, turn: &Phase, found: u64) -> u64
 fn filled(setup: &Setup, ticket: u64, index: u32) -> u64
     requires lawful { ticket < setup.now.limit }
     requires own { index < n_of setup.now.order }
-    ensures { result ≡ packed (size setup.now) (cycle setup.now ticket) 1 index }
+    ensures { result ≡ packed (ring_slots setup.now) (cycle setup.now ticket) 1 index }
 {
     let shape = setup.shape();
     let entry = Entry {
@@ -119,7 +119,7 @@ pub fn reset_level(setup: &Setup) -> u64
 
 // A fetch_or of the mark takes the index out, and leaves the cycle and the safe bit.
 fn consumed(setup: &Setup, found: u64) -> u64
-    ensures { result ≡ packed (size setup.now) (cycle_in (size setup.now) found) (safe_in (size setup.now) found) (mark_of (size setup.now)) }
+    ensures { result ≡ packed (ring_slots setup.now) (cycle_in (ring_slots setup.now) found) (safe_in (ring_slots setup.now) found) (mark_of (ring_slots setup.now)) }
 {
     found | u64::from(setup.shape().none())
 }

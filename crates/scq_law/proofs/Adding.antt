@@ -12,14 +12,14 @@ use Rattle.scq_core.specs.declared.phase.Phase.{Phase}
 use Rattle.scq_core.specs.declared.phase.Phase.TheVariants.{Idle, AtE1, AtE2, AtE3, AtE4, AtE5, AtE6, AtD1, AtD2, AtD3, AtD4, AtD5, AtD6, AtD7, AtD8, AtD9, AtD10}
 use Rattle.scq_core.specs.declared.step.Step.{Step}
 use Rattle.scq_core.specs.declared.step.Step.TheVariants.{E1, E1Again, E2, E3, E4, E5, E6, D1, D2, D3, D4, D5, D6, D7, D8, D9, D10}
-use Rattle.scq_core.specs.Put.{put}
-use Rattle.scq_core.specs.Machine.{Cells, Machine, Part, read, beside, put_entry}
-use Rattle.scq_core.specs.Table.{turn_at, turn_of, step_of, moved, after, word_of}
+use Rattle.scq_core.specs.Updated.{updated}
+use Rattle.scq_core.specs.Machine.{Cells, Machine, Part, read, beside, updated_entry}
+use Rattle.scq_core.specs.Table.{turn_at, turn_of, step_of, moved, after, location_of}
 use Rattle.scq_core.specs.Turn.{started}
 use Rattle.scq_core.specs.Book.{machine_of}
 use Rattle.scq_core.specs.Laws.{Busy}
 use Rattle.scq_core.specs.Reach.{IsReachable}
-use Rattle.scq_core.proofs.PutLemmas.{put_here, put_entry_or, put_entry_cases}
+use Rattle.scq_core.proofs.UpdatedLemmas.{updated_here, updated_entry_or, updated_entry_cases}
 use Rattle.scq_core.proofs.Places.{enabled_turn}
 use Rattle.scq_core.proofs.Books.{set_is}
 use Rattle.scq_core.proofs.Turns.{turned}
@@ -72,13 +72,13 @@ taken c hand spent (AtD10 r h leaving) D10 turn e = let same : AtD10 r h leaving
 taken c hand spent phase step turn e = absurd (cc)
 
 -- a count that is changed
-pub counts_put : (n : ℕ) (xs : List ℕ) (f : ℕ → ℕ) (k v w : ℕ) → Counts n xs f → k < n → v ≡ w → Counts n (slice_set xs k v) (put f k w)
-counts_put n xs f k v w old low same =
+pub counts_updated : (n : ℕ) (xs : List ℕ) (f : ℕ → ℕ) (k v w : ℕ) → Counts n xs f → k < n → v ≡ w → Counts n (slice_set xs k v) (updated f k w)
+counts_updated n xs f k v w old low same =
     let low_list : k < length xs = rw old.size low in
     let is : ◌≡◌ {A = ℕ → ℕ} (λ j. slice_index xs j) f = λ i j. old.each j i in
     record {
       size = length-set xs k v ∙ old.size;
-      each = λ j. ap (λ (g : ℕ → ℕ). g j) (set_is xs k v 0 low_list) ∙ ap (λ (g : ℕ → ℕ). put g k v j) is ∙ ap (λ u. put f k u j) same;
+      each = λ j. ap (λ (g : ℕ → ℕ). g j) (set_is xs k v 0 low_list) ∙ ap (λ (g : ℕ → ℕ). updated g k v j) is ∙ ap (λ u. updated f k u j) same;
     }
 
 -- the Start
@@ -91,20 +91,20 @@ started_told k phase step turn (goes_on p s awake) = refl
 -- the puts that each seat has begun
 pub puts_told : (n k : ℕ) (xs : List ℕ) (f : ℕ → ℕ) (phase : Phase) (step : Step) (turn : Phase) → Counts n xs f → k < n → Taken phase step turn → Counts n (puts_by k (act_of phase step) xs) (puts_after k phase turn f)
 puts_told n k xs f phase step turn old low (begins_put r i w) =
-    counts_put n xs f k _ _ old low (ap (λ u. u + 1) (old.each k))
+    counts_updated n xs f k _ _ old low (ap (λ u. u + 1) (old.each k))
 puts_told n k xs f phase step turn old low (begins_get r) = old
 puts_told n k xs f phase step turn old low (goes_on Idle s awake) = absurd (awake refl)
 puts_told n k xs f phase step turn old low (goes_on p s awake) = old
 
 -- an exchange that has failed places nothing, and one that has succeeded places the put of this name
 placed_told : (c : Setup) (r i t e : ℕ) (w : List ℕ) (x : ℕ) (y : List ℕ) (q : Part) (a b : PutName) (names : ℕ → ℕ → Option PutName) (placer : ℕ → ℕ → PutName) → a ≡ b → ((s u : ℕ) → placer_in c names s u ≡ placer s u)
-    → (s u : ℕ) → placer_in c (names_by (act_of (AtE4 r i w t e) E4) (after c (AtE4 r i w t e) x y q).phase a names) s u ≡ (if x == e then put_entry placer r t b else placer) s u
+    → (s u : ℕ) → placer_in c (names_by (act_of (AtE4 r i w t e) E4) (after c (AtE4 r i w t e) x y q).phase a names) s u ≡ (if x == e then updated_entry placer r t b else placer) s u
 placed_told c r i t e w x y q a b names placer same old s u =
     elim (cases_eq x e) [
       | inl hit ↦ rw (eq-eqb x e hit) (
-          elim (put_entry_or names r t (Some a) s u) [
-            | inl here ↦ rw here.2 (put_entry_cases (λ _ _ v. a ≡ v) placer r t b s u (λ _ _. same) (λ apart. absurd (apart here.0 here.1)))
-            | inr apart ↦ rw apart.1 (put_entry_cases (λ _ _ v. placer_in c names s u ≡ v) placer r t b s u (λ ring place. absurd (apart.0 ring place)) (λ _. old s u))
+          elim (updated_entry_or names r t (Some a) s u) [
+            | inl here ↦ rw here.2 (updated_entry_cases (λ _ _ v. a ≡ v) placer r t b s u (λ _ _. same) (λ apart. absurd (apart here.0 here.1)))
+            | inr apart ↦ rw apart.1 (updated_entry_cases (λ _ _ v. placer_in c names s u ≡ v) placer r t b s u (λ ring place. absurd (apart.0 ring place)) (λ _. old s u))
           ])
       | inr miss ↦ rw (ne_eqb x e miss) (old s u)
     ]
@@ -122,11 +122,11 @@ placer_told c k phase step turn x y q a names puts placer (goes_on p s awake) sa
 
 -- one more reset where a put ends, as the phase afterwards says, and no failed turn since
 five_told : (n r i t : ℕ) (w : List ℕ) (xs : List ℕ) (f : ℕ → ℕ) (later : Phase) → Counts n xs f → r < n → Counts n (resets_by (Settles r) later xs) (resets_after (is_reset (AtE5 r i w t) later) f)
-five_told n r i t w xs f Idle old low = counts_put n xs f r _ _ old low (ap (λ u. u + 1) (old.each r))
+five_told n r i t w xs f Idle old low = counts_updated n xs f r _ _ old low (ap (λ u. u + 1) (old.each r))
 five_told n r i t w xs f later old low = old
 
 six_told : (n r i t : ℕ) (w : List ℕ) (xs : List ℕ) (f : ℕ → ℕ) (later : Phase) → Counts n xs f → r < n → Counts n (resets_by (Settles r) later xs) (resets_after (is_reset (AtE6 r i w t) later) f)
-six_told n r i t w xs f Idle old low = counts_put n xs f r _ _ old low (ap (λ u. u + 1) (old.each r))
+six_told n r i t w xs f Idle old low = counts_updated n xs f r _ _ old low (ap (λ u. u + 1) (old.each r))
 six_told n r i t w xs f later old low = old
 
 pub resets_told : (n : ℕ) (xs : List ℕ) (f : ℕ → ℕ) (phase : Phase) (step : Step) (turn later : Phase) → Counts n xs f → IsWithin n (act_of phase step) → Taken phase step turn → Counts n (resets_by (act_of phase step) later xs) (resets_after (is_reset turn later) f)
@@ -138,11 +138,11 @@ resets_told n xs f phase step turn later old low (goes_on (AtE6 r i w t) s awake
 resets_told n xs f phase step turn later old low (goes_on p s awake) = old
 
 five_fails : (n r i t : ℕ) (w : List ℕ) (xs : List ℕ) (f : ℕ → ℕ) (later : Phase) → Counts n xs f → r < n → Counts n (fails_by (Settles r) later xs) (fails_after (AtE5 r i w t) (is_reset (AtE5 r i w t) later) f)
-five_fails n r i t w xs f Idle old low = counts_put n xs f r 0 0 old low refl
+five_fails n r i t w xs f Idle old low = counts_updated n xs f r 0 0 old low refl
 five_fails n r i t w xs f later old low = old
 
 six_fails : (n r i t : ℕ) (w : List ℕ) (xs : List ℕ) (f : ℕ → ℕ) (later : Phase) → Counts n xs f → r < n → Counts n (fails_by (Settles r) later xs) (fails_after (AtE6 r i w t) (is_reset (AtE6 r i w t) later) f)
-six_fails n r i t w xs f Idle old low = counts_put n xs f r 0 0 old low refl
+six_fails n r i t w xs f Idle old low = counts_updated n xs f r 0 0 old low refl
 six_fails n r i t w xs f later old low = old
 
 pub fails_told : (n : ℕ) (xs : List ℕ) (f : ℕ → ℕ) (phase : Phase) (step : Step) (turn later : Phase) → Counts n xs f → IsWithin n (act_of phase step) → Taken phase step turn → Counts n (fails_by (act_of phase step) later xs) (fails_after turn (is_reset turn later) f)
@@ -152,7 +152,7 @@ fails_told n xs f phase step turn later old low (goes_on Idle s awake) = absurd 
 fails_told n xs f phase step turn later old low (goes_on (AtE5 r i w t) s awake) = five_fails n r i t w xs f later old low
 fails_told n xs f phase step turn later old low (goes_on (AtE6 r i w t) s awake) = six_fails n r i t w xs f later old low
 fails_told n xs f phase step turn later old low (goes_on (AtD10 r h leaving) s awake) =
-    counts_put n xs f r _ _ old low (ap (λ u. u + 1) (old.each r))
+    counts_updated n xs f r _ _ old low (ap (λ u. u + 1) (old.each r))
 fails_told n xs f phase step turn later old low (goes_on p s awake) = old
 
 -- the End, as the phase and the record afterwards say
@@ -183,10 +183,10 @@ pub shown : (c : Setup) (k : ℕ) (step : Step) (turn : Phase) (told : Told) (ol
 shown c k step turn told old middle new low shows enabled within same setup state tells =
     let m = told.state in
     let before = m.part k in
-    let x = read m.cells (word_of c turn) in
-    let y = beside m.cells (word_of c turn) in
+    let x = read m.cells (location_of c turn) in
+    let y = beside m.cells (location_of c turn) in
     let later = (moved c m k turn).part k in
-    let is : later ≡ after c turn x y before = put_here m.part k _ in
+    let is : later ≡ after c turn x y before = updated_here m.part k _ in
     let t = taken c before.hand before.spent before.phase step turn enabled in
     let act = act_of before.phase step in
     let puts_old : middle.puts.items ≡ old.puts.items = ap (λ (u : Telling). u.puts.items) same in

@@ -9,7 +9,7 @@ use Rattle.scq_core.specs.declared.step.Step.{Step}
 use Rattle.scq_core.specs.Machine.{Cells, Entries, Part, Machine}
 use Rattle.scq_core.specs.Table.{turn_of, cells_after, moved}
 use Rattle.scq_core.specs.Laws.{Busy, IsSteady}
-use Rattle.scq_core.proofs.PutLemmas.{put_cases}
+use Rattle.scq_core.proofs.UpdatedLemmas.{updated_cases}
 use Rattle.scq_core.proofs.Turns.{Begins, begins_put, begins_get, begins, awake}
 use Rattle.scq_core.proofs.Steady.{has, steady_turn, steady_start}
 use Rattle.scq_law.proofs.Ghosts.{Ghost}
@@ -83,7 +83,7 @@ based_turn c m g time k s turn enabled base =
       drawn = out.drawn;
       claims =
           λ j.
-          put_cases
+          updated_cases
           (λ (i : ℕ) (v : Part). Claims h i (length v.calls) (stance_of v.phase))
           m.part
           k
@@ -93,7 +93,7 @@ based_turn c m g time k s turn enabled base =
           (λ other. claims_last c m.cells.entries n.entries g h k j (length (m.part j).calls) (stance_of (m.part j).phase) out.effect.moves other (base.claims j));
       knows =
           λ j.
-          put_cases
+          updated_cases
           (λ (_ : ℕ) (v : Part). Knows c n.entries.word h.gets v.phase)
           m.part
           k

@@ -2,7 +2,7 @@
 use Rattle.std.proofs.Common.{◌≡◌, ℕ, inl, inr, sym, ◌∙◌, refl}
 use Rattle.scq_word.specs.declared.setup.Setup.{Setup}
 use Rattle.scq_core.specs.Machine.{Entries}
-use Rattle.scq_core.proofs.PutLemmas.{put_entry_or, put_entry_cases}
+use Rattle.scq_core.proofs.UpdatedLemmas.{updated_entry_or, updated_entry_cases}
 use Rattle.scq_law.proofs.Ghosts.{Ghost, unopened, opened, dead, took, waiting, with_get}
 use Rattle.scq_law.proofs.Booked.{IsBooked, Moves, Effect}
 
@@ -10,7 +10,7 @@ module _ (c : Setup) (e : Entries) (g : Ghost) (k r h : ℕ) (fresh : g.gets r h
   -- what may still be taken is the same as before
   same_waiting : (q p : ℕ) → waiting ((with_get g r h (opened k)).gets q p) ≡ waiting (g.gets q p)
   same_waiting q p =
-      put_entry_cases (λ a b v. waiting v ≡ waiting (g.gets a b)) g.gets r h (opened k) q p (λ ring ticket. let was : g.gets q p ≡ unopened = rw (ring, ticket) fresh in rw was refl) (λ _. refl)
+      updated_entry_cases (λ a b v. waiting v ≡ waiting (g.gets a b)) g.gets r h (opened k) q p (λ ring ticket. let was : g.gets q p ≡ unopened = rw (ring, ticket) fresh in rw was refl) (λ _. refl)
 
   began_booked : IsBooked c e (with_get g r h (opened k))
   began_booked =
@@ -20,19 +20,19 @@ module _ (c : Setup) (e : Entries) (g : Ghost) (k r h : ℕ) (fresh : g.gets r h
         over = λ q p first at none. same_waiting q p ∙ booked.over q p first at none;
         taken =
             λ q p j x got.
-            elim (put_entry_or g.gets r h (opened k) q p) [
+            elim (updated_entry_or g.gets r h (opened k) q p) [
               | inl a ↦ absurd (cc)
               | inr a ↦ booked.taken q p j x (sym a.1 ∙ got)
             ];
         never =
             λ q p gone.
-            elim (put_entry_or g.gets r h (opened k) q p) [
+            elim (updated_entry_or g.gets r h (opened k) q p) [
               | inl a ↦ absurd (cc)
               | inr a ↦ booked.never q p (sym a.1 ∙ gone)
             ];
         shut =
             λ q p gone.
-            elim (put_entry_or g.gets r h (opened k) q p) [
+            elim (updated_entry_or g.gets r h (opened k) q p) [
               | inl a ↦ absurd (cc)
               | inr a ↦ booked.shut q p (sym a.1 ∙ gone)
             ];
@@ -45,20 +45,20 @@ module _ (c : Setup) (e : Entries) (g : Ghost) (k r h : ℕ) (fresh : g.gets r h
         lies = λ q p i w b is. is;
         opens =
             λ j q p apart is.
-            put_entry_cases (λ _ _ v. v ≡ opened j) g.gets r h (opened k) q p (λ ring ticket. absurd (cc)) (λ _. is);
+            updated_entry_cases (λ _ _ v. v ≡ opened j) g.gets r h (opened k) q p (λ ring ticket. absurd (cc)) (λ _. is);
         ends =
             λ q p is.
-            put_entry_cases (λ _ _ v. v ≡ dead) g.gets r h (opened k) q p (λ ring ticket. absurd (cc)) (λ _. is);
+            updated_entry_cases (λ _ _ v. v ≡ dead) g.gets r h (opened k) q p (λ ring ticket. absurd (cc)) (λ _. is);
         takes =
             λ q p j x is.
-            put_entry_cases (λ _ _ v. v ≡ took j x) g.gets r h (opened k) q p (λ ring ticket. absurd (cc)) (λ _. is);
+            updated_entry_cases (λ _ _ v. v ≡ took j x) g.gets r h (opened k) q p (λ ring ticket. absurd (cc)) (λ _. is);
         holds = λ j q p apart is has. has;
         passes =
             λ q t v loaded old.
             record {
               passed =
                   λ there unsafe p slot gone.
-                  elim (put_entry_or g.gets r h (opened k) q p) [
+                  elim (updated_entry_or g.gets r h (opened k) q p) [
                     | inl a ↦ absurd (cc)
                     | inr a ↦ old.passed there unsafe p slot (sym a.1 ∙ gone)
                   ];

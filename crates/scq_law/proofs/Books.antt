@@ -3,7 +3,7 @@ use Rattle.std.specs.Prelude.{◌≡◌, ◌≢◌, ℕ, ◌+◌, ◌<◌, ◌�
 use Rattle.scq_word.specs.declared.setup.Setup.{Setup}
 use Rattle.scq_word.specs.Sizes.{n_of}
 use Rattle.scq_word.specs.Tickets.{slot_of}
-use Rattle.scq_core.specs.Table.{size}
+use Rattle.scq_core.specs.Table.{ring_slots}
 use Rattle.scq_law.proofs.Ghosts.{Ghost, fresh, pending, failed}
 use Rattle.scq_law.proofs.Deed.{Live}
 
@@ -27,7 +27,7 @@ pub record IsAfter (g : Ghost) (r x t : ℕ) : Type 0 where
 pub record Bars (c : Setup) (g : Ghost) (r t i : ℕ) : Type 0 where
   pub place : ℕ
   pub earlier : place < t
-  pub slot : slot_of (size c) place ≡ slot_of (size c) t
+  pub slot : slot_of (ring_slots c) place ≡ slot_of (ring_slots c) t
   pub live : Live g r place i
 
 -- the failed tickets, each with the step at which it failed, its drawer's index and the index that it found: of those at
@@ -43,4 +43,4 @@ pub record IsBook (c : Setup) (g : Ghost) (head : ℕ → ℕ) (time : ℕ) : Ty
 
 -- no ticket that is drawn below the limit is as far past Head as twice the indices, less one
 pub record IsWindow (c : Setup) (tail head : ℕ → ℕ) : Type 0 where
-  pub within : (r t : ℕ) → t < tail r → t < c.limit → t + 2 ≤ head r + size c
+  pub within : (r t : ℕ) → t < tail r → t < c.limit → t + 2 ≤ head r + ring_slots c

@@ -9,7 +9,7 @@ use Rattle.scq_word.specs.Tickets.{slot_of}
 use Rattle.scq_word.specs.Words.{index_in, cycle_in, is_none_in}
 use Rattle.scq_word.proofs.TicketLemmas.{ticket_in, slot_of-ticket_in, cycle_of-ticket_in, lower_ticket}
 use Rattle.scq_core.specs.Machine.{Entries}
-use Rattle.scq_core.specs.Table.{size, cycle}
+use Rattle.scq_core.specs.Table.{ring_slots, cycle}
 use Rattle.scq_core.proofs.Entries.{some_slots}
 use Rattle.scq_law.specs.Places.{Maker}
 use Rattle.scq_law.proofs.Ghosts.{Ghost, PutState, fresh, pending, failed, placed, is_placed, waiting}
@@ -33,7 +33,7 @@ placement g r p yes_placed = go (g.puts r p) refl yes_placed
     go (placed i w b) is has = record { index = i; content = w; maker = b; is = is }
 
 -- where an index stands, that index is live
-pub live_at : (c : Setup) (e : Entries) (g : Ghost) (r p : ℕ) → IsBooked c e g → Holds c e.word r p → Live g r p (index_in (size c) (at_ticket c e.word r p))
+pub live_at : (c : Setup) (e : Entries) (g : Ghost) (r p : ℕ) → IsBooked c e g → Holds c e.word r p → Live g r p (index_in (ring_slots c) (at_ticket c e.word r p))
 live_at c e g r p booked has =
     let both = booked.live r p has in
     let at = placement g r p both.0 in
@@ -56,25 +56,25 @@ over_below c tail head g r p drawn over =
           let waits : waiting (g.gets r p) ≡ true = ap waiting (drawn.heads r p high) in absurd (cc)
     ]
 
-pub fail_cause : (c : Setup) (e : Entries) (g : Ghost) (tail head : ℕ → ℕ) (k r i t : ℕ) → IsBooked c e g → IsDrawn c tail head g → size c ≤ t → g.puts r t ≡ pending k i → (nat_lt (cycle_in (size c) (at_ticket c e.word r t)) (cycle c t) && is_none_in (size c) (at_ticket c e.word r t)) ≡ false → (t < head r) ⊎ Blocks c g r t (index_in (size c) (at_ticket c e.word r t))
+pub fail_cause : (c : Setup) (e : Entries) (g : Ghost) (tail head : ℕ → ℕ) (k r i t : ℕ) → IsBooked c e g → IsDrawn c tail head g → ring_slots c ≤ t → g.puts r t ≡ pending k i → (nat_lt (cycle_in (ring_slots c) (at_ticket c e.word r t)) (cycle c t) && is_none_in (ring_slots c) (at_ticket c e.word r t)) ≡ false → (t < head r) ⊎ Blocks c g r t (index_in (ring_slots c) (at_ticket c e.word r t))
 fail_cause c e g tail head k r i t booked drawn first mine fails =
     let x = at_ticket c e.word r t in
-    let q = ticket_in (size c) t (cycle_in (size c) x) in
-    let slot : slot_of (size c) q ≡ slot_of (size c) t = slot_of-ticket_in (size c) t (cycle_in (size c) x) (some_slots c) in
-    let turn : cycle c q ≡ cycle_in (size c) x = cycle_of-ticket_in (size c) t (cycle_in (size c) x) (some_slots c) in
+    let q = ticket_in (ring_slots c) t (cycle_in (ring_slots c) x) in
+    let slot : slot_of (ring_slots c) q ≡ slot_of (ring_slots c) t = slot_of-ticket_in (ring_slots c) t (cycle_in (ring_slots c) x) (some_slots c) in
+    let turn : cycle c q ≡ cycle_in (ring_slots c) x = cycle_of-ticket_in (ring_slots c) t (cycle_in (ring_slots c) x) (some_slots c) in
     let at_q : at_ticket c e.word r q ≡ x = ap (e.word r) slot in
-    elim (cases_Bool (is_none_in (size c) x)) [
+    elim (cases_Bool (is_none_in (ring_slots c) x)) [
       | inl none ↦
-          let high : cycle c t ≤ cycle_in (size c) x =
-          elim (cases_lt (cycle_in (size c) x) (cycle c t)) [
+          let high : cycle c t ≤ cycle_in (ring_slots c) x =
+          elim (cases_lt (cycle_in (ring_slots c) x) (cycle c t)) [
             | inl lower ↦
-                let both = and_from (nat_lt (cycle_in (size c) x) (cycle c t)) (is_none_in (size c) x) (lt-ltb (cycle_in (size c) x) (cycle c t) lower) none in
+                let both = and_from (nat_lt (cycle_in (ring_slots c) x) (cycle c t)) (is_none_in (ring_slots c) x) (lt-ltb (cycle_in (ring_slots c) x) (cycle c t) lower) none in
                 absurd (cc)
             | inr higher ↦ higher
           ] in
           let above : t ≤ q =
           elim (cases_lt q t) [
-            | inl less ↦ let lower = lower_ticket (size c) q t (some_slots c) slot less in absurd (omega arith)
+            | inl less ↦ let lower = lower_ticket (ring_slots c) q t (some_slots c) slot less in absurd (omega arith)
             | inr not ↦ not
           ] in
           let over = booked.over r q (omega arith) (rw at_q (sym turn)) (rw at_q none) in
@@ -82,12 +82,12 @@ fail_cause c e g tail head k r i t booked drawn first mine fails =
           inl (omega arith)
       | inr some ↦
           let has : Holds c e.word r q = record { cycle = rw at_q (sym turn); index = rw at_q some } in
-          let live : Live g r q (index_in (size c) x) = rw at_q at (live_at c e g r q booked has) in
+          let live : Live g r q (index_in (ring_slots c) x) = rw at_q at (live_at c e g r q booked has) in
           inr
           (record {
             place = q;
             slot = slot;
-            other = not_pending g k r i t q (index_in (size c) x) mine live;
+            other = not_pending g k r i t q (index_in (ring_slots c) x) mine live;
             live = live;
           })
     ]

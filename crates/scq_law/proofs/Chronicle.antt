@@ -9,11 +9,11 @@ use Rattle.scq_word.specs.Sizes.{n_of}
 use Rattle.scq_core.specs.declared.phase.Phase.{Phase}
 use Rattle.scq_core.specs.declared.phase.Phase.TheVariants.{Idle}
 use Rattle.scq_core.specs.declared.step.Step.{Step}
-use Rattle.scq_core.specs.Put.{put}
+use Rattle.scq_core.specs.Updated.{updated}
 use Rattle.scq_core.specs.declared.ended.Ended.{Ended}
 use Rattle.scq_core.specs.Machine.{Part, read, beside}
-use Rattle.scq_core.specs.Table.{size, zero_level, turn_of, moved, word_of}
-use Rattle.scq_core.proofs.PutLemmas.{put_here, put_else}
+use Rattle.scq_core.specs.Table.{ring_slots, zero_level, turn_of, moved, location_of}
+use Rattle.scq_core.proofs.UpdatedLemmas.{updated_here, updated_else}
 use Rattle.scq_core.proofs.Turns.{Begins, begins_put, begins_get, begins, awake}
 use Rattle.scq_hist.specs.declared.events.Event as history
 use Rattle.scq_hist.specs.declared.events.PutName.{PutName}
@@ -103,8 +103,8 @@ tied_turn c opening full told time g k step turn low enabled tale tied =
     let m = told.state in
     let p = m.part k in
     let n = moved c m k turn in
-    let x = read m.cells (word_of c turn) in
-    let y = beside m.cells (word_of c turn) in
+    let x = read m.cells (location_of c turn) in
+    let y = beside m.cells (location_of c turn) in
     let e = event c turn x y in
     let s = stance_of turn in
     let awake_turn = awake c p.hand p.spent p.phase step turn enabled in
@@ -124,36 +124,36 @@ tied_turn c opening full told time g k step turn low enabled tale tied =
     let same_placer : placer2 ≡ placer1 = placer_turn c k turn x y told.puts told.placer ∙ sym (placer_then c k p turn x y told.puts told.placer awake_turn from) in
     let after : stance n k ≡ stance_by e s = sc.deed.stance ∙ stance_then c p turn x y from in
     let ends : finishes k placer2 (n.part k).phase (n.part k).calls ≡ ends_by k placer2 (ended_by e) = ends_event k placer2 (n.part k) p.calls s e at after sc.deed.calls in
-    let now = put (stance m) k s in
-    let stances : (j : ℕ) → stance n j ≡ put now k (stance_by e s) j =
+    let now = updated (stance m) k s in
+    let stances : (j : ℕ) → stance n j ≡ updated now k (stance_by e s) j =
     λ j.
     elim (cases_eq j k) [
-      | inl same ↦ ap (stance n) same ∙ after ∙ sym (put_here now k (stance_by e s)) ∙ ap (put now k (stance_by e s)) (sym same)
-      | inr other ↦ ap (λ (v : Part). stance_of v.phase) (sc.deed.others j other) ∙ sym (put_else (stance m) k s j other) ∙ sym (put_else now k (stance_by e s) j other)
+      | inl same ↦ ap (stance n) same ∙ after ∙ sym (updated_here now k (stance_by e s)) ∙ ap (updated now k (stance_by e s)) (sym same)
+      | inr other ↦ ap (λ (v : Part). stance_of v.phase) (sc.deed.others j other) ∙ sym (updated_else (stance m) k s j other) ∙ sym (updated_else now k (stance_by e s) j other)
     ] in
-    same_tied c opening (events1 ++ ends_by k placer1 (ended_by e)) (events1 ++ finishes k placer2 (n.part k).phase (n.part k).calls) puts1 placer1 placer2 (put now k (stance_by e s)) (stance n) (calls_of n) (ghost_after c m time k turn g)
+    same_tied c opening (events1 ++ ends_by k placer1 (ended_by e)) (events1 ++ finishes k placer2 (n.part k).phase (n.part k).calls) puts1 placer1 placer2 (updated now k (stance_by e s)) (stance n) (calls_of n) (ghost_after c m time k turn g)
     (ap (λ z. events1 ++ z) (ends ∙ ap (λ z. ends_by k z (ended_by e)) same_placer))
     same_placer
-    (all_stances (stance n) (put now k (stance_by e s)) stances)
+    (all_stances (stance n) (updated now k (stance_by e s)) stances)
     (tied_event c opening full events1 puts1 told.placer time g m k n s in_call root records reach own e sc root_after (decides c time g m k e n tale sc) at)
 
 -- the start
 module _ (c : Setup) (opening : List (List ℕ)) (full : length opening ≡ n_of c.order) where
-  first_in : (r p : ℕ) → r ≡ 0 → size c ≤ p → p < size c + n_of c.order → first_placer c r p ≡ Opening (p - size c)
+  first_in : (r p : ℕ) → r ≡ 0 → ring_slots c ≤ p → p < ring_slots c + n_of c.order → first_placer c r p ≡ Opening (p - ring_slots c)
   first_in r p ring first last =
-      let all : (r == 0 && nat_le (size c) p && nat_lt p (size c + n_of c.order)) ≡ true =
-      and_from (r == 0 && nat_le (size c) p) (nat_lt p (size c + n_of c.order)) (and_from (r == 0) (nat_le (size c) p) (eq-eqb r 0 ring) (le-leb (size c) p first)) (lt-ltb p (size c + n_of c.order) last) in
+      let all : (r == 0 && nat_le (ring_slots c) p && nat_lt p (ring_slots c + n_of c.order)) ≡ true =
+      and_from (r == 0 && nat_le (ring_slots c) p) (nat_lt p (ring_slots c + n_of c.order)) (and_from (r == 0) (nat_le (ring_slots c) p) (eq-eqb r 0 ring) (le-leb (ring_slots c) p first)) (lt-ltb p (ring_slots c + n_of c.order) last) in
       rw all refl
 
-  first_token : (r p j : ℕ) → first_placer c r p ≡ Opening j → (r ≡ 0) × (p ≡ size c + j)
+  first_token : (r p j : ℕ) → first_placer c r p ≡ Opening j → (r ≡ 0) × (p ≡ ring_slots c + j)
   first_token r p j name =
-      elim (cases_Bool (r == 0 && nat_le (size c) p && nat_lt p (size c + n_of c.order))) [
+      elim (cases_Bool (r == 0 && nat_le (ring_slots c) p && nat_lt p (ring_slots c + n_of c.order))) [
         | inl holds ↦
-            let both = and_parts (r == 0 && nat_le (size c) p) (nat_lt p (size c + n_of c.order)) holds in
-            let two = and_parts (r == 0) (nat_le (size c) p) both.0 in
-            let first = leb-true (size c) p two.1 in
-            let is : Opening (p - size c) ≡ Opening j = rw holds at name in
-            let index : p - size c ≡ j = cc in
+            let both = and_parts (r == 0 && nat_le (ring_slots c) p) (nat_lt p (ring_slots c + n_of c.order)) holds in
+            let two = and_parts (r == 0) (nat_le (ring_slots c) p) both.0 in
+            let first = leb-true (ring_slots c) p two.1 in
+            let is : Opening (p - ring_slots c) ≡ Opening j = rw holds at name in
+            let index : p - ring_slots c ≡ j = cc in
             (eqb-true r 0 two.0, omega arith)
         | inr fails ↦ let is : nobody ≡ Opening j = rw fails at name in absurd (cc)
       ]
@@ -162,7 +162,7 @@ module _ (c : Setup) (opening : List (List ℕ)) (full : length opening ≡ n_of
   stood_full : (r p : ℕ) → is_placed (stood c opening r p) ≡ true → Stood c opening r p
   stood_full r p is = elim (stands_at c opening r p) [ inl s ↦ s | inr s ↦ let none = ap is_placed s.is in absurd (cc) ]
 
-  stood_name : (r p : ℕ) → Stood c opening r p → first_placer c r p ≡ Opening (p - size c)
+  stood_name : (r p : ℕ) → Stood c opening r p → first_placer c r p ≡ Opening (p - ring_slots c)
   stood_name r p s = first_in r p s.ring s.first s.last
 
   placed_first : IsPlaced c opening [] (λ k. 0) (first_placer c) (λ k. resting) (λ k. 0) (stood c opening) (λ r t. 0)
@@ -172,11 +172,11 @@ module _ (c : Setup) (opening : List (List ℕ)) (full : length opening ≡ n_of
             λ j low.
             record {
               is =
-                  elim (stands_at c opening 0 (size c + j)) [
+                  elim (stands_at c opening 0 (ring_slots c + j)) [
                     | inl s ↦ ap is_placed s.is
                     | inr s ↦ absurd (s.out refl (omega arith) (omega arith))
                   ];
-              name = (let back : size c + j - size c ≡ j = omega arith in first_in 0 (size c + j) refl (omega arith) (omega arith) ∙ ap Opening back);
+              name = (let back : ring_slots c + j - ring_slots c ≡ j = omega arith in first_in 0 (ring_slots c + j) refl (omega arith) (omega arith) ∙ ap Opening back);
             };
         tokens = first_token;
         named =
@@ -184,9 +184,9 @@ module _ (c : Setup) (opening : List (List ℕ)) (full : length opening ≡ n_of
             let s = stood_full r p (ap is_placed is) in
             let first = s.first in
             let last = s.last in
-            let same : placed (p - size c) (slice_index_or opening (p - size c) []) opening_put ≡ placed i w b = sym s.is ∙ is in
-            let content : slice_index_or opening (p - size c) [] ≡ w = cc in
-            subst (λ z. IsNamed opening [] z r w 0) (sym (stood_name r p s)) (s.ring, slice_get-get_or opening (p - size c) [] (omega arith) ∙ ap Some content);
+            let same : placed (p - ring_slots c) (slice_index_or opening (p - ring_slots c) []) opening_put ≡ placed i w b = sym s.is ∙ is in
+            let content : slice_index_or opening (p - ring_slots c) [] ≡ w = cc in
+            subst (λ z. IsNamed opening [] z r w 0) (sym (stood_name r p s)) (s.ring, slice_get-get_or opening (p - ring_slots c) [] (omega arith) ∙ ap Some content);
         pends = λ r t k i is. elim (stands_at c opening r t) [ inl s ↦ let at = s.is in absurd (cc) | inr s ↦ let at = s.is in absurd (cc) ];
         low = λ r p k n is name. (let at = stood_name r p (stood_full r p is) in absurd (cc));
         one =
@@ -195,8 +195,8 @@ module _ (c : Setup) (opening : List (List ℕ)) (full : length opening ≡ n_of
             let z = stood_full q u there in
             let first_s = s.first in
             let first_z = z.first in
-            let names : Opening (p - size c) ≡ Opening (u - size c) = sym (stood_name r p s) ∙ same ∙ stood_name q u z in
-            let index : p - size c ≡ u - size c = cc in
+            let names : Opening (p - ring_slots c) ≡ Opening (u - ring_slots c) = sym (stood_name r p s) ∙ same ∙ stood_name q u z in
+            let index : p - ring_slots c ≡ u - ring_slots c = cc in
             (s.ring ∙ sym z.ring, omega arith);
         early = λ r t. inl refl;
         done = λ e k at. absurd (cc);

@@ -4,7 +4,7 @@ use Rattle.std.proofs.Common.{◌≡◌, ℕ, ◌<◌, ◌≤◌, ◌⊎◌, inl
 use Rattle.std.specs.Prelude.{Some, slice_get}
 use Rattle.std.proofs.lemmas.Bool.{cases_lt}
 use Rattle.scq_word.specs.declared.setup.Setup.{Setup}
-use Rattle.scq_core.specs.Table.{size}
+use Rattle.scq_core.specs.Table.{ring_slots}
 use Rattle.scq_hist.specs.Calls.{IsCall, Names, IsGot, IsGetOf}
 use Rattle.scq_hist.specs.Aspects.{IsFresh, IsOnce, IsBegun, IsClaimed, AllClaimed}
 use Rattle.scq_hist.specs.declared.events.Call.TheVariants.{Get}
@@ -121,7 +121,7 @@ module _ (c : Setup) (opening : List (List ℕ)) (told : Told) (chron : IsChroni
   drawn r p is low = by_state (g.gets r p) refl where
     by_state : (x : GetState) → g.gets r p ≡ x → ((j : ℕ) × (g.gets r p ≡ opened j)) ⊎ ((j : ℕ) × (n : ℕ) × (g.gets r p ≡ took j n))
     by_state unopened at =
-        elim (cases_lt p (size c)) [
+        elim (cases_lt p (ring_slots c)) [
           | inl less ↦ let none = ap is_placed (base.drawn.put_first r p less) in absurd (cc)
           | inr first ↦
               elim (cases_lt p c.limit) [

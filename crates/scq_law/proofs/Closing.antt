@@ -5,7 +5,7 @@ use Rattle.scq_word.specs.declared.setup.Setup.{Setup}
 use Rattle.scq_word.specs.Sizes.{n_of}
 use Rattle.scq_word.specs.Words.{mark_of, packed, index_in, safe_in, cycle_in, is_none_in}
 use Rattle.scq_word.proofs.WordLemmas.{index_in-packed, safe_in-packed, cycle_in-packed, safe_in_bit, index_in_small}
-use Rattle.scq_core.specs.Table.{size, cycle, passed}
+use Rattle.scq_core.specs.Table.{ring_slots, cycle, passed}
 use Rattle.scq_core.specs.Laws.{IsAbove}
 use Rattle.scq_core.proofs.Entries.{some_slots, some_indices, above_same, none_in-marked, none_in-filled, index_below, below_mark, passing_rises, taking_rises}
 use Rattle.scq_law.proofs.DiedEffects.{Closes}
@@ -27,9 +27,9 @@ closes_later s e d later =
     }
 
 -- the entry is of an earlier cycle
-pub closes_passed : (c : Setup) (h e : ℕ) → cycle_in (size c) e < cycle c h → Closes (size c) e (passed c h e) (cycle c h)
+pub closes_passed : (c : Setup) (h e : ℕ) → cycle_in (ring_slots c) e < cycle c h → Closes (ring_slots c) e (passed c h e) (cycle c h)
 closes_passed c h e earlier =
-    let s = size c in
+    let s = ring_slots c in
     let some = some_slots c in
     let bit = safe_in_bit s e in
     let above = passing_rises c h e earlier in
@@ -76,9 +76,9 @@ closes_passed c h e earlier =
     ]
 
 -- the mark on an entry
-pub empties_marked : (c : Setup) (e : ℕ) → Empties (size c) e (packed (size c) (cycle_in (size c) e) (safe_in (size c) e) (mark_of (size c)))
+pub empties_marked : (c : Setup) (e : ℕ) → Empties (ring_slots c) e (packed (ring_slots c) (cycle_in (ring_slots c) e) (safe_in (ring_slots c) e) (mark_of (ring_slots c)))
 empties_marked c e =
-    let s = size c in
+    let s = ring_slots c in
     let low : mark_of s < s = omega (arith, some_indices c) in
     let bit = safe_in_bit s e in
     record {
@@ -89,9 +89,9 @@ empties_marked c e =
     }
 
 -- an index placed at a later cycle
-pub fills_packed : (c : Setup) (e t i : ℕ) → is_none_in (size c) e ≡ true → cycle_in (size c) e < cycle c t → i < n_of c.order → Fills (size c) e (packed (size c) (cycle c t) 1 i) (cycle c t) i
+pub fills_packed : (c : Setup) (e t i : ℕ) → is_none_in (ring_slots c) e ≡ true → cycle_in (ring_slots c) e < cycle c t → i < n_of c.order → Fills (ring_slots c) e (packed (ring_slots c) (cycle c t) 1 i) (cycle c t) i
 fills_packed c e t i none earlier small =
-    let s = size c in
+    let s = ring_slots c in
     let low = below_mark c i small in
     let under : i < s = omega arith in
     record {

@@ -8,9 +8,9 @@ use Rattle.scq_core.specs.declared.phase.Phase.{Phase}
 use Rattle.scq_core.specs.declared.phase.Phase.TheVariants.{Idle, AtE1, AtE2, AtE3, AtE4, AtE5, AtE6, AtD1, AtD2, AtD3, AtD4, AtD5, AtD6, AtD7, AtD8, AtD9, AtD10}
 use Rattle.scq_core.specs.declared.step.Step.{Step}
 use Rattle.scq_core.specs.Machine.{Cells, Part, Machine}
-use Rattle.scq_core.specs.Table.{size, cycle, zero_level, reset_level, after, cells_after, turn_of, moved, passed}
+use Rattle.scq_core.specs.Table.{ring_slots, cycle, zero_level, reset_level, after, cells_after, turn_of, moved, passed}
 use Rattle.scq_core.specs.Laws.{Busy, word_at}
-use Rattle.scq_core.proofs.PutLemmas.{put_here, put_else, put_same}
+use Rattle.scq_core.proofs.UpdatedLemmas.{updated_here, updated_else, updated_same}
 use Rattle.scq_core.proofs.Turns.{awake}
 use Rattle.scq_core.proofs.Steady.{has}
 use Rattle.scq_law.specs.Places.{call_of, opening_put}
@@ -53,9 +53,9 @@ changes c m p (AtE1 r i w l) awake =
       | inr fails ↦ rw fails (record { stance = refl; hand = refl; calls = same_calls p; kept = refl; tail = refl; head = refl; threshold = refl })
     ]
 changes c m p (AtE2 r i w t l) awake =
-    elim (cases_Bool (nat_lt (cycle_in (size c) (word_at c m r t)) (cycle c t) && is_none_in (size c) (word_at c m r t))) [
+    elim (cases_Bool (nat_lt (cycle_in (ring_slots c) (word_at c m r t)) (cycle c t) && is_none_in (ring_slots c) (word_at c m r t))) [
       | inl holds ↦
-          elim (cases_Bool (safe_in (size c) (word_at c m r t) == 1)) [
+          elim (cases_Bool (safe_in (ring_slots c) (word_at c m r t) == 1)) [
             | inl safe ↦ rw (holds, safe) (record { stance = refl; hand = refl; calls = same_calls p; kept = refl; tail = refl; head = refl; threshold = refl })
             | inr unsafe ↦ rw (holds, unsafe) (record { stance = refl; hand = refl; calls = same_calls p; kept = refl; tail = refl; head = refl; threshold = refl })
           ]
@@ -63,8 +63,8 @@ changes c m p (AtE2 r i w t l) awake =
     ]
 changes c m p (AtE3 r i w t e) awake =
     elim (cases_Bool (nat_le (m.head r) t)) [
-      | inl holds ↦ rw holds (record { stance = refl; hand = refl; calls = same_calls p; kept = refl; tail = refl; head = put_same m.head r; threshold = refl })
-      | inr fails ↦ rw fails (record { stance = refl; hand = refl; calls = same_calls p; kept = refl; tail = refl; head = put_same m.head r; threshold = refl })
+      | inl holds ↦ rw holds (record { stance = refl; hand = refl; calls = same_calls p; kept = refl; tail = refl; head = updated_same m.head r; threshold = refl })
+      | inr fails ↦ rw fails (record { stance = refl; hand = refl; calls = same_calls p; kept = refl; tail = refl; head = updated_same m.head r; threshold = refl })
     ]
 changes c m p (AtE4 r i w t e) awake =
     elim (cases_Bool (word_at c m r t == e)) [
@@ -76,13 +76,13 @@ changes c m p (AtE5 r i w t) awake =
       | inl holds ↦
           let same = eqb-true (m.threshold r) (reset_level c) holds in
           rw holds (record { stance = refl; hand = refl; calls = refl; kept = refl; tail = refl; head = refl; threshold = rw same refl })
-      | inr fails ↦ rw fails (record { stance = refl; hand = refl; calls = same_calls p; kept = refl; tail = refl; head = refl; threshold = put_same m.threshold r })
+      | inr fails ↦ rw fails (record { stance = refl; hand = refl; calls = same_calls p; kept = refl; tail = refl; head = refl; threshold = updated_same m.threshold r })
     ]
 changes c m p (AtE6 r i w t) awake = record { stance = refl; hand = refl; calls = refl; kept = refl; tail = refl; head = refl; threshold = refl }
 changes c m p (AtD1 r) awake =
     elim (cases_Bool (nat_lt (m.threshold r) zero_level)) [
-      | inl holds ↦ rw holds (record { stance = refl; hand = refl; calls = refl; kept = refl; tail = refl; head = refl; threshold = put_same m.threshold r })
-      | inr fails ↦ rw fails (record { stance = refl; hand = refl; calls = same_calls p; kept = refl; tail = refl; head = refl; threshold = put_same m.threshold r })
+      | inl holds ↦ rw holds (record { stance = refl; hand = refl; calls = refl; kept = refl; tail = refl; head = refl; threshold = updated_same m.threshold r })
+      | inr fails ↦ rw fails (record { stance = refl; hand = refl; calls = same_calls p; kept = refl; tail = refl; head = refl; threshold = updated_same m.threshold r })
     ]
 changes c m p (AtD2 r l) awake =
     elim (cases_Bool (nat_le c.limit (m.head r))) [
@@ -90,10 +90,10 @@ changes c m p (AtD2 r l) awake =
       | inr fails ↦ rw fails (record { stance = refl; hand = refl; calls = same_calls p; kept = refl; tail = refl; head = refl; threshold = refl })
     ]
 changes c m p (AtD3 r h l) awake =
-    elim (cases_Bool (cycle_in (size c) (word_at c m r h) == cycle c h)) [
+    elim (cases_Bool (cycle_in (ring_slots c) (word_at c m r h) == cycle c h)) [
       | inl same ↦ rw same (record { stance = refl; hand = refl; calls = same_calls p; kept = refl; tail = refl; head = refl; threshold = refl })
       | inr other ↦
-          elim (cases_Bool (nat_lt (cycle_in (size c) (word_at c m r h)) (cycle c h))) [
+          elim (cases_Bool (nat_lt (cycle_in (ring_slots c) (word_at c m r h)) (cycle c h))) [
             | inl lower ↦ rw (other, lower) (record { stance = refl; hand = refl; calls = same_calls p; kept = refl; tail = refl; head = refl; threshold = refl })
             | inr higher ↦ rw (other, higher) (record { stance = refl; hand = refl; calls = same_calls p; kept = refl; tail = refl; head = refl; threshold = refl })
           ]
@@ -106,19 +106,19 @@ changes c m p (AtD5 r h e) awake =
     ]
 changes c m p (AtD6 r h) awake =
     elim (cases_Bool (nat_le (m.tail r) (h + 1))) [
-      | inl holds ↦ rw holds (record { stance = refl; hand = refl; calls = same_calls p; kept = refl; tail = put_same m.tail r; head = refl; threshold = refl })
-      | inr fails ↦ rw fails (record { stance = refl; hand = refl; calls = same_calls p; kept = refl; tail = put_same m.tail r; head = refl; threshold = refl })
+      | inl holds ↦ rw holds (record { stance = refl; hand = refl; calls = same_calls p; kept = refl; tail = updated_same m.tail r; head = refl; threshold = refl })
+      | inr fails ↦ rw fails (record { stance = refl; hand = refl; calls = same_calls p; kept = refl; tail = updated_same m.tail r; head = refl; threshold = refl })
     ]
 changes c m p (AtD7 r h from to) awake =
     elim (cases_Bool (m.tail r == from)) [
       | inl holds ↦ rw holds (record { stance = refl; hand = refl; calls = same_calls p; kept = refl; tail = refl; head = refl; threshold = refl })
-      | inr fails ↦ rw fails (record { stance = refl; hand = refl; calls = same_calls p; kept = refl; tail = put_same m.tail r; head = refl; threshold = refl })
+      | inr fails ↦ rw fails (record { stance = refl; hand = refl; calls = same_calls p; kept = refl; tail = updated_same m.tail r; head = refl; threshold = refl })
     ]
-changes c m p (AtD8 r h from) awake = record { stance = refl; hand = refl; calls = same_calls p; kept = refl; tail = refl; head = put_same m.head r; threshold = refl }
+changes c m p (AtD8 r h from) awake = record { stance = refl; hand = refl; calls = same_calls p; kept = refl; tail = refl; head = updated_same m.head r; threshold = refl }
 changes c m p (AtD9 r h from to) awake =
     elim (cases_Bool (nat_le to (m.tail r))) [
-      | inl holds ↦ rw holds (record { stance = refl; hand = refl; calls = same_calls p; kept = refl; tail = put_same m.tail r; head = refl; threshold = refl })
-      | inr fails ↦ rw fails (record { stance = refl; hand = refl; calls = same_calls p; kept = refl; tail = put_same m.tail r; head = refl; threshold = refl })
+      | inl holds ↦ rw holds (record { stance = refl; hand = refl; calls = same_calls p; kept = refl; tail = updated_same m.tail r; head = refl; threshold = refl })
+      | inr fails ↦ rw fails (record { stance = refl; hand = refl; calls = same_calls p; kept = refl; tail = updated_same m.tail r; head = refl; threshold = refl })
     ]
 changes c m p (AtD10 r h true) awake = record { stance = refl; hand = refl; calls = refl; kept = refl; tail = refl; head = refl; threshold = refl }
 changes c m p (AtD10 r h false) awake =
@@ -165,7 +165,7 @@ module _ (c : Setup) (m : Machine) (g : Ghost) (k : ℕ) (booked : IsBooked c m.
       let x = word_at c m.cells r t in
       let offers = busy.0 in
       let low = busy.1 in
-      elim (cases_Bool (nat_lt (cycle_in (size c) x) (cycle c t) && is_none_in (size c) x)) [
+      elim (cases_Bool (nat_lt (cycle_in (ring_slots c) x) (cycle c t) && is_none_in (ring_slots c) x)) [
         | inl fits ↦ rw fits tt
         | inr fails ↦
             rw fails
@@ -200,9 +200,9 @@ module _ (c : Setup) (m : Machine) (g : Ghost) (k : ℕ) (booked : IsBooked c m.
       let offers = busy.0 in
       elim (cases_eq x e) [
         | inl hit ↦
-            let none : is_none_in (size c) x ≡ true = rw hit busy.3 in
+            let none : is_none_in (ring_slots c) x ≡ true = rw hit busy.3 in
             let lags = busy.2 in
-            let earlier : cycle_in (size c) x < cycle c t = rw hit lags.earlier in
+            let earlier : cycle_in (ring_slots c) x < cycle c t = rw hit lags.earlier in
             rw (eq-eqb x e hit)
             (record {
               was = goes_from p (AtE4 r i w t e) refl from;
@@ -210,7 +210,7 @@ module _ (c : Setup) (m : Machine) (g : Ghost) (k : ℕ) (booked : IsBooked c m.
               index = offers.index;
               held = offers.held;
               waits =
-                  laid_waits c m.cells.entries g k r t i (packed (size c) (cycle c t) 1 i) w opening_put mine offers.index (fills_packed c x t i none earlier offers.index) (rw hit passed) booked;
+                  laid_waits c m.cells.entries g k r t i (packed (ring_slots c) (cycle c t) 1 i) w opening_put mine offers.index (fills_packed c x t i none earlier offers.index) (rw hit passed) booked;
             })
         | inr miss ↦ rw (ne_eqb x e miss) tt
       ]
@@ -249,19 +249,19 @@ module _ (c : Setup) (m : Machine) (g : Ghost) (k : ℕ) (booked : IsBooked c m.
   proper_D3 : (r h l : ℕ) → From p (AtD3 r h l) → g.gets r h ≡ opened k → ProperOf c m g k (AtD3 r h l)
   proper_D3 r h l from mine =
       let x = word_at c m.cells r h in
-      elim (cases_eq (cycle_in (size c) x) (cycle c h)) [
-        | inl same ↦ rw (eq-eqb (cycle_in (size c) x) (cycle c h) same) tt
+      elim (cases_eq (cycle_in (ring_slots c) x) (cycle c h)) [
+        | inl same ↦ rw (eq-eqb (cycle_in (ring_slots c) x) (cycle c h) same) tt
         | inr other ↦
-            elim (cases_Bool (nat_lt (cycle_in (size c) x) (cycle c h))) [
-              | inl lower ↦ rw (ne_eqb (cycle_in (size c) x) (cycle c h) other, lower) tt
+            elim (cases_Bool (nat_lt (cycle_in (ring_slots c) x) (cycle c h))) [
+              | inl lower ↦ rw (ne_eqb (cycle_in (ring_slots c) x) (cycle c h) other, lower) tt
               | inr higher ↦
-                  let high = ltb-false (cycle_in (size c) x) (cycle c h) higher in
-                  let later : cycle c h < cycle_in (size c) x = omega arith in
-                  rw (ne_eqb (cycle_in (size c) x) (cycle c h) other, higher)
+                  let high = ltb-false (cycle_in (ring_slots c) x) (cycle c h) higher in
+                  let later : cycle c h < cycle_in (ring_slots c) x = omega arith in
+                  rw (ne_eqb (cycle_in (ring_slots c) x) (cycle c h) other, higher)
                   (record {
                     was = goes_from p (AtD3 r h l) refl from;
                     opened = mine;
-                    empty = died_unplaced c m.cells.entries g k r h x mine (closes_later (size c) x (cycle c h) later) booked;
+                    empty = died_unplaced c m.cells.entries g k r h x mine (closes_later (ring_slots c) x (cycle c h) later) booked;
                   })
             ]
       ]
@@ -284,7 +284,7 @@ module _ (c : Setup) (m : Machine) (g : Ghost) (k : ℕ) (booked : IsBooked c m.
       elim (cases_eq x e) [
         | inl hit ↦
             let lags = busy.2 in
-            let earlier : cycle_in (size c) x < cycle c h = rw hit lags.earlier in
+            let earlier : cycle_in (ring_slots c) x < cycle c h = rw hit lags.earlier in
             rw (eq-eqb x e hit)
             (record {
               was = goes_from p (AtD5 r h e) refl from;
@@ -372,14 +372,14 @@ deed c m g k s turn enabled base =
     let x = found c m.cells turn in
     let y = content c m.cells turn in
     let ch : ChangesOf c m.cells p turn = changes c m.cells p turn awake_turn in
-    let here = put_here m.part k (after c turn x y p) in
+    let here = updated_here m.part k (after c turn x y p) in
     record {
       proper = proper c m g k base.booked base.drawn turn awake_turn from busy claims knows;
       stance = rw here (ch.stance ∙ own_stance c p turn x y from);
       hand = rw here ch.hand;
       calls = rw here ch.calls;
       kept = rw here ch.kept;
-      others = λ j other. put_else m.part k (after c turn x y p) j other;
+      others = λ j other. updated_else m.part k (after c turn x y p) j other;
       tail = ch.tail;
       head = ch.head;
       threshold = ch.threshold;

@@ -4,10 +4,10 @@ use Rattle.std.proofs.Common.{◌≡◌, ◌≢◌, ℕ, List, ◌<◌, ◌≤�
 use Rattle.scq_word.specs.declared.setup.Setup.{Setup}
 use Rattle.scq_word.specs.Tickets.{slot_of}
 use Rattle.scq_word.specs.Words.{index_in, safe_in, cycle_in, is_none_in}
-use Rattle.scq_core.specs.Machine.{Entries, put_entry}
-use Rattle.scq_core.specs.Table.{size, cycle}
+use Rattle.scq_core.specs.Machine.{Entries, updated_entry}
+use Rattle.scq_core.specs.Table.{ring_slots, cycle}
 use Rattle.scq_core.specs.Laws.{IsAbove}
-use Rattle.scq_core.proofs.PutLemmas.{put_entry_cases}
+use Rattle.scq_core.proofs.UpdatedLemmas.{updated_entry_cases}
 use Rattle.scq_law.specs.Places.{Maker}
 use Rattle.scq_law.proofs.Ghosts.{Ghost, PutState, fresh, pending, failed, GetState, opened, dead, took, placed, is_placed, waiting, with_get}
 use Rattle.scq_law.proofs.Booked.{IsBooked, Holds, Stands, Shut, Passed, Loaded, Moves, Effect, at_ticket}
@@ -27,9 +27,9 @@ pub record Closes (s e z d : ℕ) : Type 0 where
 
 -- the entries with the word of a ticket's slot changed
 abbrev pub reworded : Setup → Entries → ℕ → ℕ → ℕ → Entries
-reworded c e r t z = record { word = put_entry e.word r (slot_of (size c) t) z; content = e.content }
+reworded c e r t z = record { word = updated_entry e.word r (slot_of (ring_slots c) t) z; content = e.content }
 
-module _ (c : Setup) (e : Entries) (g : Ghost) (k r h z : ℕ) (mine : g.gets r h ≡ opened k) (closes : Closes (size c) (at_ticket c e.word r h) z (cycle c h)) (booked : IsBooked c e g) where
+module _ (c : Setup) (e : Entries) (g : Ghost) (k r h z : ℕ) (mine : g.gets r h ≡ opened k) (closes : Closes (ring_slots c) (at_ticket c e.word r h) z (cycle c h)) (booked : IsBooked c e g) where
   -- no index stands at the ticket, before and after
   not_there : Holds c e.word r h → ⊥
   not_there has = closes.away has.cycle
@@ -45,16 +45,16 @@ module _ (c : Setup) (e : Entries) (g : Ghost) (k r h z : ℕ) (mine : g.gets r 
       go (placed i w b) is = absurd (not_there (booked.stands r h i w b is (ap waiting mine)).holds)
 
   -- an index that stands at another ticket of the slot stands there before and after
-  was_beside : (p : ℕ) → slot_of (size c) p ≡ slot_of (size c) h → cycle c p ≢ cycle c h → cycle_in (size c) z ≡ cycle c p → is_none_in (size c) z ≡ false → Holds c e.word r p
+  was_beside : (p : ℕ) → slot_of (ring_slots c) p ≡ slot_of (ring_slots c) h → cycle c p ≢ cycle c h → cycle_in (ring_slots c) z ≡ cycle c p → is_none_in (ring_slots c) z ≡ false → Holds c e.word r p
   was_beside p slot turn at has =
-      let old : is_none_in (size c) (at_ticket c e.word r h) ≡ false = sym closes.none ∙ has in
+      let old : is_none_in (ring_slots c) (at_ticket c e.word r h) ≡ false = sym closes.none ∙ has in
       let same = (closes.full old).0 in
       record { cycle = rw slot (sym same ∙ at); index = rw slot old }
 
-  is_beside : (p : ℕ) → slot_of (size c) p ≡ slot_of (size c) h → Holds c e.word r p → (cycle_in (size c) z ≡ cycle c p) × (is_none_in (size c) z ≡ false)
+  is_beside : (p : ℕ) → slot_of (ring_slots c) p ≡ slot_of (ring_slots c) h → Holds c e.word r p → (cycle_in (ring_slots c) z ≡ cycle c p) × (is_none_in (ring_slots c) z ≡ false)
   is_beside p slot has =
-      let old : is_none_in (size c) (at_ticket c e.word r h) ≡ false = rw slot at has.index in
-      let at : cycle_in (size c) (at_ticket c e.word r h) ≡ cycle c p = rw slot at has.cycle in
+      let old : is_none_in (ring_slots c) (at_ticket c e.word r h) ≡ false = rw slot at has.index in
+      let at : cycle_in (ring_slots c) (at_ticket c e.word r h) ≡ cycle c p = rw slot at has.cycle in
       ((closes.full old).0 ∙ at, closes.none ∙ old)
 
   abbrev place : (q p : ℕ) → Here ℕ GetState c e.word z g.gets dead r h q p ⊎ (Beside ℕ GetState c e.word z g.gets dead r h q p ⊎ Apart ℕ GetState c e.word z g.gets dead r h q p)
@@ -64,13 +64,13 @@ module _ (c : Setup) (e : Entries) (g : Ghost) (k r h z : ℕ) (mine : g.gets r 
   died_live q p has =
       elim (place q p) [
         | inl a ↦
-            let at : cycle_in (size c) z ≡ cycle c p = rw a.word_is at has.cycle in
-            let some : is_none_in (size c) z ≡ false = rw a.word_is at has.index in
-            let old : is_none_in (size c) (at_ticket c e.word r h) ≡ false = sym closes.none ∙ some in
+            let at : cycle_in (ring_slots c) z ≡ cycle c p = rw a.word_is at has.cycle in
+            let some : is_none_in (ring_slots c) z ≡ false = rw a.word_is at has.index in
+            let old : is_none_in (ring_slots c) (at_ticket c e.word r h) ≡ false = sym closes.none ∙ some in
             absurd (closes.away (sym (closes.full old).0 ∙ at ∙ ap (cycle c) a.ticket))
         | inr (inl a) ↦
-            let at : cycle_in (size c) z ≡ cycle c p = rw a.word_is at has.cycle in
-            let some : is_none_in (size c) z ≡ false = rw a.word_is at has.index in
+            let at : cycle_in (ring_slots c) z ≡ cycle c p = rw a.word_is at has.cycle in
+            let some : is_none_in (ring_slots c) z ≡ false = rw a.word_is at has.index in
             let old = booked.live r p (was_beside p a.slot a.turn at some) in
             (rw a.ring old.0, rw (a.state_is, a.ring) old.1)
         | inr (inr a) ↦
@@ -86,8 +86,8 @@ module _ (c : Setup) (e : Entries) (g : Ghost) (k r h z : ℕ) (mine : g.gets r 
             let old = booked.stands q p i w b is (rw a.state_is at waits) in
             let was : Holds c e.word r p = rw a.ring at old.holds in
             let now = is_beside p a.slot was in
-            let some : is_none_in (size c) (at_ticket c e.word r h) ≡ false = rw a.slot at was.index in
-            let index : index_in (size c) (at_ticket c e.word r h) ≡ i = rw (a.ring, a.slot) at old.index in
+            let some : is_none_in (ring_slots c) (at_ticket c e.word r h) ≡ false = rw a.slot at was.index in
+            let index : index_in (ring_slots c) (at_ticket c e.word r h) ≡ i = rw (a.ring, a.slot) at old.index in
             record {
               holds = record { cycle = rw a.word_is now.0; index = rw a.word_is now.1 };
               index = rw a.word_is ((closes.full some).1 ∙ index);
@@ -104,18 +104,18 @@ module _ (c : Setup) (e : Entries) (g : Ghost) (k r h z : ℕ) (mine : g.gets r 
             }
       ]
 
-  died_over : (q p : ℕ) → size c ≤ p → cycle_in (size c) (at_ticket c (reworded c e r h z).word q p) ≡ cycle c p → is_none_in (size c) (at_ticket c (reworded c e r h z).word q p) ≡ true → waiting ((with_get g r h dead).gets q p) ≡ false
+  died_over : (q p : ℕ) → ring_slots c ≤ p → cycle_in (ring_slots c) (at_ticket c (reworded c e r h z).word q p) ≡ cycle c p → is_none_in (ring_slots c) (at_ticket c (reworded c e r h z).word q p) ≡ true → waiting ((with_get g r h dead).gets q p) ≡ false
   died_over q p first at none =
       elim (place q p) [
         | inl a ↦ rw a.state_is refl
         | inr (inl a) ↦
-            let at_z : cycle_in (size c) z ≡ cycle c p = rw a.word_is at at in
-            let none_z : is_none_in (size c) z ≡ true = rw a.word_is at none in
+            let at_z : cycle_in (ring_slots c) z ≡ cycle c p = rw a.word_is at at in
+            let none_z : is_none_in (ring_slots c) z ≡ true = rw a.word_is at none in
             elim (closes.empty none_z) [
               | inl moved ↦ absurd (a.turn (sym at_z ∙ moved))
               | inr same ↦
-                  let at_e : cycle_in (size c) (at_ticket c e.word r p) ≡ cycle c p = rw (a.slot, ← same) at_z in
-                  let none_e : is_none_in (size c) (at_ticket c e.word r p) ≡ true = rw (a.slot, ← same) none_z in
+                  let at_e : cycle_in (ring_slots c) (at_ticket c e.word r p) ≡ cycle c p = rw (a.slot, ← same) at_z in
+                  let none_e : is_none_in (ring_slots c) (at_ticket c e.word r p) ≡ true = rw (a.slot, ← same) none_z in
                   rw (a.state_is, a.ring) (booked.over r p first at_e none_e)
             ]
         | inr (inr a) ↦ rw a.state_is (booked.over q p first (rw a.word_is at at) (rw a.word_is at none))
@@ -161,10 +161,10 @@ module _ (c : Setup) (e : Entries) (g : Ghost) (k r h z : ℕ) (mine : g.gets r 
       let same : opened j ≡ opened k = sym is ∙ rw (ring, ticket) mine in cc
 
   -- a loaded word that stands in the entry now stood there before
-  stood_there : (q t v : ℕ) → Loaded c e.word q t v → q ≡ r → slot_of (size c) h ≡ slot_of (size c) t → z ≡ v → at_ticket c e.word r h ≡ v
+  stood_there : (q t v : ℕ) → Loaded c e.word q t v → q ≡ r → slot_of (ring_slots c) h ≡ slot_of (ring_slots c) t → z ≡ v → at_ticket c e.word r h ≡ v
   stood_there q t v loaded ring slots is =
-      let above : IsAbove (size c) v (at_ticket c e.word r h) = rw (ring, ← slots) at loaded.lags.above in
-      came_back (size c) v (at_ticket c e.word r h) z is above closes.above
+      let above : IsAbove (ring_slots c) v (at_ticket c e.word r h) = rw (ring, ← slots) at loaded.lags.above in
+      came_back (ring_slots c) v (at_ticket c e.word r h) z is above closes.above
 
   -- a seat that is about to place at another ticket: the entry is not the word that it loaded, or the ticket is above
   died_passes : (q t v : ℕ) → Loaded c e.word q t v → Passed c e.word g.gets q t v → Passed c (reworded c e r h z).word (with_get g r h dead).gets q t v
@@ -174,16 +174,16 @@ module _ (c : Setup) (e : Entries) (g : Ghost) (k r h z : ℕ) (mine : g.gets r 
             λ there unsafe p slot gone.
             elim (place q p) [
               | inl a ↦
-                  let slots : slot_of (size c) h ≡ slot_of (size c) t = rw (← a.ticket) slot in
+                  let slots : slot_of (ring_slots c) h ≡ slot_of (ring_slots c) t = rw (← a.ticket) slot in
                   let is : z ≡ v = sym a.word_is ∙ rw (← slot) at there in
                   let stood : at_ticket c e.word r h ≡ v = stood_there q t v loaded a.ring slots is in
-                  let none : is_none_in (size c) z ≡ true = rw is loaded.empty in
-                  let later : cycle c h < cycle_in (size c) (at_ticket c e.word r h) = closes.later none (is ∙ sym stood) in
+                  let none : is_none_in (ring_slots c) z ≡ true = rw is loaded.empty in
+                  let later : cycle c h < cycle_in (ring_slots c) (at_ticket c e.word r h) = closes.later none (is ∙ sym stood) in
                   let earlier = loaded.lags.earlier in
-                  let cycles : cycle_in (size c) (at_ticket c e.word r h) ≡ cycle_in (size c) v = ap (cycle_in (size c)) stood in
+                  let cycles : cycle_in (ring_slots c) (at_ticket c e.word r h) ≡ cycle_in (ring_slots c) v = ap (cycle_in (ring_slots c)) stood in
                   rw a.ticket (below_cycle c h t (omega arith))
               | inr (inl a) ↦
-                  let slots : slot_of (size c) h ≡ slot_of (size c) t = sym a.slot ∙ slot in
+                  let slots : slot_of (ring_slots c) h ≡ slot_of (ring_slots c) t = sym a.slot ∙ slot in
                   let is : z ≡ v = sym a.word_is ∙ rw (← slot) at there in
                   let stood : at_ticket c e.word r h ≡ v = stood_there q t v loaded a.ring slots is in
                   old.passed (rw (a.ring, ← slots) stood) unsafe p slot (sym a.state_is ∙ gone)
@@ -199,7 +199,7 @@ module _ (c : Setup) (e : Entries) (g : Ghost) (k r h z : ℕ) (mine : g.gets r 
         lies = λ q p i w b is. is;
         opens =
             λ j q p apart is.
-            put_entry_cases
+            updated_entry_cases
             (λ _ _ v. v ≡ opened j)
             g.gets
             r
@@ -209,10 +209,10 @@ module _ (c : Setup) (e : Entries) (g : Ghost) (k r h z : ℕ) (mine : g.gets r 
             p
             (λ ring ticket. absurd (apart (opened_once j q p is ring ticket)))
             (λ _. is);
-        ends = λ q p is. put_entry_cases (λ _ _ v. v ≡ dead) g.gets r h dead q p (λ ring ticket. refl) (λ _. is);
+        ends = λ q p is. updated_entry_cases (λ _ _ v. v ≡ dead) g.gets r h dead q p (λ ring ticket. refl) (λ _. is);
         takes =
             λ q p j x is.
-            put_entry_cases
+            updated_entry_cases
             (λ _ _ v. v ≡ took j x)
             g.gets
             r

@@ -9,7 +9,7 @@ use Rattle.scq_hist.specs.declared.events.Call.TheVariants.{Put, Get}
 use Rattle.scq_hist.specs.declared.events.Event.{Event}
 use Rattle.scq_hist.specs.declared.events.Event.TheVariants.{Start, End}
 use Rattle.scq_hist.specs.declared.events.Reply.{Reply}
-use Rattle.scq_core.specs.Put.{put}
+use Rattle.scq_core.specs.Updated.{updated}
 use Rattle.scq_law.proofs.Events.{Stance, resting, drawing, putting, landed, seeking, trying, missed, leaving}
 use Rattle.scq_law.proofs.Growing.{under_now, puts_now, new_at, kept_at, under_old, puts_old, puts_grown, put_grown, lawful_grown, seat_of, under_else, under_start, under_end}
 
@@ -65,7 +65,7 @@ module _ (events : List Event) (x : Event) where
   doing_else number k (leaving r h) other is = get_else_now k r other is
 
 -- a seat that rests starts a put
-pub called_put : (events : List Event) (puts : ℕ → ℕ) (stance : ℕ → Stance) (k r i : ℕ) (w : List ℕ) → IsCalled events puts stance → stance k ≡ resting → IsCalled (events ++ Start k (Put r w) ∷ []) (put puts k (puts k + 1)) (put stance k (drawing r i w))
+pub called_put : (events : List Event) (puts : ℕ → ℕ) (stance : ℕ → Stance) (k r i : ℕ) (w : List ℕ) → IsCalled events puts stance → stance k ≡ resting → IsCalled (events ++ Start k (Put r w) ∷ []) (updated puts k (puts k + 1)) (updated stance k (drawing r i w))
 called_put events puts stance k r i w called rests =
     let x = Start k (Put r w) in
     let idle : under_now events k ≡ None = rw rests at (called.doing k) in
@@ -93,7 +93,7 @@ called_put events puts stance k r i w called rests =
           elim (cases_eq j k) [
             | inl same ↦
                 let more : puts_now (events ++ x ∷ []) j ≡ puts_now events j + 1 = rw (eq-eqb k j (sym same)) at grown in
-                let value : put puts k (puts k + 1) j ≡ puts j + 1 = rw (eq-eqb j k same, same) refl in
+                let value : updated puts k (puts k + 1) j ≡ puts j + 1 = rw (eq-eqb j k same, same) refl in
                 let sum : puts j + 1 ≡ puts_now (events ++ x ∷ []) j = omega arith in
                 value ∙ sum
             | inr apart ↦ let more : puts_now (events ++ x ∷ []) j ≡ puts_now events j + 0 = rw (ne_eqb k j (λ e. apart (sym e))) at grown in rw (ne_eqb j k apart) (omega arith)
@@ -102,7 +102,7 @@ called_put events puts stance k r i w called rests =
     }
 
 -- a get
-pub called_get : (events : List Event) (puts : ℕ → ℕ) (stance : ℕ → Stance) (k r : ℕ) → IsCalled events puts stance → stance k ≡ resting → IsCalled (events ++ Start k (Get r) ∷ []) puts (put stance k (seeking r))
+pub called_get : (events : List Event) (puts : ℕ → ℕ) (stance : ℕ → Stance) (k r : ℕ) → IsCalled events puts stance → stance k ≡ resting → IsCalled (events ++ Start k (Get r) ∷ []) puts (updated stance k (seeking r))
 called_get events puts stance k r called rests =
     let x = Start k (Get r) in
     let idle : under_now events k ≡ None = rw rests at (called.doing k) in
@@ -150,7 +150,7 @@ get_answer events k r reply now suits =
       suits = suits;
     }
 
-pub called_end : (events : List Event) (puts : ℕ → ℕ) (stance : ℕ → Stance) (k : ℕ) (reply : Reply) → IsCalled events puts stance → IsAnswer (events ++ End k reply ∷ []) k (length events) reply → IsCalled (events ++ End k reply ∷ []) puts (put stance k resting)
+pub called_end : (events : List Event) (puts : ℕ → ℕ) (stance : ℕ → Stance) (k : ℕ) (reply : Reply) → IsCalled events puts stance → IsAnswer (events ++ End k reply ∷ []) k (length events) reply → IsCalled (events ++ End k reply ∷ []) puts (updated stance k resting)
 called_end events puts stance k reply called answer =
     let x = End k reply in
     record {
@@ -165,7 +165,7 @@ called_end events puts stance k reply called answer =
     }
 
 -- a call goes on
-pub called_on : (events : List Event) (puts : ℕ → ℕ) (stance : ℕ → Stance) (k : ℕ) (s : Stance) → IsCalled events puts stance → Doing events (puts k) k s → IsCalled events puts (put stance k s)
+pub called_on : (events : List Event) (puts : ℕ → ℕ) (stance : ℕ → Stance) (k : ℕ) (s : Stance) → IsCalled events puts stance → Doing events (puts k) k s → IsCalled events puts (updated stance k s)
 called_on events puts stance k s called now =
     record {
       doing =

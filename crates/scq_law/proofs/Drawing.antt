@@ -3,7 +3,7 @@ use Rattle.std.proofs.Common.{◌≡◌, ℕ, ◌≤◌, arith}
 use Rattle.scq_word.specs.declared.setup.Setup.{Setup}
 use Rattle.scq_core.specs.Machine.{Cells}
 use Rattle.scq_core.specs.Laws.{CountersRise, Drawn}
-use Rattle.scq_core.proofs.PutLemmas.{put_entry_cases}
+use Rattle.scq_core.proofs.UpdatedLemmas.{updated_entry_cases}
 use Rattle.scq_law.proofs.Ghosts.{Ghost, PutState, GetState, fresh, unopened, with_put, with_get}
 use Rattle.scq_law.proofs.Booked.{IsDrawn}
 
@@ -28,18 +28,18 @@ drawn_put c tail head g r t x low drawn =
     record {
       tails =
           λ q u high.
-          put_entry_cases (λ _ _ v. v ≡ fresh) g.puts r t x q u
+          updated_entry_cases (λ _ _ v. v ≡ fresh) g.puts r t x q u
           (λ ring ticket. let above : tail r ≤ t = rw (ring, ticket) at high in absurd (omega arith))
           (λ _. drawn.tails q u high);
       heads = drawn.heads;
       put_limit =
           λ q u high.
-          put_entry_cases (λ _ _ v. v ≡ fresh) g.puts r t x q u (λ ring ticket. absurd (omega arith))
+          updated_entry_cases (λ _ _ v. v ≡ fresh) g.puts r t x q u (λ ring ticket. absurd (omega arith))
           (λ _. drawn.put_limit q u high);
       get_limit = drawn.get_limit;
       put_first =
           λ q u less.
-          put_entry_cases (λ _ _ v. v ≡ fresh) g.puts r t x q u (λ ring ticket. absurd (omega arith))
+          updated_entry_cases (λ _ _ v. v ≡ fresh) g.puts r t x q u (λ ring ticket. absurd (omega arith))
           (λ _. drawn.put_first q u less);
       get_first = drawn.get_first;
       first_tail = drawn.first_tail;
@@ -55,18 +55,18 @@ drawn_get c tail head g r h x low drawn =
       tails = drawn.tails;
       heads =
           λ q u high.
-          put_entry_cases (λ _ _ v. v ≡ unopened) g.gets r h x q u
+          updated_entry_cases (λ _ _ v. v ≡ unopened) g.gets r h x q u
           (λ ring ticket. let above : head r ≤ h = rw (ring, ticket) at high in absurd (omega arith))
           (λ _. drawn.heads q u high);
       put_limit = drawn.put_limit;
       get_limit =
           λ q u high.
-          put_entry_cases (λ _ _ v. v ≡ unopened) g.gets r h x q u (λ ring ticket. absurd (omega arith))
+          updated_entry_cases (λ _ _ v. v ≡ unopened) g.gets r h x q u (λ ring ticket. absurd (omega arith))
           (λ _. drawn.get_limit q u high);
       put_first = drawn.put_first;
       get_first =
           λ q u less.
-          put_entry_cases (λ _ _ v. v ≡ unopened) g.gets r h x q u (λ ring ticket. absurd (omega arith))
+          updated_entry_cases (λ _ _ v. v ≡ unopened) g.gets r h x q u (λ ring ticket. absurd (omega arith))
           (λ _. drawn.get_first q u less);
       first_tail = drawn.first_tail;
       first_head = drawn.first_head;

@@ -7,8 +7,8 @@ use Rattle.scq_core.specs.declared.ended.Ended.{Ended}
 use Rattle.scq_core.specs.declared.ended.Ended.TheVariants.{Done, Got, Nothing, Spent}
 use Rattle.scq_core.specs.declared.phase.Phase.{Phase}
 use Rattle.scq_core.specs.declared.phase.Phase.TheVariants.{Idle, AtE1, AtE2, AtE3, AtE4, AtE5, AtE6, AtD1, AtD2, AtD3, AtD4, AtD5, AtD6, AtD7, AtD8, AtD9, AtD10}
-use Rattle.scq_core.specs.Put.{put}
-use Rattle.scq_core.specs.Table.{zero_level, reset_level, size, cycle, without}
+use Rattle.scq_core.specs.Updated.{updated}
+use Rattle.scq_core.specs.Table.{zero_level, reset_level, ring_slots, cycle, without}
 use Rattle.scq_law.specs.Places.{call_of}
 use Rattle.scq_law.proofs.Ghosts.{Ghost, pending, failed, placed, opened, dead, took, with_put, with_get}
 
@@ -69,18 +69,18 @@ abbrev pub event : Setup → Phase → ℕ → List ℕ → Event
 event c Idle x y = calm
 event c (AtE1 r i w l) x y = if nat_le c.limit x then overran r x true else drew r i w x
 event c (AtE2 r i w t l) x y =
-    if nat_lt (cycle_in (size c) x) (cycle c t) && is_none_in (size c) x then calm else fell r i w t (index_in (size c) x)
-event c (AtE3 r i w t e) x y = if nat_le x t then calm else fell r i w t (index_in (size c) e)
+    if nat_lt (cycle_in (ring_slots c) x) (cycle c t) && is_none_in (ring_slots c) x then calm else fell r i w t (index_in (ring_slots c) x)
+event c (AtE3 r i w t e) x y = if nat_le x t then calm else fell r i w t (index_in (ring_slots c) e)
 event c (AtE4 r i w t e) x y = if x == e then laid r i w t else calm
 event c (AtE5 r i w t) x y = if x == reset_level c then finished r i w t else calm
 event c (AtE6 r i w t) x y = finished r i w t
 event c (AtD1 r) x y = if nat_lt x zero_level then refused r else entered r
 event c (AtD2 r l) x y = if nat_le c.limit x then overran r x false else began r x
 event c (AtD3 r h l) x y =
-    if cycle_in (size c) x == cycle c h
+    if cycle_in (ring_slots c) x == cycle c h
     then calm
-    else (if nat_lt (cycle_in (size c) x) (cycle c h) then calm else died r h)
-event c (AtD4 r h) x y = taken r h (index_in (size c) x) y
+    else (if nat_lt (cycle_in (ring_slots c) x) (cycle c h) then calm else died r h)
+event c (AtD4 r h) x y = taken r h (index_in (ring_slots c) x) y
 event c (AtD5 r h e) x y = if x == e then died r h else calm
 event c (AtD6 r h) x y = if nat_le x (h + 1) then saw_end r h else calm
 event c (AtD7 r h from to) x y = if x == from then lifted r h to else calm
@@ -139,18 +139,18 @@ kept_by _ kept = kept
 
 -- Tail, Head and Threshold of the rings
 abbrev pub tail_by : Event → (ℕ → ℕ) → ℕ → ℕ
-tail_by (drew r i w t) tail = put tail r (t + 1)
-tail_by (lifted r h to) tail = put tail r to
-tail_by (overran r t true) tail = put tail r (t + 1)
+tail_by (drew r i w t) tail = updated tail r (t + 1)
+tail_by (lifted r h to) tail = updated tail r to
+tail_by (overran r t true) tail = updated tail r (t + 1)
 tail_by _ tail = tail
 
 abbrev pub head_by : Event → (ℕ → ℕ) → ℕ → ℕ
-head_by (began r h) head = put head r (h + 1)
-head_by (overran r t false) head = put head r (t + 1)
+head_by (began r h) head = updated head r (h + 1)
+head_by (overran r t false) head = updated head r (t + 1)
 head_by _ head = head
 
 abbrev pub threshold_by : Setup → Event → (ℕ → ℕ) → ℕ → ℕ
-threshold_by c (finished r i w t) threshold = put threshold r (reset_level c)
-threshold_by c (lowered r h) threshold = put threshold r (threshold r - 1)
-threshold_by c (emptied r h) threshold = put threshold r (threshold r - 1)
+threshold_by c (finished r i w t) threshold = updated threshold r (reset_level c)
+threshold_by c (lowered r h) threshold = updated threshold r (threshold r - 1)
+threshold_by c (emptied r h) threshold = updated threshold r (threshold r - 1)
 threshold_by c _ threshold = threshold

@@ -10,11 +10,11 @@ use Rattle.scq_core.specs.declared.phase.Phase.{Phase}
 use Rattle.scq_core.specs.declared.phase.Phase.TheVariants.{Idle, AtE5, AtE6, AtD1, AtD10}
 use Rattle.scq_core.specs.declared.step.Step.{Step}
 use Rattle.scq_core.specs.Machine.{Cells, Part, read, beside}
-use Rattle.scq_core.specs.Put.{put}
-use Rattle.scq_core.specs.Table.{turn_of, word_of, after, cells_after, moved, reset_level}
+use Rattle.scq_core.specs.Updated.{updated}
+use Rattle.scq_core.specs.Table.{turn_of, location_of, after, cells_after, moved, reset_level}
 use Rattle.scq_core.specs.Start.{start_of}
 use Rattle.scq_core.specs.Reach.{IsReachable, at_start}
-use Rattle.scq_core.proofs.PutLemmas.{put_here, put_or}
+use Rattle.scq_core.proofs.UpdatedLemmas.{updated_here, updated_or}
 use Rattle.scq_core.proofs.Turns.{awake}
 use Rattle.scq_core.proofs.Fits.{words_fit}
 use Rattle.scq_core.proofs.Floor.{threshold_floor}
@@ -24,50 +24,50 @@ use Rattle.scq_law.proofs.ToldRuns.{all_along, turn_reaches}
 
 -- the phase of a seat after its turn
 abbrev phase_then : Setup → Cells → Part → Phase → Phase
-phase_then c m p turn = (after c turn (read m (word_of c turn)) (beside m (word_of c turn)) p).phase
+phase_then c m p turn = (after c turn (read m (location_of c turn)) (beside m (location_of c turn)) p).phase
 
 -- a value that is written, where it and all old ones are within a bound with their fails
-put_both : (f g : ℕ → ℕ) (q x y bound : ℕ) → x + y ≤ bound → ((r : ℕ) → f r + g r ≤ bound) → (r : ℕ) → put f q x r + put g q y r ≤ bound
-put_both f g q x y bound new old r =
+updated_both : (f g : ℕ → ℕ) (q x y bound : ℕ) → x + y ≤ bound → ((r : ℕ) → f r + g r ≤ bound) → (r : ℕ) → updated f q x r + updated g q y r ≤ bound
+updated_both f g q x y bound new old r =
     let was = old r in
-    elim (put_or f q x r) [
+    elim (updated_or f q x r) [
       | inl a ↦
-          elim (put_or g q y r) [
+          elim (updated_or g q y r) [
             | inl b ↦ let left = a.1 in let right = b.1 in omega arith
             | inr b ↦ absurd (b.0 a.0)
           ]
       | inr a ↦
-          elim (put_or g q y r) [
+          elim (updated_or g q y r) [
             | inl b ↦ absurd (a.0 b.0)
             | inr b ↦ let left = a.1 in let right = b.1 in omega arith
           ]
     ]
 
-put_read : (f g : ℕ → ℕ) (q bound : ℕ) → ((r : ℕ) → f r + g r ≤ bound) → (r : ℕ) → put f q (f q) r + g r ≤ bound
-put_read f g q bound old r =
+updated_read : (f g : ℕ → ℕ) (q bound : ℕ) → ((r : ℕ) → f r + g r ≤ bound) → (r : ℕ) → updated f q (f q) r + g r ≤ bound
+updated_read f g q bound old r =
     let was = old r in
-    elim (put_or f q (f q) r) [
+    elim (updated_or f q (f q) r) [
       | inl a ↦ let here = a.1 in let same : f r ≡ f q = ap f a.0 in omega arith
       | inr a ↦ let there = a.1 in omega arith
     ]
 
-put_reset : (f g : ℕ → ℕ) (q bound : ℕ) → ((r : ℕ) → f r + g r ≤ bound) → (r : ℕ) → put f q (f q) r + put g q 0 r ≤ bound
-put_reset f g q bound old r = let here = old q in put_both f g q (f q) 0 bound (omega arith) old r
+updated_reset : (f g : ℕ → ℕ) (q bound : ℕ) → ((r : ℕ) → f r + g r ≤ bound) → (r : ℕ) → updated f q (f q) r + updated g q 0 r ≤ bound
+updated_reset f g q bound old r = let here = old q in updated_both f g q (f q) 0 bound (omega arith) old r
 
 fails_turn : (c : Setup) (m : Cells) (p : Part) (turn : Phase) (fails : ℕ → ℕ) → (turn ≡ Idle → ⊥) → ((r : ℕ) → 0 < m.threshold r) → ((r : ℕ) → m.threshold r + fails r ≤ reset_level c) → (r : ℕ) → (cells_after c turn m).threshold r + fails_after turn (is_reset turn (phase_then c m p turn)) fails r ≤ reset_level c
 fails_turn c m p Idle fails awake some old r = absurd (awake refl)
 fails_turn c m p (AtE5 q i w t) fails awake some old r =
     elim (cases_Bool (m.threshold q == reset_level c)) [
-      | inl high ↦ rw (high, fails_after) (put_reset m.threshold fails q (reset_level c) old r)
-      | inr low ↦ rw (low, fails_after) (put_read m.threshold fails q (reset_level c) old r)
+      | inl high ↦ rw (high, fails_after) (updated_reset m.threshold fails q (reset_level c) old r)
+      | inr low ↦ rw (low, fails_after) (updated_read m.threshold fails q (reset_level c) old r)
     ]
 fails_turn c m p (AtE6 q i w t) fails awake some old r =
-    put_both m.threshold fails q (reset_level c) 0 (reset_level c) (omega arith) old r
-fails_turn c m p (AtD1 q) fails awake some old r = put_read m.threshold fails q (reset_level c) old r
+    updated_both m.threshold fails q (reset_level c) 0 (reset_level c) (omega arith) old r
+fails_turn c m p (AtD1 q) fails awake some old r = updated_read m.threshold fails q (reset_level c) old r
 fails_turn c m p (AtD10 q h leaving) fails awake some old r =
     let here = some q in
     let was = old q in
-    put_both m.threshold fails q (m.threshold q - 1) (fails q + 1) (reset_level c) (omega arith) old r
+    updated_both m.threshold fails q (m.threshold q - 1) (fails q + 1) (reset_level c) (omega arith) old r
 fails_turn c m p turn fails awake some old r = old r
 
 -- what is told has a reachable state, whose Threshold with the fails is within what a reset sets
@@ -85,7 +85,7 @@ sums_step c told k s turn low enabled sums =
       within =
           λ r.
           let kept = fails_turn c m.cells p turn told.fails (awake c p.hand p.spent p.phase s turn enabled) (λ q. let some = fits.threshold q in some.0) sums.within r in
-          let there : ((moved c m k turn).part k).phase ≡ phase_then c m.cells p turn = ap (λ (x : Part). x.phase) (put_here m.part k (after c turn (read m.cells (word_of c turn)) (beside m.cells (word_of c turn)) p)) in
+          let there : ((moved c m k turn).part k).phase ≡ phase_then c m.cells p turn = ap (λ (x : Part). x.phase) (updated_here m.part k (after c turn (read m.cells (location_of c turn)) (beside m.cells (location_of c turn)) p)) in
           subst (λ (x : Phase). (cells_after c turn m.cells).threshold r + fails_after turn (is_reset turn x) told.fails r ≤ reset_level c) (sym there) kept;
     }
 

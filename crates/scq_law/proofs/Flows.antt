@@ -3,7 +3,7 @@ use Rattle.std.proofs.Common.{◌≡◌, ◌≢◌, ℕ, ◌+◌, ◌<◌, ◌�
 use Rattle.std.proofs.lemmas.Bool.{cases_Bool, cases_lt}
 use Rattle.scq_word.specs.declared.setup.Setup.{Setup}
 use Rattle.scq_core.specs.Machine.{Machine}
-use Rattle.scq_core.proofs.PutLemmas.{put_or, put_entry_or, put_entry_here}
+use Rattle.scq_core.proofs.UpdatedLemmas.{updated_or, updated_entry_or, updated_entry_here}
 use Rattle.scq_law.specs.Places.{Maker, call_of}
 use Rattle.scq_law.proofs.Ghosts.{Ghost, PutState, GetState, fresh, pending, failed, placed, opened, dead, took, is_placed, waiting, with_put, with_get}
 use Rattle.scq_law.proofs.Events.{Event, drew, fell, laid, began, died, lifted, taken, overran}
@@ -41,26 +41,26 @@ put_flows c g tail head time q u x some empty new_waits new_lies new_fails =
     record {
       waits =
           λ r s k i is.
-          elim (put_entry_or g.puts q u x r s) [
+          elim (updated_entry_or g.puts q u x r s) [
             | inl a ↦ inr (rw (a.0, a.1) (new_waits k i (sym a.2 ∙ is)))
             | inr a ↦ inl (sym a.1 ∙ is)
           ];
       lies =
           λ r p i live.
-          elim (put_entry_or g.puts q u x r p) [
+          elim (updated_entry_or g.puts q u x r p) [
             | inl a ↦ inr (rw (a.0, a.1) (new_lies i live.content live.maker (sym a.2 ∙ live.is)))
             | inr a ↦
                 inl (record { content = live.content; maker = live.maker; is = sym a.1 ∙ live.is; waits = live.waits })
           ];
       fails =
           λ r t y d b is.
-          elim (put_entry_or g.puts q u x r t) [
+          elim (updated_entry_or g.puts q u x r t) [
             | inl a ↦ inr (rw (a.0, a.1) (new_fails y d b (sym a.2 ∙ is)))
             | inr a ↦ inl (sym a.1 ∙ is)
           ];
       stays =
           λ r p i live.
-          elim (put_entry_or g.puts q u x r p) [
+          elim (updated_entry_or g.puts q u x r p) [
             | inl a ↦
                 let there : is_placed (g.puts r p) ≡ true = ap is_placed live.is in
                 let not_there : is_placed (g.puts r p) ≡ false = rw (a.0, a.1) empty in
@@ -69,7 +69,7 @@ put_flows c g tail head time q u x some empty new_waits new_lies new_fails =
           ];
       drawn =
           λ r t was is.
-          elim (put_entry_or g.puts q u x r t) [
+          elim (updated_entry_or g.puts q u x r t) [
             | inl a ↦ some (sym a.2 ∙ is)
             | inr a ↦ was (sym a.1 ∙ is)
           ];
@@ -82,7 +82,7 @@ get_flows c g tail head time q u x waits_there =
       waits = λ r s k i is. inl is;
       lies =
           λ r p i live.
-          elim (put_entry_or g.gets q u x r p) [
+          elim (updated_entry_or g.gets q u x r p) [
             | inl a ↦
                 inl (record { content = live.content; maker = live.maker; is = live.is; waits = rw (a.0, a.1) waits_there })
             | inr a ↦
@@ -148,14 +148,14 @@ advances c time g m k (drew r i w t) n scene =
     (record {
       tails =
           λ q.
-          elim (put_or m.cells.tail r (t + 1) q) [
+          elim (updated_or m.cells.tail r (t + 1) q) [
             | inl a ↦ rw a.1 (rw a.0 (omega arith))
             | inr a ↦ rw a.1 (omega arith)
           ];
       heads = λ q. omega arith;
       drawn =
           λ q u high less lawful.
-          elim (put_or m.cells.tail r (t + 1) q) [
+          elim (updated_or m.cells.tail r (t + 1) q) [
             | inl a ↦
                 let top : u < t + 1 = rw a.1 at less in
                 elim (cases_lt u t) [
@@ -164,7 +164,7 @@ advances c time g m k (drew r i w t) n scene =
                       let one : u ≡ t = omega arith in
                       inr
                       (rw (a.0, one)
-                      (λ is. let there = put_entry_here g.puts r t (pending k i) in absurd (cc)))
+                      (λ is. let there = updated_entry_here g.puts r t (pending k i) in absurd (cc)))
                 ]
             | inr a ↦ inl (rw a.1 at less)
           ];
@@ -177,14 +177,14 @@ advances c time g m k (lifted r h to) n scene =
     (record {
       tails =
           λ q.
-          elim (put_or m.cells.tail r to q) [
+          elim (updated_or m.cells.tail r to q) [
             | inl a ↦ rw a.1 (rw a.0 (omega arith))
             | inr a ↦ rw a.1 (omega arith)
           ];
       heads = λ q. omega arith;
       drawn =
           λ q u high less lawful.
-          elim (put_or m.cells.tail r to q) [
+          elim (updated_or m.cells.tail r to q) [
             | inl a ↦
                 let top : u < to = rw a.1 at less in
                 let from : m.cells.head r ≤ u = rw a.0 at high in
@@ -200,14 +200,14 @@ advances c time g m k (overran r t true) n scene =
     (record {
       tails =
           λ q.
-          elim (put_or m.cells.tail r (t + 1) q) [
+          elim (updated_or m.cells.tail r (t + 1) q) [
             | inl a ↦ rw a.1 (rw a.0 (omega arith))
             | inr a ↦ rw a.1 (omega arith)
           ];
       heads = λ q. omega arith;
       drawn =
           λ q u high less lawful.
-          elim (put_or m.cells.tail r (t + 1) q) [
+          elim (updated_or m.cells.tail r (t + 1) q) [
             | inl a ↦ inl (rw a.0 (omega arith))
             | inr a ↦ inl (rw a.1 at less)
           ];
@@ -220,7 +220,7 @@ advances c time g m k (overran r t false) n scene =
       tails = λ q. omega arith;
       heads =
           λ q.
-          elim (put_or m.cells.head r (t + 1) q) [
+          elim (updated_or m.cells.head r (t + 1) q) [
             | inl a ↦ rw a.1 (rw a.0 (omega arith))
             | inr a ↦ rw a.1 (omega arith)
           ];
@@ -234,7 +234,7 @@ advances c time g m k (began r h) n scene =
       tails = λ q. omega arith;
       heads =
           λ q.
-          elim (put_or m.cells.head r (h + 1) q) [
+          elim (updated_or m.cells.head r (h + 1) q) [
             | inl a ↦ rw a.1 (rw a.0 (omega arith))
             | inr a ↦ rw a.1 (omega arith)
           ];

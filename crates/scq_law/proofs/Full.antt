@@ -9,7 +9,7 @@ use Rattle.scq_word.specs.Tickets.{slot_of}
 use Rattle.scq_word.specs.Words.{mark_of, packed, cycle_in, is_none_in}
 use Rattle.scq_word.proofs.TicketLemmas.{same_ticket, cycle_of-row, cycle_of_mono}
 use Rattle.scq_word.proofs.WordLemmas.{index_in-packed, cycle_in-packed}
-use Rattle.scq_core.specs.Table.{size, cycle}
+use Rattle.scq_core.specs.Table.{ring_slots, cycle}
 use Rattle.scq_core.specs.Start.{unused, filled, filled_contents, start_cells}
 use Rattle.scq_core.proofs.Entries.{some_slots, some_indices, below_mark, none_in-marked, none_in-filled}
 use Rattle.scq_law.specs.Places.{Maker, opening_put}
@@ -59,25 +59,25 @@ fills m opening (suc count) s =
 -- a ticket of the start is one of the opening places, or fresh
 pub record Stood (c : Setup) (opening : List (List ℕ)) (r t : ℕ) : Type 0 where
   pub ring : r ≡ 0
-  pub first : size c ≤ t
-  pub last : t < size c + n_of c.order
-  pub is : stood c opening r t ≡ placed (t - size c) (slice_index_or opening (t - size c) []) opening_put
+  pub first : ring_slots c ≤ t
+  pub last : t < ring_slots c + n_of c.order
+  pub is : stood c opening r t ≡ placed (t - ring_slots c) (slice_index_or opening (t - ring_slots c) []) opening_put
 
 pub record NotStood (c : Setup) (opening : List (List ℕ)) (r t : ℕ) : Type 0 where
   pub is : stood c opening r t ≡ fresh
-  pub out : r ≡ 0 → size c ≤ t → t < size c + n_of c.order → ⊥
+  pub out : r ≡ 0 → ring_slots c ≤ t → t < ring_slots c + n_of c.order → ⊥
 
 pub stands_at : (c : Setup) (opening : List (List ℕ)) (r t : ℕ) → Stood c opening r t ⊎ NotStood c opening r t
 stands_at c opening r t =
-    elim (cases_Bool (r == 0 && nat_le (size c) t && nat_lt t (size c + n_of c.order))) [
+    elim (cases_Bool (r == 0 && nat_le (ring_slots c) t && nat_lt t (ring_slots c + n_of c.order))) [
       | inl holds ↦
-          let both = and_parts (r == 0 && nat_le (size c) t) (nat_lt t (size c + n_of c.order)) holds in
-          let two = and_parts (r == 0) (nat_le (size c) t) both.0 in
+          let both = and_parts (r == 0 && nat_le (ring_slots c) t) (nat_lt t (ring_slots c + n_of c.order)) holds in
+          let two = and_parts (r == 0) (nat_le (ring_slots c) t) both.0 in
           inl
           (record {
             ring = eqb-true r 0 two.0;
-            first = leb-true (size c) t two.1;
-            last = ltb-true t (size c + n_of c.order) both.1;
+            first = leb-true (ring_slots c) t two.1;
+            last = ltb-true t (ring_slots c + n_of c.order) both.1;
             is = rw holds refl;
           })
       | inr fails ↦
@@ -86,58 +86,58 @@ stands_at c opening r t =
             is = rw fails refl;
             out =
                 λ ring first last.
-                let all : (r == 0 && nat_le (size c) t && nat_lt t (size c + n_of c.order)) ≡ true =
-                and_from (r == 0 && nat_le (size c) t) (nat_lt t (size c + n_of c.order)) (and_from (r == 0) (nat_le (size c) t) (eq-eqb r 0 ring) (le-leb (size c) t first)) (lt-ltb t (size c + n_of c.order) last) in
+                let all : (r == 0 && nat_le (ring_slots c) t && nat_lt t (ring_slots c + n_of c.order)) ≡ true =
+                and_from (r == 0 && nat_le (ring_slots c) t) (nat_lt t (ring_slots c + n_of c.order)) (and_from (r == 0) (nat_le (ring_slots c) t) (eq-eqb r 0 ring) (le-leb (ring_slots c) t first)) (lt-ltb t (ring_slots c + n_of c.order) last) in
                 absurd (cc);
           })
     ]
 
 -- the opening places are of the ring's second turn
-pub second_turn : (c : Setup) (j : ℕ) → j < size c → cycle c (size c + j) ≡ 1
+pub second_turn : (c : Setup) (j : ℕ) → j < ring_slots c → cycle c (ring_slots c + j) ≡ 1
 second_turn c j small =
-    let row : cycle c (1 * size c + j) ≡ 1 = cycle_of-row (size c) 1 j small in
-    let same : 1 * size c + j ≡ size c + j = omega arith in
+    let row : cycle c (1 * ring_slots c + j) ≡ 1 = cycle_of-row (ring_slots c) 1 j small in
+    let same : 1 * ring_slots c + j ≡ ring_slots c + j = omega arith in
     rw same at row
 
 -- an opening place of this slot is this ticket
-one_place : (c : Setup) (t j : ℕ) → size c ≤ t → t < size c + n_of c.order → j < n_of c.order → slot_of (size c) t ≡ slot_of (size c) (size c + j) → t ≡ size c + j
+one_place : (c : Setup) (t j : ℕ) → ring_slots c ≤ t → t < ring_slots c + n_of c.order → j < n_of c.order → slot_of (ring_slots c) t ≡ slot_of (ring_slots c) (ring_slots c + j) → t ≡ ring_slots c + j
 one_place c t j first last low slot =
-    let small : t - size c < size c = omega arith in
-    let same : size c + (t - size c) ≡ t = omega arith in
-    let turn : cycle c t ≡ 1 = rw same at (second_turn c (t - size c) small) in
-    let turn_j : cycle c (size c + j) ≡ 1 = second_turn c j (omega arith) in
-    same_ticket (size c) t (size c + j) slot (turn ∙ sym turn_j)
+    let small : t - ring_slots c < ring_slots c = omega arith in
+    let same : ring_slots c + (t - ring_slots c) ≡ t = omega arith in
+    let turn : cycle c t ≡ 1 = rw same at (second_turn c (t - ring_slots c) small) in
+    let turn_j : cycle c (ring_slots c + j) ≡ 1 = second_turn c j (omega arith) in
+    same_ticket (ring_slots c) t (ring_slots c + j) slot (turn ∙ sym turn_j)
 
 module _ (c : Setup) (opening : List (List ℕ)) where
   -- the words of an unused entry and of a filled one
-  none_unused : is_none_in (size c) (unused (size c)) ≡ true
-  none_unused = none_in-marked (size c) 0 1 (some_slots c)
+  none_unused : is_none_in (ring_slots c) (unused (ring_slots c)) ≡ true
+  none_unused = none_in-marked (ring_slots c) 0 1 (some_slots c)
 
-  cycle_unused : cycle_in (size c) (unused (size c)) ≡ 0
-  cycle_unused = cycle_in-packed (size c) 0 1 (mark_of (size c)) (omega (arith, some_indices c)) (omega arith)
+  cycle_unused : cycle_in (ring_slots c) (unused (ring_slots c)) ≡ 0
+  cycle_unused = cycle_in-packed (ring_slots c) 0 1 (mark_of (ring_slots c)) (omega (arith, some_indices c)) (omega arith)
 
-  some_filled : (j : ℕ) → j < n_of c.order → is_none_in (size c) (packed (size c) 1 1 j) ≡ false
-  some_filled j low = none_in-filled (size c) 1 1 j (below_mark c j low)
+  some_filled : (j : ℕ) → j < n_of c.order → is_none_in (ring_slots c) (packed (ring_slots c) 1 1 j) ≡ false
+  some_filled j low = none_in-filled (ring_slots c) 1 1 j (below_mark c j low)
 
-  cycle_filled : (j : ℕ) → j < n_of c.order → cycle_in (size c) (packed (size c) 1 1 j) ≡ 1
-  cycle_filled j low = cycle_in-packed (size c) 1 1 j (omega arith) (omega arith)
+  cycle_filled : (j : ℕ) → j < n_of c.order → cycle_in (ring_slots c) (packed (ring_slots c) 1 1 j) ≡ 1
+  cycle_filled j low = cycle_in-packed (ring_slots c) 1 1 j (omega arith) (omega arith)
 
   -- an entry of the start
   abbrev word : ℕ → ℕ → ℕ
   word = (start_cells c opening).entries.word
 
   -- where an index stands, ring and slot are those of an opening place
-  holds_filled : (r p : ℕ) → is_none_in (size c) (at_ticket c word r p) ≡ false → (r ≡ 0) × Filled (size c) opening (n_of c.order) (slot_of (size c) p)
+  holds_filled : (r p : ℕ) → is_none_in (ring_slots c) (at_ticket c word r p) ≡ false → (r ≡ 0) × Filled (ring_slots c) opening (n_of c.order) (slot_of (ring_slots c) p)
   holds_filled r p some =
       elim (cases_eq r 0) [
         | inl ring ↦
-            let here : is_none_in (size c) (filled (size c) (n_of c.order) (slot_of (size c) p)) ≡ false = rw (eq-eqb r 0 ring) at some in
-            elim (fills (size c) opening (n_of c.order) (slot_of (size c) p)) [
+            let here : is_none_in (ring_slots c) (filled (ring_slots c) (n_of c.order) (slot_of (ring_slots c) p)) ≡ false = rw (eq-eqb r 0 ring) at some in
+            elim (fills (ring_slots c) opening (n_of c.order) (slot_of (ring_slots c) p)) [
               | inl f ↦ (ring, f)
-              | inr f ↦ let not : is_none_in (size c) (unused (size c)) ≡ false = rw f.word at here in let none = none_unused in absurd (cc)
+              | inr f ↦ let not : is_none_in (ring_slots c) (unused (ring_slots c)) ≡ false = rw f.word at here in let none = none_unused in absurd (cc)
             ]
         | inr other ↦
-            let not : is_none_in (size c) (unused (size c)) ≡ false = rw (ne_eqb r 0 other) at some in
+            let not : is_none_in (ring_slots c) (unused (ring_slots c)) ≡ false = rw (ne_eqb r 0 other) at some in
             let none = none_unused in
             absurd (cc)
       ]
@@ -147,10 +147,10 @@ module _ (c : Setup) (opening : List (List ℕ)) where
       let at = holds_filled r p has.index in
       let f = at.1 in
       let low = f.low in
-      let turn : cycle_in (size c) (filled (size c) (n_of c.order) (slot_of (size c) p)) ≡ cycle c p = rw (eq-eqb r 0 at.0) at has.cycle in
-      let one : 1 ≡ cycle c p = sym (cycle_filled f.index low) ∙ sym (ap (cycle_in (size c)) f.word) ∙ turn in
-      let turn_j : cycle c (size c + f.index) ≡ 1 = second_turn c f.index (omega arith) in
-      let same : p ≡ size c + f.index = same_ticket (size c) p (size c + f.index) f.slot (sym one ∙ sym turn_j) in
+      let turn : cycle_in (ring_slots c) (filled (ring_slots c) (n_of c.order) (slot_of (ring_slots c) p)) ≡ cycle c p = rw (eq-eqb r 0 at.0) at has.cycle in
+      let one : 1 ≡ cycle c p = sym (cycle_filled f.index low) ∙ sym (ap (cycle_in (ring_slots c)) f.word) ∙ turn in
+      let turn_j : cycle c (ring_slots c + f.index) ≡ 1 = second_turn c f.index (omega arith) in
+      let same : p ≡ ring_slots c + f.index = same_ticket (ring_slots c) p (ring_slots c + f.index) f.slot (sym one ∙ sym turn_j) in
       elim (stands_at c opening r p) [
         | inl s ↦ rw s.is refl
         | inr s ↦ absurd (s.out at.0 (omega arith) (omega arith))
@@ -163,50 +163,50 @@ module _ (c : Setup) (opening : List (List ℕ)) where
         | inl s ↦
             let first = s.first in
             let last = s.last in
-            let same : placed (p - size c) (slice_index_or opening (p - size c) []) opening_put ≡ placed i w b = sym s.is ∙ is in
-            let index : p - size c ≡ i = cc in
-            let content : slice_index_or opening (p - size c) [] ≡ w = cc in
-            let back : size c + (p - size c) ≡ p = omega arith in
-            elim (fills (size c) opening (n_of c.order) (slot_of (size c) p)) [
-              | inr f ↦ absurd (f.other (p - size c) (omega arith) (rw back refl))
+            let same : placed (p - ring_slots c) (slice_index_or opening (p - ring_slots c) []) opening_put ≡ placed i w b = sym s.is ∙ is in
+            let index : p - ring_slots c ≡ i = cc in
+            let content : slice_index_or opening (p - ring_slots c) [] ≡ w = cc in
+            let back : ring_slots c + (p - ring_slots c) ≡ p = omega arith in
+            elim (fills (ring_slots c) opening (n_of c.order) (slot_of (ring_slots c) p)) [
+              | inr f ↦ absurd (f.other (p - ring_slots c) (omega arith) (rw back refl))
               | inl f ↦
                   let low = f.low in
-                  let place : p ≡ size c + f.index = one_place c p f.index first last low f.slot in
+                  let place : p ≡ ring_slots c + f.index = one_place c p f.index first last low f.slot in
                   let j : f.index ≡ i = omega arith in
                   let ring = eq-eqb r 0 s.ring in
-                  let turn : cycle c (size c + f.index) ≡ 1 = second_turn c f.index (omega arith) in
+                  let turn : cycle c (ring_slots c + f.index) ≡ 1 = second_turn c f.index (omega arith) in
                   record {
                     holds =
                         record {
                           cycle = rw (ring, f.word) (cycle_filled f.index low ∙ sym turn ∙ ap (cycle c) (sym place));
                           index = rw (ring, f.word) (some_filled f.index low);
                         };
-                    index = rw (ring, f.word) (index_in-packed (size c) 1 1 f.index (omega arith) ∙ j);
+                    index = rw (ring, f.word) (index_in-packed (ring_slots c) 1 1 f.index (omega arith) ∙ j);
                     content = rw ring (f.content ∙ ap (λ x. slice_index_or opening x []) (j ∙ sym index) ∙ content);
                     small = omega arith;
                   }
             ]
       ]
 
-  start_over : (r p : ℕ) → size c ≤ p → cycle_in (size c) (at_ticket c word r p) ≡ cycle c p → is_none_in (size c) (at_ticket c word r p) ≡ true → ⊥
+  start_over : (r p : ℕ) → ring_slots c ≤ p → cycle_in (ring_slots c) (at_ticket c word r p) ≡ cycle c p → is_none_in (ring_slots c) (at_ticket c word r p) ≡ true → ⊥
   start_over r p first at none =
       let high : 1 ≤ cycle c p =
-      (let row : cycle c (size c + 0) ≡ 1 = second_turn c 0 (some_slots c) in
-      let mono : cycle c (size c + 0) ≤ cycle c p = cycle_of_mono (size c) (size c + 0) p (some_slots c) (omega arith) in omega arith) in
+      (let row : cycle c (ring_slots c + 0) ≡ 1 = second_turn c 0 (some_slots c) in
+      let mono : cycle c (ring_slots c + 0) ≤ cycle c p = cycle_of_mono (ring_slots c) (ring_slots c + 0) p (some_slots c) (omega arith) in omega arith) in
       let zero_turn = cycle_unused in
       elim (cases_eq r 0) [
         | inl ring ↦
-            elim (fills (size c) opening (n_of c.order) (slot_of (size c) p)) [
+            elim (fills (ring_slots c) opening (n_of c.order) (slot_of (ring_slots c) p)) [
               | inl f ↦
-                  let not : is_none_in (size c) (packed (size c) 1 1 f.index) ≡ true = rw (eq-eqb r 0 ring, f.word) at none in
+                  let not : is_none_in (ring_slots c) (packed (ring_slots c) 1 1 f.index) ≡ true = rw (eq-eqb r 0 ring, f.word) at none in
                   let some = some_filled f.index f.low in
                   absurd (cc)
               | inr f ↦
-                  let turn : cycle_in (size c) (unused (size c)) ≡ cycle c p = rw (eq-eqb r 0 ring, f.word) at at in
+                  let turn : cycle_in (ring_slots c) (unused (ring_slots c)) ≡ cycle c p = rw (eq-eqb r 0 ring, f.word) at at in
                   omega arith
             ]
         | inr other ↦
-            let turn : cycle_in (size c) (unused (size c)) ≡ cycle c p = rw (ne_eqb r 0 other) at at in omega arith
+            let turn : cycle_in (ring_slots c) (unused (ring_slots c)) ≡ cycle c p = rw (ne_eqb r 0 other) at at in omega arith
       ]
 
   pub start_booked : IsBooked c (start_cells c opening).entries (start_ghost c opening)
@@ -221,7 +221,7 @@ module _ (c : Setup) (opening : List (List ℕ)) where
       }
 
   -- a ticket outside of the opening places is fresh
-  fresh_out : (r t : ℕ) → (r ≡ 0 → size c ≤ t → t < size c + n_of c.order → ⊥) → stood c opening r t ≡ fresh
+  fresh_out : (r t : ℕ) → (r ≡ 0 → ring_slots c ≤ t → t < ring_slots c + n_of c.order → ⊥) → stood c opening r t ≡ fresh
   fresh_out r t out =
       elim (stands_at c opening r t) [
         | inl s ↦ absurd (out s.ring s.first s.last)
@@ -234,7 +234,7 @@ module _ (c : Setup) (opening : List (List ℕ)) where
       record {
         tails =
             λ r t high.
-            fresh_out r t (λ ring first last. let low : size c + n_of c.order ≤ t = rw (eq-eqb r 0 ring) at high in omega arith);
+            fresh_out r t (λ ring first last. let low : ring_slots c + n_of c.order ≤ t = rw (eq-eqb r 0 ring) at high in omega arith);
         heads = λ r t high. refl;
         put_limit = λ r t high. fresh_out r t (λ ring first last. omega arith);
         get_limit = λ r t high. refl;

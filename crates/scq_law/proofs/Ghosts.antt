@@ -2,8 +2,8 @@
 use Rattle.std.specs.Prelude.{ℕ, ◌+◌, ◌-◌, Bool, true, false, ◌==◌, ◌&&◌, nat_le, nat_lt, if◌then◌else◌, List, [], Option, Some, None, slice_index_or}
 use Rattle.scq_word.specs.declared.setup.Setup.{Setup}
 use Rattle.scq_word.specs.Sizes.{n_of}
-use Rattle.scq_core.specs.Machine.{put_entry}
-use Rattle.scq_core.specs.Table.{size}
+use Rattle.scq_core.specs.Machine.{updated_entry}
+use Rattle.scq_core.specs.Table.{ring_slots}
 use Rattle.scq_law.specs.Places.{Maker, opening_put}
 
 -- what became of a ticket of a put: nobody drew it below the limit; a seat has drawn it for an index and neither placed
@@ -47,15 +47,15 @@ index_put _ = None
 -- the tickets of ring 0 at the start, where the opening contents are placed
 abbrev pub stood : Setup → List (List ℕ) → ℕ → ℕ → PutState
 stood c opening r t =
-    if r == 0 && nat_le (size c) t && nat_lt t (size c + n_of c.order)
-    then placed (t - size c) (slice_index_or opening (t - size c) []) opening_put
+    if r == 0 && nat_le (ring_slots c) t && nat_lt t (ring_slots c + n_of c.order)
+    then placed (t - ring_slots c) (slice_index_or opening (t - ring_slots c) []) opening_put
     else fresh
 
 abbrev pub start_ghost : Setup → List (List ℕ) → Ghost
 start_ghost c opening = record { puts = stood c opening; gets = λ r t. unopened }
 
 abbrev pub with_put : Ghost → ℕ → ℕ → PutState → Ghost
-with_put g r t x = record g { puts = put_entry g.puts r t x }
+with_put g r t x = record g { puts = updated_entry g.puts r t x }
 
 abbrev pub with_get : Ghost → ℕ → ℕ → GetState → Ghost
-with_get g r t x = record g { gets = put_entry g.gets r t x }
+with_get g r t x = record g { gets = updated_entry g.gets r t x }

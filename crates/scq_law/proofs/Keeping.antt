@@ -7,7 +7,7 @@ use Rattle.scq_word.specs.declared.setup.Setup.{Setup}
 use Rattle.scq_word.specs.Tickets.{slot_of}
 use Rattle.scq_word.proofs.TicketLemmas.{earlier_cycle, lower_ticket}
 use Rattle.scq_core.specs.Machine.{Entries}
-use Rattle.scq_core.specs.Table.{size}
+use Rattle.scq_core.specs.Table.{ring_slots}
 use Rattle.scq_core.proofs.Entries.{some_slots}
 use Rattle.scq_law.proofs.Ghosts.{Ghost, PutState, fresh, pending, failed, placed, waiting}
 use Rattle.scq_law.proofs.Deed.{Live}
@@ -16,8 +16,8 @@ use Rattle.scq_law.proofs.Books.{IsAlone, IsCovered, IsAfter, Bars, IsBook, IsWi
 use Rattle.scq_law.proofs.Flows.{Fails, Flows, Advances}
 
 -- tickets of one slot are a turn of the ring apart
-turn_apart : (c : Setup) (t u : ℕ) → slot_of (size c) t ≡ slot_of (size c) u → t < u → t + size c ≤ u
-turn_apart c t u slot less = earlier_cycle (size c) t u slot (lower_ticket (size c) t u (some_slots c) slot less)
+turn_apart : (c : Setup) (t u : ℕ) → slot_of (ring_slots c) t ≡ slot_of (ring_slots c) u → t < u → t + ring_slots c ≤ u
+turn_apart c t u slot less = earlier_cycle (ring_slots c) t u slot (lower_ticket (ring_slots c) t u (some_slots c) slot less)
 
 pub covered_step : (c : Setup) (g h : Ghost) (tail head tail' head' : ℕ → ℕ) (time : ℕ) → Flows c g tail head time h → Advances c tail head tail' head' h → IsCovered c g tail head → IsCovered c h tail' head'
 covered_step c g h tail head tail' head' time flows advances was =
@@ -47,7 +47,7 @@ module _ (c : Setup) (e : Entries) (g h : Ghost) (tail head head' : ℕ → ℕ)
         | inr high ↦ absurd (some (sym is ∙ drawn.put_limit r t high))
       ]
 
-  near : (r t : ℕ) (x : PutState) → g.puts r t ≡ x → x ≢ fresh → t + 2 ≤ head r + size c
+  near : (r t : ℕ) (x : PutState) → g.puts r t ≡ x → x ≢ fresh → t + 2 ≤ head r + ring_slots c
   near r t x is some = window.within r t (below r t x is some) (lawful r t x is some)
 
   live_below : (r p i : ℕ) → Live g r p i → p < tail r
@@ -117,7 +117,7 @@ module _ (c : Setup) (e : Entries) (g h : Ghost) (tail head head' : ℕ → ℕ)
       ]
 
   -- an index that stands earlier in the slot of a ticket of the window has gone past no other of its tickets
-  bar_past : (r s t b : ℕ) → head r ≤ s → t + 2 ≤ head r + size c → IsAfter g r b s → Bars c g r t b → ⊥
+  bar_past : (r s t b : ℕ) → head r ≤ s → t + 2 ≤ head r + ring_slots c → IsAfter g r b s → Bars c g r t b → ⊥
   bar_past r s t b high close after bars =
       let over = after.lies bars.place bars.live in
       let earlier = bars.earlier in
@@ -125,10 +125,10 @@ module _ (c : Setup) (e : Entries) (g h : Ghost) (tail head head' : ℕ → ℕ)
       omega arith
 
   -- and stands in no other ticket's slot
-  bar_bar : (r s t b : ℕ) → head r ≤ s → head r ≤ t → s + 2 ≤ head r + size c → t + 2 ≤ head r + size c → s ≢ t → Bars c g r s b → Bars c g r t b → ⊥
+  bar_bar : (r s t b : ℕ) → head r ≤ s → head r ≤ t → s + 2 ≤ head r + ring_slots c → t + 2 ≤ head r + ring_slots c → s ≢ t → Bars c g r s b → Bars c g r t b → ⊥
   bar_bar r s t b low high near_s near_t other first second =
       let one = alone.lives r first.place second.place b first.live second.live in
-      let slot : slot_of (size c) s ≡ slot_of (size c) t = sym first.slot ∙ ap (slot_of (size c)) one ∙ second.slot in
+      let slot : slot_of (ring_slots c) s ≡ slot_of (ring_slots c) t = sym first.slot ∙ ap (slot_of (ring_slots c)) one ∙ second.slot in
       elim (cases_order s t) [
         | inl same ↦ other same
         | inr order ↦
@@ -141,7 +141,7 @@ module _ (c : Setup) (e : Entries) (g h : Ghost) (tail head head' : ℕ → ℕ)
   -- a failed ticket at or past Head before the event
   record Noted (r t y d b : ℕ) : Type 0 where
     drawn_low : t < tail r
-    close : t + 2 ≤ head r + size c
+    close : t + 2 ≤ head r + ring_slots c
     high : head r ≤ t
     stood : Bars c g r t b ⊎ IsAfter g r b t
     was : (g.puts r t ≡ failed y d b) ⊎ (Fails c g head time r t y d b × Bars c g r t b)

@@ -6,9 +6,9 @@ use Rattle.scq_word.specs.Sizes.{n_of}
 use Rattle.scq_word.specs.Tickets.{slot_of}
 use Rattle.scq_word.specs.Words.{index_in, cycle_in, is_none_in}
 use Rattle.scq_word.proofs.TicketLemmas.{lower_ticket}
-use Rattle.scq_core.specs.Machine.{Entries, put_entry}
-use Rattle.scq_core.specs.Table.{size, cycle}
-use Rattle.scq_core.proofs.PutLemmas.{put_entry_cases, put_entry_here, put_entry_or}
+use Rattle.scq_core.specs.Machine.{Entries, updated_entry}
+use Rattle.scq_core.specs.Table.{ring_slots, cycle}
+use Rattle.scq_core.proofs.UpdatedLemmas.{updated_entry_cases, updated_entry_here, updated_entry_or}
 use Rattle.scq_core.proofs.Entries.{some_slots}
 use Rattle.scq_law.specs.Places.{Maker}
 use Rattle.scq_law.proofs.Ghosts.{Ghost, PutState, GetState, unopened, opened, dead, took, placed, pending, is_placed, waiting, with_put}
@@ -26,15 +26,15 @@ pub record Fills (s e z d i : ℕ) : Type 0 where
 -- the entries with the word and the content of a ticket's slot changed
 abbrev pub refilled : Setup → Entries → ℕ → ℕ → ℕ → List ℕ → Entries
 refilled c e r t z w =
-    record { word = put_entry e.word r (slot_of (size c) t) z; content = put_entry e.content r (slot_of (size c) t) w }
+    record { word = updated_entry e.word r (slot_of (ring_slots c) t) z; content = updated_entry e.content r (slot_of (ring_slots c) t) w }
 
-module _ (c : Setup) (e : Entries) (g : Ghost) (k r t i z : ℕ) (w : List ℕ) (b : Maker) (mine : g.puts r t ≡ pending k i) (small : i < n_of c.order) (fills : Fills (size c) (at_ticket c e.word r t) z (cycle c t) i) (passed : Passed c e.word g.gets r t (at_ticket c e.word r t)) (booked : IsBooked c e g) where
+module _ (c : Setup) (e : Entries) (g : Ghost) (k r t i z : ℕ) (w : List ℕ) (b : Maker) (mine : g.puts r t ≡ pending k i) (small : i < n_of c.order) (fills : Fills (ring_slots c) (at_ticket c e.word r t) z (cycle c t) i) (passed : Passed c e.word g.gets r t (at_ticket c e.word r t)) (booked : IsBooked c e g) where
   -- a ticket of the slot that was given up is lower
-  gone_lower : (p : ℕ) → slot_of (size c) p ≡ slot_of (size c) t → g.gets r p ≡ dead → cycle c p < cycle c t
+  gone_lower : (p : ℕ) → slot_of (ring_slots c) p ≡ slot_of (ring_slots c) t → g.gets r p ≡ dead → cycle c p < cycle c t
   gone_lower p slot gone =
       elim (rw slot at (booked.shut r p gone)) [
         | inl at ↦ let earlier = fills.earlier in omega arith
-        | inr unsafe ↦ lower_ticket (size c) p t (some_slots c) slot (passed.passed refl unsafe p slot gone)
+        | inr unsafe ↦ lower_ticket (ring_slots c) p t (some_slots c) slot (passed.passed refl unsafe p slot gone)
       ]
 
   -- what is placed there may be taken
@@ -58,7 +58,7 @@ module _ (c : Setup) (e : Entries) (g : Ghost) (k r t i z : ℕ) (w : List ℕ) 
       elim (place q p) [
         | inl a ↦ (rw a.state_is refl, rw (a.ring, a.ticket) laid_waits)
         | inr (inl a) ↦
-            let at_z : cycle_in (size c) z ≡ cycle c p = rw a.word_is at has.cycle in
+            let at_z : cycle_in (ring_slots c) z ≡ cycle c p = rw a.word_is at has.cycle in
             absurd (a.turn (sym at_z ∙ fills.cycle))
         | inr (inr a) ↦
             let old = booked.live q p (record { cycle = rw a.word_is at has.cycle; index = rw a.word_is at has.index }) in
@@ -75,12 +75,12 @@ module _ (c : Setup) (e : Entries) (g : Ghost) (k r t i z : ℕ) (w : List ℕ) 
             record {
               holds = record { cycle = rw (a.word_is, a.ticket) fills.cycle; index = rw a.word_is fills.some };
               index = rw a.word_is (fills.index ∙ index);
-              content = rw (a.ring, a.ticket) (put_entry_here e.content r (slot_of (size c) t) w ∙ content);
+              content = rw (a.ring, a.ticket) (updated_entry_here e.content r (slot_of (ring_slots c) t) w ∙ content);
               small = rw (← index) small;
             }
         | inr (inl a) ↦
             let old = booked.stands q p j v d (sym a.state_is ∙ is) waits in
-            let some : is_none_in (size c) (at_ticket c e.word r t) ≡ false = rw (a.ring, a.slot) at old.holds.index in
+            let some : is_none_in (ring_slots c) (at_ticket c e.word r t) ≡ false = rw (a.ring, a.slot) at old.holds.index in
             let none = fills.none in
             absurd (cc)
         | inr (inr a) ↦
@@ -89,7 +89,7 @@ module _ (c : Setup) (e : Entries) (g : Ghost) (k r t i z : ℕ) (w : List ℕ) 
               holds = record { cycle = rw a.word_is old.holds.cycle; index = rw a.word_is old.holds.index };
               index = rw a.word_is old.index;
               content =
-                  elim (put_entry_or e.content r (slot_of (size c) t) w q (slot_of (size c) p)) [
+                  elim (updated_entry_or e.content r (slot_of (ring_slots c) t) w q (slot_of (ring_slots c) p)) [
                     | inl x ↦ absurd (a.apart x.0 x.1)
                     | inr x ↦ x.1 ∙ old.content
                   ];
@@ -105,9 +105,9 @@ module _ (c : Setup) (e : Entries) (g : Ghost) (k r t i z : ℕ) (w : List ℕ) 
         over =
             λ q p first at none.
             elim (place q p) [
-              | inl a ↦ let not : is_none_in (size c) z ≡ true = rw a.word_is at none in let some = fills.some in absurd (cc)
+              | inl a ↦ let not : is_none_in (ring_slots c) z ≡ true = rw a.word_is at none in let some = fills.some in absurd (cc)
               | inr (inl a) ↦
-                  let not : is_none_in (size c) z ≡ true = rw a.word_is at none in let some = fills.some in absurd (cc)
+                  let not : is_none_in (ring_slots c) z ≡ true = rw a.word_is at none in let some = fills.some in absurd (cc)
               | inr (inr a) ↦ booked.over q p first (rw a.word_is at at) (rw a.word_is at none)
             ];
         taken =
@@ -144,7 +144,7 @@ module _ (c : Setup) (e : Entries) (g : Ghost) (k r t i z : ℕ) (w : List ℕ) 
       record {
         pends =
             λ j q p x apart is.
-            put_entry_cases
+            updated_entry_cases
             (λ _ _ v. v ≡ pending j x)
             g.puts
             r
@@ -156,7 +156,7 @@ module _ (c : Setup) (e : Entries) (g : Ghost) (k r t i z : ℕ) (w : List ℕ) 
             (λ _. is);
         lies =
             λ q p x v d is.
-            put_entry_cases
+            updated_entry_cases
             (λ _ _ y. y ≡ placed x v d)
             g.puts
             r
@@ -173,11 +173,11 @@ module _ (c : Setup) (e : Entries) (g : Ghost) (k r t i z : ℕ) (w : List ℕ) 
             λ j q p apart is has.
             elim (place q p) [
               | inl a ↦
-                  let some : is_none_in (size c) (at_ticket c e.word r t) ≡ false = rw (a.ring, a.ticket) at has.index in
+                  let some : is_none_in (ring_slots c) (at_ticket c e.word r t) ≡ false = rw (a.ring, a.ticket) at has.index in
                   let none = fills.none in
                   absurd (cc)
               | inr (inl a) ↦
-                  let some : is_none_in (size c) (at_ticket c e.word r t) ≡ false = rw (a.ring, a.slot) at has.index in
+                  let some : is_none_in (ring_slots c) (at_ticket c e.word r t) ≡ false = rw (a.ring, a.slot) at has.index in
                   let none = fills.none in
                   absurd (cc)
               | inr (inr a) ↦ record { cycle = rw a.word_is has.cycle; index = rw a.word_is has.index }
@@ -190,12 +190,12 @@ module _ (c : Setup) (e : Entries) (g : Ghost) (k r t i z : ℕ) (w : List ℕ) 
                   elim (place q u) [
                     | inl a ↦
                         let is : z ≡ v = sym a.word_is ∙ stands in
-                        let none : is_none_in (size c) z ≡ true = rw is loaded.empty in
+                        let none : is_none_in (ring_slots c) z ≡ true = rw is loaded.empty in
                         let some = fills.some in
                         absurd (cc)
                     | inr (inl a) ↦
                         let is : z ≡ v = sym a.word_is ∙ stands in
-                        let none : is_none_in (size c) z ≡ true = rw is loaded.empty in
+                        let none : is_none_in (ring_slots c) z ≡ true = rw is loaded.empty in
                         let some = fills.some in
                         absurd (cc)
                     | inr (inr a) ↦ old.passed (sym a.word_is ∙ stands) unsafe p slot gone

@@ -8,10 +8,10 @@ use Rattle.scq_core.specs.declared.ended.Ended.TheVariants.{Done}
 use Rattle.scq_core.specs.declared.phase.Phase.{Phase}
 use Rattle.scq_core.specs.declared.phase.Phase.TheVariants.{AtD10}
 use Rattle.scq_core.specs.Machine.{Part, Machine}
-use Rattle.scq_core.specs.Put.{put}
-use Rattle.scq_core.specs.Table.{size, zero_level, reset_level}
+use Rattle.scq_core.specs.Updated.{updated}
+use Rattle.scq_core.specs.Table.{ring_slots, zero_level, reset_level}
 use Rattle.scq_core.specs.Start.{start_of}
-use Rattle.scq_core.proofs.PutLemmas.{put_or, put_here}
+use Rattle.scq_core.proofs.UpdatedLemmas.{updated_or, updated_here}
 use Rattle.scq_core.proofs.Steady.{either_way}
 use Rattle.scq_core.proofs.Counts.{total_none, total_less}
 use Rattle.scq_core.proofs.Entries.{reset_covers, reset_reaches}
@@ -59,9 +59,9 @@ pub there_none : (q r : ℕ) → r ≢ q → bit q r ≡ 0
 there_none q r other = rw (ne_eqb q r (λ e. other (sym e))) refl
 
 -- a Threshold that falls by one where its seat had a turn in flight
-falls : (level : ℕ → ℕ) (q r head : ℕ) → level r + head ≤ put level q (level q - 1) r + head + bit q r
+falls : (level : ℕ → ℕ) (q r head : ℕ) → level r + head ≤ updated level q (level q - 1) r + head + bit q r
 falls level q r head =
-    elim (put_or level q (level q - 1) r) [
+    elim (updated_or level q (level q - 1) r) [
       | inl a ↦ let one = here_one q r a.0 in let same : level r ≡ level q = ap level a.0 in let new = a.1 in omega arith
       | inr a ↦ let new = a.1 in omega arith
     ]
@@ -76,7 +76,7 @@ level_event c time g m k (began q h) n scene not r =
     let d = scene.deed in
     let at = d.proper.at_head in
     rw (d.threshold, d.head, d.stance)
-    (elim (put_or m.cells.head q (h + 1) r) [
+    (elim (updated_or m.cells.head q (h + 1) r) [
       | inl a ↦
           let one = here_one q r a.0 in
           let same : m.cells.head r ≡ m.cells.head q = ap m.cells.head a.0 in
@@ -108,7 +108,7 @@ level_event c time g m k (overran q t false) n scene not r =
     let d = scene.deed in
     let at = d.proper.at_head in
     rw (d.threshold, d.head, d.stance)
-    (elim (put_or m.cells.head q (t + 1) r) [
+    (elim (updated_or m.cells.head q (t + 1) r) [
       | inl a ↦
           let same : m.cells.head r ≡ m.cells.head q = ap m.cells.head a.0 in
           let new = a.1 in
@@ -150,7 +150,7 @@ covers_start c opening =
     }
 
 -- a finished place is in the window
-pub finished_near : (c : Setup) (g : Ghost) (m : Machine) → IsDrawn c m.cells.tail m.cells.head g → IsWindow c m.cells.tail m.cells.head → (r p : ℕ) → is_placed (g.puts r p) ≡ true → p + 2 ≤ m.cells.head r + size c
+pub finished_near : (c : Setup) (g : Ghost) (m : Machine) → IsDrawn c m.cells.tail m.cells.head g → IsWindow c m.cells.tail m.cells.head → (r p : ℕ) → is_placed (g.puts r p) ≡ true → p + 2 ≤ m.cells.head r + ring_slots c
 finished_near c g m drawn window r p is =
     let at = placement g r p is in
     let low : p < m.cells.tail r =
@@ -180,7 +180,7 @@ other_level : (c : Setup) (time : ℕ) (g : Ghost) (m : Machine) (k q i : ℕ) (
 other_level c time g m k q i w t n scene r other =
     let d = scene.deed in
     rw (d.threshold, d.head, d.stance)
-    (elim (put_or m.cells.threshold q (reset_level c) r) [
+    (elim (updated_or m.cells.threshold q (reset_level c) r) [
       | inl a ↦ absurd (other a.0)
       | inr a ↦ let new = a.1 in record { level = omega arith }
     ])
@@ -209,7 +209,7 @@ covers_step c time g m k (finished q i w t) n tale scene was =
                 let idle : flies r (n.part k).phase ≡ 0 = flies_stance r (n.part k).phase ∙ ap (flying r) d.stance in
                 let few = total_less (λ (a : Part). flies r a.phase) n.part (λ a. flies_bit r a.phase) c.seats k scene.low idle in
                 let reaches = reset_reaches c in
-                let reset : n.cells.threshold r ≡ reset_level c = rw (d.threshold, same) (put_here m.cells.threshold q (reset_level c)) in
+                let reset : n.cells.threshold r ≡ reset_level c = rw (d.threshold, same) (updated_here m.cells.threshold q (reset_level c)) in
                 let head : n.cells.head r ≡ m.cells.head r = rw d.head refl in
                 omega arith
           ];

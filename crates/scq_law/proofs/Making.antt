@@ -7,8 +7,8 @@ use Rattle.scq_word.specs.declared.setup.Setup.{Setup}
 use Rattle.scq_core.specs.declared.phase.Phase.{Phase}
 use Rattle.scq_core.specs.declared.phase.Phase.TheVariants.{Idle, AtE1, AtD10}
 use Rattle.scq_core.specs.declared.step.Step.{Step}
-use Rattle.scq_core.specs.Put.{put}
-use Rattle.scq_core.proofs.PutLemmas.{put_cases}
+use Rattle.scq_core.specs.Updated.{updated}
+use Rattle.scq_core.proofs.UpdatedLemmas.{updated_cases}
 use Rattle.scq_law.specs.declared.telling.Telling.{Telling}
 use Rattle.scq_law.specs.Run.{Told, puts_after, resets_after, fails_after, told_after, told_by, told_first, told_along, told_of, IsRun}
 use Rattle.scq_law.specs.Replay.{StopsAt}
@@ -28,21 +28,21 @@ pub record IsFew (n : ℕ) (told : Told) : Type 0 where
   pub resets : (r : ℕ) → told.resets r ≤ n
   pub fails : (r : ℕ) → told.fails r ≤ n
 
-few_put : (n : ℕ) (f : ℕ → ℕ) (k v j : ℕ) → ((i : ℕ) → f i ≤ n) → v ≤ n + 1 → put f k v j ≤ n + 1
-few_put n f k v j few small = put_cases (λ _ x. x ≤ n + 1) f k v j (λ _. small) (λ _. (let h = few j in omega arith))
+few_updated : (n : ℕ) (f : ℕ → ℕ) (k v j : ℕ) → ((i : ℕ) → f i ≤ n) → v ≤ n + 1 → updated f k v j ≤ n + 1
+few_updated n f k v j few small = updated_cases (λ _ x. x ≤ n + 1) f k v j (λ _. small) (λ _. (let h = few j in omega arith))
 
 few_puts : (n k : ℕ) (phase turn : Phase) (f : ℕ → ℕ) → ((i : ℕ) → f i ≤ n) → (j : ℕ) → puts_after k phase turn f j ≤ n + 1
-few_puts n k Idle (AtE1 r i w l) f few j = few_put n f k (f k + 1) j few (let h = few k in omega arith)
+few_puts n k Idle (AtE1 r i w l) f few j = few_updated n f k (f k + 1) j few (let h = few k in omega arith)
 few_puts n k phase turn f few j = let h = few j in omega arith
 
 few_resets : (n : ℕ) (reset : Option ℕ) (f : ℕ → ℕ) → ((i : ℕ) → f i ≤ n) → (j : ℕ) → resets_after reset f j ≤ n + 1
 few_resets n None f few j = let h = few j in omega arith
-few_resets n (Some r) f few j = few_put n f r (f r + 1) j few (let h = few r in omega arith)
+few_resets n (Some r) f few j = few_updated n f r (f r + 1) j few (let h = few r in omega arith)
 
 few_fails : (n : ℕ) (turn : Phase) (reset : Option ℕ) (f : ℕ → ℕ) → ((i : ℕ) → f i ≤ n) → (j : ℕ) → fails_after turn reset f j ≤ n + 1
-few_fails n (AtD10 r h leaving) reset f few j = few_put n f r (f r + 1) j few (let b = few r in omega arith)
+few_fails n (AtD10 r h leaving) reset f few j = few_updated n f r (f r + 1) j few (let b = few r in omega arith)
 few_fails n turn None f few j = let h = few j in omega arith
-few_fails n turn (Some r) f few j = few_put n f r 0 j few (omega arith)
+few_fails n turn (Some r) f few j = few_updated n f r 0 j few (omega arith)
 
 few_after : (c : Setup) (n k : ℕ) (turn : Phase) (told : Told) → IsFew n told → IsFew (n + 1) (told_after c k turn told)
 few_after c n k turn told few =

@@ -6,9 +6,9 @@ use Rattle.std.proofs.lemmas.Bool.{cases_Bool, cases_eq}
 use Rattle.scq_word.specs.declared.setup.Setup.{Setup}
 use Rattle.scq_word.specs.Sizes.{n_of}
 use Rattle.scq_core.specs.Machine.{Part, Machine}
-use Rattle.scq_core.specs.Table.{size, without, holds_index}
+use Rattle.scq_core.specs.Table.{ring_slots, without, holds_index}
 use Rattle.scq_core.specs.Start.{start_of}
-use Rattle.scq_core.proofs.PutLemmas.{put_entry_or, put_entry_here}
+use Rattle.scq_core.proofs.UpdatedLemmas.{updated_entry_or, updated_entry_here}
 use Rattle.scq_law.specs.Places.{Maker, call_of, opening_put}
 use Rattle.scq_law.specs.Hands.{times}
 use Rattle.scq_law.proofs.Ghosts.{Ghost, PutState, GetState, pending, failed, placed, opened, dead, took, is_placed, waiting, start_ghost, with_put, with_get}
@@ -37,18 +37,18 @@ once_start c opening =
     record {
       alone = λ i s z at_s at_z. start_alone i s z at_s at_z;
       single = λ k i. omega arith;
-      somewhere = λ i low. (at_place 0 (size c + i), start_live i low);
+      somewhere = λ i low. (at_place 0 (ring_slots c + i), start_live i low);
     }
   where
-    start_at : (r t i : ℕ) → Live (start_ghost c opening) r t i → at_place r t ≡ at_place 0 (size c + i)
+    start_at : (r t i : ℕ) → Live (start_ghost c opening) r t i → at_place r t ≡ at_place 0 (ring_slots c + i)
     start_at r t i live =
         elim (stands_at c opening r t) [
           | inl s ↦
               let is = live.is in
               let at = s.is in
               let first = s.first in
-              let index : t - size c ≡ i = cc in
-              let place : t ≡ size c + i = omega arith in
+              let index : t - ring_slots c ≡ i = cc in
+              let place : t ≡ ring_slots c + i = omega arith in
               let ring = s.ring in
               cc
           | inr s ↦ let is = live.is in let at = s.is in absurd (cc)
@@ -59,11 +59,11 @@ once_start c opening =
     start_alone i (at_place r t) (in_hand k) at_s at_z = absurd (cc)
     start_alone i (at_place r t) (at_place q p) at_s at_z = start_at r t i at_s ∙ sym (start_at q p i at_z)
 
-    start_live : (i : ℕ) → i < n_of c.order → Live (start_ghost c opening) 0 (size c + i) i
+    start_live : (i : ℕ) → i < n_of c.order → Live (start_ghost c opening) 0 (ring_slots c + i) i
     start_live i low =
-        elim (stands_at c opening 0 (size c + i)) [
+        elim (stands_at c opening 0 (ring_slots c + i)) [
           | inl s ↦
-              let index : size c + i - size c ≡ i = omega arith in
+              let index : ring_slots c + i - ring_slots c ≡ i = omega arith in
               record {
                 content = slice_index_or opening i [];
                 maker = opening_put;
@@ -87,7 +87,7 @@ lives_put g r t x was is =
     record {
       back =
           λ q p i live.
-          elim (put_entry_or g.puts r t x q p) [
+          elim (updated_entry_or g.puts r t x q p) [
             | inl a ↦
                 let new : x ≡ placed i live.content live.maker = sym a.2 ∙ live.is in
                 let clash : is_placed x ≡ true = ap is_placed new in
@@ -96,7 +96,7 @@ lives_put g r t x was is =
           ];
       forth =
           λ q p i live.
-          elim (put_entry_or g.puts r t x q p) [
+          elim (updated_entry_or g.puts r t x q p) [
             | inl a ↦
                 let ring = a.0 in
                 let ticket = a.1 in
@@ -112,7 +112,7 @@ lives_get g r h x either =
     record {
       back =
           λ q p i live.
-          elim (put_entry_or g.gets r h x q p) [
+          elim (updated_entry_or g.gets r h x q p) [
             | inl a ↦
                 elim either [
                   | inl empty ↦
@@ -128,7 +128,7 @@ lives_get g r h x either =
           ];
       forth =
           λ q p i live.
-          elim (put_entry_or g.gets r h x q p) [
+          elim (updated_entry_or g.gets r h x q p) [
             | inl a ↦
                 elim either [
                   | inl empty ↦
@@ -194,7 +194,7 @@ once_laid c time g m k r i w t n scene once =
           let was = once.somewhere x low in
           elim (cases_eq x i) [
             | inl same ↦
-                (at_place r t, record { content = w; maker = maker; is = put_entry_here g.puts r t (placed i w maker) ∙ ap (λ v. placed v w maker) (sym same); waits = d.proper.waits })
+                (at_place r t, record { content = w; maker = maker; is = updated_entry_here g.puts r t (placed i w maker) ∙ ap (λ v. placed v w maker) (sym same); waits = d.proper.waits })
             | inr other ↦ (was.0, forth x was.0 other was.1)
           ];
     }
@@ -222,7 +222,7 @@ once_laid c time g m k r i w t n scene once =
               (old, λ same. let held : holds_index (m.part k).hand x ≡ true = rw same d.proper.held in let spots : in_hand j ≡ in_hand k = once.alone x (in_hand j) (in_hand k) old held in let seats : j ≡ k = cc in other seats)
         ]
     back x (at_place q p) at =
-        elim (put_entry_or g.puts r t (placed i w maker) q p) [
+        elim (updated_entry_or g.puts r t (placed i w maker) q p) [
           | inl a ↦
               let same : placed i w maker ≡ placed x at.content at.maker = sym a.2 ∙ at.is in
               let index : x ≡ i = cc in
@@ -250,7 +250,7 @@ once_laid c time g m k r i w t n scene once =
           | inr apart ↦ rw (d.others j apart) at
         ]
     forth x (at_place q p) other at =
-        elim (put_entry_or g.puts r t (placed i w maker) q p) [
+        elim (updated_entry_or g.puts r t (placed i w maker) q p) [
           | inl a ↦
               let same : pending k i ≡ placed x at.content at.maker = sym d.proper.pending ∙ rw (a.0, a.1) at at.is in absurd (cc)
           | inr a ↦ record { content = at.content; maker = at.maker; is = a.1 ∙ at.is; waits = at.waits }
@@ -306,7 +306,7 @@ once_taken c time g m k r p i w n scene once =
               let old : holds_index (m.part j).hand x ≡ true = rw (d.others j other) at at in inl (old, not_in_hand x j old)
         ]
     back x (at_place q u) at =
-        elim (put_entry_or g.gets r p (took k (length (m.part k).calls)) q u) [
+        elim (updated_entry_or g.gets r p (took k (length (m.part k).calls)) q u) [
           | inl a ↦ let clash : waiting (took k (length (m.part k).calls)) ≡ true = ap waiting (sym a.2) ∙ at.waits in absurd (cc)
           | inr a ↦
               let old : Live g q u x = record { content = at.content; maker = at.maker; is = at.is; waits = ap waiting (sym a.1) ∙ at.waits } in
@@ -329,7 +329,7 @@ once_taken c time g m k r p i w n scene once =
           | inr apart ↦ rw (d.others j apart) at
         ]
     forth x (at_place q u) other at =
-        elim (put_entry_or g.gets r p (took k (length (m.part k).calls)) q u) [
+        elim (updated_entry_or g.gets r p (took k (length (m.part k).calls)) q u) [
           | inl a ↦
               let there : Live g r p x = rw (a.0, a.1) at at in
               let same : placed i w d.proper.maker ≡ placed x there.content there.maker = sym d.proper.placed ∙ there.is in

@@ -8,11 +8,11 @@ use Rattle.scq_word.specs.Tickets.{slot_of}
 use Rattle.scq_word.specs.Words.{packed, safe_in, cycle_in, is_none_in}
 use Rattle.scq_core.specs.declared.phase.Phase.{Phase}
 use Rattle.scq_core.specs.declared.phase.Phase.TheVariants.{Idle, AtE1, AtE2, AtE3, AtE4, AtE5, AtE6, AtD1, AtD2, AtD3, AtD4, AtD5, AtD6, AtD7, AtD8, AtD9, AtD10}
-use Rattle.scq_core.specs.Put.{put}
+use Rattle.scq_core.specs.Updated.{updated}
 use Rattle.scq_core.specs.Machine.{Cells, Entries, Part, tail_of, head_of, entry_of, read, beside, written}
-use Rattle.scq_core.specs.Table.{size, cycle, zero_level, reset_level, word_of, after, cells_after, passed, goes_on}
+use Rattle.scq_core.specs.Table.{ring_slots, cycle, zero_level, reset_level, location_of, after, cells_after, passed, goes_on}
 use Rattle.scq_core.specs.Laws.{Drawn, Busy, word_at}
-use Rattle.scq_core.proofs.PutLemmas.{put_here, put_same, put_entry_here, put_entry_same}
+use Rattle.scq_core.proofs.UpdatedLemmas.{updated_here, updated_same, updated_entry_here, updated_entry_same}
 use Rattle.scq_core.proofs.Ranks.{counters_rise}
 use Rattle.scq_law.specs.Places.{call_of}
 use Rattle.scq_law.proofs.Ghosts.{Ghost, pending, failed, placed, opened, dead, waiting, with_put, with_get}
@@ -35,10 +35,10 @@ pub record Outcome (c : Setup) (e : Entries) (g : Ghost) (k : ℕ) (n : Cells) (
 
 -- what a turn finds
 abbrev pub found : Setup → Cells → Phase → ℕ
-found c m turn = read m (word_of c turn)
+found c m turn = read m (location_of c turn)
 
 abbrev pub content : Setup → Cells → Phase → List ℕ
-content c m turn = beside m (word_of c turn)
+content c m turn = beside m (location_of c turn)
 
 abbrev pub ghost_then : Setup → Cells → Ghost → ℕ → ℕ → Part → Phase → Ghost
 ghost_then c m g time k p turn = ghost_by (event c turn (found c m turn) (content c m turn)) time k (length p.calls) g
@@ -66,46 +66,46 @@ module _ (c : Setup) (m : Cells) (g : Ghost) (time k : ℕ) (p : Part) (booked :
         | inr under ↦
             let low = leb-false c.limit (m.tail r) under in
             let t = m.tail r in
-            let drew : Drawn c (put m.tail r (t + 1) r) t = record { first = drawn.first_tail r; below = rw (put_here m.tail r (t + 1)) (omega arith); lawful = low } in
+            let drew : Drawn c (updated m.tail r (t + 1) r) t = record { first = drawn.first_tail r; below = rw (updated_here m.tail r (t + 1)) (omega arith); lawful = low } in
             let risen = drawn_rise c m (cells_after c (AtE1 r i w l) m) g up drawn in
             rw under
             (record {
               effect =
                   put_effect c m.entries g k r t (pending k i) (ap (is_ours k) (drawn.tails r t (omega arith))) refl booked;
-              drawn = drawn_put c (put m.tail r (t + 1)) m.head g r t (pending k i) drew risen;
-              claims = put_entry_here g.puts r t (pending k i);
+              drawn = drawn_put c (updated m.tail r (t + 1)) m.head g r t (pending k i) drew risen;
+              claims = updated_entry_here g.puts r t (pending k i);
               knows = tt;
             })
       ]
 
   -- an entry that is only read
   read_entry : (r s : ℕ) (h : Ghost) (q : Part) → Outcome c m.entries g k m h q → Outcome c m.entries g k (written m (entry_of r s) (m.entries.word r s) (m.entries.content r s)) h q
-  read_entry r s h q holds = rw (put_entry_same m.entries.word r s, put_entry_same m.entries.content r s) holds
+  read_entry r s h q holds = rw (updated_entry_same m.entries.word r s, updated_entry_same m.entries.content r s) holds
 
   -- the counters of a ring that are only read
   read_tail : (r : ℕ) (h : Ghost) (q : Part) → Outcome c m.entries g k m h q → Outcome c m.entries g k (written m (tail_of r) (m.tail r) []) h q
-  read_tail r h q holds = rw (put_same m.tail r) holds
+  read_tail r h q holds = rw (updated_same m.tail r) holds
 
   read_head : (r : ℕ) (h : Ghost) (q : Part) → Outcome c m.entries g k m h q → Outcome c m.entries g k (written m (head_of r) (m.head r) []) h q
-  read_head r h q holds = rw (put_same m.head r) holds
+  read_head r h q holds = rw (updated_same m.head r) holds
 
   outcome_E2 : (r i : ℕ) (w : List ℕ) (t l : ℕ) → Busy c m p.hand (AtE2 r i w t l) → g.puts r t ≡ pending k i → OutcomeOf c m g time k p (AtE2 r i w t l)
   outcome_E2 r i w t l busy mine =
       let x = word_at c m r t in
-      elim (cases_Bool (nat_lt (cycle_in (size c) x) (cycle c t) && is_none_in (size c) x)) [
+      elim (cases_Bool (nat_lt (cycle_in (ring_slots c) x) (cycle c t) && is_none_in (ring_slots c) x)) [
         | inl fits ↦
-            elim (cases_eq (safe_in (size c) x) 1) [
+            elim (cases_eq (safe_in (ring_slots c) x) 1) [
               | inl safe ↦
-                  rw (fits, eq-eqb (safe_in (size c) x) 1 safe)
-                  (read_entry r (slot_of (size c) t) _ _
+                  rw (fits, eq-eqb (safe_in (ring_slots c) x) 1 safe)
+                  (read_entry r (slot_of (ring_slots c) t) _ _
                   (record { effect = quiet; drawn = drawn; claims = mine; knows = record { passed = λ there unsafe h slot gone. absurd (omega arith) } }))
               | inr unsafe ↦
-                  rw (fits, ne_eqb (safe_in (size c) x) 1 unsafe)
-                  (read_entry r (slot_of (size c) t) _ _ (record { effect = quiet; drawn = drawn; claims = mine; knows = tt }))
+                  rw (fits, ne_eqb (safe_in (ring_slots c) x) 1 unsafe)
+                  (read_entry r (slot_of (ring_slots c) t) _ _ (record { effect = quiet; drawn = drawn; claims = mine; knows = tt }))
             ]
         | inr fails ↦
             rw fails
-            (read_entry r (slot_of (size c) t) _ _
+            (read_entry r (slot_of (ring_slots c) t) _ _
             (record { effect = gave_up r i t _ mine; drawn = drawn_put c m.tail m.head g r t _ busy.1 drawn; claims = tt; knows = tt }))
       ]
 
@@ -142,21 +142,21 @@ module _ (c : Setup) (m : Cells) (g : Ghost) (time k : ℕ) (p : Part) (booked :
       elim (cases_eq x e) [
         | inl hit ↦
             let number = length p.calls in
-            let none : is_none_in (size c) x ≡ true = rw hit busy.3 in
+            let none : is_none_in (ring_slots c) x ≡ true = rw hit busy.3 in
             let lags = busy.2 in
-            let earlier : cycle_in (size c) x < cycle c t = rw hit lags.earlier in
+            let earlier : cycle_in (ring_slots c) x < cycle c t = rw hit lags.earlier in
             let offers = busy.0 in
             rw (eq-eqb x e hit)
             (record {
               effect =
-                  laid_effect c m.entries g k r t i (packed (size c) (cycle c t) 1 i) w (call_of k number) mine offers.index (fills_packed c x t i none earlier offers.index) (rw hit passed) booked;
+                  laid_effect c m.entries g k r t i (packed (ring_slots c) (cycle c t) 1 i) w (call_of k number) mine offers.index (fills_packed c x t i none earlier offers.index) (rw hit passed) booked;
               drawn = drawn_put c m.tail m.head g r t _ busy.1 drawn;
-              claims = put_entry_here g.puts r t (placed i w (call_of k number));
+              claims = updated_entry_here g.puts r t (placed i w (call_of k number));
               knows = tt;
             })
         | inr miss ↦
             rw (ne_eqb x e miss)
-            (read_entry r (slot_of (size c) t) _ _ (record { effect = quiet; drawn = drawn; claims = mine; knows = tt }))
+            (read_entry r (slot_of (ring_slots c) t) _ _ (record { effect = quiet; drawn = drawn; claims = mine; knows = tt }))
       ]
 
   outcome_E5 : (r i : ℕ) (w : List ℕ) (t : ℕ) → g.puts r t ≡ placed i w (call_of k (length p.calls)) → OutcomeOf c m g time k p (AtE5 r i w t)
@@ -183,35 +183,35 @@ module _ (c : Setup) (m : Cells) (g : Ghost) (time k : ℕ) (p : Part) (booked :
         | inr under ↦
             let low = leb-false c.limit (m.head r) under in
             let h = m.head r in
-            let drew : Drawn c (put m.head r (h + 1) r) h = record { first = drawn.first_head r; below = rw (put_here m.head r (h + 1)) (omega arith); lawful = low } in
+            let drew : Drawn c (updated m.head r (h + 1) r) h = record { first = drawn.first_head r; below = rw (updated_here m.head r (h + 1)) (omega arith); lawful = low } in
             let risen = drawn_rise c m (cells_after c (AtD2 r l) m) g up drawn in
             rw under
             (record {
               effect = began_effect c m.entries g k r h (drawn.heads r h (omega arith)) booked;
-              drawn = drawn_get c m.tail (put m.head r (h + 1)) g r h (opened k) drew risen;
-              claims = put_entry_here g.gets r h (opened k);
+              drawn = drawn_get c m.tail (updated m.head r (h + 1)) g r h (opened k) drew risen;
+              claims = updated_entry_here g.gets r h (opened k);
               knows = tt;
             })
       ]
 
   -- a ticket that is given up while the entry's word becomes z
-  gives_up : (r h z : ℕ) (q : Part) → g.gets r h ≡ opened k → Drawn c (m.head r) h → Closes (size c) (word_at c m r h) z (cycle c h) → Outcome c m.entries g k (written m (entry_of r (slot_of (size c) h)) z (m.entries.content r (slot_of (size c) h))) (with_get g r h dead) (goes_on (AtD6 r h) q)
+  gives_up : (r h z : ℕ) (q : Part) → g.gets r h ≡ opened k → Drawn c (m.head r) h → Closes (ring_slots c) (word_at c m r h) z (cycle c h) → Outcome c m.entries g k (written m (entry_of r (slot_of (ring_slots c) h)) z (m.entries.content r (slot_of (ring_slots c) h))) (with_get g r h dead) (goes_on (AtD6 r h) q)
   gives_up r h z q mine low closes =
-      rw (put_entry_same m.entries.content r (slot_of (size c) h))
+      rw (updated_entry_same m.entries.content r (slot_of (ring_slots c) h))
       (record {
         effect = died_effect c m.entries g k r h z mine closes booked;
         drawn = drawn_get c m.tail m.head g r h dead low drawn;
-        claims = put_entry_here g.gets r h dead;
+        claims = updated_entry_here g.gets r h dead;
         knows = tt;
       })
 
   outcome_D3 : (r h l : ℕ) → Busy c m p.hand (AtD3 r h l) → g.gets r h ≡ opened k → OutcomeOf c m g time k p (AtD3 r h l)
   outcome_D3 r h l busy mine =
       let x = word_at c m r h in
-      elim (cases_eq (cycle_in (size c) x) (cycle c h)) [
+      elim (cases_eq (cycle_in (ring_slots c) x) (cycle c h)) [
         | inl same ↦
-            let some : is_none_in (size c) x ≡ false =
-            elim (cases_Bool (is_none_in (size c) x)) [
+            let some : is_none_in (ring_slots c) x ≡ false =
+            elim (cases_Bool (is_none_in (ring_slots c) x)) [
               | inl none ↦
                   let low = busy.1 in
                   let over = booked.over r h low.first same none in
@@ -219,26 +219,26 @@ module _ (c : Setup) (m : Cells) (g : Ghost) (time k : ℕ) (p : Part) (booked :
                   absurd (cc)
               | inr has ↦ has
             ] in
-            rw (eq-eqb (cycle_in (size c) x) (cycle c h) same)
-            (read_entry r (slot_of (size c) h) _ _
+            rw (eq-eqb (cycle_in (ring_slots c) x) (cycle c h) same)
+            (read_entry r (slot_of (ring_slots c) h) _ _
             (record { effect = quiet; drawn = drawn; claims = mine; knows = record { cycle = same; index = some } }))
         | inr other ↦
-            elim (cases_Bool (nat_lt (cycle_in (size c) x) (cycle c h))) [
+            elim (cases_Bool (nat_lt (cycle_in (ring_slots c) x) (cycle c h))) [
               | inl lower ↦
-                  rw (ne_eqb (cycle_in (size c) x) (cycle c h) other, lower)
-                  (read_entry r (slot_of (size c) h) _ _ (record { effect = quiet; drawn = drawn; claims = mine; knows = tt }))
+                  rw (ne_eqb (cycle_in (ring_slots c) x) (cycle c h) other, lower)
+                  (read_entry r (slot_of (ring_slots c) h) _ _ (record { effect = quiet; drawn = drawn; claims = mine; knows = tt }))
               | inr higher ↦
-                  let high = ltb-false (cycle_in (size c) x) (cycle c h) higher in
-                  let later : cycle c h < cycle_in (size c) x = omega arith in
-                  rw (ne_eqb (cycle_in (size c) x) (cycle c h) other, higher)
-                  (gives_up r h x p mine busy.1 (closes_later (size c) x (cycle c h) later))
+                  let high = ltb-false (cycle_in (ring_slots c) x) (cycle c h) higher in
+                  let later : cycle c h < cycle_in (ring_slots c) x = omega arith in
+                  rw (ne_eqb (cycle_in (ring_slots c) x) (cycle c h) other, higher)
+                  (gives_up r h x p mine busy.1 (closes_later (ring_slots c) x (cycle c h) later))
             ]
       ]
 
   outcome_D4 : (r h : ℕ) → Busy c m p.hand (AtD4 r h) → g.gets r h ≡ opened k → Holds c m.entries.word r h → OutcomeOf c m g time k p (AtD4 r h)
   outcome_D4 r h busy mine there =
       let x = word_at c m r h in
-      rw (put_entry_same m.entries.content r (slot_of (size c) h))
+      rw (updated_entry_same m.entries.content r (slot_of (ring_slots c) h))
       (record {
         effect = took_effect c m.entries g k r h _ (length p.calls) mine there (empties_marked c x) booked;
         drawn = drawn_get c m.tail m.head g r h _ busy.1 drawn;
@@ -252,12 +252,12 @@ module _ (c : Setup) (m : Cells) (g : Ghost) (time k : ℕ) (p : Part) (booked :
       elim (cases_eq x e) [
         | inl hit ↦
             let lags = busy.2 in
-            let earlier : cycle_in (size c) x < cycle c h = rw hit lags.earlier in
-            let closes : Closes (size c) x (passed c h e) (cycle c h) = rw (← hit) (closes_passed c h x earlier) in
+            let earlier : cycle_in (ring_slots c) x < cycle c h = rw hit lags.earlier in
+            let closes : Closes (ring_slots c) x (passed c h e) (cycle c h) = rw (← hit) (closes_passed c h x earlier) in
             rw (eq-eqb x e hit) (gives_up r h (passed c h e) p mine busy.1 closes)
         | inr miss ↦
             rw (ne_eqb x e miss)
-            (read_entry r (slot_of (size c) h) _ _ (record { effect = quiet; drawn = drawn; claims = mine; knows = tt }))
+            (read_entry r (slot_of (ring_slots c) h) _ _ (record { effect = quiet; drawn = drawn; claims = mine; knows = tt }))
       ]
 
   outcome_D6 : (r h : ℕ) → g.gets r h ≡ dead → OutcomeOf c m g time k p (AtD6 r h)

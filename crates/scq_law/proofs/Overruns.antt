@@ -10,7 +10,7 @@ use Rattle.scq_core.specs.declared.ended.Ended.TheVariants.{Done, Got, Nothing, 
 use Rattle.scq_core.specs.Machine.{Machine}
 use Rattle.scq_core.specs.Start.{start_of}
 use Rattle.scq_core.specs.Reach.{IsReachable}
-use Rattle.scq_core.proofs.PutLemmas.{put_here}
+use Rattle.scq_core.proofs.UpdatedLemmas.{updated_here}
 use Rattle.scq_law.specs.Bounds.{enqueues, ticket_bound, TicketsBounded, NoneSpent}
 use Rattle.scq_law.proofs.Ghosts.{Ghost, start_ghost}
 use Rattle.scq_law.proofs.Events.{seeking, Event, finished, refused, taken, emptied, overran, ended_by}
@@ -91,7 +91,7 @@ overrun_step c time g m k (overran q u true) n scene was =
                 (record {
                   ring = d.proper.ring;
                   past = d.proper.past;
-                  below = rw (d.tail, put_here m.cells.tail q (u + 1)) (omega arith);
+                  below = rw (d.tail, updated_here m.cells.tail q (u + 1)) (omega arith);
                 })
           ];
       gets =
@@ -127,7 +127,7 @@ overrun_step c time g m k (overran q u false) n scene was =
                 (record {
                   ring = stance_has c g m k (seeking q) scene.base d.proper.was;
                   past = d.proper.past;
-                  below = rw (d.head, put_here m.cells.head q (u + 1)) (omega arith);
+                  below = rw (d.head, updated_here m.cells.head q (u + 1)) (omega arith);
                 })
           ];
     }

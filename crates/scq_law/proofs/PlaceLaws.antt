@@ -7,7 +7,7 @@ use Rattle.scq_word.specs.Tickets.{slot_of}
 use Rattle.scq_core.specs.declared.phase.Phase.{Phase}
 use Rattle.scq_core.specs.declared.phase.Phase.TheVariants.{AtE5, AtE6, AtD3, AtD4, AtD5, AtD6, AtD7, AtD8, AtD9, AtD10}
 use Rattle.scq_core.specs.Machine.{Part, Machine}
-use Rattle.scq_core.specs.Table.{size}
+use Rattle.scq_core.specs.Table.{ring_slots}
 use Rattle.scq_core.specs.Reach.{IsReachable}
 use Rattle.scq_law.specs.Places.{Maker, opening_put, call_of, HasLanded, LooksAt, GaveUp, IsPlacedBy, at_opening, in_record, under_way, IsTakenBy, IsUntaken, OneLooks, PlacesOnce}
 use Rattle.scq_law.proofs.Ghosts.{Ghost, GetState, placed, unopened, opened, dead, took, is_placed}
@@ -63,7 +63,7 @@ gave_up_dead g k number phase r h claims at = absurd at
 module _ (c : Setup) (g : Ghost) (m : Machine) (base : IsBased c g m) (recorded : IsRecorded c g m) where
   pub placed_by : (r p : ℕ) (w : List ℕ) (a : Maker) → IsPlacedBy c m r p w a → (i : ℕ) × (g.puts r p ≡ placed i w a)
   placed_by r p w a (at_opening ring first last content) =
-      (p - size c, rw (ring, content) (recorded.opens p first last))
+      (p - ring_slots c, rw (ring, content) (recorded.opens p first last))
   placed_by r p w a (in_record k j is) = let made = recorded.done k j r p w is in (made.index, made.is)
   placed_by r p w a (under_way k has) =
       has_landed g k (length (m.part k).calls) (m.part k).phase r p w (base.claims k) has
@@ -87,13 +87,13 @@ module _ (c : Setup) (g : Ghost) (m : Machine) (base : IsBased c g m) (recorded 
       let content : v ≡ w = cc in
       (maker, content)
 
-  lawful_place : (r p : ℕ) (w : List ℕ) (a : Maker) → IsPlacedBy c m r p w a → (size c ≤ p) × (p < m.cells.tail r) × (p < c.limit)
+  lawful_place : (r p : ℕ) (w : List ℕ) (a : Maker) → IsPlacedBy c m r p w a → (ring_slots c ≤ p) × (p < m.cells.tail r) × (p < c.limit)
   lawful_place r p w a by =
       let x = placed_by r p w a by in
       let is = x.1 in
       let drawn = base.drawn in
-      let first : size c ≤ p =
-      elim (cases_lt p (size c)) [
+      let first : ring_slots c ≤ p =
+      elim (cases_lt p (ring_slots c)) [
         | inl low ↦ let bad = drawn.put_first r p low in absurd (cc)
         | inr high ↦ high
       ] in
@@ -171,7 +171,7 @@ module _ (c : Setup) (g : Ghost) (m : Machine) (base : IsBased c g m) (recorded 
       let not = base.booked.never r h gone in
       absurd (cc)
 
-  answered : (k r h : ℕ) → (m.part k).phase ≡ AtD4 r h → (a : Maker) × IsPlacedBy c m r h (m.cells.entries.content r (slot_of (size c) h)) a
+  answered : (k r h : ℕ) → (m.part k).phase ≡ AtD4 r h → (a : Maker) × IsPlacedBy c m r h (m.cells.entries.content r (slot_of (ring_slots c) h)) a
   answered k r h is =
       let knows : Knows c m.cells.entries.word g.gets (AtD4 r h) = rw is at (base.knows k) in
       let both = base.booked.live r h knows in

@@ -4,7 +4,7 @@ use Rattle.std.proofs.Common.{◌≡◌, ℕ, Bool, true, false, inl, inr, eqb-t
 use Rattle.std.specs.Prelude.{◌==◌}
 use Rattle.scq_word.specs.declared.setup.Setup.{Setup}
 use Rattle.scq_core.specs.Machine.{Entries}
-use Rattle.scq_core.proofs.PutLemmas.{put_entry_or, put_entry_cases}
+use Rattle.scq_core.proofs.UpdatedLemmas.{updated_entry_or, updated_entry_cases}
 use Rattle.scq_law.proofs.Ghosts.{Ghost, PutState, fresh, pending, failed, placed, is_placed, with_put}
 use Rattle.scq_law.proofs.Booked.{IsBooked, Moves, Effect}
 
@@ -35,7 +35,7 @@ put_moves c e g k r t y ours =
     record {
       pends =
           λ j q p i apart is.
-          put_entry_cases
+          updated_entry_cases
           (λ _ _ v. v ≡ pending j i)
           g.puts
           r
@@ -47,7 +47,7 @@ put_moves c e g k r t y ours =
           (λ _. is);
       lies =
           λ q p i w b is.
-          put_entry_cases
+          updated_entry_cases
           (λ _ _ v. v ≡ placed i w b)
           g.puts
           r
@@ -70,10 +70,10 @@ put_booked c e g r t y was is booked =
       live =
           λ q p has.
           let old = booked.live q p has in
-          (put_entry_cases (λ _ _ v. is_placed v ≡ true) g.puts r t y q p (λ ring ticket. let both = old.0 in absurd (cc)) (λ _. old.0), old.1);
+          (updated_entry_cases (λ _ _ v. is_placed v ≡ true) g.puts r t y q p (λ ring ticket. let both = old.0 in absurd (cc)) (λ _. old.0), old.1);
       stands =
           λ q p i w b placed_there waits.
-          elim (put_entry_or g.puts r t y q p) [
+          elim (updated_entry_or g.puts r t y q p) [
             | inl a ↦
                 let new : y ≡ placed i w b = sym a.2 ∙ placed_there in
                 let yes_placed : is_placed y ≡ true = ap is_placed new in
@@ -84,10 +84,10 @@ put_booked c e g r t y was is booked =
       taken =
           λ q p k j got.
           let old = booked.taken q p k j got in
-          put_entry_cases (λ _ _ v. is_placed v ≡ true) g.puts r t y q p (λ ring ticket. absurd (cc)) (λ _. old);
+          updated_entry_cases (λ _ _ v. is_placed v ≡ true) g.puts r t y q p (λ ring ticket. absurd (cc)) (λ _. old);
       never =
           λ q p gone.
-          put_entry_cases (λ _ _ v. is_placed v ≡ false) g.puts r t y q p (λ ring ticket. is) (λ _. booked.never q p gone);
+          updated_entry_cases (λ _ _ v. is_placed v ≡ false) g.puts r t y q p (λ ring ticket. is) (λ _. booked.never q p gone);
       shut = booked.shut;
     }
 

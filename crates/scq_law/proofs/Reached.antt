@@ -3,9 +3,9 @@
 use Rattle.std.proofs.Common.{◌≡◌, ◌≢◌, ℕ, ◌+◌, ◌<◌, ◌≤◌, true, false, inl, inr, refl, sym, ◌∙◌, arith, List, length}
 use Rattle.scq_word.specs.declared.setup.Setup.{Setup}
 use Rattle.scq_core.specs.Machine.{Machine}
-use Rattle.scq_core.specs.Table.{size}
+use Rattle.scq_core.specs.Table.{ring_slots}
 use Rattle.scq_core.specs.Start.{start_of, idle_part}
-use Rattle.scq_core.proofs.PutLemmas.{put_entry_or, put_entry_cases, put_or}
+use Rattle.scq_core.proofs.UpdatedLemmas.{updated_entry_or, updated_entry_cases, updated_or}
 use Rattle.scq_law.specs.Places.{call_of}
 use Rattle.scq_law.proofs.Ghosts.{Ghost, PutState, GetState, fresh, pending, failed, placed, unopened, opened, dead, took, start_ghost, with_put, with_get}
 use Rattle.scq_law.proofs.Events.{putting, Event, drew, fell, laid, began, died, taken, overran}
@@ -16,7 +16,7 @@ use Rattle.scq_law.proofs.Stances.{stance_has}
 
 pub record IsReached (c : Setup) (g : Ghost) (m : Machine) : Type 0 where
   pub rings : (r t : ℕ) → c.rings ≤ r → g.puts r t ≡ fresh
-  pub reached : (r h : ℕ) → size c ≤ h → h < m.cells.head r → h < c.limit → g.gets r h ≡ unopened → ⊥
+  pub reached : (r h : ℕ) → ring_slots c ≤ h → h < m.cells.head r → h < c.limit → g.gets r h ≡ unopened → ⊥
   pub absent : (k : ℕ) → c.seats ≤ k → m.part k ≡ idle_part
 
 pub reached_start : (c : Setup) (opening : List (List ℕ)) → IsReached c (start_ghost c opening) (start_of c opening)
@@ -32,12 +32,12 @@ reached_start c opening =
 -- no new put in a ring out of range
 rings_put : (c : Setup) (g : Ghost) (r t : ℕ) (x : PutState) → r < c.rings → ((q u : ℕ) → c.rings ≤ q → g.puts q u ≡ fresh) → (q u : ℕ) → c.rings ≤ q → (with_put g r t x).puts q u ≡ fresh
 rings_put c g r t x low old q u high =
-    put_entry_cases (λ _ _ v. v ≡ fresh) g.puts r t x q u (λ ring ticket. absurd (omega arith)) (λ _. old q u high)
+    updated_entry_cases (λ _ _ v. v ≡ fresh) g.puts r t x q u (λ ring ticket. absurd (omega arith)) (λ _. old q u high)
 
 -- a ticket of a get that changes is no fresh one afterwards
-reached_get : (c : Setup) (head : ℕ → ℕ) (g : Ghost) (r h : ℕ) (x : GetState) → x ≢ unopened → ((q u : ℕ) → size c ≤ u → u < head q → u < c.limit → g.gets q u ≡ unopened → ⊥) → (q u : ℕ) → size c ≤ u → u < head q → u < c.limit → (with_get g r h x).gets q u ≡ unopened → ⊥
+reached_get : (c : Setup) (head : ℕ → ℕ) (g : Ghost) (r h : ℕ) (x : GetState) → x ≢ unopened → ((q u : ℕ) → ring_slots c ≤ u → u < head q → u < c.limit → g.gets q u ≡ unopened → ⊥) → (q u : ℕ) → ring_slots c ≤ u → u < head q → u < c.limit → (with_get g r h x).gets q u ≡ unopened → ⊥
 reached_get c head g r h x not old q u first below low is =
-    elim (put_entry_or g.gets r h x q u) [
+    elim (updated_entry_or g.gets r h x q u) [
       | inl a ↦ not (sym a.2 ∙ is)
       | inr a ↦ old q u first below low (sym a.1 ∙ is)
     ]
@@ -77,10 +77,10 @@ reached_step c time g m k (began r h) n scene old =
       rings = old.rings;
       reached =
           λ q u first below low is.
-          elim (put_entry_or g.gets r h (opened k) q u) [
+          elim (updated_entry_or g.gets r h (opened k) q u) [
             | inl a ↦ let clash : opened k ≡ unopened = sym a.2 ∙ is in absurd (cc)
             | inr a ↦
-                elim (put_or m.cells.head r (h + 1) q) [
+                elim (updated_or m.cells.head r (h + 1) q) [
                   | inl b ↦
                       let at = d.proper.at_head in
                       let below_next : u < h + 1 = rw (d.head, b.1) at below in
@@ -114,7 +114,7 @@ reached_step c time g m k (overran r t false) n scene old =
       rings = old.rings;
       reached =
           λ q u first below low is.
-          elim (put_or m.cells.head r (t + 1) q) [
+          elim (updated_or m.cells.head r (t + 1) q) [
             | inl b ↦
                 let at = d.proper.at_head in
                 let past = d.proper.past in

@@ -8,9 +8,9 @@ use Rattle.scq_word.specs.Sizes.{n_of}
 use Rattle.scq_core.specs.declared.ended.Ended.{Ended}
 use Rattle.scq_core.specs.declared.ended.Ended.TheVariants.{Done, Got}
 use Rattle.scq_core.specs.Machine.{Part, Machine}
-use Rattle.scq_core.specs.Table.{size}
+use Rattle.scq_core.specs.Table.{ring_slots}
 use Rattle.scq_core.specs.Start.{start_of}
-use Rattle.scq_core.proofs.PutLemmas.{put_entry_or, put_entry_here}
+use Rattle.scq_core.proofs.UpdatedLemmas.{updated_entry_or, updated_entry_here}
 use Rattle.scq_law.specs.Places.{Maker, call_of, opening_put}
 use Rattle.scq_law.proofs.Ghosts.{Ghost, pending, failed, placed, opened, dead, took, start_ghost}
 use Rattle.scq_law.proofs.Events.{landed, Event, calm, drew, fell, laid, finished, entered, refused, began, died, saw_end, lifted, taken, lowered, emptied, overran, ended_by}
@@ -51,10 +51,10 @@ ended_few e = omega arith
 -- a place of the opening puts, with what stands there
 pub record Opens (c : Setup) (m : Machine) (r p i : ℕ) (w : List ℕ) : Type 0 where
   pub ring : r ≡ 0
-  pub first : size c ≤ p
-  pub last : p < size c + n_of c.order
-  pub index : i ≡ p - size c
-  pub content : w ≡ slice_index_or m.opening (p - size c) []
+  pub first : ring_slots c ≤ p
+  pub last : p < ring_slots c + n_of c.order
+  pub index : i ≡ p - ring_slots c
+  pub content : w ≡ slice_index_or m.opening (p - ring_slots c) []
 
 -- a call that ended with Done placed there
 pub record Makes (g : Ghost) (r p : ℕ) (w : List ℕ) (k j : ℕ) : Type 0 where
@@ -76,7 +76,7 @@ pub record IsRecorded (c : Setup) (g : Ghost) (m : Machine) : Type 0 where
   pub got : (k j r p : ℕ) (w : List ℕ) → slice_get (m.part k).calls j ≡ Some (Got r p w) → Takes g r p w k j
   pub made : (r p i : ℕ) (w : List ℕ) (k j : ℕ) → g.puts r p ≡ placed i w (call_of k j) → (slice_get (m.part k).calls j ≡ Some (Done r p w)) ⊎ Lands m r p i w k j
   pub stood : (r p i : ℕ) (w : List ℕ) → g.puts r p ≡ placed i w opening_put → Opens c m r p i w
-  pub opens : (p : ℕ) → size c ≤ p → p < size c + n_of c.order → g.puts 0 p ≡ placed (p - size c) (slice_index_or m.opening (p - size c) []) opening_put
+  pub opens : (p : ℕ) → ring_slots c ≤ p → p < ring_slots c + n_of c.order → g.puts 0 p ≡ placed (p - ring_slots c) (slice_index_or m.opening (p - ring_slots c) []) opening_put
   pub taken : (r p k j : ℕ) → g.gets r p ≡ took k j → (w : List ℕ) × (slice_get (m.part k).calls j ≡ Some (Got r p w))
 
 pub recorded_start : (c : Setup) (opening : List (List ℕ)) → IsRecorded c (start_ghost c opening) (start_of c opening)
@@ -94,8 +94,8 @@ recorded_start c opening =
                   ring = s.ring;
                   first = s.first;
                   last = s.last;
-                  index = let h : i ≡ p - size c = cc in h;
-                  content = let h : w ≡ slice_index_or opening (p - size c) [] = cc in h;
+                  index = let h : i ≡ p - ring_slots c = cc in h;
+                  content = let h : w ≡ slice_index_or opening (p - ring_slots c) [] = cc in h;
                 }
             | inr s ↦ let at = s.is in absurd (cc)
           ];
@@ -199,13 +199,13 @@ module _ (c : Setup) (time : ℕ) (g : Ghost) (m : Machine) (k : ℕ) (e : Event
         first = o.first;
         last = o.last;
         index = o.index;
-        content = o.content ∙ ap (λ v. slice_index_or v (p - size c) []) (sym d.opening);
+        content = o.content ∙ ap (λ v. slice_index_or v (p - ring_slots c) []) (sym d.opening);
       }
 
-  opens_step : (p : ℕ) → size c ≤ p → p < size c + n_of c.order → h.puts 0 p ≡ placed (p - size c) (slice_index_or n.opening (p - size c) []) opening_put
+  opens_step : (p : ℕ) → ring_slots c ≤ p → p < ring_slots c + n_of c.order → h.puts 0 p ≡ placed (p - ring_slots c) (slice_index_or n.opening (p - ring_slots c) []) opening_put
   opens_step p first last =
       let o = old.opens p first last in
-      rw d.opening (scene.moves.lies 0 p (p - size c) _ opening_put o)
+      rw d.opening (scene.moves.lies 0 p (p - ring_slots c) _ opening_put o)
 
   taken_step : ((r p j x : ℕ) → h.gets r p ≡ took j x → (g.gets r p ≡ took j x) ⊎ ((j ≡ k) × (x ≡ length (m.part k).calls) × ((w : List ℕ) × (ended_by e ≡ Got r p w ∷ [])))) → (r p j x : ℕ) → h.gets r p ≡ took j x → (w : List ℕ) × (slice_get (n.part j).calls x ≡ Some (Got r p w))
   taken_step back r p j x is =
@@ -233,8 +233,8 @@ recorded_step c time g m k (drew r i w t) n scene old =
     record {
       done = done_step c time g m k (drew r i w t) n scene old (λ q p v is. absurd (cc));
       got = got_step c time g m k (drew r i w t) n scene old (λ q p v is. absurd (cc));
-      made = made_step c time g m k (drew r i w t) n scene old (λ q p y v b is. elim (put_entry_or g.puts r t (pending k i) q p) [ inl a ↦ let clash : pending k i ≡ placed y v b = sym a.2 ∙ is in absurd (cc) | inr a ↦ inl (sym a.1 ∙ is) ]) (λ q x v p is. let was = d.proper.was in elim was [ inl rests ↦ let stand = rests.rests in absurd (cc) | inr stand ↦ absurd (cc) ]);
-      stood = stood_step c time g m k (drew r i w t) n scene old (λ q p y v is. elim (put_entry_or g.puts r t (pending k i) q p) [ inl a ↦ let clash : pending k i ≡ placed y v opening_put = sym a.2 ∙ is in absurd (cc) | inr a ↦ sym a.1 ∙ is ]);
+      made = made_step c time g m k (drew r i w t) n scene old (λ q p y v b is. elim (updated_entry_or g.puts r t (pending k i) q p) [ inl a ↦ let clash : pending k i ≡ placed y v b = sym a.2 ∙ is in absurd (cc) | inr a ↦ inl (sym a.1 ∙ is) ]) (λ q x v p is. let was = d.proper.was in elim was [ inl rests ↦ let stand = rests.rests in absurd (cc) | inr stand ↦ absurd (cc) ]);
+      stood = stood_step c time g m k (drew r i w t) n scene old (λ q p y v is. elim (updated_entry_or g.puts r t (pending k i) q p) [ inl a ↦ let clash : pending k i ≡ placed y v opening_put = sym a.2 ∙ is in absurd (cc) | inr a ↦ sym a.1 ∙ is ]);
       opens = opens_step c time g m k (drew r i w t) n scene old;
       taken = taken_step c time g m k (drew r i w t) n scene old (λ q p j x is. inl is);
     }
@@ -243,8 +243,8 @@ recorded_step c time g m k (fell r i w t found) n scene old =
     record {
       done = done_step c time g m k (fell r i w t found) n scene old (λ q p v is. absurd (cc));
       got = got_step c time g m k (fell r i w t found) n scene old (λ q p v is. absurd (cc));
-      made = made_step c time g m k (fell r i w t found) n scene old (λ q p y v b is. elim (put_entry_or g.puts r t (failed time i found) q p) [ inl a ↦ let clash : failed time i found ≡ placed y v b = sym a.2 ∙ is in absurd (cc) | inr a ↦ inl (sym a.1 ∙ is) ]) (λ q x v p is. let was = d.proper.was in absurd (cc));
-      stood = stood_step c time g m k (fell r i w t found) n scene old (λ q p y v is. elim (put_entry_or g.puts r t (failed time i found) q p) [ inl a ↦ let clash : failed time i found ≡ placed y v opening_put = sym a.2 ∙ is in absurd (cc) | inr a ↦ sym a.1 ∙ is ]);
+      made = made_step c time g m k (fell r i w t found) n scene old (λ q p y v b is. elim (updated_entry_or g.puts r t (failed time i found) q p) [ inl a ↦ let clash : failed time i found ≡ placed y v b = sym a.2 ∙ is in absurd (cc) | inr a ↦ inl (sym a.1 ∙ is) ]) (λ q x v p is. let was = d.proper.was in absurd (cc));
+      stood = stood_step c time g m k (fell r i w t found) n scene old (λ q p y v is. elim (updated_entry_or g.puts r t (failed time i found) q p) [ inl a ↦ let clash : failed time i found ≡ placed y v opening_put = sym a.2 ∙ is in absurd (cc) | inr a ↦ sym a.1 ∙ is ]);
       opens = opens_step c time g m k (fell r i w t found) n scene old;
       taken = taken_step c time g m k (fell r i w t found) n scene old (λ q p j x is. inl is);
     }
@@ -254,8 +254,8 @@ recorded_step c time g m k (laid r i w t) n scene old =
     record {
       done = done_step c time g m k (laid r i w t) n scene old (λ q p v is. absurd (cc));
       got = got_step c time g m k (laid r i w t) n scene old (λ q p v is. absurd (cc));
-      made = made_step c time g m k (laid r i w t) n scene old (λ q p y v b is. elim (put_entry_or g.puts r t (placed i w (call_of k (length (m.part k).calls))) q p) [ inl a ↦ let same : placed i w (call_of k (length (m.part k).calls)) ≡ placed y v b = sym a.2 ∙ is in let index : i ≡ y = cc in let content : w ≡ v = cc in let maker : call_of k (length (m.part k).calls) ≡ b = cc in inr (sym maker ∙ ap (λ (z : List Ended). call_of k (length z)) (sym calls), rw (a.0, a.1, ← index, ← content) d.stance) | inr a ↦ inl (sym a.1 ∙ is) ]) (λ q x v p is. let was = d.proper.was in absurd (cc));
-      stood = stood_step c time g m k (laid r i w t) n scene old (λ q p y v is. elim (put_entry_or g.puts r t (placed i w (call_of k (length (m.part k).calls))) q p) [ inl a ↦ let clash : placed i w (call_of k (length (m.part k).calls)) ≡ placed y v opening_put = sym a.2 ∙ is in absurd (cc) | inr a ↦ sym a.1 ∙ is ]);
+      made = made_step c time g m k (laid r i w t) n scene old (λ q p y v b is. elim (updated_entry_or g.puts r t (placed i w (call_of k (length (m.part k).calls))) q p) [ inl a ↦ let same : placed i w (call_of k (length (m.part k).calls)) ≡ placed y v b = sym a.2 ∙ is in let index : i ≡ y = cc in let content : w ≡ v = cc in let maker : call_of k (length (m.part k).calls) ≡ b = cc in inr (sym maker ∙ ap (λ (z : List Ended). call_of k (length z)) (sym calls), rw (a.0, a.1, ← index, ← content) d.stance) | inr a ↦ inl (sym a.1 ∙ is) ]) (λ q x v p is. let was = d.proper.was in absurd (cc));
+      stood = stood_step c time g m k (laid r i w t) n scene old (λ q p y v is. elim (updated_entry_or g.puts r t (placed i w (call_of k (length (m.part k).calls))) q p) [ inl a ↦ let clash : placed i w (call_of k (length (m.part k).calls)) ≡ placed y v opening_put = sym a.2 ∙ is in absurd (cc) | inr a ↦ sym a.1 ∙ is ]);
       opens = opens_step c time g m k (laid r i w t) n scene old;
       taken = taken_step c time g m k (laid r i w t) n scene old (λ q p j x is. inl is);
     }
@@ -297,7 +297,7 @@ recorded_step c time g m k (began r h) n scene old =
       made = made_step c time g m k (began r h) n scene old (λ q p x v b is. inl is) (λ q x v p is. let was = d.proper.was in absurd (cc));
       stood = stood_step c time g m k (began r h) n scene old (λ q p x v is. is);
       opens = opens_step c time g m k (began r h) n scene old;
-      taken = taken_step c time g m k (began r h) n scene old (λ q p j y is. elim (put_entry_or g.gets r h (opened k) q p) [ inl a ↦ let clash : opened k ≡ took j y = sym a.2 ∙ is in absurd (cc) | inr a ↦ inl (sym a.1 ∙ is) ]);
+      taken = taken_step c time g m k (began r h) n scene old (λ q p j y is. elim (updated_entry_or g.gets r h (opened k) q p) [ inl a ↦ let clash : opened k ≡ took j y = sym a.2 ∙ is in absurd (cc) | inr a ↦ inl (sym a.1 ∙ is) ]);
     }
 recorded_step c time g m k (died r h) n scene old =
     let d = scene.deed in
@@ -307,7 +307,7 @@ recorded_step c time g m k (died r h) n scene old =
       made = made_step c time g m k (died r h) n scene old (λ q p x v b is. inl is) (λ q x v p is. let was = d.proper.was in absurd (cc));
       stood = stood_step c time g m k (died r h) n scene old (λ q p x v is. is);
       opens = opens_step c time g m k (died r h) n scene old;
-      taken = taken_step c time g m k (died r h) n scene old (λ q p j y is. elim (put_entry_or g.gets r h (dead) q p) [ inl a ↦ let clash : dead ≡ took j y = sym a.2 ∙ is in absurd (cc) | inr a ↦ inl (sym a.1 ∙ is) ]);
+      taken = taken_step c time g m k (died r h) n scene old (λ q p j y is. elim (updated_entry_or g.gets r h (dead) q p) [ inl a ↦ let clash : dead ≡ took j y = sym a.2 ∙ is in absurd (cc) | inr a ↦ inl (sym a.1 ∙ is) ]);
     }
 recorded_step c time g m k (saw_end r h) n scene old =
     let d = scene.deed in
@@ -333,11 +333,11 @@ recorded_step c time g m k (taken r h i w) n scene old =
     let d = scene.deed in
     record {
       done = done_step c time g m k (taken r h i w) n scene old (λ q p v is. absurd (cc));
-      got = got_step c time g m k (taken r h i w) n scene old (λ q p v is. let same : Got r h w ≡ Got q p v = cc in let ring : r ≡ q = cc in let place : h ≡ p = cc in let content : w ≡ v = cc in record { took = rw (← ring, ← place) (put_entry_here g.gets r h (took k (length (m.part k).calls))); index = i; maker = d.proper.maker; is = rw (← ring, ← place, ← content) d.proper.placed });
+      got = got_step c time g m k (taken r h i w) n scene old (λ q p v is. let same : Got r h w ≡ Got q p v = cc in let ring : r ≡ q = cc in let place : h ≡ p = cc in let content : w ≡ v = cc in record { took = rw (← ring, ← place) (updated_entry_here g.gets r h (took k (length (m.part k).calls))); index = i; maker = d.proper.maker; is = rw (← ring, ← place, ← content) d.proper.placed });
       made = made_step c time g m k (taken r h i w) n scene old (λ q p x v b is. inl is) (λ q x v p is. let was = d.proper.was in absurd (cc));
       stood = stood_step c time g m k (taken r h i w) n scene old (λ q p x v is. is);
       opens = opens_step c time g m k (taken r h i w) n scene old;
-      taken = taken_step c time g m k (taken r h i w) n scene old (λ q p j y is. elim (put_entry_or g.gets r h (took k (length (m.part k).calls)) q p) [ inl a ↦ let same : took k (length (m.part k).calls) ≡ took j y = sym a.2 ∙ is in let seat : j ≡ k = cc in let number : y ≡ length (m.part k).calls = cc in inr (seat, number, (w, rw (a.0, a.1) refl)) | inr a ↦ inl (sym a.1 ∙ is) ]);
+      taken = taken_step c time g m k (taken r h i w) n scene old (λ q p j y is. elim (updated_entry_or g.gets r h (took k (length (m.part k).calls)) q p) [ inl a ↦ let same : took k (length (m.part k).calls) ≡ took j y = sym a.2 ∙ is in let seat : j ≡ k = cc in let number : y ≡ length (m.part k).calls = cc in inr (seat, number, (w, rw (a.0, a.1) refl)) | inr a ↦ inl (sym a.1 ∙ is) ]);
     }
 recorded_step c time g m k (lowered r h) n scene old =
     let d = scene.deed in

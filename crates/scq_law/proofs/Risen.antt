@@ -4,7 +4,7 @@ use Rattle.std.proofs.lemmas.Bool.{cases_lt}
 use Rattle.scq_word.specs.declared.setup.Setup.{Setup}
 use Rattle.scq_word.specs.Words.{rank_in}
 use Rattle.scq_word.proofs.TicketLemmas.{cycle_of_mono}
-use Rattle.scq_core.specs.Table.{size, cycle}
+use Rattle.scq_core.specs.Table.{ring_slots, cycle}
 use Rattle.scq_core.specs.Laws.{IsAbove}
 use Rattle.scq_core.proofs.Entries.{some_slots}
 
@@ -27,5 +27,5 @@ below_cycle c h t lower =
     elim (cases_lt h t) [
       | inl less ↦ less
       | inr high ↦
-          let mono : cycle c t ≤ cycle c h = cycle_of_mono (size c) t h (some_slots c) high in absurd (omega arith)
+          let mono : cycle c t ≤ cycle c h = cycle_of_mono (ring_slots c) t h (some_slots c) high in absurd (omega arith)
     ]

@@ -6,7 +6,7 @@ use Rattle.scq_word.specs.declared.setup.Setup.{Setup}
 use Rattle.std.specs.Prelude.{length}
 use Rattle.scq_core.specs.Machine.{Machine}
 use Rattle.scq_core.specs.Start.{start_of}
-use Rattle.scq_core.proofs.PutLemmas.{put_entry_or}
+use Rattle.scq_core.proofs.UpdatedLemmas.{updated_entry_or}
 use Rattle.scq_law.specs.Places.{call_of}
 use Rattle.scq_law.proofs.Ghosts.{Ghost, PutState, GetState, pending, failed, placed, opened, dead, took, start_ghost, with_put, with_get}
 use Rattle.scq_law.proofs.Events.{putting, trying, Event, calm, drew, fell, laid, finished, entered, refused, began, died, saw_end, lifted, taken, lowered, emptied, overran}
@@ -50,7 +50,7 @@ still_pends c m g k e n deed own rooted j r t i is =
 -- one ticket of a put does
 put_pends : (c : Setup) (m : Machine) (g : Ghost) (k : ℕ) (e : Event) (n : Machine) (r t : ℕ) (x : PutState) → Deed c m g k e n → ((j i : ℕ) → x ≡ pending j i → IsPutting n j r t i) → ((q i : ℕ) (w : List ℕ) (u : ℕ) → (q ≡ r → u ≡ t → ⊥) → stance m k ≡ putting q i w u → stance n k ≡ putting q i w u) → IsRooted g m → (j q u i : ℕ) → (with_put g r t x).puts q u ≡ pending j i → IsPutting n j q u i
 put_pends c m g k e n r t x deed new own rooted j q u i is =
-    elim (put_entry_or g.puts r t x q u) [
+    elim (updated_entry_or g.puts r t x q u) [
       | inl a ↦ rw (a.0, a.1) (new j i (sym a.2 ∙ is))
       | inr a ↦
           let o = rooted.pends j q u i (sym a.1 ∙ is) in
@@ -74,7 +74,7 @@ still_opens c m g k e n deed own rooted j r h is =
 
 get_opens : (c : Setup) (m : Machine) (g : Ghost) (k : ℕ) (e : Event) (n : Machine) (r h : ℕ) (x : GetState) → Deed c m g k e n → ((j : ℕ) → x ≡ opened j → stance n j ≡ trying r h) → ((q u : ℕ) → (q ≡ r → u ≡ h → ⊥) → stance m k ≡ trying q u → stance n k ≡ trying q u) → IsRooted g m → (j q u : ℕ) → (with_get g r h x).gets q u ≡ opened j → stance n j ≡ trying q u
 get_opens c m g k e n r h x deed new own rooted j q u is =
-    elim (put_entry_or g.gets r h x q u) [
+    elim (updated_entry_or g.gets r h x q u) [
       | inl a ↦ rw (a.0, a.1) (new j (sym a.2 ∙ is))
       | inr a ↦
           let o = rooted.opens j q u (sym a.1 ∙ is) in

@@ -9,7 +9,7 @@ use Rattle.scq_word.specs.declared.setup.Setup.{Setup}
 use Rattle.scq_word.specs.Sizes.{n_of}
 use Rattle.scq_core.specs.declared.step.Step.{Step}
 use Rattle.scq_core.specs.Machine.{Machine}
-use Rattle.scq_core.specs.Table.{turn_of, size}
+use Rattle.scq_core.specs.Table.{turn_of, ring_slots}
 use Rattle.scq_core.specs.Laws.{RankRises, CountersRise}
 use Rattle.scq_core.specs.Reach.{IsReachable, at_start}
 use Rattle.scq_core.specs.Reach as reach
@@ -72,5 +72,5 @@ never_back c m n o r s start first second same =
     let high = later_rises c n o low.0 second in
     elim (cases_eq (n.cells.entries.word r s) (m.cells.entries.word r s)) [
       | inl is ↦ is
-      | inr apart ↦ absurd (above_apart (size c) _ _ _ (low.1.rises r s) apart (high.1.rises r s) same)
+      | inr apart ↦ absurd (above_apart (ring_slots c) _ _ _ (low.1.rises r s) apart (high.1.rises r s) same)
     ]

@@ -6,7 +6,7 @@ use Rattle.std.proofs.lemmas.Option.{slice_get_within, get_or_from_slice_get}
 use Rattle.scq_word.specs.declared.setup.Setup.{Setup}
 use Rattle.scq_word.specs.Sizes.{n_of}
 use Rattle.scq_core.specs.declared.ended.Ended.TheVariants as ended
-use Rattle.scq_core.specs.Table.{size}
+use Rattle.scq_core.specs.Table.{ring_slots}
 use Rattle.scq_core.specs.Machine.{Machine}
 use Rattle.scq_hist.specs.Calls.{puts_before, IsPut, IsDoneAt, IsFinishedAt}
 use Rattle.scq_hist.specs.declared.events.Call.TheVariants.{Put}
@@ -38,18 +38,18 @@ module _ (c : Setup) (opening : List (List ℕ)) (full : length opening ≡ n_of
   settled_token moment j less =
       let token = t.placed.stood j (omega arith) in
       record {
-        p = size c + j;
+        p = ring_slots c + j;
         is = token.is;
         named = token.name;
         finished = inr (record { ring = refl; first = omega arith; last = omega arith });
         later =
             λ u k n there name le.
-            elim (cases_lt u (size c)) [
+            elim (cases_lt u (ring_slots c)) [
               | inl low ↦ let none = ap is_placed (based.drawn.put_first 0 u low) in absurd (cc)
               | inr first ↦
-                  let back : size c + (u - size c) ≡ u = omega arith in
-                  let at = (t.placed.stood (u - size c) (omega arith)).name in
-                  let here : placer 0 u ≡ Opening (u - size c) = rw back at at in
+                  let back : ring_slots c + (u - ring_slots c) ≡ u = omega arith in
+                  let at = (t.placed.stood (u - ring_slots c) (omega arith)).name in
+                  let here : placer 0 u ≡ Opening (u - ring_slots c) = rw back at at in
                   absurd (cc)
             ];
       }

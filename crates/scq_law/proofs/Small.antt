@@ -4,9 +4,9 @@ use Rattle.std.proofs.lemmas.Bool.{cases_eq}
 use Rattle.scq_word.specs.declared.setup.Setup.{Setup}
 use Rattle.scq_word.specs.Sizes.{n_of}
 use Rattle.scq_core.specs.Machine.{Machine}
-use Rattle.scq_core.specs.Table.{size, without, holds_index}
+use Rattle.scq_core.specs.Table.{ring_slots, without, holds_index}
 use Rattle.scq_core.specs.Start.{start_of}
-use Rattle.scq_core.proofs.PutLemmas.{put_entry_or}
+use Rattle.scq_core.proofs.UpdatedLemmas.{updated_entry_or}
 use Rattle.scq_law.specs.Places.{Maker, call_of}
 use Rattle.scq_law.proofs.Ghosts.{Ghost, PutState, pending, failed, placed, start_ghost, with_put}
 use Rattle.scq_law.proofs.Events.{Event, drew, fell, laid, taken}
@@ -30,7 +30,7 @@ small_start c opening =
                 let at = s.is in
                 let first = s.first in
                 let last = s.last in
-                let index : p - size c ≡ i = cc in
+                let index : p - ring_slots c ≡ i = cc in
                 omega arith
             | inr s ↦ let at = s.is in absurd (cc)
           ];
@@ -39,7 +39,7 @@ small_start c opening =
 -- a ticket changes, to a state with no index placed or with a small one
 places_put : (c : Setup) (g : Ghost) (r t : ℕ) (x : PutState) → ((i : ℕ) (w : List ℕ) (b : Maker) → x ≡ placed i w b → i < n_of c.order) → ((q p i : ℕ) (w : List ℕ) (b : Maker) → g.puts q p ≡ placed i w b → i < n_of c.order) → (q p i : ℕ) (w : List ℕ) (b : Maker) → (with_put g r t x).puts q p ≡ placed i w b → i < n_of c.order
 places_put c g r t x new old q p i w b is =
-    elim (put_entry_or g.puts r t x q p) [
+    elim (updated_entry_or g.puts r t x q p) [
       | inl a ↦ new i w b (sym a.2 ∙ is)
       | inr a ↦ old q p i w b (sym a.1 ∙ is)
     ]

@@ -6,12 +6,12 @@ use Rattle.scq_word.specs.declared.setup.Setup.{Setup}
 use Rattle.scq_word.specs.Sizes.{n_of}
 use Rattle.scq_core.specs.declared.ended.Ended.{Ended}
 use Rattle.scq_core.specs.Machine.{Part, Machine}
-use Rattle.scq_core.specs.Put.{put}
-use Rattle.scq_core.specs.Table.{size, reset_level, reset_of}
+use Rattle.scq_core.specs.Updated.{updated}
+use Rattle.scq_core.specs.Table.{ring_slots, reset_level, reset_value}
 use Rattle.scq_core.specs.Start.{start_of}
 use Rattle.scq_core.specs.Reach.{IsReachable, at_start}
 use Rattle.scq_core.specs.Laws.{total, spent_of}
-use Rattle.scq_core.proofs.PutLemmas.{put_or}
+use Rattle.scq_core.proofs.UpdatedLemmas.{updated_or}
 use Rattle.scq_core.proofs.Fits.{words_fit}
 use Rattle.scq_core.proofs.Floor.{threshold_floor}
 use Rattle.scq_law.specs.Bounds.{tally, openings}
@@ -53,14 +53,14 @@ spend_of r p = tally (was_got r) p.calls + (flying r (stance_of p.phase) + spent
 pub record IsTallied (c : Setup) (time : ℕ) (g : Ghost) (m : Machine) : Type 0 where
   pub taken : (r : ℕ) → total (got_of r) m.part c.seats ≤ tooks c g r
   pub placed : (r : ℕ) → placeds c g r ≤ total (laid_of r) m.part c.seats + openings c r
-  pub spends : (r : ℕ) → m.cells.head r + m.cells.threshold r ≤ size c + total (spend_of r) m.part c.seats + total (done_of r) m.part c.seats * (reset_of c + c.seats) + reset_level c
+  pub spends : (r : ℕ) → m.cells.head r + m.cells.threshold r ≤ ring_slots c + total (spend_of r) m.part c.seats + total (done_of r) m.part c.seats * (reset_value c + c.seats) + reset_level c
 
 -- a tally of the seat's calls after the event
 calls_then : (f : Ended → ℕ) (c : Setup) (g : Ghost) (m : Machine) (k : ℕ) (e : Event) (n : Machine) → Deed c m g k e n → tally f (n.part k).calls ≡ tally f (m.part k).calls + tally f (ended_by e)
 calls_then f c g m k e n deed = ap (tally f) deed.calls ∙ tally-append f (m.part k).calls (ended_by e)
 
 -- the opening places
-opening_sum : (c : Setup) (opening : List (List ℕ)) (r n : ℕ) → (sum_to (λ p. placed_bit ((start_ghost c opening).puts r p)) n ≤ n - size c) × (sum_to (λ p. placed_bit ((start_ghost c opening).puts r p)) n ≤ openings c r)
+opening_sum : (c : Setup) (opening : List (List ℕ)) (r n : ℕ) → (sum_to (λ p. placed_bit ((start_ghost c opening).puts r p)) n ≤ n - ring_slots c) × (sum_to (λ p. placed_bit ((start_ghost c opening).puts r p)) n ≤ openings c r)
 opening_sum c opening r zero = (omega arith, omega arith)
 opening_sum c opening r (suc n) =
     let rest = opening_sum c opening r n in
@@ -114,7 +114,7 @@ one_more : (d x : ℕ) → (d + 1) * x ≡ d * x + x
 one_more d x = grind arith
 
 -- an event that ends no put
-spends_on : (c : Setup) (time : ℕ) (g : Ghost) (m : Machine) (k : ℕ) (e : Event) (n : Machine) → Tale c time g m → Scene c time g m k e n → is_finish e ≡ false → IsTallied c time g m → (r : ℕ) → total (done_of r) n.part c.seats ≡ total (done_of r) m.part c.seats → n.cells.head r + n.cells.threshold r ≤ size c + total (spend_of r) n.part c.seats + total (done_of r) n.part c.seats * (reset_of c + c.seats) + reset_level c
+spends_on : (c : Setup) (time : ℕ) (g : Ghost) (m : Machine) (k : ℕ) (e : Event) (n : Machine) → Tale c time g m → Scene c time g m k e n → is_finish e ≡ false → IsTallied c time g m → (r : ℕ) → total (done_of r) n.part c.seats ≡ total (done_of r) m.part c.seats → n.cells.head r + n.cells.threshold r ≤ ring_slots c + total (spend_of r) n.part c.seats + total (done_of r) n.part c.seats * (reset_value c + c.seats) + reset_level c
 spends_on c time g m k e n tale scene not was r same =
     let fits = words_fit c m (tale_reaches c time g m tale) in
     let sum = total_change (spend_of r) m.part n.part k c.seats scene.low scene.deed.others in
@@ -137,7 +137,7 @@ dones_move c time g m k e n scene r =
     omega arith
 
 -- the event that ends one
-spends_reset : (c : Setup) (time : ℕ) (g : Ghost) (m : Machine) (k q i : ℕ) (w : List ℕ) (t : ℕ) (n : Machine) → Tale c time g m → Scene c time g m k (finished q i w t) n → IsTallied c time g m → (r : ℕ) → n.cells.head r + n.cells.threshold r ≤ size c + total (spend_of r) n.part c.seats + total (done_of r) n.part c.seats * (reset_of c + c.seats) + reset_level c
+spends_reset : (c : Setup) (time : ℕ) (g : Ghost) (m : Machine) (k q i : ℕ) (w : List ℕ) (t : ℕ) (n : Machine) → Tale c time g m → Scene c time g m k (finished q i w t) n → IsTallied c time g m → (r : ℕ) → n.cells.head r + n.cells.threshold r ≤ ring_slots c + total (spend_of r) n.part c.seats + total (done_of r) n.part c.seats * (reset_value c + c.seats) + reset_level c
 spends_reset c time g m k q i w t n tale scene was r =
     let d = scene.deed in
     let floor = (threshold_floor c m (tale_reaches c time g m tale)).floor r in
@@ -150,13 +150,13 @@ spends_reset c time g m k q i w t n tale scene was r =
     let same : total (spend_of r) n.part c.seats ≡ total (spend_of r) m.part c.seats = omega arith in
     let old = was.spends r in
     let head : n.cells.head r ≡ m.cells.head r = ap (λ (f : ℕ → ℕ). f r) d.head in
-    let level : n.cells.threshold r ≡ put m.cells.threshold q (reset_level c) r = ap (λ (f : ℕ → ℕ). f r) d.threshold in
-    elim (put_or m.cells.threshold q (reset_level c) r) [
+    let level : n.cells.threshold r ≡ updated m.cells.threshold q (reset_level c) r = ap (λ (f : ℕ → ℕ). f r) d.threshold in
+    elim (updated_or m.cells.threshold q (reset_level c) r) [
       | inl a ↦
           let one = here_one q r a.0 in
           let reset = a.1 in
           let more : total (done_of r) n.part c.seats ≡ total (done_of r) m.part c.seats + 1 = omega arith in
-          let product = one_more (total (done_of r) m.part c.seats) (reset_of c + c.seats) in
+          let product = one_more (total (done_of r) m.part c.seats) (reset_value c + c.seats) in
           rw more (omega arith)
       | inr a ↦
           let none = there_none q r a.0 in

@@ -4,9 +4,9 @@ use Rattle.scq_word.specs.declared.setup.Setup.{Setup}
 use Rattle.scq_word.specs.Tickets.{slot_of}
 use Rattle.scq_word.specs.Words.{safe_in, cycle_in, is_none_in}
 use Rattle.scq_core.specs.Machine.{Entries}
-use Rattle.scq_core.specs.Table.{size, cycle}
+use Rattle.scq_core.specs.Table.{ring_slots, cycle}
 use Rattle.scq_core.specs.Laws.{IsAbove}
-use Rattle.scq_core.proofs.PutLemmas.{put_entry_cases}
+use Rattle.scq_core.proofs.UpdatedLemmas.{updated_entry_cases}
 use Rattle.scq_law.specs.Places.{Maker}
 use Rattle.scq_law.proofs.Ghosts.{Ghost, GetState, opened, dead, took, placed, is_placed, waiting, with_get}
 use Rattle.scq_law.proofs.Booked.{IsBooked, Holds, Stands, Shut, Passed, Loaded, Moves, Effect, at_ticket}
@@ -21,18 +21,18 @@ pub record Empties (s e z : ℕ) : Type 0 where
   pub none : is_none_in s z ≡ true
   pub above : IsAbove s e z
 
-module _ (c : Setup) (e : Entries) (g : Ghost) (k r h z number : ℕ) (mine : g.gets r h ≡ opened k) (there : Holds c e.word r h) (empties : Empties (size c) (at_ticket c e.word r h) z) (booked : IsBooked c e g) where
+module _ (c : Setup) (e : Entries) (g : Ghost) (k r h z number : ℕ) (mine : g.gets r h ≡ opened k) (there : Holds c e.word r h) (empties : Empties (ring_slots c) (at_ticket c e.word r h) z) (booked : IsBooked c e g) where
   abbrev place : (q p : ℕ) → Here ℕ GetState c e.word z g.gets (took k number) r h q p ⊎ (Beside ℕ GetState c e.word z g.gets (took k number) r h q p ⊎ Apart ℕ GetState c e.word z g.gets (took k number) r h q p)
   place q p = places c e.word z g.gets (took k number) r h q p
 
-  cycle_z : cycle_in (size c) z ≡ cycle c h
+  cycle_z : cycle_in (ring_slots c) z ≡ cycle c h
   cycle_z = empties.cycle ∙ there.cycle
 
   took_live : (q p : ℕ) → Holds c (reworded c e r h z).word q p → (is_placed (g.puts q p) ≡ true) × (waiting ((with_get g r h (took k number)).gets q p) ≡ true)
   took_live q p has =
       elim (place q p) [
-        | inl a ↦ let some : is_none_in (size c) z ≡ false = rw a.word_is at has.index in let none = empties.none in absurd (cc)
-        | inr (inl a) ↦ let some : is_none_in (size c) z ≡ false = rw a.word_is at has.index in let none = empties.none in absurd (cc)
+        | inl a ↦ let some : is_none_in (ring_slots c) z ≡ false = rw a.word_is at has.index in let none = empties.none in absurd (cc)
+        | inr (inl a) ↦ let some : is_none_in (ring_slots c) z ≡ false = rw a.word_is at has.index in let none = empties.none in absurd (cc)
         | inr (inr a) ↦
             let old = booked.live q p (record { cycle = rw a.word_is at has.cycle; index = rw a.word_is at has.index }) in
             (old.0, rw a.state_is old.1)
@@ -44,7 +44,7 @@ module _ (c : Setup) (e : Entries) (g : Ghost) (k r h z number : ℕ) (mine : g.
         | inl a ↦ let not : waiting (took k number) ≡ true = rw a.state_is at waits in absurd (cc)
         | inr (inl a) ↦
             let old = booked.stands q p i w b is (rw a.state_is at waits) in
-            let at_e : cycle_in (size c) (at_ticket c e.word r h) ≡ cycle c p = rw (a.ring, a.slot) at old.holds.cycle in
+            let at_e : cycle_in (ring_slots c) (at_ticket c e.word r h) ≡ cycle c p = rw (a.ring, a.slot) at old.holds.cycle in
             absurd (a.turn (sym at_e ∙ there.cycle))
         | inr (inr a) ↦
             let old = booked.stands q p i w b is (rw a.state_is at waits) in
@@ -77,7 +77,7 @@ module _ (c : Setup) (e : Entries) (g : Ghost) (k r h z number : ℕ) (mine : g.
             elim (place q p) [
               | inl a ↦ rw a.state_is refl
               | inr (inl a) ↦
-                  let at_z : cycle_in (size c) z ≡ cycle c p = rw a.word_is at at in absurd (a.turn (sym at_z ∙ cycle_z))
+                  let at_z : cycle_in (ring_slots c) z ≡ cycle c p = rw a.word_is at at in absurd (a.turn (sym at_z ∙ cycle_z))
               | inr (inr a) ↦ rw a.state_is (booked.over q p first (rw a.word_is at at) (rw a.word_is at none))
             ];
         taken =
@@ -110,11 +110,11 @@ module _ (c : Setup) (e : Entries) (g : Ghost) (k r h z number : ℕ) (mine : g.
             elim (place q p) [
               | inl a ↦ absurd (cc)
               | inr (inl a) ↦
-                  let slots : slot_of (size c) h ≡ slot_of (size c) t = sym a.slot ∙ slot in
+                  let slots : slot_of (ring_slots c) h ≡ slot_of (ring_slots c) t = sym a.slot ∙ slot in
                   let is : z ≡ v = sym a.word_is ∙ rw (← slot) at stands in
-                  let above : IsAbove (size c) v (at_ticket c e.word r h) = rw (a.ring, ← slots) at loaded.lags.above in
-                  let stood : at_ticket c e.word r h ≡ v = came_back (size c) v (at_ticket c e.word r h) z is above empties.above in
-                  let none : is_none_in (size c) (at_ticket c e.word r h) ≡ true = rw stood loaded.empty in
+                  let above : IsAbove (ring_slots c) v (at_ticket c e.word r h) = rw (a.ring, ← slots) at loaded.lags.above in
+                  let stood : at_ticket c e.word r h ≡ v = came_back (ring_slots c) v (at_ticket c e.word r h) z is above empties.above in
+                  let none : is_none_in (ring_slots c) (at_ticket c e.word r h) ≡ true = rw stood loaded.empty in
                   let some = there.index in
                   absurd (cc)
               | inr (inr a) ↦
@@ -129,7 +129,7 @@ module _ (c : Setup) (e : Entries) (g : Ghost) (k r h z number : ℕ) (mine : g.
         lies = λ q p i w b is. is;
         opens =
             λ j q p apart is.
-            put_entry_cases
+            updated_entry_cases
             (λ _ _ v. v ≡ opened j)
             g.gets
             r
@@ -141,16 +141,16 @@ module _ (c : Setup) (e : Entries) (g : Ghost) (k r h z number : ℕ) (mine : g.
             (λ _. is);
         ends =
             λ q p is.
-            put_entry_cases (λ _ _ v. v ≡ dead) g.gets r h (took k number) q p (λ ring ticket. absurd (cc)) (λ _. is);
+            updated_entry_cases (λ _ _ v. v ≡ dead) g.gets r h (took k number) q p (λ ring ticket. absurd (cc)) (λ _. is);
         takes =
             λ q p j x is.
-            put_entry_cases (λ _ _ v. v ≡ took j x) g.gets r h (took k number) q p (λ ring ticket. absurd (cc)) (λ _. is);
+            updated_entry_cases (λ _ _ v. v ≡ took j x) g.gets r h (took k number) q p (λ ring ticket. absurd (cc)) (λ _. is);
         holds =
             λ j q p apart is has.
             elim (place q p) [
               | inl a ↦ absurd (apart (opened_once j q p is a.ring a.ticket))
               | inr (inl a) ↦
-                  let at_e : cycle_in (size c) (at_ticket c e.word r h) ≡ cycle c p = rw (a.ring, a.slot) at has.cycle in
+                  let at_e : cycle_in (ring_slots c) (at_ticket c e.word r h) ≡ cycle c p = rw (a.ring, a.slot) at has.cycle in
                   absurd (a.turn (sym at_e ∙ there.cycle))
               | inr (inr a) ↦ record { cycle = rw a.word_is has.cycle; index = rw a.word_is has.index }
             ];

@@ -2,8 +2,8 @@
 -- was placed there, and all tickets up to it were drawn by gets that had started.
 use Rattle.std.proofs.Common.{◌≡◌, ◌≢◌, ℕ, ◌<◌, ◌≤◌, ◌⊎◌, inl, inr, true, List, [], ◌∷◌, ◌++◌, length, ap, sym, ◌∙◌, subst, arith}
 use Rattle.std.specs.Prelude.{Some, slice_get}
-use Rattle.scq_core.specs.Machine.{put_entry}
-use Rattle.scq_core.proofs.PutLemmas.{put_entry_or, put_entry_here}
+use Rattle.scq_core.specs.Machine.{updated_entry}
+use Rattle.scq_core.proofs.UpdatedLemmas.{updated_entry_or, updated_entry_here}
 use Rattle.scq_hist.specs.Calls.{IsCall}
 use Rattle.scq_hist.proofs.UnderWay.{started_within}
 use Rattle.scq_hist.specs.declared.events.Call.TheVariants.{Get}
@@ -14,7 +14,7 @@ use Rattle.scq_hist.specs.declared.events.Reply.TheVariants.{Got}
 use Rattle.scq_law.specs.Places.{Maker}
 use Rattle.scq_law.proofs.Ghosts.{PutState, GetState, placed, is_placed, opened, took}
 use Rattle.scq_law.proofs.Growing.{under_now, at_grown, new_at, kept_at, under_old, length_grown, call_grown, seat_of, under_else}
-use Rattle.scq_law.proofs.Placings.{put_entry_else}
+use Rattle.scq_law.proofs.Placings.{updated_entry_else}
 
 -- a ticket that the seat took: its get
 pub record Taking (events : List Event) (placer : ℕ → ℕ → PutName) (puts : ℕ → ℕ → PutState) (origin since ended : ℕ → ℕ → ℕ) (r h k : ℕ) : Type 0 where
@@ -101,29 +101,29 @@ module _ (events : List Event) (placer : ℕ → ℕ → PutName) (puts : ℕ �
 
   module _ (r h : ℕ) (free : (k j : ℕ) → gets r h ≢ took k j) where
     -- a ticket that nobody took becomes another such, drawn by a call that started at place o
-    pub taken_drawn : (x : GetState) (o : ℕ) → ((k j : ℕ) → x ≢ took k j) → ((j : ℕ) → x ≡ opened j → under_now events j ≡ Some o) → (o ≡ 0) ⊎ (o < length events) → ((u k j : ℕ) → gets r u ≡ took k j → h ≤ u → o ≡ since r h) → IsTaken events placer puts (put_entry gets r h x) origin (put_entry since r h o) ended
+    pub taken_drawn : (x : GetState) (o : ℕ) → ((k j : ℕ) → x ≢ took k j) → ((j : ℕ) → x ≡ opened j → under_now events j ≡ Some o) → (o ≡ 0) ⊎ (o < length events) → ((u k j : ℕ) → gets r u ≡ took k j → h ≤ u → o ≡ since r h) → IsTaken events placer puts (updated_entry gets r h x) origin (updated_entry since r h o) ended
     taken_drawn x o still now soon high =
         record {
           early =
               λ q u.
-              elim (put_entry_or since r h o q u) [
+              elim (updated_entry_or since r h o q u) [
                 | inl a ↦ rw a.2 soon
                 | inr a ↦ rw a.1 (was.early q u)
               ];
           opens =
               λ q u k is.
-              elim (put_entry_or gets r h x q u) [
-                | inl a ↦ now k (sym a.2 ∙ is) ∙ ap Some (sym (rw (a.0, a.1) (put_entry_here since r h o)))
-                | inr a ↦ was.opens q u k (sym a.1 ∙ is) ∙ ap Some (sym (put_entry_else since r h o q u a.0))
+              elim (updated_entry_or gets r h x q u) [
+                | inl a ↦ now k (sym a.2 ∙ is) ∙ ap Some (sym (rw (a.0, a.1) (updated_entry_here since r h o)))
+                | inr a ↦ was.opens q u k (sym a.1 ∙ is) ∙ ap Some (sym (updated_entry_else since r h o q u a.0))
               ];
           takes =
               λ q u k j is.
-              elim (put_entry_or gets r h x q u) [
+              elim (updated_entry_or gets r h x q u) [
                 | inl a ↦ absurd (still k j (sym a.2 ∙ is))
                 | inr a ↦
                     let there : gets q u ≡ took k j = sym a.1 ∙ is in
                     let t = was.takes q u k j there in
-                    let same : put_entry since r h o q u ≡ since q u = put_entry_else since r h o q u a.0 in
+                    let same : updated_entry since r h o q u ≡ since q u = updated_entry_else since r h o q u a.0 in
                     record {
                       index = t.index;
                       content = t.content;
@@ -133,7 +133,7 @@ module _ (events : List Event) (placer : ℕ → ℕ → PutName) (puts : ℕ �
                       earlier =
                           λ v le.
                           let old = t.earlier v le in
-                          elim (put_entry_or since r h o q v) [
+                          elim (updated_entry_or since r h o q v) [
                             | inl b ↦
                                 let ring = b.0 in
                                 let ticket = b.1 in
@@ -154,7 +154,7 @@ module _ (events : List Event) (placer : ℕ → ℕ → PutName) (puts : ℕ �
                 h = g.h;
                 seat = g.seat;
                 number = g.number;
-                is = put_entry_else gets r h x g.r g.h (took_apart r h g.r g.h g.seat g.number free g.is) ∙ g.is;
+                is = updated_entry_else gets r h x g.r g.h (took_apart r h g.r g.h g.seat g.number free g.is) ∙ g.is;
                 at = g.at;
                 named = g.named;
               };
@@ -166,10 +166,10 @@ module _ (events : List Event) (placer : ℕ → ℕ → PutName) (puts : ℕ �
       x = End k (Got (placer r h) w)
 
       abbrev ended2 : ℕ → ℕ → ℕ
-      ended2 = put_entry ended r h (length events)
+      ended2 = updated_entry ended r h (length events)
 
       abbrev gets2 : ℕ → ℕ → GetState
-      gets2 = put_entry gets r h (took k number)
+      gets2 = updated_entry gets r h (took k number)
 
       pub taken_taken : gets r h ≡ opened k → ((q u : ℕ) → gets q u ≡ opened k → (q ≡ r) × (u ≡ h)) → puts r h ≡ placed i w b → slice_get events (since r h) ≡ Some (Start k (Get r)) → (origin r h ≡ 0) ⊎ (origin r h < length events) → IsTaken (events ++ x ∷ []) placer puts gets2 origin since ended2
       taken_taken mine only is starts origin_early =
@@ -179,7 +179,7 @@ module _ (events : List Event) (placer : ℕ → ℕ → PutName) (puts : ℕ �
             early = λ q u. elim (was.early q u) [ inl none ↦ inl none | inr less ↦ inr (let long = length_grown events x in omega arith) ];
             opens =
                 λ q u j at.
-                elim (put_entry_or gets r h (took k number) q u) [
+                elim (updated_entry_or gets r h (took k number) q u) [
                   | inl a ↦ absurd (cc)
                   | inr a ↦
                       let there : gets q u ≡ opened j = sym a.1 ∙ at in
@@ -188,11 +188,11 @@ module _ (events : List Event) (placer : ℕ → ℕ → PutName) (puts : ℕ �
                 ];
             takes =
                 λ q u j n at.
-                elim (put_entry_or gets r h (took k number) q u) [
+                elim (updated_entry_or gets r h (took k number) q u) [
                   | inl a ↦
                       let same : took k number ≡ took j n = sym a.2 ∙ at in
                       let seat : j ≡ k = cc in
-                      let last : ended2 q u ≡ length events = rw (a.0, a.1) (put_entry_here ended r h (length events)) in
+                      let last : ended2 q u ≡ length events = rw (a.0, a.1) (updated_entry_here ended r h (length events)) in
                       let here : Taking (events ++ x ∷ []) placer puts origin since ended2 r h k =
                       record {
                         index = i;
@@ -200,14 +200,14 @@ module _ (events : List Event) (placer : ℕ → ℕ → PutName) (puts : ℕ �
                         maker = b;
                         is = is;
                         call =
-                            rw (put_entry_here ended r h (length events))
+                            rw (updated_entry_here ended r h (length events))
                             (record {
                               starts = kept_at events x (since r h) _ starts;
                               under_way_till = under_old events x k (length events) (omega arith) ∙ under;
                               ends = new_at events x;
                             });
-                        earlier = λ v le. rw (put_entry_here ended r h (length events)) (elim (was.early r v) [ inl none ↦ omega arith | inr less ↦ less ]);
-                        begun = rw (put_entry_here ended r h (length events)) (elim origin_early [ inl none ↦ omega arith | inr less ↦ less ]);
+                        earlier = λ v le. rw (updated_entry_here ended r h (length events)) (elim (was.early r v) [ inl none ↦ omega arith | inr less ↦ less ]);
+                        begun = rw (updated_entry_here ended r h (length events)) (elim origin_early [ inl none ↦ omega arith | inr less ↦ less ]);
                       } in
                       subst (λ z. Taking (events ++ x ∷ []) placer puts origin since ended2 q u z) (sym seat)
                       (subst (λ z. Taking (events ++ x ∷ []) placer puts origin since ended2 z u k) (sym a.0)
@@ -215,7 +215,7 @@ module _ (events : List Event) (placer : ℕ → ℕ → PutName) (puts : ℕ �
                   | inr a ↦
                       let there : gets q u ≡ took j n = sym a.1 ∙ at in
                       let t = was.takes q u j n there in
-                      let same : ended2 q u ≡ ended q u = put_entry_else ended r h (length events) q u a.0 in
+                      let same : ended2 q u ≡ ended q u = updated_entry_else ended r h (length events) q u a.0 in
                       record {
                         index = t.index;
                         content = t.content;
@@ -237,8 +237,8 @@ module _ (events : List Event) (placer : ℕ → ℕ → PutName) (puts : ℕ �
                         h = g.h;
                         seat = g.seat;
                         number = g.number;
-                        is = put_entry_else gets r h (took k number) g.r g.h apart ∙ g.is;
-                        at = put_entry_else ended r h (length events) g.r g.h apart ∙ g.at;
+                        is = updated_entry_else gets r h (took k number) g.r g.h apart ∙ g.is;
+                        at = updated_entry_else ended r h (length events) g.r g.h apart ∙ g.at;
                         named = g.named;
                       }
                   | inr new ↦
@@ -248,8 +248,8 @@ module _ (events : List Event) (placer : ℕ → ℕ → PutName) (puts : ℕ �
                         h = h;
                         seat = k;
                         number = number;
-                        is = put_entry_here gets r h (took k number);
-                        at = put_entry_here ended r h (length events) ∙ sym new.0;
+                        is = updated_entry_here gets r h (took k number);
+                        at = updated_entry_here ended r h (length events) ∙ sym new.0;
                         named = cc;
                       }
                 ];

@@ -6,7 +6,7 @@ use Rattle.scq_word.specs.Sizes.{n_of}
 use Rattle.scq_core.specs.declared.phase.Phase.{Phase}
 use Rattle.scq_core.specs.declared.step.Step.{Step}
 use Rattle.scq_core.specs.Machine.{Machine, read, beside}
-use Rattle.scq_core.specs.Table.{turn_of, word_of, moved}
+use Rattle.scq_core.specs.Table.{turn_of, location_of, moved}
 use Rattle.scq_core.specs.Start.{start_of}
 use Rattle.scq_core.specs.Reach.{IsReachable, at_start, by_step}
 use Rattle.scq_core.proofs.Turns.{Turned, turned}
@@ -15,7 +15,7 @@ use Rattle.scq_law.proofs.Events.{Event, event, ghost_by}
 
 -- the event of a turn in a state
 abbrev pub event_of : Setup → Machine → Phase → Event
-event_of c m turn = event c turn (read m.cells (word_of c turn)) (beside m.cells (word_of c turn))
+event_of c m turn = event c turn (read m.cells (location_of c turn)) (beside m.cells (location_of c turn))
 
 -- the ghost after a turn of a seat
 abbrev pub ghost_after : Setup → Machine → ℕ → ℕ → Phase → Ghost → Ghost

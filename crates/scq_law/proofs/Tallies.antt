@@ -7,9 +7,9 @@ use Rattle.scq_word.specs.declared.setup.Setup.{Setup}
 use Rattle.scq_core.specs.declared.ended.Ended.{Ended}
 use Rattle.scq_core.specs.declared.ended.Ended.TheVariants.{Done, Got}
 use Rattle.scq_core.specs.Machine.{Machine}
-use Rattle.scq_core.specs.Put.{put}
+use Rattle.scq_core.specs.Updated.{updated}
 use Rattle.scq_core.specs.Laws.{spent_of}
-use Rattle.scq_core.proofs.PutLemmas.{put_or}
+use Rattle.scq_core.proofs.UpdatedLemmas.{updated_or}
 use Rattle.scq_core.proofs.Steady.{either_way}
 use Rattle.scq_law.specs.Places.{call_of}
 use Rattle.scq_law.specs.Bounds.{tally}
@@ -18,7 +18,7 @@ use Rattle.scq_law.proofs.Events.{Stance, landed, Event, calm, drew, fell, laid,
 use Rattle.scq_law.proofs.Deed.{stance}
 use Rattle.scq_law.proofs.Booked.{IsDrawn}
 use Rattle.scq_law.proofs.Scenes.{Scene, ghost_next}
-use Rattle.scq_law.proofs.TicketSums.{sum_to, OneMore, sum_put}
+use Rattle.scq_law.proofs.TicketSums.{sum_to, OneMore, sum_updated}
 use Rattle.scq_law.proofs.Done.{is_finish}
 use Rattle.scq_law.proofs.Levels.{bit, here_one, there_none, flying}
 
@@ -82,7 +82,7 @@ placed_event c time g m k (calm) n scene r =
 placed_event c time g m k (drew q i w t) n scene r =
     let d = scene.deed in
     let p = d.proper in
-    let sum = sum_put placed_bit g.puts q t (pending k i) r c.limit p.low in
+    let sum = sum_updated placed_bit g.puts q t (pending k i) r c.limit p.low in
     let still = still_adds q r (placeds c g r) _ (placed_bit (g.puts q t)) 0 (ap placed_bit p.fresh) sum in
     elim p.was [
       | inl rests ↦ rw (d.stance, rests.rests) (record { adds = omega arith })
@@ -92,14 +92,14 @@ placed_event c time g m k (fell q i w t found) n scene r =
     let d = scene.deed in
     let p = d.proper in
     let low = put_lawful c m.cells.tail m.cells.head g q t (pending k i) scene.base.drawn p.pending (λ is. absurd (cc)) in
-    let sum = sum_put placed_bit g.puts q t (failed time i found) r c.limit low in
+    let sum = sum_updated placed_bit g.puts q t (failed time i found) r c.limit low in
     let still = still_adds q r (placeds c g r) _ (placed_bit (g.puts q t)) 0 (ap placed_bit p.pending) sum in
     rw (d.stance, p.was) (record { adds = omega arith })
 placed_event c time g m k (laid q i w t) n scene r =
     let d = scene.deed in
     let p = d.proper in
     let low = put_lawful c m.cells.tail m.cells.head g q t (pending k i) scene.base.drawn p.pending (λ is. absurd (cc)) in
-    let sum = sum_put placed_bit g.puts q t (placed i w (call_of k (length (m.part k).calls))) r c.limit low in
+    let sum = sum_updated placed_bit g.puts q t (placed i w (call_of k (length (m.part k).calls))) r c.limit low in
     let more = more_adds q r (placeds c g r) _ (placed_bit (g.puts q t)) 1 (ap placed_bit p.pending) refl sum in
     rw (d.stance, p.was) (record { adds = omega arith })
 placed_event c time g m k (finished q i w t) n scene r =
@@ -139,35 +139,35 @@ placed_event c time g m k (overran q t false) n scene r =
 pub took_event : (c : Setup) (time : ℕ) (g : Ghost) (m : Machine) (k : ℕ) (e : Event) (n : Machine) → Scene c time g m k e n → (r : ℕ) → Adds (tooks c (ghost_next time g m k e) r) (tooks c g r + tally (was_got r) (ended_by e)) 0
 took_event c time g m k (began q h) n scene r =
     let p = scene.deed.proper in
-    let sum = sum_put took_bit g.gets q h (opened k) r c.limit p.low in
+    let sum = sum_updated took_bit g.gets q h (opened k) r c.limit p.low in
     let still = still_adds q r (tooks c g r) _ (took_bit (g.gets q h)) 0 (ap took_bit p.unopened) sum in
     record { adds = omega arith }
 took_event c time g m k (died q h) n scene r =
     let p = scene.deed.proper in
     let low = get_lawful c m.cells.tail m.cells.head g q h (opened k) scene.base.drawn p.opened (λ is. absurd (cc)) in
-    let sum = sum_put took_bit g.gets q h dead r c.limit low in
+    let sum = sum_updated took_bit g.gets q h dead r c.limit low in
     let still = still_adds q r (tooks c g r) _ (took_bit (g.gets q h)) 0 (ap took_bit p.opened) sum in
     record { adds = omega arith }
 took_event c time g m k (taken q h i w) n scene r =
     let p = scene.deed.proper in
     let low = get_lawful c m.cells.tail m.cells.head g q h (opened k) scene.base.drawn p.opened (λ is. absurd (cc)) in
-    let sum = sum_put took_bit g.gets q h (took k (length (m.part k).calls)) r c.limit low in
+    let sum = sum_updated took_bit g.gets q h (took k (length (m.part k).calls)) r c.limit low in
     let more = more_adds q r (tooks c g r) _ (took_bit (g.gets q h)) 1 (ap took_bit p.opened) refl sum in
     record { adds = omega arith }
 took_event c time g m k e n scene r = record { adds = omega arith }
 
 -- a Threshold that falls by one
-falls_exactly : (level : ℕ → ℕ) (q r : ℕ) → 0 < level q → put level q (level q - 1) r + bit q r ≡ level r
+falls_exactly : (level : ℕ → ℕ) (q r : ℕ) → 0 < level q → updated level q (level q - 1) r + bit q r ≡ level r
 falls_exactly level q r some =
-    elim (put_or level q (level q - 1) r) [
+    elim (updated_or level q (level q - 1) r) [
       | inl a ↦ let one = here_one q r a.0 in let same : level r ≡ level q = ap level a.0 in let new = a.1 in omega arith
       | inr a ↦ let none = there_none q r a.0 in let new = a.1 in omega arith
     ]
 
 -- a Head that rises by one
-rises_exactly : (head : ℕ → ℕ) (q r h : ℕ) → h ≡ head q → put head q (h + 1) r ≡ head r + bit q r
+rises_exactly : (head : ℕ → ℕ) (q r h : ℕ) → h ≡ head q → updated head q (h + 1) r ≡ head r + bit q r
 rises_exactly head q r h at =
-    elim (put_or head q (h + 1) r) [
+    elim (updated_or head q (h + 1) r) [
       | inl a ↦ let one = here_one q r a.0 in let same : head r ≡ head q = ap head a.0 in let new = a.1 in omega arith
       | inr a ↦ let none = there_none q r a.0 in let new = a.1 in omega arith
     ]

@@ -11,7 +11,7 @@ use Rattle.scq_core.specs.declared.ended.Ended.TheVariants.{Done}
 use Rattle.scq_core.specs.declared.phase.Phase.{Phase}
 use Rattle.scq_core.specs.declared.phase.Phase.TheVariants.{AtE5, AtE6, AtD10}
 use Rattle.scq_core.specs.Machine.{Part, Machine}
-use Rattle.scq_core.specs.Table.{reset_of}
+use Rattle.scq_core.specs.Table.{reset_value}
 use Rattle.scq_core.specs.Reach.{IsReachable}
 use Rattle.scq_core.specs.Laws.{total, dequeues, dequeues_of, spent_of}
 use Rattle.scq_core.proofs.Floor.{threshold_floor}
@@ -111,9 +111,9 @@ head_bounded c time g m tale r =
     let again = total_plus (λ (p : Part). flying r (stance_of p.phase)) (λ (p : Part). spent_of p.spent) m.part c.seats in
     let flights : total (λ (p : Part). flying r (stance_of p.phase)) m.part c.seats ≤ dequeues_of c m r =
     total_le (λ (p : Part). flying r (stance_of p.phase)) (λ (p : Part). dequeues r p.phase) m.part (λ k. flying_dequeues r (m.part k).phase) c.seats in
-    let product : total (done_of r) m.part c.seats * (reset_of c + c.seats) ≤ enqueues c m r * (reset_of c + c.seats) = mul-le-mul_right (reset_of c + c.seats) (omega arith) in
-    let parts = bound_parts (enqueues c m r) (reset_of c + c.seats) in
-    let same : reset_of c + 1 + c.seats ≡ reset_of c + c.seats + 1 = omega arith in
+    let product : total (done_of r) m.part c.seats * (reset_value c + c.seats) ≤ enqueues c m r * (reset_value c + c.seats) = mul-le-mul_right (reset_value c + c.seats) (omega arith) in
+    let parts = bound_parts (enqueues c m r) (reset_value c + c.seats) in
+    let same : reset_value c + 1 + c.seats ≡ reset_value c + c.seats + 1 = omega arith in
     rw same (omega arith)
 
 pub tickets_bounded : (c : Setup) (m : Machine) → IsReachable c m → TicketsBounded c m

@@ -1,8 +1,8 @@
 -- Sums over the tickets of a ring, when one ticket's state changes.
 use Rattle.std.proofs.Common.{◌≡◌, ◌≢◌, ℕ, zero, suc, ◌+◌, ◌<◌, ◌≤◌, ◌⊎◌, refl, inl, inr, ap, arith}
 use Rattle.std.proofs.lemmas.Bool.{cases_eq}
-use Rattle.scq_core.specs.Machine.{put_entry}
-use Rattle.scq_core.proofs.PutLemmas.{put_entry_or}
+use Rattle.scq_core.specs.Machine.{updated_entry}
+use Rattle.scq_core.proofs.UpdatedLemmas.{updated_entry_or}
 
 abbrev pub sum_to : (ℕ → ℕ) → ℕ → ℕ
 sum_to f zero = 0
@@ -36,19 +36,19 @@ sum_change f h k (suc n) low others =
 pub record OneMore (q r sum later before after : ℕ) : Type 0 where
   pub moves : ((r ≡ q) × (later + before ≡ sum + after)) ⊎ ((r ≢ q) × (later ≡ sum))
 
-pub sum_put : {A : Type 0} → (f : A → ℕ) (states : ℕ → ℕ → A) (q u : ℕ) (x : A) (r n : ℕ) → u < n → OneMore q r (sum_to (λ p. f (states r p)) n) (sum_to (λ p. f (put_entry states q u x r p)) n) (f (states q u)) (f x)
-sum_put f states q u x r n low =
+pub sum_updated : {A : Type 0} → (f : A → ℕ) (states : ℕ → ℕ → A) (q u : ℕ) (x : A) (r n : ℕ) → u < n → OneMore q r (sum_to (λ p. f (states r p)) n) (sum_to (λ p. f (updated_entry states q u x r p)) n) (f (states q u)) (f x)
+sum_updated f states q u x r n low =
     elim (cases_eq r q) [
       | inl ring ↦
-          let moved = sum_change (λ p. f (states r p)) (λ p. f (put_entry states q u x r p)) u n low (λ j other. elim (put_entry_or states q u x r j) [ inl a ↦ absurd (other a.1) | inr a ↦ ap f a.1 ]) in
-          let after : f (put_entry states q u x r u) ≡ f x =
-          elim (put_entry_or states q u x r u) [ inl a ↦ ap f a.2 | inr a ↦ absurd (a.0 ring refl) ] in
+          let moved = sum_change (λ p. f (states r p)) (λ p. f (updated_entry states q u x r p)) u n low (λ j other. elim (updated_entry_or states q u x r j) [ inl a ↦ absurd (other a.1) | inr a ↦ ap f a.1 ]) in
+          let after : f (updated_entry states q u x r u) ≡ f x =
+          elim (updated_entry_or states q u x r u) [ inl a ↦ ap f a.2 | inr a ↦ absurd (a.0 ring refl) ] in
           let before : f (states r u) ≡ f (states q u) = ap (λ (j : ℕ). f (states j u)) ring in
           record { moves = inl (ring, omega arith) }
       | inr apart ↦
           record {
             moves =
                 inr
-                (apart, sum_same (λ p. f (states r p)) (λ p. f (put_entry states q u x r p)) n (λ j less. elim (put_entry_or states q u x r j) [ inl a ↦ absurd (apart a.0) | inr a ↦ ap f a.1 ]));
+                (apart, sum_same (λ p. f (states r p)) (λ p. f (updated_entry states q u x r p)) n (λ j less. elim (updated_entry_or states q u x r j) [ inl a ↦ absurd (apart a.0) | inr a ↦ ap f a.1 ]));
           }
     ]

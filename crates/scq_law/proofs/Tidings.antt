@@ -7,8 +7,8 @@ use Rattle.scq_word.specs.Words.{cycle_in, is_none_in}
 use Rattle.scq_core.specs.declared.ended.Ended.{Ended}
 use Rattle.scq_core.specs.declared.phase.Phase.{Phase}
 use Rattle.scq_core.specs.declared.phase.Phase.TheVariants.{Idle, AtE1, AtE2, AtE3, AtE4, AtE5, AtE6, AtD1, AtD2, AtD3, AtD4, AtD5, AtD6, AtD7, AtD8, AtD9, AtD10}
-use Rattle.scq_core.specs.Machine.{put_entry}
-use Rattle.scq_core.specs.Table.{zero_level, reset_level, size, cycle}
+use Rattle.scq_core.specs.Machine.{updated_entry}
+use Rattle.scq_core.specs.Table.{zero_level, reset_level, ring_slots, cycle}
 use Rattle.scq_hist.specs.declared.events.Event as history
 use Rattle.scq_hist.specs.declared.events.Event.TheVariants.{End}
 use Rattle.scq_hist.specs.declared.events.PutName.{PutName}
@@ -41,7 +41,7 @@ within c Idle x y awake = absurd (awake refl)
 within c (AtE1 r i w l) x y awake =
     elim (cases_Bool (nat_le c.limit x)) [ inl past ↦ rw past (i, w, refl) | inr under ↦ rw under refl ]
 within c (AtE2 r i w t l) x y awake =
-    elim (cases_Bool (nat_lt (cycle_in (size c) x) (cycle c t) && is_none_in (size c) x)) [ inl fits ↦ rw fits (λ e. cc) | inr fails ↦ rw fails refl ]
+    elim (cases_Bool (nat_lt (cycle_in (ring_slots c) x) (cycle c t) && is_none_in (ring_slots c) x)) [ inl fits ↦ rw fits (λ e. cc) | inr fails ↦ rw fails refl ]
 within c (AtE3 r i w t e) x y awake =
     elim (cases_Bool (nat_le x t)) [ inl low ↦ rw low (λ e. cc) | inr high ↦ rw high refl ]
 within c (AtE4 r i w t e) x y awake =
@@ -54,10 +54,10 @@ within c (AtD1 r) x y awake =
 within c (AtD2 r l) x y awake =
     elim (cases_Bool (nat_le c.limit x)) [ inl past ↦ rw past refl | inr under ↦ rw under refl ]
 within c (AtD3 r h l) x y awake =
-    elim (cases_Bool (cycle_in (size c) x == cycle c h)) [
+    elim (cases_Bool (cycle_in (ring_slots c) x == cycle c h)) [
       | inl same ↦ rw same (λ e. cc)
       | inr other ↦
-          elim (cases_Bool (nat_lt (cycle_in (size c) x) (cycle c h))) [ inl lower ↦ rw (other, lower) (λ e. cc) | inr higher ↦ rw (other, higher) refl ]
+          elim (cases_Bool (nat_lt (cycle_in (ring_slots c) x) (cycle c h))) [ inl lower ↦ rw (other, lower) (λ e. cc) | inr higher ↦ rw (other, higher) refl ]
     ]
 within c (AtD4 r h) x y awake = refl
 within c (AtD5 r h e) x y awake =
@@ -101,7 +101,7 @@ finishes_last seat placer phase calls x rests = absurd (cc)
 
 -- who placed, after an event
 abbrev pub placer_by : Event → ℕ → (ℕ → ℕ) → (ℕ → ℕ → PutName) → ℕ → ℕ → PutName
-placer_by (laid r i w t) seat puts placer = put_entry placer r t (Of seat (puts seat))
+placer_by (laid r i w t) seat puts placer = updated_entry placer r t (Of seat (puts seat))
 placer_by _ seat puts placer = placer
 
 pub placer_turn : (c : Setup) (seat : ℕ) (turn : Phase) (x : ℕ) (y : List ℕ) (puts : ℕ → ℕ) (placer : ℕ → ℕ → PutName) → placer_after seat turn x puts placer ≡ placer_by (event c turn x y) seat puts placer
@@ -109,7 +109,7 @@ placer_turn c seat Idle x y puts placer = refl
 placer_turn c seat (AtE1 r i w l) x y puts placer =
     elim (cases_Bool (nat_le c.limit x)) [ inl past ↦ rw past refl | inr under ↦ rw under refl ]
 placer_turn c seat (AtE2 r i w t l) x y puts placer =
-    elim (cases_Bool (nat_lt (cycle_in (size c) x) (cycle c t) && is_none_in (size c) x)) [ inl fits ↦ rw fits refl | inr fails ↦ rw fails refl ]
+    elim (cases_Bool (nat_lt (cycle_in (ring_slots c) x) (cycle c t) && is_none_in (ring_slots c) x)) [ inl fits ↦ rw fits refl | inr fails ↦ rw fails refl ]
 placer_turn c seat (AtE3 r i w t e) x y puts placer =
     elim (cases_Bool (nat_le x t)) [ inl low ↦ rw low refl | inr high ↦ rw high refl ]
 placer_turn c seat (AtE4 r i w t e) x y puts placer =
@@ -122,10 +122,10 @@ placer_turn c seat (AtD1 r) x y puts placer =
 placer_turn c seat (AtD2 r l) x y puts placer =
     elim (cases_Bool (nat_le c.limit x)) [ inl past ↦ rw past refl | inr under ↦ rw under refl ]
 placer_turn c seat (AtD3 r h l) x y puts placer =
-    elim (cases_Bool (cycle_in (size c) x == cycle c h)) [
+    elim (cases_Bool (cycle_in (ring_slots c) x == cycle c h)) [
       | inl same ↦ rw same refl
       | inr other ↦
-          elim (cases_Bool (nat_lt (cycle_in (size c) x) (cycle c h))) [ inl lower ↦ rw (other, lower) refl | inr higher ↦ rw (other, higher) refl ]
+          elim (cases_Bool (nat_lt (cycle_in (ring_slots c) x) (cycle c h))) [ inl lower ↦ rw (other, lower) refl | inr higher ↦ rw (other, higher) refl ]
     ]
 placer_turn c seat (AtD4 r h) x y puts placer = refl
 placer_turn c seat (AtD5 r h e) x y puts placer =

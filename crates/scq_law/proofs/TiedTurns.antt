@@ -7,10 +7,10 @@ use Rattle.scq_word.specs.declared.setup.Setup.{Setup}
 use Rattle.scq_word.specs.Sizes.{n_of}
 use Rattle.scq_core.specs.declared.phase.Phase.{Phase}
 use Rattle.scq_core.specs.declared.phase.Phase.TheVariants.{Idle}
-use Rattle.scq_core.specs.Put.{put}
+use Rattle.scq_core.specs.Updated.{updated}
 use Rattle.scq_core.specs.Machine.{Machine, Part}
-use Rattle.scq_core.specs.Table.{size}
-use Rattle.scq_core.proofs.PutLemmas.{put_here, put_else, put_same}
+use Rattle.scq_core.specs.Table.{ring_slots}
+use Rattle.scq_core.proofs.UpdatedLemmas.{updated_here, updated_else, updated_same}
 use Rattle.scq_core.proofs.Turns.{Begins, begins_put, begins_get}
 use Rattle.scq_hist.specs.declared.events.Event as history
 use Rattle.scq_hist.specs.declared.events.PutName.{PutName}
@@ -48,11 +48,11 @@ free_at g m k root rests =
     }
 
 -- first part: the seat is in the call of its turn
-pub opens_call : (c : Setup) (opening : List (List ℕ)) (events : List history.Event) (begun : ℕ → ℕ) (placer : ℕ → ℕ → PutName) (m : Machine) (g : Ghost) (k : ℕ) (turn : Phase) → IsTied c opening events begun placer (stance m) (calls_of m) g → IsRooted g m → (turn ≡ Idle → ⊥) → (turn ≡ (m.part k).phase) ⊎ (((m.part k).phase ≡ Idle) × ((m.part k).spent ≡ None) × Begins c (m.part k).hand turn) → IsTied c opening (events ++ starts k (m.part k).phase turn) (puts_after k (m.part k).phase turn begun) placer (put (stance m) k (stance_of turn)) (calls_of m) g
+pub opens_call : (c : Setup) (opening : List (List ℕ)) (events : List history.Event) (begun : ℕ → ℕ) (placer : ℕ → ℕ → PutName) (m : Machine) (g : Ghost) (k : ℕ) (turn : Phase) → IsTied c opening events begun placer (stance m) (calls_of m) g → IsRooted g m → (turn ≡ Idle → ⊥) → (turn ≡ (m.part k).phase) ⊎ (((m.part k).phase ≡ Idle) × ((m.part k).spent ≡ None) × Begins c (m.part k).hand turn) → IsTied c opening (events ++ starts k (m.part k).phase turn) (puts_after k (m.part k).phase turn begun) placer (updated (stance m) k (stance_of turn)) (calls_of m) g
 opens_call c opening events begun placer m g k turn tied root awake_turn from =
     elim from [
       | inl same ↦
-          let same_stance : put (stance m) k (stance_of turn) ≡ stance m = rw same (put_same (stance m) k) in
+          let same_stance : updated (stance m) k (stance_of turn) ≡ stance m = rw same (updated_same (stance m) k) in
           let none : starts k (m.part k).phase turn ≡ [] = rw (← same) (starts_none k turn awake_turn) in
           let still : puts_after k (m.part k).phase turn begun ≡ begun = rw (← same) (puts_none k turn begun awake_turn) in
           rw (same_stance, none, still, append-nil) tied
@@ -61,17 +61,17 @@ opens_call c opening events begun placer m g k turn tied root awake_turn from =
           rw new.0 (first turn new.2 rests)
     ]
   where
-    first : (t : Phase) → Begins c (m.part k).hand t → stance m k ≡ resting → IsTied c opening (events ++ starts k Idle t) (puts_after k Idle t begun) placer (put (stance m) k (stance_of t)) (calls_of m) g
+    first : (t : Phase) → Begins c (m.part k).hand t → stance m k ≡ resting → IsTied c opening (events ++ starts k Idle t) (puts_after k Idle t begun) placer (updated (stance m) k (stance_of t)) (calls_of m) g
     first t (begins_put r i w ring index held) rests = tied_put c opening events begun placer (stance m) (calls_of m) g tied k r i w rests (free_at g m k root rests)
     first t (begins_get r ring) rests = tied_get c opening events begun placer (stance m) (calls_of m) g tied k r rests (free_at g m k root rests)
 
 -- second part: what the event does
-module _ (c : Setup) (opening : List (List ℕ)) (full : length opening ≡ n_of c.order) (events : List history.Event) (begun : ℕ → ℕ) (placer : ℕ → ℕ → PutName) (time : ℕ) (g : Ghost) (m : Machine) (k : ℕ) (n : Machine) (s : Stance) (tied : IsTied c opening events begun placer (put (stance m) k s) (calls_of m) g) (root : IsRooted g m) (records : IsRecorded c g m) (reach : IsReached c g m) (own : (stance m k ≡ s) ⊎ (stance m k ≡ resting)) where
+module _ (c : Setup) (opening : List (List ℕ)) (full : length opening ≡ n_of c.order) (events : List history.Event) (begun : ℕ → ℕ) (placer : ℕ → ℕ → PutName) (time : ℕ) (g : Ghost) (m : Machine) (k : ℕ) (n : Machine) (s : Stance) (tied : IsTied c opening events begun placer (updated (stance m) k s) (calls_of m) g) (root : IsRooted g m) (records : IsRecorded c g m) (reach : IsReached c g m) (own : (stance m k ≡ s) ⊎ (stance m k ≡ resting)) where
   abbrev now : ℕ → Stance
-  now = put (stance m) k s
+  now = updated (stance m) k s
 
   here : now k ≡ s
-  here = put_here (stance m) k s
+  here = updated_here (stance m) k s
 
   calls_more : (e : Event) → Deed c m g k e n → calls_of n k ≡ calls_of m k + length (ended_by e)
   calls_more e d = ap length d.calls ∙ length-append (m.part k).calls (ended_by e)
@@ -84,7 +84,7 @@ module _ (c : Setup) (opening : List (List ℕ)) (full : length opening ≡ n_of
       ]
 
   abbrev Goal : Event → Type 0
-  Goal e = IsTied c opening (events ++ ends_by k (placer_by e k begun placer) (ended_by e)) begun (placer_by e k begun placer) (put now k (stance_by e s)) (calls_of n) (ghost_next time g m k e)
+  Goal e = IsTied c opening (events ++ ends_by k (placer_by e k begun placer) (ended_by e)) begun (placer_by e k begun placer) (updated now k (stance_by e s)) (calls_of n) (ghost_next time g m k e)
 
   -- no End is told
   quiet : (x : ℕ → Stance) (p : ℕ → ℕ → PutName) (h : Ghost) → IsTied c opening events begun p x (calls_of n) h → IsTied c opening (events ++ []) begun p x (calls_of n) h
@@ -110,7 +110,7 @@ module _ (c : Setup) (opening : List (List ℕ)) (full : length opening ≡ n_of
         named = a.named;
         drawn =
             λ at.
-            elim (cases_lt a.p (size c)) [
+            elim (cases_lt a.p (ring_slots c)) [
               | inl less ↦ let none = ap is_placed (base.drawn.put_first r a.p less) in cc
               | inr first ↦
                   elim (cases_lt a.p c.limit) [
@@ -131,13 +131,13 @@ module _ (c : Setup) (opening : List (List ℕ)) (full : length opening ≡ n_of
       }
 
   -- a get goes on in another stance, without a ticket that changes
-  goes_on : (e : Event) (z : Stance) → Scene c time g m k e n → Doing events (begun k) k z → due z ≡ 0 → ((r i t : ℕ) (w : List ℕ) → z ≢ landed r i w t) → ((r h : ℕ) → z ≡ leaving r h → Emptying opening events placer g.puts g.gets tied.since k r) → IsTied c opening (events ++ []) begun placer (put now k z) (calls_of n) g
+  goes_on : (e : Event) (z : Stance) → Scene c time g m k e n → Doing events (begun k) k z → due z ≡ 0 → ((r i t : ℕ) (w : List ℕ) → z ≢ landed r i w t) → ((r h : ℕ) → z ≡ leaving r h → Emptying opening events placer g.puts g.gets tied.since k r) → IsTied c opening (events ++ []) begun placer (updated now k z) (calls_of n) g
   goes_on e z scene does none other leave =
-      quiet (put now k z) placer g
+      quiet (updated now k z) placer g
       (tied_on c opening events begun placer now (calls_of m) g tied k z (calls_of n) does (rw none (omega arith)) (calls_rise e scene.deed) (λ r i t w at. absurd (other r i t w at)) leave)
 
   -- a get ends with Nothing
-  get_ends : (e : Event) (r : ℕ) → Scene c time g m k e n → GetsNow events k r → IsFree g k → Emptying opening events placer g.puts g.gets tied.since k r → IsTied c opening (events ++ End k Nothing ∷ []) begun placer (put now k resting) (calls_of n) g
+  get_ends : (e : Event) (r : ℕ) → Scene c time g m k e n → GetsNow events k r → IsFree g k → Emptying opening events placer g.puts g.gets tied.since k r → IsTied c opening (events ++ End k Nothing ∷ []) begun placer (updated now k resting) (calls_of n) g
   get_ends e r scene does free sees =
       tied_end c opening events begun placer now (calls_of m) g tied k Nothing (calls_of n) (get_answer events k r Nothing does tt) (λ x. cc) (λ name y x. cc) free (calls_rise e scene.deed)
       (λ same.
@@ -154,25 +154,25 @@ module _ (c : Setup) (opening : List (List ℕ)) (full : length opening ≡ n_of
 
   pub tied_event : (e : Event) → Scene c time g m k e n → IsRooted (ghost_next time g m k e) n → ((r : ℕ) → Decides m k e r → (p : ℕ) → IsFinished c m r p → p < m.cells.head r) → Within e s → Goal e
   tied_event calm scene later decided is =
-      quiet (put now k s) placer g
+      quiet (updated now k s) placer g
       (tied_on c opening events begun placer now (calls_of m) g tied k s (calls_of n) (doing s refl) (rw here (omega arith)) (calls_rise calm scene.deed) (λ r i t w at. tied.lands k r i t w (here ∙ at)) (λ r h at. tied.emptied.leaves k r h (here ∙ at)))
   tied_event (drew r i w t) scene later decided is =
       let p = scene.deed.proper in
       let at_tail = p.at_tail in
-      quiet (put now k (putting r i w t)) placer (ghost_next time g m k (drew r i w t))
+      quiet (updated now k (putting r i w t)) placer (ghost_next time g m k (drew r i w t))
       (tied_drew c opening events begun placer now (calls_of m) g tied k r i w t (calls_of n) (here ∙ is) p.fresh (λ u le. scene.base.drawn.tails r u (omega arith)) (calls_rise (drew r i w t) scene.deed))
   tied_event (fell r i w t found) scene later decided is =
       let p = scene.deed.proper in
-      quiet (put now k (drawing r i w)) placer (ghost_next time g m k (fell r i w t found))
+      quiet (updated now k (drawing r i w)) placer (ghost_next time g m k (fell r i w t found))
       (tied_fell c opening events begun placer now (calls_of m) g tied k r i w t time found (calls_of n) (here ∙ is) p.pending (calls_rise (fell r i w t found) scene.deed))
   tied_event (laid r i w t) scene later decided is =
       let p = scene.deed.proper in
-      quiet (put now k (landed r i w t)) (placer_by (laid r i w t) k begun placer) (ghost_next time g m k (laid r i w t))
+      quiet (updated now k (landed r i w t)) (placer_by (laid r i w t) k begun placer) (ghost_next time g m k (laid r i w t))
       (tied_laid c opening events begun placer now (calls_of m) g tied k r i w t (calls_of m k) (calls_of n) (here ∙ is) p.pending
       (λ j q x u y at. elim (cases_eq j k) [
         | inl same ↦ let own : putting r i w t ≡ landed q x y u = sym is ∙ sym here ∙ ap now (sym same) ∙ at in absurd (cc)
         | inr other ↦
-            let old : stance m j ≡ landed q x y u = sym (put_else (stance m) k s j other) ∙ at in
+            let old : stance m j ≡ landed q x y u = sym (updated_else (stance m) k s j other) ∙ at in
             let claim : g.puts q u ≡ placed x y (call_of j (calls_of m j)) = rw old at (scene.base.claims j) in
             ap is_placed claim
       ])
@@ -189,11 +189,11 @@ module _ (c : Setup) (opening : List (List ℕ)) (full : length opening ≡ n_of
   tied_event (began r h) scene later decided is =
       let p = scene.deed.proper in
       let at_head = p.at_head in
-      quiet (put now k (trying r h)) placer (ghost_next time g m k (began r h))
+      quiet (updated now k (trying r h)) placer (ghost_next time g m k (began r h))
       (tied_began c opening events begun placer now (calls_of m) g tied k r h (calls_of n) (here ∙ is) (λ u le. scene.base.drawn.heads r u (omega arith)) (calls_rise (began r h) scene.deed))
   tied_event (died r h) scene later decided is =
       let p = scene.deed.proper in
-      quiet (put now k (missed r h)) placer (ghost_next time g m k (died r h))
+      quiet (updated now k (missed r h)) placer (ghost_next time g m k (died r h))
       (tied_died c opening events begun placer now (calls_of m) g tied k r h (calls_of n) (here ∙ is) p.opened (calls_rise (died r h) scene.deed))
   tied_event (saw_end r h) scene later decided is =
       let does = doing (missed r h) is in

@@ -6,7 +6,7 @@ use Rattle.std.proofs.lemmas.Bool.{cases_eq, cases_lt}
 use Rattle.scq_word.specs.declared.setup.Setup.{Setup}
 use Rattle.scq_word.specs.Sizes.{n_of}
 use Rattle.scq_core.specs.Machine.{Entries}
-use Rattle.scq_core.specs.Table.{size}
+use Rattle.scq_core.specs.Table.{ring_slots}
 use Rattle.scq_core.proofs.Entries.{some_indices}
 use Rattle.scq_law.proofs.Ghosts.{Ghost, PutState, fresh, pending, failed, placed, waiting}
 use Rattle.scq_law.proofs.Deed.{Live}
@@ -147,9 +147,9 @@ module _ (c : Setup) (e : Entries) (g : Ghost) (tail head : ℕ → ℕ) (time r
         let a = met.1 in
         descent (a.time_of + 1) met.0 a (omega arith)
 
-  pub within_ring : (t : ℕ) → t < tail r → t < c.limit → t + 2 ≤ head r + size c
+  pub within_ring : (t : ℕ) → t < tail r → t < c.limit → t + 2 ≤ head r + ring_slots c
   within_ring t below lawful =
-      elim (cases_lt (t + 1) (head r + size c)) [
+      elim (cases_lt (t + 1) (head r + ring_slots c)) [
         | inl less ↦ omega arith
         | inr far ↦
             absurd

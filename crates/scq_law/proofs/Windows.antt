@@ -5,7 +5,7 @@ use Rattle.std.proofs.lemmas.Bool.{cases_eq}
 use Rattle.scq_word.specs.declared.setup.Setup.{Setup}
 use Rattle.scq_word.specs.Sizes.{n_of}
 use Rattle.scq_core.specs.Machine.{Machine}
-use Rattle.scq_core.specs.Table.{size}
+use Rattle.scq_core.specs.Table.{ring_slots}
 use Rattle.scq_core.specs.Start.{start_of}
 use Rattle.scq_core.specs.Laws.{Offers}
 use Rattle.scq_law.proofs.Ghosts.{Ghost, pending, failed, start_ghost}
@@ -89,8 +89,8 @@ noted_start c opening =
                   | inr s ↦
                       elim (cases_eq r 0) [
                         | inl first ↦
-                            let low : t < size c + n_of c.order = rw (eq-eqb r 0 first) at below in s.out first high low
-                        | inr later ↦ let low : t < size c = rw (ne_eqb r 0 later) at below in omega arith
+                            let low : t < ring_slots c + n_of c.order = rw (eq-eqb r 0 first) at below in s.out first high low
+                        | inr later ↦ let low : t < ring_slots c = rw (ne_eqb r 0 later) at below in omega arith
                       ]
                 ];
           };

@@ -6,7 +6,7 @@ use Rattle.scq_core.specs.declared.phase.Phase.{Phase}
 use Rattle.scq_core.specs.declared.phase.Phase.TheVariants.{Idle, AtE4, AtE5, AtE6, AtD10}
 use Rattle.scq_core.specs.declared.step.Step.{Step}
 use Rattle.scq_core.specs.declared.step.Step.TheVariants.{E1, D1}
-use Rattle.scq_core.specs.Machine.{put_entry}
+use Rattle.scq_core.specs.Machine.{updated_entry}
 use Rattle.scq_hist.specs.declared.events.Call.TheVariants.{Put, Get}
 use Rattle.scq_hist.specs.declared.events.Event.{Event}
 use Rattle.scq_hist.specs.declared.events.Event.TheVariants.{Start}
@@ -41,7 +41,7 @@ puts_by seat act puts = puts
 
 -- the put of this name stands at the place, where the exchange has succeeded
 abbrev pub names_by : Act → Phase → PutName → (ℕ → ℕ → Option PutName) → ℕ → ℕ → Option PutName
-names_by (Exchanges r t) (AtE5 q i w u) name names = put_entry names r t (Some name)
+names_by (Exchanges r t) (AtE5 q i w u) name names = updated_entry names r t (Some name)
 names_by act phase name names = names
 
 abbrev pub resets_by : Act → Phase → List ℕ → List ℕ

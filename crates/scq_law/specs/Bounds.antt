@@ -8,7 +8,7 @@ use Rattle.scq_core.specs.declared.ended.Ended.TheVariants.{Done, Got, Nothing, 
 use Rattle.scq_core.specs.declared.phase.Phase.{Phase}
 use Rattle.scq_core.specs.declared.phase.Phase.TheVariants.{AtE1, AtE2, AtE3, AtE4, AtE5, AtE6, AtD3, AtD4, AtD5, AtD6, AtD7, AtD8, AtD9, AtD10}
 use Rattle.scq_core.specs.Machine.{Machine}
-use Rattle.scq_core.specs.Table.{size, zero_level, reset_of}
+use Rattle.scq_core.specs.Table.{ring_slots, zero_level, reset_value}
 use Rattle.scq_core.specs.Laws.{total}
 use Rattle.scq_law.specs.Run.{Told}
 
@@ -42,8 +42,8 @@ pub record IsDone (m : Machine) (r p : ℕ) : Type 0 where
 -- an opening place of ring 0
 pub record IsOpening (c : Setup) (r p : ℕ) : Type 0 where
   pub ring : r ≡ 0
-  pub first : size c ≤ p
-  pub last : p < size c + n_of c.order
+  pub first : ring_slots c ≤ p
+  pub last : p < ring_slots c + n_of c.order
 
 -- the put at this place has ended, or is an opening put
 abbrev pub IsFinished : Setup → Machine → ℕ → ℕ → Type 0
@@ -56,7 +56,7 @@ pub record ThresholdCovers (c : Setup) (m : Machine) : Type 0 where
 
 -- since a put last ended with Done on a ring, or since the start, no more dequeue turns have failed there than a reset sets and there are seats
 pub record FailsBounded (c : Setup) (told : Told) : Type 0 where
-  pub fails : (r : ℕ) → told.fails r ≤ reset_of c + c.seats
+  pub fails : (r : ℕ) → told.fails r ≤ reset_value c + c.seats
 
 -- the sum of a number over the calls that have ended
 abbrev pub tally : (Ended → ℕ) → List Ended → ℕ
@@ -91,7 +91,7 @@ enqueues c m r = total (λ p. tally (was_put r) p.calls + is_putting r p.phase) 
 
 -- a bound on the tickets of a ring where so many enqueues were begun, whatever the dequeues do
 abbrev pub ticket_bound : Setup → ℕ → ℕ
-ticket_bound c begun = 4 * n_of c.order + (begun + 1) * (reset_of c + 1 + c.seats) + c.seats
+ticket_bound c begun = 4 * n_of c.order + (begun + 1) * (reset_value c + 1 + c.seats) + c.seats
 
 -- Head, and Tail as far as it is below the limit, stay below the bound for the enqueues that were begun on their ring
 pub record TicketsBounded (c : Setup) (m : Machine) : Type 0 where

@@ -4,7 +4,7 @@ use Rattle.scq_word.specs.declared.setup.Setup.{Setup}
 use Rattle.scq_word.specs.Sizes.{n_of}
 use Rattle.scq_word.specs.Words.{index_in, is_none_in}
 use Rattle.scq_core.specs.Machine.{Machine}
-use Rattle.scq_core.specs.Table.{size}
+use Rattle.scq_core.specs.Table.{ring_slots}
 
 -- how often an index stands in a hand
 abbrev pub times : ℕ → List ℕ → ℕ
@@ -19,16 +19,16 @@ pub data Home : Type 0 where
 -- an index is there: once in that hand, or as the index of that entry's word
 abbrev pub IsHome : Setup → Machine → ℕ → Home → Type 0
 IsHome c m i (hand_of k) = (k < c.seats) × (times i (m.part k).hand ≡ 1)
-IsHome c m i (slot_in r s) = (r < c.rings) × (s < size c) × (index_in (size c) (m.cells.entries.word r s) ≡ i)
+IsHome c m i (slot_in r s) = (r < c.rings) × (s < ring_slots c) × (index_in (ring_slots c) (m.cells.entries.word r s) ≡ i)
 
 -- an index is in a hand at all, or in an entry, of whichever seat or ring
 abbrev pub IsSeen : Setup → Machine → ℕ → Home → Type 0
 IsSeen c m i (hand_of k) = 0 < times i (m.part k).hand
-IsSeen c m i (slot_in r s) = (s < size c) × (index_in (size c) (m.cells.entries.word r s) ≡ i)
+IsSeen c m i (slot_in r s) = (s < ring_slots c) × (index_in (ring_slots c) (m.cells.entries.word r s) ≡ i)
 
 -- each index below n has one home, and is seen nowhere else; and hands and entries hold no other index
 pub record OneHand (c : Setup) (m : Machine) : Type 0 where
   pub home : (i : ℕ) → i < n_of c.order → (h : Home) × IsHome c m i h
   pub alone : (i : ℕ) (g h : Home) → i < n_of c.order → IsSeen c m i g → IsSeen c m i h → g ≡ h
   pub in_hands : (i k : ℕ) → 0 < times i (m.part k).hand → i < n_of c.order
-  pub in_entries : (r s : ℕ) → s < size c → is_none_in (size c) (m.cells.entries.word r s) ≡ false → index_in (size c) (m.cells.entries.word r s) < n_of c.order
+  pub in_entries : (r s : ℕ) → s < ring_slots c → is_none_in (ring_slots c) (m.cells.entries.word r s) ≡ false → index_in (ring_slots c) (m.cells.entries.word r s) < n_of c.order

@@ -8,7 +8,7 @@ use Rattle.scq_core.specs.declared.ended.Ended.TheVariants.{Done, Got}
 use Rattle.scq_core.specs.declared.phase.Phase.{Phase}
 use Rattle.scq_core.specs.declared.phase.Phase.TheVariants.{AtE5, AtE6, AtD3, AtD4, AtD5, AtD6, AtD7, AtD8, AtD9, AtD10}
 use Rattle.scq_core.specs.Machine.{Machine}
-use Rattle.scq_core.specs.Table.{size}
+use Rattle.scq_core.specs.Table.{ring_slots}
 
 -- who placed: an opening put, or a seat's call by its number in the record, from 0
 pub data Maker : Type 0 where
@@ -39,7 +39,7 @@ GaveUp phase r h = ⊥
 
 -- the content w was placed at the place p of ring r: at the start, by a call in a record, or by one that has not ended
 pub data IsPlacedBy (c : Setup) (m : Machine) (r p : ℕ) (w : List ℕ) : Maker → Type 0 where
-  at_opening : r ≡ 0 → size c ≤ p → p < size c + n_of c.order → w ≡ slice_index_or m.opening (p - size c) [] → IsPlacedBy c m r p w opening_put
+  at_opening : r ≡ 0 → ring_slots c ≤ p → p < ring_slots c + n_of c.order → w ≡ slice_index_or m.opening (p - ring_slots c) [] → IsPlacedBy c m r p w opening_put
   in_record : (seat number : ℕ) → slice_get (m.part seat).calls number ≡ Some (Done r p w) → IsPlacedBy c m r p w (call_of seat number)
   under_way : (seat : ℕ) → HasLanded (m.part seat).phase r p w → IsPlacedBy c m r p w (call_of seat (length (m.part seat).calls))
 
@@ -61,7 +61,7 @@ pub record OneLooks (c : Setup) (m : Machine) (r h : ℕ) : Type 0 where
 pub record PlacesOnce (c : Setup) (m : Machine) : Type 0 where
   -- a place is placed once, by one call with one content, below Tail and the limit
   pub once : (r p : ℕ) (v w : List ℕ) (a b : Maker) → IsPlacedBy c m r p v a → IsPlacedBy c m r p w b → (a ≡ b) × (v ≡ w)
-  pub lawful : (r p : ℕ) (w : List ℕ) (a : Maker) → IsPlacedBy c m r p w a → (size c ≤ p) × (p < m.cells.tail r) × (p < c.limit)
+  pub lawful : (r p : ℕ) (w : List ℕ) (a : Maker) → IsPlacedBy c m r p w a → (ring_slots c ≤ p) × (p < m.cells.tail r) × (p < c.limit)
   -- it is taken once, below Head
   pub taken_once : (r p : ℕ) (v w : List ℕ) (k x j y : ℕ) → IsTakenBy m r p v k x → IsTakenBy m r p w j y → (k ≡ j) × (x ≡ y)
   pub taken_below : (r p : ℕ) (w : List ℕ) (k x : ℕ) → IsTakenBy m r p w k x → p < m.cells.head r
@@ -72,4 +72,4 @@ pub record PlacesOnce (c : Setup) (m : Machine) : Type 0 where
   -- nothing is placed at a ticket that a dequeue has given up
   pub given_up : (k r h : ℕ) → GaveUp (m.part k).phase r h → (w : List ℕ) (a : Maker) → IsPlacedBy c m r h w a → ⊥
   -- what a dequeue is about to answer is what was placed at its ticket
-  pub answered : (k r h : ℕ) → (m.part k).phase ≡ AtD4 r h → (a : Maker) × IsPlacedBy c m r h (m.cells.entries.content r (slot_of (size c) h)) a
+  pub answered : (k r h : ℕ) → (m.part k).phase ≡ AtD4 r h → (a : Maker) × IsPlacedBy c m r h (m.cells.entries.content r (slot_of (ring_slots c) h)) a

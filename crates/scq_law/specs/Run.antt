@@ -8,9 +8,9 @@ use Rattle.scq_core.specs.declared.ended.Ended.TheVariants as ended
 use Rattle.scq_core.specs.declared.phase.Phase.{Phase}
 use Rattle.scq_core.specs.declared.phase.Phase.TheVariants.{Idle, AtE1, AtE4, AtE5, AtE6, AtD1, AtD10}
 use Rattle.scq_core.specs.declared.step.Step.{Step}
-use Rattle.scq_core.specs.Put.{put}
-use Rattle.scq_core.specs.Machine.{Machine, read, put_entry}
-use Rattle.scq_core.specs.Table.{moved, size, turn_of, word_of}
+use Rattle.scq_core.specs.Updated.{updated}
+use Rattle.scq_core.specs.Machine.{Machine, read, updated_entry}
+use Rattle.scq_core.specs.Table.{moved, ring_slots, turn_of, location_of}
 use Rattle.scq_core.specs.Start.{start_of}
 use Rattle.scq_hist.specs.declared.events.Call.TheVariants.{Put, Get}
 use Rattle.scq_hist.specs.declared.events.Event.{Event}
@@ -55,13 +55,13 @@ finishes seat placer phase calls = []
 
 -- one more where a put begins
 abbrev pub puts_after : ℕ → Phase → Phase → (ℕ → ℕ) → ℕ → ℕ
-puts_after seat Idle (AtE1 r i w l) puts = put puts seat (puts seat + 1)
+puts_after seat Idle (AtE1 r i w l) puts = updated puts seat (puts seat + 1)
 puts_after seat phase turn puts = puts
 
 -- an exchange that succeeds places the put that its seat has under way
 abbrev pub placer_after : ℕ → Phase → ℕ → (ℕ → ℕ) → (ℕ → ℕ → PutName) → ℕ → ℕ → PutName
 placer_after seat (AtE4 r i w t e) found puts placer =
-    if found == e then put_entry placer r t (Of seat (puts seat)) else placer
+    if found == e then updated_entry placer r t (Of seat (puts seat)) else placer
 placer_after seat turn found puts placer = placer
 
 -- a put ends with Done at the step E5 or E6 after which its seat is idle
@@ -72,20 +72,20 @@ is_reset turn phase = None
 
 abbrev pub resets_after : Option ℕ → (ℕ → ℕ) → ℕ → ℕ
 resets_after None resets = resets
-resets_after (Some r) resets = put resets r (resets r + 1)
+resets_after (Some r) resets = updated resets r (resets r + 1)
 
 -- a step D10 is one more failed turn; after a reset there is none yet
 abbrev pub fails_after : Phase → Option ℕ → (ℕ → ℕ) → ℕ → ℕ
-fails_after (AtD10 r h leaving) reset fails = put fails r (fails r + 1)
+fails_after (AtD10 r h leaving) reset fails = updated fails r (fails r + 1)
 fails_after turn None fails = fails
-fails_after turn (Some r) fails = put fails r 0
+fails_after turn (Some r) fails = updated fails r 0
 
 -- what is told after a turn of a seat
 abbrev pub told_after : Setup → ℕ → Phase → Told → Told
 told_after c seat turn told =
     let before = told.state.part seat in
     let state = moved c told.state seat turn in
-    let found = read told.state.cells (word_of c turn) in
+    let found = read told.state.cells (location_of c turn) in
     let after = state.part seat in
     let placer = placer_after seat turn found told.puts told.placer in
     record {
@@ -105,10 +105,10 @@ told_by c told x = option_map (λ turn. told_after c x.0 turn told) (turn_of c (
 abbrev pub nobody : PutName
 nobody = Of 0 0
 
--- at the start opening put j stands in ring 0, at the place j behind the size of a ring
+-- at the start opening put j stands in ring 0, at the place j behind the number of slots
 abbrev pub first_placer : Setup → ℕ → ℕ → PutName
 first_placer c r p =
-    if (r == 0) && nat_le (size c) p && nat_lt p (size c + n_of c.order) then Opening (p - size c) else nobody
+    if (r == 0) && nat_le (ring_slots c) p && nat_lt p (ring_slots c + n_of c.order) then Opening (p - ring_slots c) else nobody
 
 -- what is told before the first step
 abbrev pub told_first : Setup → List (List ℕ) → Told

@@ -224,7 +224,7 @@ fn name_at(names: &[Names], ring: u32, place: u64) -> Option<PutName>
     names.get(ring as usize)?.get(&place).copied()
 }
 
-// At the start opening put j stands in ring 0, at the place j behind the size of a ring.
+// At the start opening put j stands in ring 0, at the place j behind the number of slots.
 fn first_placer(setup: &Setup, ring: u32, place: u64) -> PutName
     ensures { result ≡ first_placer setup.now ring place }
 {

@@ -1,5 +1,0 @@
--- A function with one value changed.
-use Rattle.std.specs.Prelude.{ℕ, ◌==◌, if◌then◌else◌}
-
-abbrev pub put : {A : Type 0} → (ℕ → A) → ℕ → A → ℕ → A
-put f i x j = if j == i then x else f j
