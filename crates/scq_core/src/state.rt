@@ -40,6 +40,7 @@ impl State {
     ghost use Rattle.scq_core.specs.Table.{step_of, ring_slots, zero_level, holds_index};
     ghost use Rattle.scq_core.specs.Turn.{ring_under_way};
     ghost use Rattle.scq_core.specs.Start.{start_of};
+    ghost use Rattle.scq_core.specs.Reach.{IsReachable};
     ghost use Rattle.scq_core.specs.Book.{machine_of, ring_in, no_slot, IsPlaceOf};
     ghost use Rattle.scq_core.specs.Rings.{word_in};
 
@@ -48,6 +49,7 @@ impl State {
         requires { vec_len opening ≡ n_of setup.order }
         ensures setup { IfOk result (λ state. state.setup ≡ setup) }
         ensures machine { IfOk result (λ state. machine_of state ≡ start_of setup opening.items) }
+        ensures reachable { IfOk result (λ state. IsReachable state.setup (machine_of state)) }
     {
         let rings = start_rings(alloc, &setup, &opening)?;
         let seats = idle_seats(alloc, &setup)?;
@@ -66,6 +68,7 @@ impl State {
         ensures setup { self.new.setup ≡ self.old.setup }
         ensures not_enabled { (result ≡ Err ApplyFault.NotEnabled) ↔ (step_of self.old.setup (machine_of self.old) seat step.now ≡ None) }
         ensures err { OnErr result (self.new ≡ self.old) }
+        ensures reachable { IsReachable self.new.setup (machine_of self.new) }
     {
         advance(
             &self.setup,

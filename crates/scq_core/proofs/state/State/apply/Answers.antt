@@ -29,3 +29,6 @@ returns-clause-ok c =
     applied_steps b c.args.seat c.args.step.now c.advance.new.rings.items c.index_mut.result.now c.advance.new.seat c.advance.result c.self.invariant low
     c.index_mut.ensures.value c.advance.ensures.ok in
     rw (← c.self.view_is) steps
+
+pub returns-clause-reachable : goal.returns-clause-reachable
+returns-clause-reachable c = (invariant_of-self c).reachable

@@ -9,3 +9,6 @@ invariant_of-result c =
 pub returns-clause-machine : goal.returns-clause-machine
 returns-clause-machine c =
     started_machine c.args.setup c.args.opening.items c.in_ok-rings.rings.items c.in_ok-seats.seats.items c.in_ok-rings.ensures c.in_ok-seats.ensures
+
+pub returns-clause-reachable : goal.returns-clause-reachable
+returns-clause-reachable c = (invariant_of-result c).reachable
