@@ -1,4 +1,4 @@
--- The entries of the full ring at the start, by ticket.
+-- The entries of the full ring at the start, by ticket and by slot.
 use Rattle.std.proofs.Common.{◌≡◌, ◌≢◌, ℕ, zero, suc, ◌+◌, ◌%◌, ◌<◌, ◌≤◌, List, [], refl, ◌⊎◌, inl, inr, arith, eq-eqb, ne_eqb, mod-eq_of_lt}
 use Rattle.std.specs.Prelude.{slice_index_or}
 use Rattle.std.proofs.lemmas.Bool.{cases_eq}
@@ -51,16 +51,42 @@ filled_else m (suc n) slot apart =
     rw (ne_eqb slot (slot_of m (m + n)) (apart n (omega arith)))
     (filled_else m n slot (λ j low. apart j (omega arith)))
 
--- each slot is one of these two
-pub filled_or : (m count slot : ℕ) → ((j : ℕ) × (j < count) × (slot ≡ slot_of m (m + j)) × (filled m count slot ≡ packed m 1 1 j)) ⊎ (filled m count slot ≡ unused m)
-filled_or m zero slot = inr refl
-filled_or m (suc n) slot =
-    elim (cases_eq slot (slot_of m (m + n))) [
-      | inl same ↦ inl (n, omega arith, same, rw (eq-eqb slot (slot_of m (m + n)) same) refl)
+-- in a slot stands an index below the count at its place, with its content, or nothing, and it is the slot of no such place
+pub record Filled (m : ℕ) (opening : List (List ℕ)) (count s : ℕ) : Type 0 where
+  pub index : ℕ
+  pub low : index < count
+  pub slot : s ≡ slot_of m (m + index)
+  pub word : filled m count s ≡ packed m 1 1 index
+  pub content : filled_contents m opening count s ≡ slice_index_or opening index []
+
+pub record Unfilled (m count s : ℕ) : Type 0 where
+  pub word : filled m count s ≡ unused m
+  pub other : (j : ℕ) → j < count → s ≢ slot_of m (m + j)
+
+pub fills : (m : ℕ) (opening : List (List ℕ)) (count s : ℕ) → Filled m opening count s ⊎ Unfilled m count s
+fills m opening zero s = inr (record { word = refl; other = λ j low. absurd (omega arith) })
+fills m opening (suc count) s =
+    elim (cases_eq s (slot_of m (m + count))) [
+      | inl same ↦
+          let test = eq-eqb s (slot_of m (m + count)) same in
+          inl (record { index = count; low = omega arith; slot = same; word = rw test refl; content = rw test refl })
       | inr apart ↦
-          let no = ne_eqb slot (slot_of m (m + n)) apart in
-          elim (filled_or m n slot) [
-            | inl found ↦ inl (found.0, omega arith, found.2, rw no found.3)
-            | inr none ↦ inr (rw no none)
+          let test = ne_eqb s (slot_of m (m + count)) apart in
+          elim (fills m opening count s) [
+            | inl f ↦
+                let low = f.low in
+                inl
+                (record { index = f.index; low = omega arith; slot = f.slot; word = rw test f.word; content = rw test f.content })
+            | inr f ↦
+                inr
+                (record {
+                  word = rw test f.word;
+                  other =
+                      λ j low.
+                      elim (cases_eq j count) [
+                        | inl last ↦ rw last apart
+                        | inr before ↦ f.other j (omega arith)
+                      ];
+                })
           ]
     ]

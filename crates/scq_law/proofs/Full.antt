@@ -1,6 +1,6 @@
 -- The start, with ring 0 full, has all of the base group.
--- Plan: by induction on the count of filled slots, what stands in a slot; then each ticket by where it is.
-use Rattle.std.proofs.Common.{◌≡◌, ◌≢◌, ℕ, ◌+◌, ◌-◌, ◌*◌, ◌<◌, ◌≤◌, zero, suc, true, false, ◌&&◌, List, [], refl, ap, sym, ◌∙◌, ◌⊎◌, inl, inr, arith, eq-eqb, ne_eqb, eqb-true, leb-true, ltb-true, lt-ltb, le-leb}
+-- Plan: what stands in a slot is told by `fills`; then each ticket by where it is.
+use Rattle.std.proofs.Common.{◌≡◌, ℕ, ◌+◌, ◌-◌, ◌*◌, ◌<◌, ◌≤◌, true, false, ◌&&◌, List, [], refl, ap, sym, ◌∙◌, ◌⊎◌, inl, inr, arith, eq-eqb, ne_eqb, eqb-true, leb-true, ltb-true, lt-ltb, le-leb}
 use Rattle.std.specs.Prelude.{◌==◌, nat_lt, nat_le, slice_index_or}
 use Rattle.std.proofs.lemmas.Bool.{cases_Bool, cases_eq, and_parts, and_from}
 use Rattle.scq_word.specs.declared.setup.Setup.{Setup}
@@ -10,51 +10,12 @@ use Rattle.scq_word.specs.Words.{mark_of, packed, cycle_in, is_none_in}
 use Rattle.scq_word.proofs.TicketLemmas.{same_ticket, cycle_of-row, cycle_of_mono}
 use Rattle.scq_word.proofs.WordLemmas.{index_in-packed, cycle_in-packed}
 use Rattle.scq_core.specs.Table.{ring_slots, cycle}
-use Rattle.scq_core.specs.Start.{unused, filled, filled_contents, start_cells}
+use Rattle.scq_core.specs.Start.{unused, filled, start_cells}
+use Rattle.scq_core.proofs.Starts.{Filled, fills}
 use Rattle.scq_core.proofs.Entries.{some_slots, some_indices, below_mark, none_in-marked, none_in-filled}
 use Rattle.scq_law.specs.Places.{Maker, opening_put}
 use Rattle.scq_law.proofs.Ghosts.{fresh, placed, is_placed, stood, start_ghost}
 use Rattle.scq_law.proofs.Booked.{IsBooked, IsDrawn, Holds, Stands, at_ticket}
-
--- in a slot stands an index below the count at its place, with its content, or nothing, and it is the slot of no such place
-pub record Filled (m : ℕ) (opening : List (List ℕ)) (count s : ℕ) : Type 0 where
-  pub index : ℕ
-  pub low : index < count
-  pub slot : s ≡ slot_of m (m + index)
-  pub word : filled m count s ≡ packed m 1 1 index
-  pub content : filled_contents m opening count s ≡ slice_index_or opening index []
-
-pub record Unfilled (m count s : ℕ) : Type 0 where
-  pub word : filled m count s ≡ unused m
-  pub other : (j : ℕ) → j < count → s ≢ slot_of m (m + j)
-
-pub fills : (m : ℕ) (opening : List (List ℕ)) (count s : ℕ) → Filled m opening count s ⊎ Unfilled m count s
-fills m opening zero s = inr (record { word = refl; other = λ j low. absurd (omega arith) })
-fills m opening (suc count) s =
-    elim (cases_eq s (slot_of m (m + count))) [
-      | inl same ↦
-          let test = eq-eqb s (slot_of m (m + count)) same in
-          inl (record { index = count; low = omega arith; slot = same; word = rw test refl; content = rw test refl })
-      | inr apart ↦
-          let test = ne_eqb s (slot_of m (m + count)) apart in
-          elim (fills m opening count s) [
-            | inl f ↦
-                let low = f.low in
-                inl
-                (record { index = f.index; low = omega arith; slot = f.slot; word = rw test f.word; content = rw test f.content })
-            | inr f ↦
-                inr
-                (record {
-                  word = rw test f.word;
-                  other =
-                      λ j low.
-                      elim (cases_eq j count) [
-                        | inl last ↦ rw last apart
-                        | inr before ↦ f.other j (omega arith)
-                      ];
-                })
-          ]
-    ]
 
 -- a ticket of the start is one of the opening places, or fresh
 pub record Stood (c : Setup) (opening : List (List ℕ)) (r t : ℕ) : Type 0 where
