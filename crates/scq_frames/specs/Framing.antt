@@ -1,14 +1,16 @@
 -- What contracts see of a framer, and what its calls do.
-use Rattle.std.specs.Prelude.{◌≡◌, ℕ, ◌+◌, ◌-◌, ◌*◌, ◌<◌, Bool, false, IfSome, List, [], ◌++◌, Option, length, map, max, if◌then◌else◌}
-use Rattle.std.specs.Option.{option_map}
+use Rattle.std.specs.Prelude.{◌≡◌, ℕ, ◌+◌, ◌-◌, ◌*◌, ◌<◌, Bool, false, IfSome, List, [], ◌++◌, Option, Result, Ok, Err, length, map, max, if◌then◌else◌}
+use Rattle.std.specs.Option.{option_map, option_to_list}
 use Rattle.scq_frames.specs.declared.message.Message.{Message}
+use Rattle.scq_frames.specs.declared.fault.FrameFault.{FrameFault}
 use Rattle.scq_frames.specs.Text.{messages_after}
 use Rattle.scq_frames.specs.Numbered.{numbered}
 
 -- a framer as contracts see it
 pub record Framing : Type 0 where
-  -- its file's number, and the most bytes that the file may have
+  -- its file's number, and the most bytes that a payload and the file may have
   pub file : ℕ
+  pub size : ℕ
   pub most : ℕ
   -- how many lines were passed
   pub line : ℕ
@@ -45,6 +47,11 @@ NothingLeft left = IfSome left (λ bytes. bytes ≡ [])
 abbrev pub weight_of : Message → ℕ
 weight_of m = max 1 (length m.payload) + 1
 
+-- the message that an answer gives
+abbrev pub given_by : Result (Option Message) FrameFault → List Message
+given_by (Ok given) = option_to_list given
+given_by (Err fault) = []
+
 -- a message that was given is of the framer's file, and its line is the last one passed
 pub record IsNext (old new : Framing) (m : Message) : Type 0 where
   pub file : m.file ≡ old.file
@@ -53,9 +60,10 @@ pub record IsNext (old new : Framing) (m : Message) : Type 0 where
   pub weight : new.weight ≡ old.weight + weight_of m
 
 -- a framer of a file that was not read yet
-abbrev pub fresh : ℕ → ℕ → Framing
-fresh file most = record {
+abbrev pub fresh : ℕ → ℕ → ℕ → Framing
+fresh file size most = record {
   file = file;
+  size = size;
   most = most;
   line = 0;
   held = [];
@@ -72,6 +80,13 @@ pub record Reads (old new : List ℕ) (before after : Option (List ℕ)) (k : �
   pub count : length bytes ≡ k
   pub moved : before ≡ option_map (λ rest. bytes ++ rest) after
   pub end : k ≡ 0 → NothingLeft before
+
+-- what a read did: it put these bytes behind those held, and the source has that much less left
+pub record Fetched (old new : Framing) (before after : Option (List ℕ)) : Type 0 where
+  pub bytes : List ℕ
+  pub held : new.held ≡ old.held ++ bytes
+  pub count : new.read ≡ old.read + length bytes
+  pub moved : before ≡ option_map (λ rest. bytes ++ rest) after
 
 -- how much a framer may still do without giving a message: it falls with each line and each read
 abbrev pub work_left : Framing → ℕ

@@ -1,6 +1,11 @@
 pub mod Text
+pub mod Trouble
 pub mod Lines
 pub mod Numbered
 pub mod Place
 pub mod Framing
+pub mod Finding
+pub mod Coming
 pub mod Sound
+pub mod Encoded
+pub mod Shown

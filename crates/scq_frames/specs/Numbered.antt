@@ -11,7 +11,3 @@ numbered file number m = record {
   topic = number m.topic;
   payload = m.payload;
 }
-
--- the number of each topic where none is declared
-abbrev pub undeclared : List ℕ → ℕ
-undeclared topic = 0

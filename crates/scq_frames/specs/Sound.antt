@@ -17,6 +17,7 @@ pub record IsSound (f : Framing) : Type 0 where
 abbrev pub framing : Inside → Framing
 framing f = record {
   file = f.file;
+  size = f.size;
   most = f.most;
   line = f.line;
   held = f.window;

@@ -2,14 +2,11 @@
 -- declared topic and no way of reading.
 use Rattle.std.specs.Prelude.{ℕ, ◌+◌, Bool, ◌==◌, List, [], ◌∷◌, ◌++◌}
 use Rattle.std.specs.List.{slice_split, before_first, after_first}
+use Rattle.scq_topics.specs.Runs.{is_space}
 
 -- a byte ends a line where it is LF
 abbrev pub is_line_feed : ℕ → Bool
 is_line_feed b = b == 10
-
--- a byte ends a topic where it is the space
-abbrev pub is_space : ℕ → Bool
-is_space b = b == 32
 
 -- what follows the last LF is a line where it has bytes
 abbrev pub last_line : List ℕ → List (List ℕ)
@@ -32,13 +29,17 @@ pub record Framed : Type 0 where
   pub topic : List ℕ
   pub payload : List ℕ
 
--- the message of a line: the topic stands before the first space and the payload after it; a line
--- without a space is all topic
+-- a line's payload is what follows its first space, which ends the topic: a line without a space is
+-- all topic
+abbrev pub payload_of : List ℕ → List ℕ
+payload_of line = after_first is_space line
+
+-- the message of a line
 abbrev pub framed : ℕ → List ℕ → Framed
 framed number line = record {
   line = number;
   topic = before_first is_space line;
-  payload = after_first is_space line;
+  payload = payload_of line;
 }
 
 -- the message in a line, where the line has bytes

@@ -1,40 +1,56 @@
-ghost use Rattle.std.specs.Prelude.{◌≡◌, ℕ, map, IfOk};
+ghost use Rattle.std.specs.Prelude.{◌≡◌, ◌⊎◌, ℕ, ◌≤◌, length, map, IfOk, IfErr, IfSome, OnOk, IsErrOf};
 ghost use Rattle.std.specs.Option.{option_to_list};
-ghost use Rattle.std.specs.List.{after_first};
-ghost use Rattle.scq_frames.specs.Text.{message_in, is_space};
-ghost use Rattle.scq_frames.specs.Numbered.{numbered, undeclared};
+ghost use Rattle.std.specs.List.{before_first};
+ghost use Rattle.scq_topics.specs.Runs.{is_space};
+ghost use Rattle.scq_topics.specs.Topics.{topic_of};
+ghost use Rattle.scq_frames.specs.Text.{message_in, payload_of};
+ghost use Rattle.scq_frames.specs.Numbered.{numbered};
+ghost use Rattle.scq_frames.specs.Finding.{IsTooLong};
 
-use crate::Message;
+use crate::{FrameFault, Message};
 use memchr::memchr;
-use scq_word::{Bytes, NoMemory};
+use scq_topics::Topics;
+use scq_word::Bytes;
 use std::alloc::Global;
 
-/// The message of a line, where the line has bytes.
+/// The message of a line, where the line has bytes. A payload may have `size` bytes.
 pub fn message_of_line(
     alloc: Global,
+    topics: &Topics,
     file: u32,
+    size: u32,
     line: u32,
     bytes: &[u8],
-) -> Result<Option<Message>, NoMemory>
-    ensures { IfOk result (λ given. option_to_list given ≡ map (numbered file undeclared) (message_in line bytes.now)) }
+) -> Result<Option<Message>, FrameFault>
+    ensures given { IfOk result (λ given. option_to_list given ≡ map (numbered file (topic_of topics.now)) (message_in line bytes.now)) }
+    ensures topic { IfOk result (λ given. IfSome given (λ m. m.topic ≤ length topics.now)) }
+    ensures fits { OnOk result (length (payload_of bytes.now) ≤ size) }
+    ensures long { (at len : ℕ) → IsErrOf result (FrameFault.TooLong at len) → IsTooLong size line bytes.now at len }
+    ensures faults { IfErr result (λ fault. ((at : ℕ) × (len : ℕ) × (fault ≡ FrameFault.TooLong at len)) ⊎ (fault ≡ FrameFault.NoMemory)) }
 {
     if bytes.is_empty() {
         return Ok(None);
     }
+    let (topic, payload) = split_line(bytes);
+    if payload.len() > size as usize {
+        let len = payload.len() as u64;
+        return Err(FrameFault::TooLong { line, len });
+    }
     Ok(Some(Message {
         file,
         line,
-        topic: 0,
-        payload: Bytes::copy_of(alloc, payload_of(bytes))?,
+        topic: topics.find(topic),
+        payload: Bytes::copy_of(alloc, payload)?,
     }))
 }
 
-/// What follows the first space of a line.
-fn payload_of(line: &[u8]) -> &[u8]
-    ensures { result.now ≡ after_first is_space line.now }
+/// What stands before the first space of a line, and what follows it.
+fn split_line(line: &[u8]) -> (&[u8], &[u8])
+    ensures topic { result.0.now ≡ before_first is_space line.now }
+    ensures payload { result.1.now ≡ payload_of line.now }
 {
     match memchr(b' ', line) {
-        Some(space) => &line[space + 1..],
-        None => &[],
+        Some(space) => (&line[..space], &line[space + 1..]),
+        None => (line, &[]),
     }
 }

@@ -6,6 +6,8 @@ use scq_word::NoMemory;
 pub enum FrameFault {
     /// A read failed: the source's count of faults rose.
     ReadFault,
+    /// A line's payload has so many bytes, more than the framer allows. Lines are numbered from 1.
+    TooLong { line: u32, len: u64 },
     /// So many bytes were read, one more than the framer's limit.
     TooLarge { bytes: u64 },
     /// Memory was wanted and not there.

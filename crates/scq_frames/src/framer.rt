@@ -1,15 +1,19 @@
-ghost use Rattle.std.specs.Prelude.{◌≡◌, ◌≢◌, ◌⊎◌, ℕ, ◌+◌, ◌^◌, ◌<◌, ◌≤◌, ◌++◌, [], ◌∷◌, length, take, drop, false, map, IsTrue, IfOk, IfErr, IfSome, IfNone, OnOk, OnErr, IsErrOf, is_err, sum_by};
+ghost use Rattle.std.specs.Prelude.{◌≡◌, ◌≢◌, ◌⊎◌, ℕ, List, ◌+◌, ◌^◌, ◌<◌, ◌≤◌, ◌++◌, [], ◌∷◌, length, take, drop, false, map, IsTrue, IfOk, IfErr, IfSome, IfNone, OnOk, OnErr, IsErrOf, is_err, sum_by};
 ghost use Rattle.std.specs.Option.{option_map, option_to_list};
 ghost use Rattle.scq_outside.specs.Faults.{Rose};
-ghost use Rattle.scq_frames.specs.Numbered.{numbered, undeclared};
-ghost use Rattle.scq_frames.specs.Text.{message_in};
+ghost use Rattle.scq_topics.specs.Topics.{topic_of};
+ghost use Rattle.scq_frames.specs.Numbered.{numbered};
+ghost use Rattle.scq_frames.specs.Text.{message_in, payload_of};
+ghost use Rattle.scq_frames.specs.Finding.{Found, IsTooLong};
+ghost use Rattle.scq_frames.specs.Coming.{Came};
 ghost use Rattle.scq_frames.specs.Lines.{EndsAt, HasNoLineFeed};
-ghost use Rattle.scq_frames.specs.Framing.{Framing, IsNext, NothingLeft, fresh, told_ahead, told_size, weight_of, work_left};
+ghost use Rattle.scq_frames.specs.Framing.{Fetched, IsNext, NothingLeft, fresh, given_by, told_ahead, told_size, weight_of, work_left};
 
 use crate::cut::message_of_line;
 use crate::window::{READ, Window};
 use crate::{FrameFault, Message};
 use scq_outside::Source;
+use scq_topics::Topics;
 use scq_word::NoMemory;
 use std::alloc::Global;
 use std::marker::Model;
@@ -19,6 +23,7 @@ use std::marker::Model;
 pub struct Framer {
     alloc: Global,
     file: u32,
+    size: u32,
     most: u64,
     window: Window,
     line: u32,
@@ -41,14 +46,15 @@ impl Model for Framer {
 }
 
 impl Framer {
-    /// A framer of the file of this number, which may have so many bytes and no more.
-    pub fn new(alloc: Global, file: u32, most: u64) -> Result<Framer, NoMemory>
+    /// A framer of the file of this number. A payload may have `size` bytes, and the file `most`.
+    pub fn new(alloc: Global, file: u32, size: u32, most: u64) -> Result<Framer, NoMemory>
         requires { most ≤ 2 ^ 30 }
-        ensures { IfOk result (λ framer. framer ≡ fresh file most) }
+        ensures { IfOk result (λ framer. framer ≡ fresh file size most) }
     {
         Ok(Framer {
             alloc,
             file,
+            size,
             most,
             window: Window::new(alloc)?,
             line: 0,
@@ -67,30 +73,48 @@ impl Framer {
     }
 
     /// The next message, or `None` at the end. After an `Err` the framer has failed.
-    pub fn next<S: Source>(&mut self, source: &mut S) -> Result<Option<Message>, FrameFault>
+    pub fn next<S: Source>(
+        &mut self,
+        topics: &Topics,
+        source: &mut S,
+    ) -> Result<Option<Message>, FrameFault>
         requires { self.old.failed ≡ false }
 
         // Where the source tells what it has left, the message is the first of those ahead, and
-        // those that are ahead now are the rest. None comes exactly where none is ahead.
-        ensures gives { IfOk result (λ given. told_ahead undeclared self.old (S.left source.old) ≡ option_map (λ rest. option_to_list given ++ rest) (told_ahead undeclared self.new (S.left source.new))) }
-        ensures none { IfOk result (λ given. IfNone given (told_ahead undeclared self.old (S.left source.old) ≡ option_map (λ _. []) (S.left source.old))) }
+        // those that are ahead now are the rest. Of these answers None comes exactly where none is ahead.
+        ensures gives { IfOk result (λ given. told_ahead (topic_of topics.now) self.old (S.left source.old)
+            ≡ option_map (λ rest. option_to_list given ++ rest) (told_ahead (topic_of topics.now) self.new (S.left source.new))) }
+        ensures none { IfOk result (λ given. IfNone given (told_ahead (topic_of topics.now) self.old (S.left source.old)
+            ≡ option_map (λ _. []) (S.left source.old))) }
 
-        // None says, for every source, that the end was read. From then on the source is not touched.
+        // None says, for every source, that the end was read. Later calls leave the source as it is, and
+        // answer None once nothing is held either.
         ensures over { IfOk result (λ given. IfNone given (IsTrue self.new.ended × (self.new.held ≡ []))) }
         ensures end { (IsTrue self.old.ended → NothingLeft (S.left source.old)) → IsTrue self.new.ended → NothingLeft (S.left source.new) }
-        ensures ended { IsTrue self.old.ended → source.new ≡ source.old }
+        ensures ended { IsTrue self.old.ended → (source.new ≡ source.old) × IsTrue self.new.ended }
+        ensures again { IsTrue self.old.ended → self.old.held ≡ [] → result ≡ Ok None }
 
         // Of every source, also one that tells nothing, the messages are of the framer's file, their
-        // lines rise, and their weights are at most one more than the limit.
+        // lines rise, and their weights are at most one more than the limit. No other answer adds any.
         ensures next { IfOk result (λ given. IfSome given (IsNext self.old self.new)) }
-        ensures topic { IfOk result (λ given. IfSome given (λ m. m.topic ≡ 0)) }
+        ensures topic { IfOk result (λ given. IfSome given (λ m. m.topic ≤ length topics.now)) }
+        ensures fits { IfOk result (λ given. IfSome given (λ m. length m.payload ≤ self.old.size)) }
+        ensures weight { self.new.weight ≡ self.old.weight + sum_by weight_of (given_by result) }
+        ensures rises { self.old.line ≤ self.new.line }
         ensures bounded { self.new.weight ≤ self.new.most + 1 }
-        ensures limits { (self.new.file ≡ self.old.file) × (self.new.most ≡ self.old.most) }
+        ensures limits { (self.new.file ≡ self.old.file) × (self.new.size ≡ self.old.size) × (self.new.most ≡ self.old.most) }
         ensures size { told_size self.new (S.left source.new) ≡ told_size self.old (S.left source.old) }
         ensures read { OnOk result (self.new.read ≤ self.new.most) }
 
+        // A fault is the trouble of what the source gave, and without one there is none so far. A long
+        // payload is told only once its line has ended, and each fault behind the messages in front of
+        // it. No byte is read too early.
+        ensures found { Found self.old self.new (S.left source.old) (S.left source.new) result }
+        ensures came { Came self.old self.new (S.left source.old) (S.left source.new) result }
         ensures read_fault { IsErrOf result FrameFault.ReadFault → Rose (S.faults source.old) (S.faults source.new) }
+        ensures going { IsErrOf result FrameFault.ReadFault → self.old.ended ≡ false }
         ensures kept { result ≢ Err FrameFault.ReadFault → S.faults source.new ≡ S.faults source.old }
+        ensures too_long { (line len : ℕ) → IsErrOf result (FrameFault.TooLong line len) → (self.old.line < line) × (self.old.size < len) }
         ensures too_large { (bytes : ℕ) → IsErrOf result (FrameFault.TooLarge bytes) → (bytes ≡ self.new.most + 1) × (self.new.read ≡ bytes) }
         ensures failed { self.new.failed ≡ is_err result }
     {
@@ -98,13 +122,13 @@ impl Framer {
         let given = loop {
             match self.line_len() {
                 Some(len) => {
-                    if let Some(message) = self.pass(len, len + 1)? {
+                    if let Some(message) = self.pass(topics, len, len + 1)? {
                         break Some(message);
                     }
                 }
                 None => {
                     if self.has_ended() {
-                        break self.last_line()?;
+                        break self.last_line(topics)?;
                     }
                     self.read(source)?;
                 }
@@ -132,15 +156,31 @@ impl Framer {
 
     /// Passes the first line: `len` bytes, which take `used` with an LF behind them. Answers its
     /// message, where it has bytes.
-    fn pass(&mut self, len: usize, used: usize) -> Result<Option<Message>, NoMemory>
+    fn pass(
+        &mut self,
+        topics: &Topics,
+        len: usize,
+        used: usize,
+    ) -> Result<Option<Message>, FrameFault>
         requires within { used ≤ length self.old.held }
         requires takes { (used ≡ len + 1) ⊎ ((used ≡ len) × (0 < len) × (len ≡ length self.old.held) × IsTrue self.old.ended) }
-        ensures given { IfOk result (λ given. option_to_list given ≡ map (numbered self.old.file undeclared) (message_in (self.old.line + 1) (take len self.old.held))) }
-        ensures passed { IfOk result (λ given. self.new ≡ record self.old { line = self.old.line + 1; held = drop used self.old.held; weight = self.old.weight + sum_by weight_of (option_to_list given) }) }
+        ensures given { IfOk result (λ given. option_to_list given
+            ≡ map (numbered self.old.file (topic_of topics.now)) (message_in (self.old.line + 1) (take len self.old.held))) }
+        ensures passed { IfOk result (λ given. self.new ≡ record self.old {
+          line = self.old.line + 1;
+          held = drop used self.old.held;
+          weight = self.old.weight + sum_by weight_of (option_to_list given);
+        }) }
+        ensures topic { IfOk result (λ given. IfSome given (λ m. m.topic ≤ length topics.now)) }
+        ensures fits { OnOk result (length (payload_of (take len self.old.held)) ≤ self.old.size) }
+        ensures long { (at count : ℕ) → IsErrOf result (FrameFault.TooLong at count)
+            → IsTooLong self.old.size (self.old.line + 1) (take len self.old.held) at count }
+        ensures faults { IfErr result (λ fault. ((at : ℕ) × (count : ℕ) × (fault ≡ FrameFault.TooLong at count)) ⊎ (fault ≡ FrameFault.NoMemory)) }
         ensures err { OnErr result (self.new ≡ self.old) }
     {
         let line = self.line + 1;
-        let given = message_of_line(self.alloc, self.file, line, self.window.front(len))?;
+        let bytes = self.window.front(len);
+        let given = message_of_line(self.alloc, topics, self.file, self.size, line, bytes)?;
         if let Some(message) = &given {
             self.weight += message.payload.bytes().len().max(1) as u64 + 1;
         }
@@ -150,18 +190,26 @@ impl Framer {
     }
 
     /// Passes the last line, which no LF ends, where it has bytes.
-    fn last_line(&mut self) -> Result<Option<Message>, NoMemory>
+    fn last_line(&mut self, topics: &Topics) -> Result<Option<Message>, FrameFault>
         requires ended { IsTrue self.old.ended }
-        ensures given { IfOk result (λ given. option_to_list given ≡ map (numbered self.old.file undeclared) (message_in (self.old.line + 1) self.old.held)) }
+        ensures given { IfOk result (λ given. option_to_list given
+            ≡ map (numbered self.old.file (topic_of topics.now)) (message_in (self.old.line + 1) self.old.held)) }
         ensures none { IfOk result (λ given. IfNone given (self.new ≡ self.old)) }
-        ensures some { IfOk result (λ given. IfSome given (λ m. self.new ≡ record self.old { line = self.old.line + 1; held = []; weight = self.old.weight + weight_of m })) }
+        ensures nothing { self.old.held ≡ [] → result ≡ Ok None }
+        ensures some { IfOk result (λ given. IfSome given (λ m.
+            self.new ≡ record self.old { line = self.old.line + 1; held = []; weight = self.old.weight + weight_of m })) }
+        ensures topic { IfOk result (λ given. IfSome given (λ m. m.topic ≤ length topics.now)) }
+        ensures fits { OnOk result (length (payload_of self.old.held) ≤ self.old.size) }
+        ensures long { (at count : ℕ) → IsErrOf result (FrameFault.TooLong at count)
+            → IsTooLong self.old.size (self.old.line + 1) self.old.held at count }
+        ensures faults { IfErr result (λ fault. ((at : ℕ) × (count : ℕ) × (fault ≡ FrameFault.TooLong at count)) ⊎ (fault ≡ FrameFault.NoMemory)) }
         ensures err { OnErr result (self.new ≡ self.old) }
     {
         let len = self.window.len();
         if len == 0 {
             return Ok(None);
         }
-        self.pass(len, len)
+        self.pass(topics, len, len)
     }
 
     /// Reads at most `READ` bytes, up to the limit in all, and one more there.
@@ -170,7 +218,10 @@ impl Framer {
         requires failing { IsTrue self.old.failed }
         requires within { self.old.read ≤ self.old.most }
         ensures same { self.new ≡ record self.old { held = self.new.held; read = self.new.read; ended = self.new.ended } }
-        ensures ahead { OnOk result (told_ahead undeclared self.old (S.left source.old) ≡ told_ahead undeclared self.new (S.left source.new)) }
+        ensures few { self.new.read ≤ self.old.read + 4096 }
+        ensures fetched { Fetched self.old self.new (S.left source.old) (S.left source.new) }
+        ensures ahead { (number : List ℕ → ℕ) →
+            OnOk result (told_ahead number self.old (S.left source.old) ≡ told_ahead number self.new (S.left source.new)) }
         ensures size { told_size self.new (S.left source.new) ≡ told_size self.old (S.left source.old) }
         ensures end { IsTrue self.new.ended → NothingLeft (S.left source.new) }
         ensures within { OnOk result (self.new.read ≤ self.new.most) }
@@ -178,7 +229,10 @@ impl Framer {
 
         ensures read_fault { IsErrOf result FrameFault.ReadFault → Rose (S.faults source.old) (S.faults source.new) }
         ensures kept { result ≢ Err FrameFault.ReadFault → S.faults source.new ≡ S.faults source.old }
-        ensures too_large { (bytes : ℕ) → IsErrOf result (FrameFault.TooLarge bytes) → (bytes ≡ self.new.most + 1) × (self.new.read ≡ bytes) }
+        ensures too_large { (bytes : ℕ) → IsErrOf result (FrameFault.TooLarge bytes)
+            → (bytes ≡ self.new.most + 1) × (self.new.read ≡ bytes) × (self.old.read ≡ self.old.most) }
+        ensures long { (at len : ℕ) → result ≢ Err (FrameFault.TooLong at len) }
+        ensures unread { IsErrOf result FrameFault.ReadFault → self.new ≡ self.old }
     {
         let ask = (self.most - self.read).clamp(1, READ as u64) as usize;
         let got = self.window.read(source, ask)?;

@@ -1,4 +1,6 @@
+pub mod Calls
 pub mod Faults
 pub mod Memory
+pub mod Readable
 pub mod Table
 pub mod Written

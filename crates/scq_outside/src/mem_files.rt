@@ -1,25 +1,42 @@
-ghost use Rattle.std.specs.Prelude.{◌≡◌, ℕ, List, Some, if◌then◌else◌, OnOk, OnErr};
+ghost use Rattle.std.specs.Prelude.{◌≡◌, ◌≤◌, ℕ, List, Some, if◌then◌else◌, IfOk, OnOk, OnErr};
+ghost use Rattle.scq_outside.specs.Faults.{one_more};
+ghost use Rattle.scq_outside.specs.Readable.{Readable};
 ghost use Rattle.std.specs.Str.{bytes_eq};
 
 use crate::{Failed, Files, MemSource};
 use scq_word::NoMemory;
 use std::alloc::Global;
 use std::collections::HashMap;
+use std::marker::Model;
+
+/// A source that was added: none of its reads has failed.
+#[derive(Drop)]
+struct Unfailed {
+    source: MemSource,
+}
+
+impl Model for Unfailed {
+    ghost Value = { Readable };
+
+    ghost view = { λ u. u.source };
+
+    ghost invariant = { λ u. u.source.faults ≡ 0 };
+}
 
 /// Files in memory: what was added and not yet given out. A name that is missing, or was given
 /// out, is a fault, and nothing else is.
 #[derive(Drop)]
 pub struct MemFiles {
     alloc: Global,
-    sources: HashMap<String, MemSource>,
+    sources: HashMap<String, Unfailed>,
     faults: u64,
 }
 
 impl MemFiles {
-    ghost use Rattle.scq_outside.specs.Memory.{faults_of, table_of};
+    ghost use Rattle.scq_outside.specs.Memory.{faults_of, source_in};
 
     pub fn new(alloc: Global) -> MemFiles
-        ensures empty { (name : List ℕ) → table_of result name ≡ None }
+        ensures empty { (name : List ℕ) → source_in result name ≡ None }
         ensures faults { faults_of result ≡ 0 }
     {
         MemFiles {
@@ -30,19 +47,21 @@ impl MemFiles {
     }
 
     pub fn add(&mut self, name: &str, source: MemSource) -> Result<(), NoMemory>
-        requires { table_of self.old name.now ≡ None }
-        ensures added { OnOk result ((other : List ℕ) → table_of self.new other ≡ (if bytes_eq name.now other then Some source else table_of self.old other)) }
-        ensures unchanged { OnErr result ((other : List ℕ) → table_of self.new other ≡ table_of self.old other) }
+        requires missing { source_in self.old name.now ≡ None }
+        requires unfailed { source.faults ≡ 0 }
+        ensures added { OnOk result ((other : List ℕ) →
+            source_in self.new other ≡ (if bytes_eq name.now other then Some source else source_in self.old other)) }
+        ensures unchanged { OnErr result ((other : List ℕ) → source_in self.new other ≡ source_in self.old other) }
         ensures faults { faults_of self.new ≡ faults_of self.old }
     {
         let name = String::from_str(self.alloc, name)?;
-        self.sources.insert(name, source)?;
+        self.sources.insert(name, Unfailed { source })?;
         Ok(())
     }
 }
 
 impl Files for MemFiles {
-    ghost use Rattle.scq_outside.specs.Memory.{faults_of, table_of};
+    ghost use Rattle.scq_outside.specs.Memory.{faults_of, source_in, table_of};
 
     type Src = MemSource;
 
@@ -50,9 +69,21 @@ impl Files for MemFiles {
 
     ghost table = { λ files. Some (table_of files) };
 
-    fn source(&mut self, name: &str) -> Result<MemSource, Failed> {
+    fn source(&mut self, name: &str) -> Result<MemSource, Failed>
+        ensures same { IfOk result (λ source. source_in self.old name.now ≡ Some source) }
+        ensures fresh { IfOk result (λ source. source.faults ≡ 0) }
+        ensures given { OnOk result ((other : List ℕ) →
+            source_in self.new other ≡ (if bytes_eq name.now other then None else source_in self.old other)) }
+        ensures kept { OnOk result (faults_of self.new ≡ faults_of self.old) }
+
+        // A name that is missing leaves the files as they are, and counts once.
+        ensures missing { OnErr result (source_in self.old name.now ≡ None) }
+        ensures unchanged { OnErr result ((other : List ℕ) → source_in self.new other ≡ source_in self.old other) }
+        ensures counted { OnErr result (faults_of self.new ≡ one_more (faults_of self.old)) }
+        ensures never_falls { faults_of self.old ≤ faults_of self.new }
+    {
         match self.sources.remove(name) {
-            Some(source) => Ok(source),
+            Some(added) => Ok(added.source),
             None => {
                 self.faults = self.faults.saturating_add(1);
                 Err(Failed)

@@ -1,38 +1,49 @@
-ghost use Rattle.std.specs.Prelude.{◌≡◌, ◌+◌, ◌-◌, ◌<◌, ◌≤◌, ◌++◌, [], Some, length, take, min, vec_capacity, IfOk, OnOk, OnErr, IsErr, ◌↔◌};
-ghost use Rattle.scq_outside.specs.Faults.{Rose, last_count};
+ghost use Rattle.std.specs.Prelude.{◌≡◌, ◌⊎◌, ◌+◌, ◌<◌, ◌≤◌, ◌++◌, [], Some, IsTrue, false, length, take, min, vec_capacity, IfOk, OnOk, OnErr, IsErr, ◌↔◌};
+ghost use Rattle.scq_outside.specs.Calls.{are_pieces, first_call, next_call, fails_next, granted};
+ghost use Rattle.scq_outside.specs.Faults.{one_more};
 ghost use Rattle.scq_outside.specs.Written.{Written};
 
+use crate::script::Script;
 use crate::{Failed, Sink};
 use scq_word::NoMemory;
 use std::alloc::Global;
 use std::marker::Model;
 
-/// A sink in memory, with room for so many bytes. A write takes as much of its piece as there is
-/// room for, and fails where there is none.
+/// A sink in memory, with room for so many bytes, whose writes go as they are told to: write number
+/// k, from 1, fails where k is in `fails`, and else takes at most `pieces[k - 1]` bytes of its
+/// piece, or all where that is missing, as far as there is room. Where there is none, it fails.
 #[derive(Drop)]
 pub struct MemSink {
     bytes: Vec<u8>,
     room: usize,
+    writes: Script,
     faults: u64,
 }
 
 impl Model for MemSink {
     ghost Value = { Written };
 
-    ghost view = { λ s. record { bytes = s.bytes.items; room = s.room; faults = s.faults } };
+    ghost view = { λ s. record { bytes = s.bytes.items; room = s.room; writes = s.writes; faults = s.faults } };
 
     ghost invariant = { λ s. length s.bytes.items + s.room ≤ vec_capacity s.bytes };
 }
 
 impl MemSink {
     /// Its room is taken here, so that no write needs memory.
-    pub fn new(alloc: Global, room: u64) -> Result<MemSink, NoMemory>
-        ensures { IfOk result (λ sink. sink ≡ record { bytes = []; room = room; faults = 0 }) }
+    pub fn new(
+        alloc: Global,
+        room: u64,
+        pieces: Vec<u32>,
+        fails: Vec<u32>,
+    ) -> Result<MemSink, NoMemory>
+        requires { IsTrue (are_pieces pieces.items) }
+        ensures { IfOk result (λ sink. sink ≡ record { bytes = []; room = room; writes = first_call pieces.items fails.items; faults = 0 }) }
     {
         let room = room as usize;
         Ok(MemSink {
             bytes: Vec::with_capacity(alloc, room)?,
             room,
+            writes: Script::new(pieces, fails),
             faults: 0,
         })
     }
@@ -51,18 +62,26 @@ impl Sink for MemSink {
 
     fn write(&mut self, piece: &[u8]) -> Result<usize, Failed>
         requires { 0 < length piece.now }
-        ensures takes { 0 < self.old.room → result ≡ Ok (min (length piece.now) self.old.room) }
-        ensures bytes { self.new.bytes ≡ self.old.bytes ++ take (min (length piece.now) self.old.room) piece.now }
-        ensures room { self.new.room ≡ self.old.room - length piece.now }
-
-        // Only a sink that has no room fails, and counts it.
-        ensures full { IsErr result ↔ (self.old.room ≡ 0) }
+        ensures fails { IsErr result ↔ (IsTrue (fails_next self.old.writes) ⊎ (self.old.room ≡ 0)) }
+        ensures takes { fails_next self.old.writes ≡ false → 0 < self.old.room
+            → result ≡ Ok (min (granted self.old.writes (length piece.now)) self.old.room) }
+        ensures some { IfOk result (λ k. 0 < k) }
+        ensures within { IfOk result (λ k. k ≤ length piece.now) }
+        ensures appended { IfOk result (λ k. self.new.bytes ≡ self.old.bytes ++ take k piece.now) }
+        ensures room { IfOk result (λ k. self.old.room ≡ self.new.room + k) }
+        ensures next { self.new.writes ≡ next_call self.old.writes }
         ensures kept { OnOk result (self.new.faults ≡ self.old.faults) }
-        ensures rose { OnErr result (Rose self.old.faults self.new.faults) }
-        ensures fits { OnErr result (self.new.faults ≤ last_count) }
+
+        // A write that fails takes nothing, and counts once.
+        ensures unwritten { OnErr result (self.new.bytes ≡ self.old.bytes) }
+        ensures same_room { OnErr result (self.new.room ≡ self.old.room) }
+        ensures counted { OnErr result (self.new.faults ≡ one_more self.old.faults) }
         ensures never_falls { self.old.faults ≤ self.new.faults }
     {
-        let count = piece.len().min(self.room);
+        let count = match self.writes.next(piece.len()) {
+            Some(most) => most.min(self.room),
+            None => 0,
+        };
         if count == 0 {
             self.faults = self.faults.saturating_add(1);
             return Err(Failed);

@@ -1,48 +1,66 @@
-ghost use Rattle.std.specs.Prelude.{◌≡◌, ℕ, ◌<◌, ◌≤◌, ◌++◌, List, [], Some, length, take, drop, min, IfOk};
+ghost use Rattle.std.specs.Prelude.{◌≡◌, ℕ, ◌<◌, ◌≤◌, ◌++◌, List, [], Some, IsTrue, false, length, take, min, IfOk, OnOk, OnErr, IsErr, ◌↔◌};
+ghost use Rattle.scq_outside.specs.Calls.{are_pieces, first_call, next_call, fails_next, granted};
+ghost use Rattle.scq_outside.specs.Faults.{one_more};
+ghost use Rattle.scq_outside.specs.Readable.{Readable};
 
-use crate::{Failed, Source};
+use crate::script::Script;
+use crate::{Failed, PlainSource, Source};
 use std::marker::Model;
 
-/// A source in memory, which contracts see as the bytes that are left. It never fails.
+/// A source in memory whose reads go as they are told to: read number k, from 1, fails where k is
+/// in `fails`, and else gives at most `pieces[k - 1]` bytes, or as many as it is asked for where
+/// that is missing.
 #[derive(Drop)]
 pub struct MemSource {
-    bytes: Vec<u8>,
-    at: usize,
+    rest: PlainSource,
+    reads: Script,
+    faults: u64,
 }
 
 impl Model for MemSource {
-    ghost Value = { List ℕ };
+    ghost Value = { Readable };
 
-    ghost view = { λ s. drop s.at s.bytes.items };
-
-    ghost invariant = { λ s. s.at ≤ length s.bytes.items };
+    ghost view = { λ s. record { left = s.rest; reads = s.reads; faults = s.faults } };
 }
 
 impl MemSource {
     /// The vector's own bytes, in no new memory.
-    pub fn new(bytes: Vec<u8>) -> MemSource
-        ensures { result ≡ bytes.items }
+    pub fn new(bytes: Vec<u8>, pieces: Vec<u32>, fails: Vec<u32>) -> MemSource
+        requires { IsTrue (are_pieces pieces.items) }
+        ensures { result ≡ record { left = bytes.items; reads = first_call pieces.items fails.items; faults = 0 } }
     {
-        MemSource { bytes, at: 0 }
+        MemSource {
+            rest: PlainSource::new(bytes),
+            reads: Script::new(pieces, fails),
+            faults: 0,
+        }
     }
 }
 
 impl Source for MemSource {
-    ghost faults = { λ _. 0 };
+    ghost faults = { λ s. s.faults };
 
-    ghost left = { λ s. Some s };
+    ghost left = { λ s. Some s.left };
 
     fn read(&mut self, into: &mut [u8]) -> Result<usize, Failed>
         requires { 0 < length into.old }
-        ensures takes { result ≡ Ok (min (length into.old) (length self.old)) }
+        ensures fails { IsErr result ↔ IsTrue (fails_next self.old.reads) }
+        ensures takes { fails_next self.old.reads ≡ false → result ≡ Ok (min (granted self.old.reads (length into.old)) (length self.old.left)) }
+        ensures moved { IfOk result (λ k. self.old.left ≡ take k into.new ++ self.new.left) }
         ensures within { IfOk result (λ k. k ≤ length into.new) }
-        ensures moved { IfOk result (λ k. self.old ≡ take k into.new ++ self.new) }
-        ensures end { IfOk result (λ k. k ≡ 0 → self.old ≡ []) }
+        ensures end { IfOk result (λ k. k ≡ 0 → self.old.left ≡ []) }
+        ensures next { self.new.reads ≡ next_call self.old.reads }
+        ensures kept { OnOk result (self.new.faults ≡ self.old.faults) }
+
+        // A read that fails moves nothing, and counts once.
+        ensures unmoved { OnErr result (self.new.left ≡ self.old.left) }
+        ensures counted { OnErr result (self.new.faults ≡ one_more self.old.faults) }
+        ensures never_falls { self.old.faults ≤ self.new.faults }
     {
-        let rest = &self.bytes[self.at..];
-        let count = into.len().min(rest.len());
-        into[..count].copy_from_slice(&rest[..count]);
-        self.at += count;
-        Ok(count)
+        let Some(most) = self.reads.next(into.len()) else {
+            self.faults = self.faults.saturating_add(1);
+            return Err(Failed);
+        };
+        self.rest.read(&mut into[..most])
     }
 }

@@ -1,5 +1,10 @@
-use crate::{DiskFiles, Failed, Files, MemFiles, MemSink, MemSource, Sink, Source, StdSink};
-use std::alloc::Global;
+ghost use Rattle.std.specs.Prelude.{◌≡◌, IfOk};
+
+use crate::{
+    DiskFiles, Failed, Files, MemFiles, MemSink, MemSource, PlainSource, Sink, Source, StdSink,
+};
+use scq_word::NoMemory;
+use std::alloc::{AllocError, Global};
 use std::fs;
 use std::test::Fail;
 
@@ -27,43 +32,87 @@ fn read_up_to<S: Source>(
     Ok(None)
 }
 
+/// Files whose contents are their names.
+fn files_f_and_g(alloc: Global) -> Result<MemFiles, NoMemory> {
+    let mut files = MemFiles::new(alloc);
+    files.add("f", as_asked(alloc, "f")?)?;
+    files.add("g", as_asked(alloc, "g")?)?;
+    Ok(files)
+}
+
+fn as_asked(alloc: Global, text: &str) -> Result<MemSource, AllocError>
+    ensures { IfOk result (λ source. source.faults ≡ 0) }
+{
+    let bytes = text.as_bytes().to_vec(alloc)?;
+    Ok(MemSource::new(bytes, Vec::new(alloc), Vec::new(alloc)))
+}
+
 #[test]
-fn memory_gives_and_takes_what_it_has(rt: HostRuntime) -> Result<(), Fail> {
+fn a_plain_source_gives_what_it_has(rt: HostRuntime) -> Result<(), Fail> {
     let alloc = rt.alloc();
     for piece in [1, 2, 5, 6] {
-        let mut source = MemSource::new(b"x 12\n".to_vec(alloc)?);
+        let mut source = PlainSource::new(b"x 12\n".to_vec(alloc)?);
         let bytes = read_up_to(alloc, &mut source, piece)?.ok_or("no end")?;
         assert_eq!(rt; bytes.as_slice(), b"x 12\n".as_slice(), "by {piece}");
     }
+    Ok(())
+}
 
-    let mut sink = MemSink::new(alloc, 5).map_err(|_| "no memory")?;
-    for (piece, want) in [("abc", Ok(3)), ("def", Ok(2)), ("g", Err(Failed))] {
-        if !piece.is_empty() {
-            assert_eq!(rt; sink.write(piece.as_bytes()), want, "at {piece}");
-        }
+#[test]
+fn reads_go_as_they_are_told_to(rt: HostRuntime) -> Result<(), Fail> {
+    let alloc = rt.alloc();
+    let pieces = vec![in alloc; 2, 9, 1, 4]?;
+    let fails = vec![in alloc; 5, 2]?;
+    let mut source = MemSource::new(b"abcdefgh".to_vec(alloc)?, pieces, fails);
+    // A read that fails moves nothing.
+    let rows = [
+        (Ok(2), "ab"),
+        (Err(Failed), ""),
+        (Ok(1), "c"),
+        (Ok(3), "def"),
+        (Err(Failed), ""),
+        (Ok(2), "gh"),
+        (Ok(0), ""),
+    ];
+    for (row, (want, gives)) in rows.iter().enumerate() {
+        let mut into = [0; 3];
+        assert_eq!(rt; source.read(&mut into), *want, "row {row}");
+        assert!(rt; into.starts_with(gives.as_bytes()), "row {row}");
     }
-    assert_eq!(rt; sink.bytes(), b"abcde".as_slice());
+    Ok(())
+}
 
-    let mut files = MemFiles::new(alloc);
-    files
-        .add("f", MemSource::new(b"in f".to_vec(alloc)?))
-        .map_err(|_| "no memory")?;
-    files
-        .add("g", MemSource::new(b"in g".to_vec(alloc)?))
-        .map_err(|_| "no memory")?;
-    for (name, want) in [
-        ("g", Some("in g")),
-        ("h", None),
-        ("g", None),
-        ("f", Some("in f")),
-    ] {
-        match files.source(name) {
-            Ok(mut source) => {
-                let bytes = read_up_to(alloc, &mut source, 3)?.ok_or("no end")?;
-                let want = want.ok_or("not a file")?;
-                assert_eq!(rt; bytes.as_slice(), want.as_bytes(), "of {name}");
-            }
-            Err(Failed) => assert_eq!(rt; want, None, "of {name}"),
+#[test]
+fn writes_go_as_they_are_told_to(rt: HostRuntime) -> Result<(), Fail> {
+    let alloc = rt.alloc();
+    let pieces = vec![in alloc; 2]?;
+    let fails = vec![in alloc; 2]?;
+    let mut sink = MemSink::new(alloc, 9, pieces, fails).map_err(|_| "no memory")?;
+    let rows = [
+        (b"abcd", Ok(2)),
+        (b"efgh", Err(Failed)),
+        (b"ijkl", Ok(4)),
+        (b"mnop", Ok(3)),
+        (b"qrst", Err(Failed)),
+    ];
+    for (row, (piece, want)) in rows.iter().enumerate() {
+        assert_eq!(rt; sink.write(piece.as_slice()), *want, "row {row}");
+    }
+    assert_eq!(rt; sink.bytes(), b"abijklmno".as_slice());
+    Ok(())
+}
+
+#[test]
+fn files_in_memory_are_given_once(rt: HostRuntime) -> Result<(), Fail> {
+    let alloc = rt.alloc();
+    let mut files = files_f_and_g(alloc).map_err(|_| "no memory")?;
+    let rows = [("g", true), ("h", false), ("g", false), ("f", true)];
+    for (row, (name, is_there)) in rows.iter().enumerate() {
+        let source = files.source(name);
+        assert_eq!(rt; source.is_ok(), *is_there, "row {row}");
+        if let Ok(mut source) = source {
+            let bytes = read_up_to(alloc, &mut source, 3)?.ok_or("no end")?;
+            assert_eq!(rt; bytes.as_slice(), name.as_bytes(), "row {row}");
         }
     }
     Ok(())

@@ -7,9 +7,9 @@ use Rattle.std.proofs.lemmas.List.{length-append, append-nil}
 use Rattle.std.proofs.lemmas.List.Sums.{sum_by-append, sum_by-cons}
 use Rattle.scq_frames.specs.declared.message.Message.{Message}
 use Rattle.scq_frames.specs.Text.{Framed, messages_of}
-use Rattle.scq_frames.specs.Numbered.{numbered, undeclared}
+use Rattle.scq_frames.specs.Numbered.{numbered}
 use Rattle.scq_frames.specs.Framing.{told_ahead, fresh, weight_of}
-use Rattle.scq_service.specs.Output.{reply_line, reply_lines, total_line, total_lines, length_reply, is_named}
+use Rattle.scq_service.specs.Output.{reply_line, reply_lines, total_line, total_lines, is_named}
 use Rattle.scq_service.specs.Answers.{line_of, total_of}
 
 -- the length of a message's payload
@@ -61,58 +61,58 @@ answered-next before ahead after output output' count bytes weight weight' m a n
   enough c b w n w' h e = omega arith
 
 -- the lines for messages as a text has them, and for the same as a framer gives them
-lines-same : (file : ℕ) (ms : List Framed) → flat_map line_of (map (numbered file undeclared) ms) ≡ flat_map (reply_line [] length_reply file) ms
-lines-same file [] = refl
-lines-same file (m ∷ ms) = ap (λ (rest : List ℕ). reply_line [] length_reply file m ++ rest) (lines-same file ms)
+lines-same : (number : List ℕ → ℕ) (file : ℕ) (ms : List Framed) → flat_map line_of (map (numbered file number) ms) ≡ flat_map (reply_line [] file) ms
+lines-same number file [] = refl
+lines-same number file (m ∷ ms) = ap (λ (rest : List ℕ). reply_line [] file m ++ rest) (lines-same number file ms)
 
 -- where no topic is declared each message counts as undeclared
-count-all : (file : ℕ) (ms : List Framed) → length (map (numbered file undeclared) ms) ≡ count_by (is_named [] (codes "-")) ms
-count-all file [] = refl
-count-all file (m ∷ ms) =
+count-all : (number : List ℕ → ℕ) (file : ℕ) (ms : List Framed) → length (map (numbered file number) ms) ≡ count_by (is_named [] (codes "-")) ms
+count-all number file [] = refl
+count-all number file (m ∷ ms) =
     let f : Framed → ℕ = λ m. cond (is_named [] (codes "-") m) 1 0 in
-    ap suc (count-all file ms) ∙ one-more (count_by (is_named [] (codes "-")) ms) ∙ sym (sum_by-cons f m ms)
+    ap suc (count-all number file ms) ∙ one-more (count_by (is_named [] (codes "-")) ms) ∙ sym (sum_by-cons f m ms)
   where
     one-more : (n : ℕ) → suc n ≡ 1 + n
     one-more n = omega arith
 
-bytes-all : (file : ℕ) (ms : List Framed) → sum_by payload_length (map (numbered file undeclared) ms) ≡ sum_by (λ (m : Framed). length m.payload) ms
-bytes-all file [] = refl
-bytes-all file (m ∷ ms) =
+bytes-all : (number : List ℕ → ℕ) (file : ℕ) (ms : List Framed) → sum_by payload_length (map (numbered file number) ms) ≡ sum_by (λ (m : Framed). length m.payload) ms
+bytes-all number file [] = refl
+bytes-all number file (m ∷ ms) =
     let f : Framed → ℕ = λ m. length m.payload in
-    sum_by-cons payload_length (numbered file undeclared m) (map (numbered file undeclared) ms)
-    ∙ ap (λ n. length m.payload + n) (bytes-all file ms) ∙ sym (sum_by-cons f m ms)
+    sum_by-cons payload_length (numbered file number m) (map (numbered file number) ms)
+    ∙ ap (λ n. length m.payload + n) (bytes-all number file ms) ∙ sym (sum_by-cons f m ms)
 
 -- the line of totals is the definition's
-total-same : (file : ℕ) (ms : List Framed) → let given = map (numbered file undeclared) ms in
+total-same : (number : List ℕ → ℕ) (file : ℕ) (ms : List Framed) → let given = map (numbered file number) ms in
     total_of (length given) (sum_by payload_length given) ≡ total_lines [] ms
-total-same file ms =
-    ap (λ n. total_of n (sum_by payload_length (map (numbered file undeclared) ms))) (count-all file ms)
-    ∙ ap (total_of (count_by (is_named [] (codes "-")) ms)) (bytes-all file ms) ∙ sym (append-nil (total_line [] ms (codes "-")))
+total-same number file ms =
+    ap (λ n. total_of n (sum_by payload_length (map (numbered file number) ms))) (count-all number file ms)
+    ∙ ap (total_of (count_by (is_named [] (codes "-")) ms)) (bytes-all number file ms) ∙ sym (append-nil (total_line [] ms (codes "-")))
 
 -- what is written once none is ahead
-pub answered-all : (file : ℕ) (content left : Option (List ℕ)) (ahead : Option (List Message)) (output output' : List ℕ) (count bytes weight : ℕ)
-    → Answered (told_ahead undeclared (fresh file (2 ^ 30)) content) ahead output count bytes weight
+pub answered-all : (number : List ℕ → ℕ) (file : ℕ) (content left : Option (List ℕ)) (ahead : Option (List Message)) (output output' : List ℕ) (count bytes weight : ℕ)
+    → Answered (told_ahead number (fresh file 65536 (2 ^ 30)) content) ahead output count bytes weight
     → ahead ≡ option_map (λ _. []) left → output' ≡ output ++ total_of count bytes
-    → IfSome content (λ content. output' ≡ reply_lines [] length_reply file (content ∷ []) ++ total_lines [] (flat_map messages_of (content ∷ [])))
-answered-all file None left ahead output output' count bytes weight a none total = tt
-answered-all file (Some content) left ahead output output' count bytes weight a none total =
+    → IfSome content (λ content. output' ≡ reply_lines [] file (content ∷ []) ++ total_lines [] (flat_map messages_of (content ∷ [])))
+answered-all number file None left ahead output output' count bytes weight a none total = tt
+answered-all number file (Some content) left ahead output output' count bytes weight a none total =
     total ∙ whole (all left (a.told ∙ ap (option_map (λ rest. a.given ++ rest)) none)) where
       ms : List Framed
       ms = messages_of content
 
-      all : (left : Option (List ℕ)) → Some (map (numbered file undeclared) ms) ≡ option_map (λ rest. a.given ++ rest) (option_map (λ _. []) left)
-          → a.given ≡ map (numbered file undeclared) ms
+      all : (left : Option (List ℕ)) → Some (map (numbered file number) ms) ≡ option_map (λ rest. a.given ++ rest) (option_map (λ _. []) left)
+          → a.given ≡ map (numbered file number) ms
       all None e = cc
       all (Some rest) e = sym (append-nil a.given) ∙ cc
 
-      whole : a.given ≡ map (numbered file undeclared) ms
-          → output ++ total_of count bytes ≡ reply_lines [] length_reply file (content ∷ []) ++ total_lines [] (flat_map messages_of (content ∷ []))
+      whole : a.given ≡ map (numbered file number) ms
+          → output ++ total_of count bytes ≡ reply_lines [] file (content ∷ []) ++ total_lines [] (flat_map messages_of (content ∷ []))
       whole e =
           ap (λ (o : List ℕ). o ++ total_of count bytes) a.written
           ∙ ap (λ n. flat_map line_of a.given ++ total_of n bytes) a.count_is
           ∙ ap (λ n. flat_map line_of a.given ++ total_of (length a.given) n) a.bytes_are
           ∙ ap (λ (given : List Message). flat_map line_of given ++ total_of (length given) (sum_by payload_length given)) e
-          ∙ ap (λ (lines : List ℕ). lines ++ total_of (length (map (numbered file undeclared) ms)) (sum_by payload_length (map (numbered file undeclared) ms))) (lines-same file ms)
-          ∙ ap (λ (total : List ℕ). flat_map (reply_line [] length_reply file) ms ++ total) (total-same file ms)
-          ∙ ap (λ (lines : List ℕ). lines ++ total_lines [] ms) (sym (append-nil (flat_map (reply_line [] length_reply file) ms)))
-          ∙ ap (λ (all : List Framed). (flat_map (reply_line [] length_reply file) ms ++ []) ++ total_lines [] all) (sym (append-nil ms))
+          ∙ ap (λ (lines : List ℕ). lines ++ total_of (length (map (numbered file number) ms)) (sum_by payload_length (map (numbered file number) ms))) (lines-same number file ms)
+          ∙ ap (λ (total : List ℕ). flat_map (reply_line [] file) ms ++ total) (total-same number file ms)
+          ∙ ap (λ (lines : List ℕ). lines ++ total_lines [] ms) (sym (append-nil (flat_map (reply_line [] file) ms)))
+          ∙ ap (λ (all : List Framed). (flat_map (reply_line [] file) ms ++ []) ++ total_lines [] all) (sym (append-nil ms))

@@ -1,5 +1,9 @@
 pub mod Answered
+pub mod Begun
 pub mod Contents
-pub mod Refused
+pub mod Judging
+pub mod Endings
+pub mod Pieces
+pub mod Seen
 mod Rows
 pub mod Told

@@ -1,7 +1,9 @@
 -- What files hold, where their table is told.
-use Rattle.std.specs.Prelude.{ℕ, List, [], ◌∷◌, Option, Some, IfSome, IsSomeAnd, option_and_then}
+use Rattle.std.specs.Prelude.{◌≡◌, ◌⊎◌, ℕ, ◌-◌, List, [], ◌∷◌, take, slice_get, Option, Some, None, IsTrue, IfSome, IsSomeAnd, option_and_then}
+use Rattle.std.specs.List.{list_any}
+use Rattle.std.specs.Str.{bytes_eq}
 use Rattle.std.specs.Option.{option_map}
-use Rattle.scq_outside.specs.Table.{Table}
+use Rattle.scq_outside.specs.Table.{Table, without}
 
 -- the contents that a table has for these names, in their order, where each is there
 abbrev pub contents_of : Table → List (List ℕ) → Option (List (List ℕ))
@@ -12,3 +14,13 @@ contents_of table (name ∷ names) =
 -- where the table is told, each name is there and the contents meet P
 abbrev pub IfTold : Option Table → List (List ℕ) → (List (List ℕ) → Type 0) → Type 0
 IfTold table names P = IfSome table (λ files. IsSomeAnd (contents_of files names) P)
+
+-- the table without these names
+abbrev pub without_all : List (List ℕ) → Table → Table
+without_all [] table = table
+without_all (name ∷ names) table = without_all names (without name table)
+
+-- the name of this file isn't in the table, or an earlier file has the same name
+abbrev pub IsMissing : Table → List (List ℕ) → ℕ → Type 0
+IsMissing table names file =
+    IsSomeAnd (slice_get names (file - 1)) (λ name. (table name ≡ None) ⊎ IsTrue (list_any (bytes_eq name) (take (file - 1) names)))

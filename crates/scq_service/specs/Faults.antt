@@ -3,12 +3,13 @@ use Rattle.std.specs.Prelude.{ℕ, List, [], ◌++◌, Option, Some, None, codes
 use Rattle.scq_frames.specs.declared.fault.FrameFault.{FrameFault}
 use Rattle.scq_frames.specs.declared.fault.FrameFault.TheVariants as frame
 use Rattle.scq_service.specs.declared.fault.Fault.{Fault}
-use Rattle.scq_service.specs.declared.fault.Fault.TheVariants.{Words, OpenFault, ReadFault, TooLarge, WriteFault, NoMemory}
+use Rattle.scq_service.specs.declared.fault.Fault.TheVariants.{Words, OpenFault, ReadFault, TooLong, TooLarge, WriteFault, NoMemory}
 use Rattle.scq_service.specs.declared.fault.WordsFault.{WordsFault}
 use Rattle.scq_service.specs.declared.fault.WordsFault.TheVariants.{NotUnderstood}
 
 -- the status of each fault
 abbrev pub status_of_fault : Fault → ℕ
+status_of_fault (TooLong file line len) = 1
 status_of_fault (Words fault) = 2
 status_of_fault (OpenFault file) = 3
 status_of_fault (ReadFault file) = 3
@@ -30,6 +31,8 @@ abbrev pub fault_line : Fault → List ℕ
 fault_line (Words fault) = words_line fault
 fault_line (OpenFault file) = codes "file " ++ decimal file ++ codes ": cannot open\n"
 fault_line (ReadFault file) = codes "file " ++ decimal file ++ codes ": read fault\n"
+fault_line (TooLong file line len) =
+    codes "file " ++ decimal file ++ codes " line " ++ decimal line ++ codes ": payload of " ++ decimal len ++ codes " bytes, limit 65536\n"
 fault_line (TooLarge file) = codes "file " ++ decimal file ++ codes ": more than 1073741824 bytes\n"
 fault_line WriteFault = codes "write fault\n"
 fault_line NoMemory = codes "out of memory\n"
@@ -42,6 +45,7 @@ end_line (Some fault) = fault_line fault
 -- a framer's fault as one of the file that it read
 abbrev pub fault_of_file : ℕ → FrameFault → Fault
 fault_of_file file frame.ReadFault = ReadFault file
+fault_of_file file (frame.TooLong line len) = TooLong file line len
 fault_of_file file (frame.TooLarge bytes) = TooLarge file
 fault_of_file file frame.NoMemory = NoMemory
 

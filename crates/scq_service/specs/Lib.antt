@@ -2,6 +2,8 @@ pub mod Answers
 pub mod Output
 pub mod Words
 pub mod Contents
+pub mod Causes
+pub mod Judged
 pub mod Ends
 pub mod Faults
 pub mod Writing

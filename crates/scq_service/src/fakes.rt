@@ -1,118 +1,123 @@
-// Files that are read byte by byte and sinks that are written so, of which one read or write fails.
-ghost use Rattle.std.specs.Prelude.{None};
+// What tests run: the service over memory in pieces of one size, and over lines that never end.
+ghost use Rattle.std.specs.Prelude.{◌≡◌, ◌<◌, IsTrue, IfOk, None};
+ghost use Rattle.scq_outside.specs.Calls.{are_pieces};
 
-use scq_outside::{Failed, Files, Sink, Source};
+use crate::serve;
+use scq_outside::{Failed, Files, MemFiles, MemSink, MemSource, Source};
+use scq_word::NoMemory;
 use std::alloc::Global;
 
-/// Gives one byte to a read, and fails at the read of this number. Without bytes it gives lines
-/// that never end.
+/// How a stream is cut: its greatest piece, and the number of the call that fails, if there is one.
+pub type Cut = (u32, Option<u32>);
+
+/// What a run left.
 #[derive(Drop)]
-pub struct Slow {
-    bytes: Option<Vec<u8>>,
-    fails: u32,
-    reads: u32,
-    faults: u64,
+pub struct Ran {
+    pub status: u8,
+    pub read: u64,
+    pub out: MemSink,
+    pub err: MemSink,
 }
 
-impl Source for Slow {
-    ghost faults = { λ source. source.faults };
+/// The service over these files, with room for 1,000 bytes in each sink.
+pub fn run_over<F: Files>(
+    alloc: Global,
+    words: &[&str],
+    files: &mut F,
+    writes: Cut,
+    err_writes: Cut,
+) -> Result<Ran, NoMemory> {
+    let mut owned = Vec::new(alloc);
+    for word in words {
+        owned.push(String::from_str(alloc, word)?)?;
+    }
+    let mut out = sink(alloc, writes)?;
+    let mut err = sink(alloc, err_writes)?;
+    let outcome = serve(alloc, &owned, files, &mut out, &mut err);
+    Ok(Ran {
+        status: outcome.status,
+        read: outcome.read,
+        out,
+        err,
+    })
+}
+
+/// The service over the one file `f`, or over none.
+pub fn run_in_memory(
+    alloc: Global,
+    words: &[&str],
+    content: Option<&[u8]>,
+    reads: Cut,
+    writes: Cut,
+    err_writes: Cut,
+) -> Result<Ran, NoMemory> {
+    let mut files = MemFiles::new(alloc);
+    if let Some(bytes) = content {
+        files.add("f", source(alloc, bytes, reads)?)?;
+    }
+    run_over(alloc, words, &mut files, writes, err_writes)
+}
+
+fn source(alloc: Global, bytes: &[u8], reads: Cut) -> Result<MemSource, NoMemory>
+    ensures { IfOk result (λ source. source.faults ≡ 0) }
+{
+    let (piece, fails) = reads;
+    let pieces = pieces_of(alloc, piece, bytes.len())?;
+    let failing = numbers(alloc, fails)?;
+    Ok(MemSource::new(bytes.to_vec(alloc)?, pieces, failing))
+}
+
+fn sink(alloc: Global, writes: Cut) -> Result<MemSink, NoMemory> {
+    let (piece, fails) = writes;
+    let pieces = pieces_of(alloc, piece, 1000)?;
+    MemSink::new(alloc, 1000, pieces, numbers(alloc, fails)?)
+}
+
+fn numbers(alloc: Global, number: Option<u32>) -> Result<Vec<u32>, NoMemory> {
+    let mut numbers = Vec::new(alloc);
+    if let Some(number) = number {
+        numbers.push(number)?;
+    }
+    Ok(numbers)
+}
+
+/// So many pieces of one size.
+#[tactic(auto, using(crate::proofs::Pieces::pieces_replicate))]
+fn pieces_of(alloc: Global, piece: u32, count: usize) -> Result<Vec<u32>, NoMemory>
+    ensures { IfOk result (λ pieces. IsTrue (are_pieces pieces.items)) }
+{
+    Ok(vec![in alloc; piece.max(1); count]?)
+}
+
+/// Gives lines that never end.
+#[derive(Drop)]
+pub struct Endless;
+
+impl Source for Endless {
+    ghost faults = { λ _. 0 };
 
     ghost left = { λ _. None };
 
     fn read(&mut self, into: &mut [u8]) -> Result<usize, Failed> {
-        let Some(bytes) = &self.bytes else {
-            into.fill(b'x');
-            let last = into.len() - 1;
-            into[last] = b'\n';
-            return Ok(into.len());
-        };
-        let at = self.reads as usize;
-        self.reads = self.reads.saturating_add(1);
-        if self.reads == self.fails {
-            self.faults = self.faults.saturating_add(1);
-            return Err(Failed);
-        }
-        match bytes.get(at) {
-            Some(byte) => {
-                into[0] = *byte;
-                Ok(1)
-            }
-            None => Ok(0),
-        }
+        into.fill(b'x');
+        let last = into.len() - 1;
+        into[last] = b'\n';
+        Ok(into.len())
     }
 }
 
-/// Gives one slow source, whatever its name.
+/// Gives an endless source, whatever its name.
 #[derive(Drop)]
-pub struct SlowFiles {
-    bytes: Option<Vec<u8>>,
-    fails: u32,
-}
+pub struct EndlessFiles;
 
-impl SlowFiles {
-    pub fn new(bytes: Vec<u8>, fails: u32) -> SlowFiles {
-        SlowFiles {
-            bytes: Some(bytes),
-            fails,
-        }
-    }
-
-    pub fn endless() -> SlowFiles {
-        SlowFiles {
-            bytes: None,
-            fails: 0,
-        }
-    }
-}
-
-impl Files for SlowFiles {
-    type Src = Slow;
+impl Files for EndlessFiles {
+    type Src = Endless;
 
     ghost faults = { λ _. 0 };
 
     ghost table = { λ _. None };
 
-    fn source(&mut self, _name: &str) -> Result<Slow, Failed> {
-        Ok(Slow {
-            bytes: self.bytes.take(),
-            fails: self.fails,
-            reads: 0,
-            faults: 0,
-        })
-    }
-}
-
-/// Takes one byte of a piece, and fails at the write of this number.
-#[derive(Drop)]
-pub struct Narrow {
-    pub bytes: Vec<u8>,
-    fails: u32,
-    writes: u32,
-    faults: u64,
-}
-
-impl Narrow {
-    pub fn new(alloc: Global, fails: u32) -> Narrow {
-        Narrow {
-            bytes: Vec::new(alloc),
-            fails,
-            writes: 0,
-            faults: 0,
-        }
-    }
-}
-
-impl Sink for Narrow {
-    ghost faults = { λ sink. sink.faults };
-
-    ghost written = { λ _. None };
-
-    fn write(&mut self, piece: &[u8]) -> Result<usize, Failed> {
-        self.writes = self.writes.saturating_add(1);
-        if self.writes == self.fails || self.bytes.push(piece[0]).is_err() {
-            self.faults = self.faults.saturating_add(1);
-            return Err(Failed);
-        }
-        Ok(1)
+    fn source(&mut self, _name: &str) -> Result<Endless, Failed> {
+        Ok(Endless)
     }
 }

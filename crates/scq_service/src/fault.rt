@@ -12,6 +12,9 @@ pub enum Fault {
     OpenFault { file: u32 },
     /// A read of this file failed.
     ReadFault { file: u32 },
+    /// This line of this file has a payload of so many bytes, more than 65,536. Lines are numbered
+    /// from 1.
+    TooLong { file: u32, line: u32, len: u64 },
     /// This file has more than 2^30 bytes.
     TooLarge { file: u32 },
     WriteFault,
@@ -26,6 +29,7 @@ impl Fault {
         ensures { result ≡ status_of_fault self.now }
     {
         match self {
+            Fault::TooLong { .. } => 1,
             Fault::Words(_) => 2,
             Fault::OpenFault { .. } | Fault::ReadFault { .. } => 3,
             Fault::WriteFault => 4,

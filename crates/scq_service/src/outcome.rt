@@ -21,6 +21,7 @@ impl<S> Outcome<S> {
         ensures status { result.status ≡ 0 }
         ensures fault { result.fault ≡ None }
         ensures sources { result.sources ≡ sources }
+        ensures read { result.read ≡ 0 }
     {
         Outcome {
             status: 0,
@@ -52,6 +53,9 @@ impl<S> Outcome<S> {
     {
         match fault {
             FrameFault::ReadFault => Outcome::at(sources, Fault::ReadFault { file }),
+            FrameFault::TooLong { line, len } => {
+                Outcome::at(sources, Fault::TooLong { file, line, len })
+            }
             FrameFault::TooLarge { bytes } => Outcome {
                 read: bytes,
                 ..Outcome::at(sources, Fault::TooLarge { file })

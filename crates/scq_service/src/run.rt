@@ -2,7 +2,7 @@ ghost use Rattle.std.specs.Prelude.{◌≡◌, ◌≢◌, ◌↔◌, ℕ, ◌+�
 ghost use Rattle.scq_outside.specs.Faults.{Rose};
 ghost use Rattle.scq_service.specs.Ends.{Ends};
 ghost use Rattle.scq_service.specs.Faults.{status_of};
-ghost use Rattle.scq_service.specs.Words.{files_named, names_in};
+ghost use Rattle.scq_service.specs.Words.{files_named, names_asked};
 
 use crate::answering::answer;
 use crate::words::file_named;
@@ -18,7 +18,7 @@ pub fn run<F: Files, K: Sink>(
     files: &mut F,
     out: &mut K,
 ) -> Outcome<F::Src>
-    ensures ends { Ends F.Src.faults F.Src.left (F.table files.old) (names_in (map string_bytes words.now))
+    ensures ends { Ends F.Src.faults F.Src.left (names_asked words.now) (record { old = F.table files.old; new = F.table files.new })
         (record { old = F.faults files.old; new = F.faults files.new }) (record { old = K.faults out.old; new = K.faults out.new })
         (record { old = K.written out.old; new = K.written out.new })
         result.status result.fault result.sources.items result.read }
@@ -37,7 +37,7 @@ fn run_file<F: Files, K: Sink>(
     files: &mut F,
     out: &mut K,
 ) -> Outcome<F::Src>
-    ensures ends { Ends F.Src.faults F.Src.left (F.table files.old) (name.now ∷ [])
+    ensures ends { Ends F.Src.faults F.Src.left (name.now ∷ []) (record { old = F.table files.old; new = F.table files.new })
         (record { old = F.faults files.old; new = F.faults files.new }) (record { old = K.faults out.old; new = K.faults out.new })
         (record { old = K.written out.old; new = K.written out.new })
         result.status result.fault result.sources.items result.read }

@@ -1,6 +1,6 @@
-use crate::fakes::{Narrow, SlowFiles};
-use crate::{Fault, Outcome, serve};
-use scq_outside::{Files, MemFiles, MemSink, MemSource, Sink};
+// Runs over memory, as tables: faulty words, missing files, long payloads, and reads and writes in
+// pieces of which one fails.
+use crate::fakes::{Cut, EndlessFiles, run_in_memory, run_over};
 use scq_word::NoMemory;
 use std::alloc::Global;
 use std::test::Fail;
@@ -9,65 +9,33 @@ const SPACED: &str = "\na  b\n\n \nlong-topic 12345678901\n";
 
 const SPACED_OUTPUT: &str = "1:2 - 2\n1:4 - 0\n1:5 - 11\ntotal - 3 13\n";
 
-fn run<F: Files, K: Sink>(
-    alloc: Global,
-    words: &[&str],
-    files: &mut F,
-    out: &mut K,
-    err: &mut K,
-) -> Result<Outcome<F::Src>, NoMemory> {
-    let mut owned = Vec::new(alloc);
-    for word in words {
-        owned.push(String::from_str(alloc, word)?)?;
-    }
-    Ok(serve(alloc, &owned, files, out, err))
-}
+const RUN_F: &[&str] = &["run", "f"];
 
-fn files_in_memory(alloc: Global, content: Option<&str>) -> Result<MemFiles, NoMemory> {
-    let mut files = MemFiles::new(alloc);
-    if let Some(text) = content {
-        files.add("f", MemSource::new(text.as_bytes().to_vec(alloc)?))?;
-    }
-    Ok(files)
-}
-
-fn sink(alloc: Global, room: u64) -> Result<MemSink, NoMemory> {
-    MemSink::new(alloc, room)
-}
+const WHOLE: Cut = (4096, None);
 
 #[test]
 fn rows_over_memory(rt: HostRuntime) -> Result<(), Fail> {
     let alloc = rt.alloc();
-    let run_f = ["run", "f"].as_slice();
     let not_understood = "words not understood\n";
     let rows = [
-        (run_f, Some(""), 1000, 0, "total - 0 0\n", ""),
-        (run_f, Some("x 1\n"), 1000, 0, "1:1 - 1\ntotal - 1 1\n", ""),
-        (run_f, Some("x 12"), 1000, 0, "1:1 - 2\ntotal - 1 2\n", ""),
-        (run_f, Some(SPACED), 1000, 0, SPACED_OUTPUT, ""),
-        (run_f, None, 1000, 3, "", "file 1: cannot open\n"),
-        (run_f, Some("x 1\n"), 5, 4, "1:1 -", "write fault\n"),
-        (["run"].as_slice(), None, 1000, 2, "", not_understood),
-        (["run", ""].as_slice(), None, 1000, 2, "", not_understood),
-        (
-            ["run", "f", "g"].as_slice(),
-            None,
-            1000,
-            2,
-            "",
-            not_understood,
-        ),
-        (["walk", "f"].as_slice(), None, 1000, 2, "", not_understood),
-        ([].as_slice(), None, 1000, 2, "", not_understood),
+        (RUN_F, Some(""), None, 0, "total - 0 0\n", ""),
+        (RUN_F, Some("x 1\n"), None, 0, "1:1 - 1\ntotal - 1 1\n", ""),
+        (RUN_F, Some("x 12"), None, 0, "1:1 - 2\ntotal - 1 2\n", ""),
+        (RUN_F, Some(SPACED), None, 0, SPACED_OUTPUT, ""),
+        (RUN_F, None, None, 3, "", "file 1: cannot open\n"),
+        (RUN_F, Some("x 1\n"), Some(2), 4, "1:1 -", "write fault\n"),
+        (&["run"], None, None, 2, "", not_understood),
+        (&["run", ""], None, None, 2, "", not_understood),
+        (&["run", "f", "g"], None, None, 2, "", not_understood),
+        (&["walk", "f"], None, None, 2, "", not_understood),
+        (&[], None, None, 2, "", not_understood),
     ];
-    for (row, (words, content, room, status, output, told)) in rows.iter().enumerate() {
-        let mut files = files_in_memory(alloc, *content)?;
-        let mut out = sink(alloc, *room)?;
-        let mut err = sink(alloc, 1000)?;
-        let outcome = run(alloc, words, &mut files, &mut out, &mut err)?;
-        assert_eq!(rt; outcome.status, *status, "row {row}");
-        assert_eq!(rt; out.bytes(), output.as_bytes(), "row {row}");
-        assert_eq!(rt; err.bytes(), told.as_bytes(), "row {row}");
+    for (row, (words, content, fails, status, output, told)) in rows.iter().enumerate() {
+        let content = content.map(str::as_bytes);
+        let ran = run_in_memory(alloc, words, content, (4096, None), (5, *fails), (3, None))?;
+        assert_eq!(rt; ran.status, *status, "row {row}");
+        assert_eq!(rt; ran.out.bytes(), output.as_bytes(), "row {row}");
+        assert_eq!(rt; ran.err.bytes(), told.as_bytes(), "row {row}");
     }
     Ok(())
 }
@@ -75,27 +43,19 @@ fn rows_over_memory(rt: HostRuntime) -> Result<(), Fail> {
 #[test]
 fn each_read_fails_in_turn(rt: HostRuntime) -> Result<(), Fail> {
     let alloc = rt.alloc();
+    let content = Some(SPACED.as_bytes());
     // One read a byte, and one that finds the end.
     let reads = SPACED.len() as u32 + 1;
     for fails in 1..reads + 2 {
-        let mut files = SlowFiles::new(SPACED.as_bytes().to_vec(alloc)?, fails);
-        let mut out = Narrow::new(alloc, 0);
-        let mut err = Narrow::new(alloc, 0);
-        let outcome = run(alloc, &["run", "f"], &mut files, &mut out, &mut err)?;
-        if fails <= reads {
-            assert_eq!(rt;
-                outcome.fault,
-                Some(Fault::ReadFault { file: 1 }),
-                "read {fails}"
-            );
-            assert_eq!(rt; outcome.status, 3);
-            assert_eq!(rt; out.bytes.len(), 0);
-            assert_eq!(rt; err.bytes.as_slice(), b"file 1: read fault\n".as_slice());
+        let (status, output, told) = if fails <= reads {
+            (3, "", "file 1: read fault\n")
         } else {
-            assert_eq!(rt; outcome.status, 0);
-            assert_eq!(rt; out.bytes.as_slice(), SPACED_OUTPUT.as_bytes());
-            assert_eq!(rt; err.bytes.len(), 0);
-        }
+            (0, SPACED_OUTPUT, "")
+        };
+        let ran = run_in_memory(alloc, RUN_F, content, (1, Some(fails)), WHOLE, WHOLE)?;
+        assert_eq!(rt; ran.status, status, "read {fails}");
+        assert_eq!(rt; ran.out.bytes(), output.as_bytes(), "read {fails}");
+        assert_eq!(rt; ran.err.bytes(), told.as_bytes(), "read {fails}");
     }
     Ok(())
 }
@@ -103,73 +63,106 @@ fn each_read_fails_in_turn(rt: HostRuntime) -> Result<(), Fail> {
 #[test]
 fn each_write_fails_in_turn(rt: HostRuntime) -> Result<(), Fail> {
     let alloc = rt.alloc();
-    let writes = SPACED_OUTPUT.len() as u32;
-    for fails in 1..writes + 2 {
-        let mut files = files_in_memory(alloc, Some(SPACED))?;
-        let mut out = Narrow::new(alloc, fails);
-        let mut err = Narrow::new(alloc, 0);
-        let outcome = run(alloc, &["run", "f"], &mut files, &mut out, &mut err)?;
-        let whole = fails > writes;
-        assert_eq!(rt; outcome.status, if whole { 0 } else { 4 }, "write {fails}");
-        assert!(rt; SPACED_OUTPUT.as_bytes().starts_with(out.bytes.as_slice()));
-        assert_eq!(rt; out.bytes.len() as u32 + 1, fails);
-        assert_eq!(rt;
-            err.bytes.as_slice(),
-            if whole { "" } else { "write fault\n" }.as_bytes()
-        );
+    let content = Some(SPACED.as_bytes());
+    for (written, _) in SPACED_OUTPUT.bytes().enumerate() {
+        let fails = Some(written as u32 + 1);
+        let ran = run_in_memory(alloc, RUN_F, content, WHOLE, (1, fails), (1, None))?;
+        assert_eq!(rt; ran.status, 4, "write {written}");
+        assert_eq!(rt; ran.out.bytes().len(), written);
+        assert!(rt; SPACED_OUTPUT.as_bytes().starts_with(ran.out.bytes()));
+        assert_eq!(rt; ran.err.bytes(), b"write fault\n".as_slice());
     }
+    Ok(())
+}
 
-    // A standard error that fails changes nothing else, and has a front of the line.
-    for fails in 1..20 {
-        let mut files = MemFiles::new(alloc);
-        let mut out = Narrow::new(alloc, 0);
-        let mut err = Narrow::new(alloc, fails);
-        let outcome = run(alloc, &["run", "f"], &mut files, &mut out, &mut err)?;
-        assert_eq!(rt; outcome.status, 3, "line's write {fails}");
-        assert!(rt; b"file 1: cannot open\n".starts_with(err.bytes.as_slice()));
-        assert_eq!(rt; err.bytes.len() as u32 + 1, fails);
+/// A standard error that fails changes nothing else, and has a front of the line.
+#[test]
+fn each_write_of_the_line_fails_in_turn(rt: HostRuntime) -> Result<(), Fail> {
+    let line = "file 1: cannot open\n";
+    for (written, _) in line.bytes().enumerate() {
+        let fails = Some(written as u32 + 1);
+        let ran = run_in_memory(rt.alloc(), RUN_F, None, WHOLE, WHOLE, (1, fails))?;
+        assert_eq!(rt; ran.status, 3, "write {written}");
+        assert!(rt; ran.out.bytes().is_empty());
+        assert_eq!(rt; ran.err.bytes().len(), written);
+        assert!(rt; line.as_bytes().starts_with(ran.err.bytes()));
+    }
+    Ok(())
+}
+
+#[test]
+fn long_payloads_are_told_at_the_end_of_their_lines(rt: HostRuntime) -> Result<(), Fail> {
+    let alloc = rt.alloc();
+    let longest = "1:1 - 65536\ntotal - 1 65536\n";
+    let first = "file 1 line 1: payload of 65537 bytes, limit 65536\n";
+    let third = "file 1 line 3: payload of 65538 bytes, limit 65536\n";
+    let failed = "file 1: read fault\n";
+    // A line and its end take 17 reads, of which the last gives the end.
+    let rows = [
+        ("", 65536, "\n", None, 0, longest, ""),
+        ("", 65537, "\n", None, 1, "", first),
+        ("", 65537, "", None, 1, "", first),
+        ("", 65537, "\n", Some(18), 1, "", first),
+        ("", 65537, "\n", Some(17), 3, "", failed),
+        ("", 65537, "", Some(18), 3, "", failed),
+        ("a 1\n\n", 65538, "\nb 2", None, 1, "", third),
+    ];
+    for (row, (before, len, end, fails, status, output, told)) in rows.iter().enumerate() {
+        let content = spread(alloc, before, *len, end)?;
+        let ran = run_in_memory(alloc, RUN_F, Some(&content), (4096, *fails), WHOLE, WHOLE)?;
+        assert_eq!(rt; ran.status, *status, "row {row}");
+        assert_eq!(rt; ran.out.bytes(), output.as_bytes(), "row {row}");
+        assert_eq!(rt; ran.err.bytes(), told.as_bytes(), "row {row}");
+    }
+    Ok(())
+}
+
+#[test]
+fn the_cutting_of_reads_changes_nothing(rt: HostRuntime) -> Result<(), Fail> {
+    let alloc = rt.alloc();
+    let content = spread(alloc, SPACED, 8966, "\nlast")?;
+    let whole = "1:2 - 2\n1:4 - 0\n1:5 - 11\n1:6 - 8966\n1:7 - 0\ntotal - 5 8979\n";
+    for piece in [1, 2, 3, 4095, 4096, 4097] {
+        let ran = run_in_memory(alloc, RUN_F, Some(&content), (piece, None), WHOLE, WHOLE)?;
+        assert_eq!(rt; ran.status, 0, "by {piece}");
+        assert_eq!(rt; ran.out.bytes(), whole.as_bytes(), "by {piece}");
     }
     Ok(())
 }
 
 #[test]
 fn a_source_without_end_is_too_large(rt: HostRuntime) -> Result<(), Fail> {
-    let alloc = rt.alloc();
-    let mut files = SlowFiles::endless();
-    let mut out = Narrow::new(alloc, 0);
-    let mut err = Narrow::new(alloc, 0);
-    let outcome = run(alloc, &["run", "f"], &mut files, &mut out, &mut err)?;
-    assert_eq!(rt; outcome.fault, Some(Fault::TooLarge { file: 1 }));
-    assert_eq!(rt; outcome.status, 6);
-    assert_eq!(rt; outcome.read, 1073741825);
-    assert_eq!(rt; out.bytes.len(), 0);
-    assert_eq!(rt;
-        err.bytes.as_slice(),
-        b"file 1: more than 1073741824 bytes\n".as_slice()
-    );
+    let ran = run_over(rt.alloc(), RUN_F, &mut EndlessFiles, WHOLE, (1, None))?;
+    let told = b"file 1: more than 1073741824 bytes\n".as_slice();
+    assert_eq!(rt; ran.status, 6);
+    assert_eq!(rt; ran.read, 1073741825);
+    assert_eq!(rt; ran.out.bytes(), b"".as_slice());
+    assert_eq!(rt; ran.err.bytes(), told);
     Ok(())
 }
 
 /// For runs in which some allocation fails: the answer is want of memory, or the row's.
 #[test]
 fn want_of_memory_is_told(rt: HostRuntime) -> Result<(), Fail> {
-    let alloc = rt.alloc();
-    let (Ok(mut files), Ok(mut out), Ok(mut err)) = (
-        files_in_memory(alloc, Some(SPACED)),
-        sink(alloc, 1000),
-        sink(alloc, 1000),
-    ) else {
+    let content = Some(SPACED.as_bytes());
+    let Ok(ran) = run_in_memory(rt.alloc(), RUN_F, content, (5, None), (7, None), (7, None)) else {
         return Ok(());
     };
-    let Ok(outcome) = run(alloc, &["run", "f"], &mut files, &mut out, &mut err) else {
-        return Ok(());
-    };
-    if outcome.status == 5 {
-        assert_eq!(rt; out.bytes().len(), 0);
-        assert_eq!(rt; err.bytes(), b"out of memory\n".as_slice());
+    let (output, told) = if ran.status == 5 {
+        ("", "out of memory\n")
     } else {
-        assert_eq!(rt; outcome.status, 0);
-        assert_eq!(rt; out.bytes(), SPACED_OUTPUT.as_bytes());
-    }
+        (SPACED_OUTPUT, "")
+    };
+    assert_eq!(rt; ran.out.bytes(), output.as_bytes());
+    assert_eq!(rt; ran.err.bytes(), told.as_bytes());
     Ok(())
+}
+
+/// A text with one payload of so many bytes, under the topic `x`.
+fn spread(alloc: Global, before: &str, len: usize, end: &str) -> Result<Vec<u8>, NoMemory> {
+    let mut content = before.as_bytes().to_vec(alloc)?;
+    content.extend_from_slice(b"x ")?;
+    content.resize(content.len().saturating_add(len), b'y')?;
+    content.extend_from_slice(end.as_bytes())?;
+    Ok(content)
 }

@@ -1,10 +1,11 @@
 -- While no message came: the messages ahead are those at the start, and nothing was given.
 use Rattle.scq_frames.specs.Framing.{work_left}
+use Rattle.scq_topics.specs.Topics.{topic_of}
 use Rattle.scq_frames.proofs.NextLemmas.{Searches}
 use Rattle.scq_frames.proofs.framer.Framer.next.Given as goal
 
 abbrev pub invariant-loop-len : goal.invariant-loop-len
-invariant-loop-len g l = Searches g.S.Source.left g.S.Source.faults l.fn.self l.self l.fn.source l.source
+invariant-loop-len g l = Searches (topic_of l.topics) g.S.Source.left g.S.Source.faults l.fn.self l.self l.fn.source l.source
 
 abbrev pub decreases-loop-len : goal.decreases-loop-len
 decreases-loop-len g l = work_left l.self

@@ -1,8 +1,7 @@
-use Rattle.std.proofs.Common.{ap, Some, None}
-use mathlib.Core.Path.{fun_ext}
+use Rattle.std.proofs.Common.{None}
 use Rattle.std.proofs.lemmas.Map.Text.{hash_map_updates_text}
 use Rattle.scq_outside.proofs.mem_files.MemFilesFiles.source.Goals as goal
 
 pub returns-in-Some-clause-given : goal.returns-in-Some-clause-given
 returns-in-Some-clause-given c =
-    ap Some (fun_ext (hash_map_updates_text c.args.name.now c.args.self.now.sources c.remove.new.self None c.remove.ensures.updates))
+    hash_map_updates_text c.args.name.now c.args.self.now.sources c.remove.new.self None c.remove.ensures.updates

@@ -1,0 +1,217 @@
+-- What comes first of what a source gave. While no message came, the messages ahead that count stay
+-- the same; the line or the read that ends the search says what the first of them is.
+use Rattle.std.proofs.Common.{◌≡◌, ℕ, ◌+◌, ◌-◌, ◌≤◌, Bool, true, false, cond, Option, Some, None, Result, Ok, Err, List, [], ◌∷◌, ◌++◌, length, take, drop, refl, sym, ◌∙◌, ap, subst, ⊎_elim, arith, length-append, length-drop}
+use Rattle.std.specs.Prelude.{IsTrue, ◌⊎◌}
+use Rattle.std.specs.Option.{option_map}
+use Rattle.std.proofs.Math.ListN.{get_or-append}
+use Rattle.std.proofs.lemmas.Bool.{true≢false, le-ltb}
+use Rattle.std.proofs.lemmas.List.{append-nil, append_assoc, nil_from_length, length-take-le}
+use Rattle.scq_frames.specs.declared.message.Message.{Message}
+use Rattle.scq_frames.specs.declared.fault.FrameFault.{FrameFault}
+use Rattle.scq_frames.specs.declared.fault.FrameFault.TheVariants.{ReadFault, TooLong, TooLarge, NoMemory}
+use Rattle.scq_frames.specs.Lines.{EndsAt, HasNoLineFeed}
+use Rattle.scq_frames.specs.Text.{Framed, message_in, messages_after}
+use Rattle.scq_frames.specs.Trouble.{counted, whole_lines}
+use Rattle.scq_frames.specs.Framing.{Framing, Fetched}
+use Rattle.scq_frames.specs.Finding.{limit_left, MayFollow, IsTooLong}
+use Rattle.scq_frames.specs.Coming.{counted_ahead, BeginsWithLong, Comes, IsNeeded, Came}
+use Rattle.scq_frames.proofs.TextLemmas.{ended_parts, line-clear, messages_after-line, messages_after-last, messages_after-nil}
+use Rattle.scq_frames.proofs.TroubleLemmas.{counted-line, counted-failed, counted-many}
+use Rattle.scq_frames.proofs.FindingLemmas.{nothing_moved, moved-moved}
+
+-- since a call began the source gave these bytes, which were needed, and no message came
+pub record Quiet (first now : Framing) (before after : Option (List ℕ)) : Type 0 where
+  pub bytes : List ℕ
+  pub count : now.read ≡ first.read + length bytes
+  pub moved : before ≡ option_map (λ rest. bytes ++ rest) after
+  pub same : (failed : Bool) (more : List ℕ) → MayFollow now failed more → counted_ahead first failed (bytes ++ more) ≡ counted_ahead now failed more
+  pub needed : IsNeeded first bytes
+
+pub Quiet-start : (first now : Framing) (left : Option (List ℕ)) → ((failed : Bool) (more : List ℕ) → counted_ahead first failed more ≡ counted_ahead now failed more)
+    → now.read ≡ first.read → Quiet first now left left
+Quiet-start first now left same unread = record {
+  bytes = [];
+  count = omega arith;
+  moved = nothing_moved left;
+  same = λ failed more _. same failed more;
+  needed = record { early = []; last = []; parts = refl; most = omega arith; none = λ some. absurd (some refl) };
+}
+
+-- a whole line's message comes first in what is ahead
+counted_ahead-line : (f : Framing) (len weight : ℕ) (failed : Bool) (more : List ℕ) → EndsAt f.held len → f.read ≤ f.most
+    → counted_ahead f failed more
+    ≡ message_in (f.line + 1) (take len f.held) ++ counted_ahead (record f { line = f.line + 1; held = drop (len + 1) f.held; weight = weight }) failed more
+counted_ahead-line f len weight failed more ends within =
+    let count : length (take len f.held) ≡ len = length-take-le len f.held (omega (arith, ends.within)) in
+    let behind = drop (len + 1) f.held ++ more in
+    let rest : limit_left f - (length (take len f.held) + 1) ≡ f.most + length (drop (len + 1) f.held) - f.read = omega (arith, ends.within, length-drop (len + 1) f.held) in
+    ap (λ (l : List ℕ). messages_after f.line (counted (limit_left f) failed l)) (ended_parts f.held more len ends)
+    ∙ ap (messages_after f.line) (counted-line (limit_left f) failed (take len f.held) behind (omega (arith, ends.within)))
+    ∙ messages_after-line f.line (take len f.held) (counted (limit_left f - (length (take len f.held) + 1)) failed behind) (line-clear f.held len ends)
+    ∙ ap (λ (n : ℕ). message_in (f.line + 1) (take len f.held) ++ messages_after (f.line + 1) (counted n failed behind)) rest
+
+-- a line without a message was passed
+pub Quiet-line : (first old : Framing) (before after : Option (List ℕ)) (len weight : ℕ) → Quiet first old before after → EndsAt old.held len → old.read ≤ old.most
+    → message_in (old.line + 1) (take len old.held) ≡ [] → Quiet first (record old { line = old.line + 1; held = drop (len + 1) old.held; weight = weight }) before after
+Quiet-line first old before after len weight q ends within none = record {
+  bytes = q.bytes;
+  count = q.count;
+  moved = q.moved;
+  same = λ failed more may.
+      q.same failed more may ∙ counted_ahead-line old len weight failed more ends within
+      ∙ ap (λ (ms : List Framed). ms ++ counted_ahead (record old { line = old.line + 1; held = drop (len + 1) old.held; weight = weight }) failed more) none;
+  needed = q.needed;
+}
+
+-- what was fetched was ahead
+counted_ahead-fetched : (old new : Framing) (before after : Option (List ℕ)) (fetched : Fetched old new before after) → old.read ≤ old.most
+    → new ≡ record old { held = new.held; read = new.read; ended = new.ended }
+    → (failed : Bool) (more : List ℕ) → counted_ahead old failed (fetched.bytes ++ more) ≡ counted_ahead new failed more
+counted_ahead-fetched old new before after fetched within same failed more =
+    let count : length new.held ≡ length old.held + length fetched.bytes = ap length fetched.held ∙ length-append old.held fetched.bytes in
+    let most : new.most ≡ old.most = ap (λ (f : Framing). f.most) same in
+    let line : new.line ≡ old.line = ap (λ (f : Framing). f.line) same in
+    let limit : limit_left old ≡ limit_left new = omega (arith, fetched.count) in
+    let text : old.held ++ (fetched.bytes ++ more) ≡ new.held ++ more = sym (append_assoc old.held fetched.bytes more) ∙ ap (λ (l : List ℕ). l ++ more) (sym fetched.held) in
+    cc
+
+-- where no line is whole, no message is, should a read fail next
+none_whole : (f : Framing) → HasNoLineFeed f.held 0 (length f.held) → f.read ≤ f.most → counted_ahead f true [] ≡ []
+none_whole f clear within =
+    ap (λ (l : List ℕ). messages_after f.line (counted (limit_left f) true l)) (append-nil f.held)
+    ∙ ap (messages_after f.line) (counted-failed (limit_left f) f.held clear (omega arith)) ∙ messages_after-nil f.line
+
+-- so a read then is needed
+pub needed-fetched : (first old new : Framing) (before mid after : Option (List ℕ)) (q : Quiet first old before mid) (fetched : Fetched old new mid after)
+    → HasNoLineFeed old.held 0 (length old.held) → old.ended ≡ false → old.read ≤ old.most → new.read ≤ old.read + 4096 → IsNeeded first (q.bytes ++ fetched.bytes)
+needed-fetched first old new before mid after q fetched clear going within few = record {
+  early = q.bytes;
+  last = fetched.bytes;
+  parts = refl;
+  most = omega (arith, fetched.count);
+  none = λ _. ap (counted_ahead first true) (sym (append-nil q.bytes)) ∙ q.same true [] (λ h. absurd (true≢false (sym h ∙ going))) ∙ none_whole old clear within;
+}
+
+pub Quiet-fetched : (first old new : Framing) (before mid after : Option (List ℕ)) → Quiet first old before mid → Fetched old new mid after
+    → HasNoLineFeed old.held 0 (length old.held) → old.ended ≡ false → old.read ≤ old.most → new.read ≤ old.read + 4096
+    → new ≡ record old { held = new.held; read = new.read; ended = new.ended } → Quiet first new before after
+Quiet-fetched first old new before mid after q fetched clear going within few same = record {
+  bytes = q.bytes ++ fetched.bytes;
+  count = omega (arith, q.count, fetched.count, length-append q.bytes fetched.bytes);
+  moved = moved-moved q.bytes fetched.bytes before mid after q.moved fetched.moved;
+  same = λ failed more may.
+      ap (counted_ahead first failed) (append_assoc q.bytes fetched.bytes more)
+      ∙ q.same failed (fetched.bytes ++ more) (λ h. absurd (true≢false (sym h ∙ going)))
+      ∙ counted_ahead-fetched old new mid after fetched within same failed more;
+  needed = needed-fetched first old new before mid after q fetched clear going within few;
+}
+
+-- the message of a line that is too long
+begins-long : (size place at count : ℕ) (line : List ℕ) (rest : List Framed) → IsTooLong size place line at count → BeginsWithLong at count (message_in place line ++ rest)
+begins-long size place at count [] rest long = absurd (omega (arith, long.above, long.count))
+begins-long size place at count (b ∷ bs) rest long = (sym long.number, sym long.count)
+
+-- the first line is too long, whatever follows
+Comes-long : (first old new : Framing) (before after : Option (List ℕ)) (len at count : ℕ) (q : Quiet first old before after) → EndsAt old.held len → old.read ≤ old.most → (IsTrue old.ended → IsTrue new.ended)
+    → IsTooLong old.size (old.line + 1) (take len old.held) at count → Comes first new q.bytes (Err (TooLong at count))
+Comes-long first old new before after len at count q ends within stays long = λ failed more may.
+    subst (BeginsWithLong at count) (sym (q.same failed more (λ h. may (stays h)) ∙ counted_ahead-line old len old.weight failed more ends within))
+    (begins-long old.size (old.line + 1) at count (take len old.held) _ long)
+
+-- at the end, what is held is the last line
+last_ahead : (f : Framing) → HasNoLineFeed f.held 0 (length f.held) → f.read ≤ f.most → counted_ahead f false [] ≡ message_in (f.line + 1) f.held
+unfolding counted
+last_ahead f clear within =
+    ap (λ (l : List ℕ). messages_after f.line (counted (limit_left f) false l)) (append-nil f.held)
+    ∙ ap (λ (t : Bool). messages_after f.line (cond t (whole_lines (take (limit_left f) f.held)) f.held)) (le-ltb (limit_left f) (length f.held) (omega arith))
+    ∙ messages_after-last f.line f.held clear
+
+-- and nothing follows
+at_end : (first old : Framing) (before after : Option (List ℕ)) (q : Quiet first old before after) → HasNoLineFeed old.held 0 (length old.held) → old.read ≤ old.most
+    → counted_ahead first false (q.bytes ++ []) ≡ message_in (old.line + 1) old.held
+at_end first old before after q clear within = q.same false [] (λ _. (refl, refl)) ∙ last_ahead old clear within
+
+-- the last line is too long
+Comes-long_last : (first old new : Framing) (before after : Option (List ℕ)) (at count : ℕ) (q : Quiet first old before after) → HasNoLineFeed old.held 0 (length old.held) → old.read ≤ old.most → IsTrue new.ended
+    → IsTooLong old.size (old.line + 1) old.held at count → Comes first new q.bytes (Err (TooLong at count))
+Comes-long_last first old new before after at count q clear within ended long = λ failed more may.
+    let nothing = may ended in
+    let same : counted_ahead first failed (q.bytes ++ more) ≡ message_in (old.line + 1) old.held ++ [] =
+    ap (λ (l : List ℕ). counted_ahead first failed (q.bytes ++ l)) nothing.0 ∙ ap (λ (b : Bool). counted_ahead first b (q.bytes ++ [])) nothing.1
+    ∙ at_end first old before after q clear within ∙ sym (append-nil (message_in (old.line + 1) old.held)) in
+    subst (BeginsWithLong at count) (sym same) (begins-long old.size (old.line + 1) at count old.held [] long)
+
+-- a line was refused
+pub Comes-pass_err : (first old new : Framing) (before after : Option (List ℕ)) (len : ℕ) (fault : FrameFault) (q : Quiet first old before after) → EndsAt old.held len → old.read ≤ old.most → new ≡ old
+    → ((at : ℕ) × (count : ℕ) × (fault ≡ TooLong at count)) ⊎ (fault ≡ NoMemory)
+    → ((at count : ℕ) → fault ≡ TooLong at count → IsTooLong old.size (old.line + 1) (take len old.held) at count) → Comes first new q.bytes (Err fault)
+Comes-pass_err first old new before after len fault q ends within same faults long =
+    ⊎_elim
+    (λ (which : (at : ℕ) × (count : ℕ) × (fault ≡ TooLong at count)).
+    subst (λ (f : FrameFault). Comes first new q.bytes (Err f)) (sym which.2)
+    (Comes-long first old new before after len which.0 which.1 q ends within (λ h. ap (λ (f : Framing). f.ended) same ∙ h) (long which.0 which.1 which.2)))
+    (λ (memory : fault ≡ NoMemory). subst (λ (f : FrameFault). Comes first new q.bytes (Err f)) (sym memory) tt)
+    faults
+
+-- the last line was refused
+pub Comes-last_err : (first old new : Framing) (before after : Option (List ℕ)) (fault : FrameFault) (q : Quiet first old before after) → HasNoLineFeed old.held 0 (length old.held) → old.read ≤ old.most → IsTrue new.ended
+    → ((at : ℕ) × (count : ℕ) × (fault ≡ TooLong at count)) ⊎ (fault ≡ NoMemory)
+    → ((at count : ℕ) → fault ≡ TooLong at count → IsTooLong old.size (old.line + 1) old.held at count) → Comes first new q.bytes (Err fault)
+Comes-last_err first old new before after fault q clear within ended faults long =
+    ⊎_elim
+    (λ (which : (at : ℕ) × (count : ℕ) × (fault ≡ TooLong at count)).
+    subst (λ (f : FrameFault). Comes first new q.bytes (Err f)) (sym which.2)
+    (Comes-long_last first old new before after which.0 which.1 q clear within ended (long which.0 which.1 which.2)))
+    (λ (memory : fault ≡ NoMemory). subst (λ (f : FrameFault). Comes first new q.bytes (Err f)) (sym memory) tt)
+    faults
+
+-- a read was refused: behind what is held, none of which is a whole line
+pub Comes-read_err : (first old new : Framing) (before mid after : Option (List ℕ)) (fault : FrameFault) (q : Quiet first old before mid) (fetched : Fetched old new mid after)
+    → HasNoLineFeed old.held 0 (length old.held) → old.read ≤ old.most → old.ended ≡ false → new ≡ record old { held = new.held; read = new.read; ended = new.ended }
+    → (fault ≡ ReadFault → new ≡ old)
+    → ((n : ℕ) → fault ≡ TooLarge n → (n ≡ new.most + 1) × (new.read ≡ n) × (old.read ≡ old.most))
+    → ((at len : ℕ) → fault ≡ TooLong at len → ⊥) → Comes first new (q.bytes ++ fetched.bytes) (Err fault)
+Comes-read_err first old new before mid after ReadFault q fetched clear within going same unread large long =
+    let count : length old.held ≡ length old.held + length fetched.bytes = sym (ap (λ (f : Framing). length f.held) (unread refl)) ∙ ap length fetched.held ∙ length-append old.held fetched.bytes in
+    let nothing : fetched.bytes ≡ [] = nil_from_length fetched.bytes (omega arith) in
+    ap (λ (l : List ℕ). counted_ahead first true (q.bytes ++ l)) nothing ∙ q.same true [] (λ h. absurd (true≢false (sym h ∙ going))) ∙ none_whole old clear within
+Comes-read_err first old new before mid after (TooLong at len) q fetched clear within going same unread large long = absurd (long at len refl)
+Comes-read_err first old new before mid after (TooLarge n) q fetched clear within going same unread large long =
+    let facts = large n refl in
+    let full : old.read ≡ old.most = facts.2 in
+    let most : new.most ≡ old.most = ap (λ (f : Framing). f.most) same in
+    let one : length fetched.bytes ≡ 1 = omega (arith, fetched.count) in
+    let text = old.held ++ fetched.bytes in
+    let limit : limit_left old ≡ length old.held = omega arith in
+    let front : HasNoLineFeed text 0 (limit_left old) =
+    λ k low high is. clear k low (omega arith) (sym (get_or-append old.held fetched.bytes 0 k (omega arith)) ∙ is) in
+    q.same false fetched.bytes (λ h. absurd (true≢false (sym h ∙ going)))
+    ∙ ap (messages_after old.line) (counted-many (limit_left old) false text front (omega (arith, length-append old.held fetched.bytes))) ∙ messages_after-nil old.line
+Comes-read_err first old new before mid after NoMemory q fetched clear within going same unread large long = tt
+
+-- the end was read, and nothing was given
+pub Comes-end : (first old new : Framing) (before after : Option (List ℕ)) (given : Option Message) (q : Quiet first old before after) → HasNoLineFeed old.held 0 (length old.held) → old.read ≤ old.most
+    → (given ≡ None → old.held ≡ []) → Comes first new q.bytes (Ok given)
+Comes-end first old new before after (Some m) q clear within none = tt
+Comes-end first old new before after None q clear within none =
+    ap (counted_ahead first false) (sym (append-nil q.bytes)) ∙ at_end first old before after q clear within ∙ ap (message_in (old.line + 1)) (none refl)
+
+-- a message was given
+pub Comes-some : (first new : Framing) (given : Option Message) (m : Message) (bytes : List ℕ) → given ≡ Some m → Comes first new bytes (Ok given)
+Comes-some first new given m bytes some = subst (λ (o : Option Message). Comes first new bytes (Ok o)) (sym some) tt
+
+-- whether a call failed doesn't matter to it
+pub Comes-done : (first now : Framing) (bytes : List ℕ) (given : Option Message) (failed : Bool) → Comes first now bytes (Ok given) → Comes first (record now { failed = failed }) bytes (Ok given)
+Comes-done first now bytes None failed comes = comes
+Comes-done first now bytes (Some m) failed comes = comes
+
+-- what a fault says is what the answer says
+pub Came-err : (first new : Framing) (before after : Option (List ℕ)) (result : Result (Option Message) FrameFault) (fault : FrameFault) (bytes : List ℕ) → result ≡ Err fault
+    → new.read ≡ first.read + length bytes → before ≡ option_map (λ rest. bytes ++ rest) after → IsNeeded first bytes → Comes first new bytes (Err fault) → Came first new before after result
+Came-err first new before after result fault bytes is count moved needed comes = record {
+  bytes = bytes;
+  count = count;
+  moved = moved;
+  needed = needed;
+  comes = subst (λ (r : Result (Option Message) FrameFault). Comes first new bytes r) (sym is) comes;
+}
