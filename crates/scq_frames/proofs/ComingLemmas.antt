@@ -13,26 +13,19 @@ use Rattle.scq_frames.specs.Lines.{EndsAt, HasNoLineFeed}
 use Rattle.scq_frames.specs.Text.{Framed, message_in, messages_after}
 use Rattle.scq_frames.specs.Trouble.{counted, whole_lines}
 use Rattle.scq_frames.specs.Framing.{Framing, Fetched}
-use Rattle.scq_frames.specs.Finding.{limit_left, MayFollow, IsTooLong}
-use Rattle.scq_frames.specs.Coming.{counted_ahead, BeginsWithLong, Comes, IsNeeded, Came}
+use Rattle.scq_frames.specs.Finding.{limit_left, MayFollow, Finds, IsTooLong}
+use Rattle.scq_frames.specs.Coming.{counted_ahead, BeginsWithLong, Comes, IsNeeded, Found}
 use Rattle.scq_frames.proofs.TextLemmas.{ended_parts, line-clear, messages_after-line, messages_after-last, messages_after-nil}
 use Rattle.scq_frames.proofs.TroubleLemmas.{counted-line, counted-failed, counted-many}
-use Rattle.scq_frames.proofs.FindingLemmas.{nothing_moved, moved-moved}
+use Rattle.scq_frames.proofs.FindingLemmas.{Finds-done}
 
 -- since a call began the source gave these bytes, which were needed, and no message came
-pub record Quiet (first now : Framing) (before after : Option (List ℕ)) : Type 0 where
-  pub bytes : List ℕ
-  pub count : now.read ≡ first.read + length bytes
-  pub moved : before ≡ option_map (λ rest. bytes ++ rest) after
+pub record Quiet (first now : Framing) (bytes : List ℕ) : Type 0 where
   pub same : (failed : Bool) (more : List ℕ) → MayFollow now failed more → counted_ahead first failed (bytes ++ more) ≡ counted_ahead now failed more
   pub needed : IsNeeded first bytes
 
-pub Quiet-start : (first now : Framing) (left : Option (List ℕ)) → ((failed : Bool) (more : List ℕ) → counted_ahead first failed more ≡ counted_ahead now failed more)
-    → now.read ≡ first.read → Quiet first now left left
-Quiet-start first now left same unread = record {
-  bytes = [];
-  count = omega arith;
-  moved = nothing_moved left;
+pub Quiet-start : (first now : Framing) → ((failed : Bool) (more : List ℕ) → counted_ahead first failed more ≡ counted_ahead now failed more) → Quiet first now []
+Quiet-start first now same = record {
   same = λ failed more _. same failed more;
   needed = record { early = []; last = []; parts = refl; most = omega arith; none = λ some. absurd (some refl) };
 }
@@ -51,12 +44,9 @@ counted_ahead-line f len weight failed more ends within =
     ∙ ap (λ (n : ℕ). message_in (f.line + 1) (take len f.held) ++ messages_after (f.line + 1) (counted n failed behind)) rest
 
 -- a line without a message was passed
-pub Quiet-line : (first old : Framing) (before after : Option (List ℕ)) (len weight : ℕ) → Quiet first old before after → EndsAt old.held len → old.read ≤ old.most
-    → message_in (old.line + 1) (take len old.held) ≡ [] → Quiet first (record old { line = old.line + 1; held = drop (len + 1) old.held; weight = weight }) before after
-Quiet-line first old before after len weight q ends within none = record {
-  bytes = q.bytes;
-  count = q.count;
-  moved = q.moved;
+pub Quiet-line : (first old : Framing) (bytes : List ℕ) (len weight : ℕ) → Quiet first old bytes → EndsAt old.held len → old.read ≤ old.most
+    → message_in (old.line + 1) (take len old.held) ≡ [] → Quiet first (record old { line = old.line + 1; held = drop (len + 1) old.held; weight = weight }) bytes
+Quiet-line first old bytes len weight q ends within none = record {
   same = λ failed more may.
       q.same failed more may ∙ counted_ahead-line old len weight failed more ends within
       ∙ ap (λ (ms : List Framed). ms ++ counted_ahead (record old { line = old.line + 1; held = drop (len + 1) old.held; weight = weight }) failed more) none;
@@ -82,28 +72,25 @@ none_whole f clear within =
     ∙ ap (messages_after f.line) (counted-failed (limit_left f) f.held clear (omega arith)) ∙ messages_after-nil f.line
 
 -- so a read then is needed
-pub needed-fetched : (first old new : Framing) (before mid after : Option (List ℕ)) (q : Quiet first old before mid) (fetched : Fetched old new mid after)
-    → HasNoLineFeed old.held 0 (length old.held) → old.ended ≡ false → old.read ≤ old.most → new.read ≤ old.read + 4096 → IsNeeded first (q.bytes ++ fetched.bytes)
-needed-fetched first old new before mid after q fetched clear going within few = record {
-  early = q.bytes;
+pub needed-fetched : (first old new : Framing) (mid after : Option (List ℕ)) (bytes : List ℕ) (q : Quiet first old bytes) (fetched : Fetched old new mid after)
+    → HasNoLineFeed old.held 0 (length old.held) → old.ended ≡ false → old.read ≤ old.most → new.read ≤ old.read + 4096 → IsNeeded first (bytes ++ fetched.bytes)
+needed-fetched first old new mid after bytes q fetched clear going within few = record {
+  early = bytes;
   last = fetched.bytes;
   parts = refl;
   most = omega (arith, fetched.count);
-  none = λ _. ap (counted_ahead first true) (sym (append-nil q.bytes)) ∙ q.same true [] (λ h. absurd (true≢false (sym h ∙ going))) ∙ none_whole old clear within;
+  none = λ _. ap (counted_ahead first true) (sym (append-nil bytes)) ∙ q.same true [] (λ h. absurd (true≢false (sym h ∙ going))) ∙ none_whole old clear within;
 }
 
-pub Quiet-fetched : (first old new : Framing) (before mid after : Option (List ℕ)) → Quiet first old before mid → Fetched old new mid after
+pub Quiet-fetched : (first old new : Framing) (mid after : Option (List ℕ)) (bytes : List ℕ) → Quiet first old bytes → (fetched : Fetched old new mid after)
     → HasNoLineFeed old.held 0 (length old.held) → old.ended ≡ false → old.read ≤ old.most → new.read ≤ old.read + 4096
-    → new ≡ record old { held = new.held; read = new.read; ended = new.ended } → Quiet first new before after
-Quiet-fetched first old new before mid after q fetched clear going within few same = record {
-  bytes = q.bytes ++ fetched.bytes;
-  count = omega (arith, q.count, fetched.count, length-append q.bytes fetched.bytes);
-  moved = moved-moved q.bytes fetched.bytes before mid after q.moved fetched.moved;
+    → new ≡ record old { held = new.held; read = new.read; ended = new.ended } → Quiet first new (bytes ++ fetched.bytes)
+Quiet-fetched first old new mid after bytes q fetched clear going within few same = record {
   same = λ failed more may.
-      ap (counted_ahead first failed) (append_assoc q.bytes fetched.bytes more)
+      ap (counted_ahead first failed) (append_assoc bytes fetched.bytes more)
       ∙ q.same failed (fetched.bytes ++ more) (λ h. absurd (true≢false (sym h ∙ going)))
       ∙ counted_ahead-fetched old new mid after fetched within same failed more;
-  needed = needed-fetched first old new before mid after q fetched clear going within few;
+  needed = needed-fetched first old new mid after bytes q fetched clear going within few;
 }
 
 -- the message of a line that is too long
@@ -112,9 +99,9 @@ begins-long size place at count [] rest long = absurd (omega (arith, long.above,
 begins-long size place at count (b ∷ bs) rest long = (sym long.number, sym long.count)
 
 -- the first line is too long, whatever follows
-Comes-long : (first old new : Framing) (before after : Option (List ℕ)) (len at count : ℕ) (q : Quiet first old before after) → EndsAt old.held len → old.read ≤ old.most → (IsTrue old.ended → IsTrue new.ended)
-    → IsTooLong old.size (old.line + 1) (take len old.held) at count → Comes first new q.bytes (Err (TooLong at count))
-Comes-long first old new before after len at count q ends within stays long = λ failed more may.
+Comes-long : (first old new : Framing) (len at count : ℕ) (bytes : List ℕ) (q : Quiet first old bytes) → EndsAt old.held len → old.read ≤ old.most → (IsTrue old.ended → IsTrue new.ended)
+    → IsTooLong old.size (old.line + 1) (take len old.held) at count → Comes first new bytes (Err (TooLong at count))
+Comes-long first old new len at count bytes q ends within stays long = λ failed more may.
     subst (BeginsWithLong at count) (sym (q.same failed more (λ h. may (stays h)) ∙ counted_ahead-line old len old.weight failed more ends within))
     (begins-long old.size (old.line + 1) at count (take len old.held) _ long)
 
@@ -127,56 +114,56 @@ last_ahead f clear within =
     ∙ messages_after-last f.line f.held clear
 
 -- and nothing follows
-at_end : (first old : Framing) (before after : Option (List ℕ)) (q : Quiet first old before after) → HasNoLineFeed old.held 0 (length old.held) → old.read ≤ old.most
-    → counted_ahead first false (q.bytes ++ []) ≡ message_in (old.line + 1) old.held
-at_end first old before after q clear within = q.same false [] (λ _. (refl, refl)) ∙ last_ahead old clear within
+at_end : (first old : Framing) (bytes : List ℕ) (q : Quiet first old bytes) → HasNoLineFeed old.held 0 (length old.held) → old.read ≤ old.most
+    → counted_ahead first false (bytes ++ []) ≡ message_in (old.line + 1) old.held
+at_end first old bytes q clear within = q.same false [] (λ _. (refl, refl)) ∙ last_ahead old clear within
 
 -- the last line is too long
-Comes-long_last : (first old new : Framing) (before after : Option (List ℕ)) (at count : ℕ) (q : Quiet first old before after) → HasNoLineFeed old.held 0 (length old.held) → old.read ≤ old.most → IsTrue new.ended
-    → IsTooLong old.size (old.line + 1) old.held at count → Comes first new q.bytes (Err (TooLong at count))
-Comes-long_last first old new before after at count q clear within ended long = λ failed more may.
+Comes-long_last : (first old new : Framing) (at count : ℕ) (bytes : List ℕ) (q : Quiet first old bytes) → HasNoLineFeed old.held 0 (length old.held) → old.read ≤ old.most → IsTrue new.ended
+    → IsTooLong old.size (old.line + 1) old.held at count → Comes first new bytes (Err (TooLong at count))
+Comes-long_last first old new at count bytes q clear within ended long = λ failed more may.
     let nothing = may ended in
-    let same : counted_ahead first failed (q.bytes ++ more) ≡ message_in (old.line + 1) old.held ++ [] =
-    ap (λ (l : List ℕ). counted_ahead first failed (q.bytes ++ l)) nothing.0 ∙ ap (λ (b : Bool). counted_ahead first b (q.bytes ++ [])) nothing.1
-    ∙ at_end first old before after q clear within ∙ sym (append-nil (message_in (old.line + 1) old.held)) in
+    let same : counted_ahead first failed (bytes ++ more) ≡ message_in (old.line + 1) old.held ++ [] =
+    ap (λ (l : List ℕ). counted_ahead first failed (bytes ++ l)) nothing.0 ∙ ap (λ (b : Bool). counted_ahead first b (bytes ++ [])) nothing.1
+    ∙ at_end first old bytes q clear within ∙ sym (append-nil (message_in (old.line + 1) old.held)) in
     subst (BeginsWithLong at count) (sym same) (begins-long old.size (old.line + 1) at count old.held [] long)
 
 -- a line was refused
-pub Comes-pass_err : (first old new : Framing) (before after : Option (List ℕ)) (len : ℕ) (fault : FrameFault) (q : Quiet first old before after) → EndsAt old.held len → old.read ≤ old.most → new ≡ old
+pub Comes-pass_err : (first old new : Framing) (len : ℕ) (fault : FrameFault) (bytes : List ℕ) (q : Quiet first old bytes) → EndsAt old.held len → old.read ≤ old.most → new ≡ old
     → ((at : ℕ) × (count : ℕ) × (fault ≡ TooLong at count)) ⊎ (fault ≡ NoMemory)
-    → ((at count : ℕ) → fault ≡ TooLong at count → IsTooLong old.size (old.line + 1) (take len old.held) at count) → Comes first new q.bytes (Err fault)
-Comes-pass_err first old new before after len fault q ends within same faults long =
+    → ((at count : ℕ) → fault ≡ TooLong at count → IsTooLong old.size (old.line + 1) (take len old.held) at count) → Comes first new bytes (Err fault)
+Comes-pass_err first old new len fault bytes q ends within same faults long =
     ⊎_elim
     (λ (which : (at : ℕ) × (count : ℕ) × (fault ≡ TooLong at count)).
-    subst (λ (f : FrameFault). Comes first new q.bytes (Err f)) (sym which.2)
-    (Comes-long first old new before after len which.0 which.1 q ends within (λ h. ap (λ (f : Framing). f.ended) same ∙ h) (long which.0 which.1 which.2)))
-    (λ (memory : fault ≡ NoMemory). subst (λ (f : FrameFault). Comes first new q.bytes (Err f)) (sym memory) tt)
+    subst (λ (f : FrameFault). Comes first new bytes (Err f)) (sym which.2)
+    (Comes-long first old new len which.0 which.1 bytes q ends within (λ h. ap (λ (f : Framing). f.ended) same ∙ h) (long which.0 which.1 which.2)))
+    (λ (memory : fault ≡ NoMemory). subst (λ (f : FrameFault). Comes first new bytes (Err f)) (sym memory) tt)
     faults
 
 -- the last line was refused
-pub Comes-last_err : (first old new : Framing) (before after : Option (List ℕ)) (fault : FrameFault) (q : Quiet first old before after) → HasNoLineFeed old.held 0 (length old.held) → old.read ≤ old.most → IsTrue new.ended
+pub Comes-last_err : (first old new : Framing) (fault : FrameFault) (bytes : List ℕ) (q : Quiet first old bytes) → HasNoLineFeed old.held 0 (length old.held) → old.read ≤ old.most → IsTrue new.ended
     → ((at : ℕ) × (count : ℕ) × (fault ≡ TooLong at count)) ⊎ (fault ≡ NoMemory)
-    → ((at count : ℕ) → fault ≡ TooLong at count → IsTooLong old.size (old.line + 1) old.held at count) → Comes first new q.bytes (Err fault)
-Comes-last_err first old new before after fault q clear within ended faults long =
+    → ((at count : ℕ) → fault ≡ TooLong at count → IsTooLong old.size (old.line + 1) old.held at count) → Comes first new bytes (Err fault)
+Comes-last_err first old new fault bytes q clear within ended faults long =
     ⊎_elim
     (λ (which : (at : ℕ) × (count : ℕ) × (fault ≡ TooLong at count)).
-    subst (λ (f : FrameFault). Comes first new q.bytes (Err f)) (sym which.2)
-    (Comes-long_last first old new before after which.0 which.1 q clear within ended (long which.0 which.1 which.2)))
-    (λ (memory : fault ≡ NoMemory). subst (λ (f : FrameFault). Comes first new q.bytes (Err f)) (sym memory) tt)
+    subst (λ (f : FrameFault). Comes first new bytes (Err f)) (sym which.2)
+    (Comes-long_last first old new which.0 which.1 bytes q clear within ended (long which.0 which.1 which.2)))
+    (λ (memory : fault ≡ NoMemory). subst (λ (f : FrameFault). Comes first new bytes (Err f)) (sym memory) tt)
     faults
 
 -- a read was refused: behind what is held, none of which is a whole line
-pub Comes-read_err : (first old new : Framing) (before mid after : Option (List ℕ)) (fault : FrameFault) (q : Quiet first old before mid) (fetched : Fetched old new mid after)
+pub Comes-read_err : (first old new : Framing) (mid after : Option (List ℕ)) (fault : FrameFault) (bytes : List ℕ) (q : Quiet first old bytes) (fetched : Fetched old new mid after)
     → HasNoLineFeed old.held 0 (length old.held) → old.read ≤ old.most → old.ended ≡ false → new ≡ record old { held = new.held; read = new.read; ended = new.ended }
     → (fault ≡ ReadFault → new ≡ old)
     → ((n : ℕ) → fault ≡ TooLarge n → (n ≡ new.most + 1) × (new.read ≡ n) × (old.read ≡ old.most))
-    → ((at len : ℕ) → fault ≡ TooLong at len → ⊥) → Comes first new (q.bytes ++ fetched.bytes) (Err fault)
-Comes-read_err first old new before mid after ReadFault q fetched clear within going same unread large long =
+    → ((at len : ℕ) → fault ≡ TooLong at len → ⊥) → Comes first new (bytes ++ fetched.bytes) (Err fault)
+Comes-read_err first old new mid after ReadFault bytes q fetched clear within going same unread large long =
     let count : length old.held ≡ length old.held + length fetched.bytes = sym (ap (λ (f : Framing). length f.held) (unread refl)) ∙ ap length fetched.held ∙ length-append old.held fetched.bytes in
     let nothing : fetched.bytes ≡ [] = nil_from_length fetched.bytes (omega arith) in
-    ap (λ (l : List ℕ). counted_ahead first true (q.bytes ++ l)) nothing ∙ q.same true [] (λ h. absurd (true≢false (sym h ∙ going))) ∙ none_whole old clear within
-Comes-read_err first old new before mid after (TooLong at len) q fetched clear within going same unread large long = absurd (long at len refl)
-Comes-read_err first old new before mid after (TooLarge n) q fetched clear within going same unread large long =
+    ap (λ (l : List ℕ). counted_ahead first true (bytes ++ l)) nothing ∙ q.same true [] (λ h. absurd (true≢false (sym h ∙ going))) ∙ none_whole old clear within
+Comes-read_err first old new mid after (TooLong at len) bytes q fetched clear within going same unread large long = absurd (long at len refl)
+Comes-read_err first old new mid after (TooLarge n) bytes q fetched clear within going same unread large long =
     let facts = large n refl in
     let full : old.read ≡ old.most = facts.2 in
     let most : new.most ≡ old.most = ap (λ (f : Framing). f.most) same in
@@ -187,31 +174,42 @@ Comes-read_err first old new before mid after (TooLarge n) q fetched clear withi
     λ k low high is. clear k low (omega arith) (sym (get_or-append old.held fetched.bytes 0 k (omega arith)) ∙ is) in
     q.same false fetched.bytes (λ h. absurd (true≢false (sym h ∙ going)))
     ∙ ap (messages_after old.line) (counted-many (limit_left old) false text front (omega (arith, length-append old.held fetched.bytes))) ∙ messages_after-nil old.line
-Comes-read_err first old new before mid after NoMemory q fetched clear within going same unread large long = tt
+Comes-read_err first old new mid after NoMemory bytes q fetched clear within going same unread large long = tt
 
--- the end was read, and nothing was given
-pub Comes-end : (first old new : Framing) (before after : Option (List ℕ)) (given : Option Message) (q : Quiet first old before after) → HasNoLineFeed old.held 0 (length old.held) → old.read ≤ old.most
-    → (given ≡ None → old.held ≡ []) → Comes first new q.bytes (Ok given)
-Comes-end first old new before after (Some m) q clear within none = tt
-Comes-end first old new before after None q clear within none =
-    ap (counted_ahead first false) (sym (append-nil q.bytes)) ∙ at_end first old before after q clear within ∙ ap (message_in (old.line + 1)) (none refl)
-
--- a message was given
-pub Comes-some : (first new : Framing) (given : Option Message) (m : Message) (bytes : List ℕ) → given ≡ Some m → Comes first new bytes (Ok given)
-Comes-some first new given m bytes some = subst (λ (o : Option Message). Comes first new bytes (Ok o)) (sym some) tt
+-- the end was read, and nothing was held
+pub Comes-none : (first old new : Framing) (bytes : List ℕ) (q : Quiet first old bytes) → HasNoLineFeed old.held 0 (length old.held) → old.read ≤ old.most
+    → old.held ≡ [] → Comes first new bytes (Ok None)
+Comes-none first old new bytes q clear within none =
+    ap (counted_ahead first false) (sym (append-nil bytes)) ∙ at_end first old bytes q clear within ∙ ap (message_in (old.line + 1)) none
 
 -- whether a call failed doesn't matter to it
-pub Comes-done : (first now : Framing) (bytes : List ℕ) (given : Option Message) (failed : Bool) → Comes first now bytes (Ok given) → Comes first (record now { failed = failed }) bytes (Ok given)
+Comes-done : (first now : Framing) (bytes : List ℕ) (given : Option Message) (failed : Bool) → Comes first now bytes (Ok given) → Comes first (record now { failed = failed }) bytes (Ok given)
 Comes-done first now bytes None failed comes = comes
 Comes-done first now bytes (Some m) failed comes = comes
 
 -- what a fault says is what the answer says
-pub Came-err : (first new : Framing) (before after : Option (List ℕ)) (result : Result (Option Message) FrameFault) (fault : FrameFault) (bytes : List ℕ) → result ≡ Err fault
-    → new.read ≡ first.read + length bytes → before ≡ option_map (λ rest. bytes ++ rest) after → IsNeeded first bytes → Comes first new bytes (Err fault) → Came first new before after result
-Came-err first new before after result fault bytes is count moved needed comes = record {
+pub Found-err : (first new : Framing) (before after : Option (List ℕ)) (result : Result (Option Message) FrameFault) (fault : FrameFault) (bytes : List ℕ) → result ≡ Err fault
+    → new.read ≡ first.read + length bytes → before ≡ option_map (λ rest. bytes ++ rest) after → (IsTrue first.ended → bytes ≡ [])
+    → IsNeeded first bytes → Finds first new bytes (Err fault) → Comes first new bytes (Err fault) → Found first new before after result
+Found-err first new before after result fault bytes is count moved idle needed finds comes = record {
   bytes = bytes;
   count = count;
   moved = moved;
+  idle = idle;
   needed = needed;
+  finds = subst (λ (r : Result (Option Message) FrameFault). Finds first new bytes r) (sym is) finds;
   comes = subst (λ (r : Result (Option Message) FrameFault). Comes first new bytes r) (sym is) comes;
+}
+
+-- whether a call failed doesn't matter to what it found
+pub Found-done : (first now : Framing) (before after : Option (List ℕ)) (given : Option Message) (failed : Bool) → Found first now before after (Ok given)
+    → Found first (record now { failed = failed }) before after (Ok given)
+Found-done first now before after given failed f = record {
+  bytes = f.bytes;
+  count = f.count;
+  moved = f.moved;
+  idle = f.idle;
+  needed = f.needed;
+  finds = Finds-done first now f.bytes given failed f.finds;
+  comes = Comes-done first now f.bytes given failed f.comes;
 }

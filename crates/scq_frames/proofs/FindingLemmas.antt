@@ -12,7 +12,8 @@ use Rattle.scq_frames.specs.Lines.{EndsAt, HasNoLineFeed}
 use Rattle.scq_frames.specs.Text.{payload_of, message_in}
 use Rattle.scq_frames.specs.Trouble.{Trouble, LongPayload, trouble_after, first_too_long}
 use Rattle.scq_frames.specs.Framing.{Framing, Fetched}
-use Rattle.scq_frames.specs.Finding.{limit_left, trouble_ahead, MayFollow, SameTrouble, Finds, Found, IsTooLong}
+use Rattle.scq_frames.specs.Finding.{limit_left, trouble_ahead, MayFollow, SameTrouble, Finds, IsTooLong}
+use Rattle.scq_frames.specs.Coming.{Found}
 use Rattle.scq_frames.proofs.TextLemmas.{ended_parts, line-clear}
 use Rattle.scq_frames.proofs.TroubleLemmas.{trouble_after-line, trouble_after-last, trouble_after-failed, trouble_after-many, first_too_long-fits, first_too_long-long}
 
@@ -62,15 +63,9 @@ trouble_ahead-line f len weight failed more ends within fits =
     ∙ ap (λ (o : Option Trouble). option_or o (trouble_after f.size (limit_left f - (len + 1)) failed (f.line + 1) (drop (len + 1) f.held ++ more))) (first_too_long-fits f.size (f.line + 1) (take len f.held) fits)
     ∙ ap (λ (n : ℕ). trouble_after f.size n failed (f.line + 1) (drop (len + 1) f.held ++ more)) rest
 
-pub Gave-line : (first old new : Framing) (before after : Option (List ℕ)) (len weight : ℕ) → Gave first old before after → EndsAt old.held len → old.read ≤ old.most
-    → length (payload_of (take len old.held)) ≤ old.size → new ≡ record old { line = old.line + 1; held = drop (len + 1) old.held; weight = weight } → Gave first new before after
-Gave-line first old new before after len weight g ends within fits e = subst (λ (f : Framing). Gave first f before after) (sym e) (record {
-  bytes = g.bytes;
-  count = g.count;
-  moved = g.moved;
-  idle = g.idle;
-  trouble = λ failed more may. g.trouble failed more may ∙ trouble_ahead-line old len weight failed more ends within fits;
-})
+pub trouble-line : (first old : Framing) (bytes : List ℕ) (len weight : ℕ) → SameTrouble first old bytes → EndsAt old.held len → old.read ≤ old.most
+    → length (payload_of (take len old.held)) ≤ old.size → SameTrouble first (record old { line = old.line + 1; held = drop (len + 1) old.held; weight = weight }) bytes
+trouble-line first old bytes len weight same ends within fits = λ failed more may. same failed more may ∙ trouble_ahead-line old len weight failed more ends within fits
 
 -- what was fetched was ahead
 trouble_ahead-fetched : (old new : Framing) (before after : Option (List ℕ)) (fetched : Fetched old new before after) → old.read ≤ old.most
@@ -85,18 +80,12 @@ trouble_ahead-fetched old new before after fetched within same failed more =
     let text : old.held ++ (fetched.bytes ++ more) ≡ new.held ++ more = sym (append_assoc old.held fetched.bytes more) ∙ ap (λ (l : List ℕ). l ++ more) (sym fetched.held) in
     cc
 
-pub Gave-fetched : (first old new : Framing) (before mid after : Option (List ℕ)) → Gave first old before mid → old.ended ≡ false → old.read ≤ old.most
-    → (IsTrue first.ended → IsTrue old.ended) → new ≡ record old { held = new.held; read = new.read; ended = new.ended } → Fetched old new mid after → Gave first new before after
-Gave-fetched first old new before mid after g going within ended same fetched = record {
-  bytes = g.bytes ++ fetched.bytes;
-  count = omega (arith, g.count, fetched.count, length-append g.bytes fetched.bytes);
-  moved = moved-moved g.bytes fetched.bytes before mid after g.moved fetched.moved;
-  idle = λ h. absurd (true≢false (sym (ended h) ∙ going));
-  trouble = λ failed more may.
-      ap (trouble_ahead first failed) (append_assoc g.bytes fetched.bytes more)
-      ∙ g.trouble failed (fetched.bytes ++ more) (λ h. absurd (true≢false (sym h ∙ going)))
-      ∙ trouble_ahead-fetched old new mid after fetched within same failed more;
-}
+pub trouble-fetched : (first old new : Framing) (mid after : Option (List ℕ)) (bytes : List ℕ) → SameTrouble first old bytes → (fetched : Fetched old new mid after)
+    → old.ended ≡ false → old.read ≤ old.most → new ≡ record old { held = new.held; read = new.read; ended = new.ended } → SameTrouble first new (bytes ++ fetched.bytes)
+trouble-fetched first old new mid after bytes trouble fetched going within same = λ failed more may.
+    ap (trouble_ahead first failed) (append_assoc bytes fetched.bytes more)
+    ∙ trouble failed (fetched.bytes ++ more) (λ h. absurd (true≢false (sym h ∙ going)))
+    ∙ trouble_ahead-fetched old new mid after fetched within same failed more
 
 -- the trouble ahead of a call, where nothing more comes
 so_far : (first now : Framing) (before after : Option (List ℕ)) (g : Gave first now before after) (failed : Bool) → MayFollow now failed [] → trouble_ahead first failed g.bytes ≡ trouble_ahead now failed []
@@ -140,9 +129,6 @@ Finds-last first old new before after m g clear within fits ended none still = �
 pub Finds-done : (first now : Framing) (bytes : List ℕ) (given : Option Message) (failed : Bool) → Finds first now bytes (Ok given) → Finds first (record now { failed = failed }) bytes (Ok given)
 Finds-done first now bytes None failed finds = finds
 Finds-done first now bytes (Some m) failed finds = finds
-
-pub Finds-some : (first now : Framing) (before after : Option (List ℕ)) (given : Option Message) (m : Message) (g : Gave first now before after) → given ≡ Some m → Finds first now g.bytes (Ok given)
-Finds-some first now before after given m g some = subst (λ (o : Option Message). Finds first now g.bytes (Ok o)) (sym some) g.trouble
 
 -- the first line is too long
 pub Finds-long : (first old new : Framing) (before after : Option (List ℕ)) (len at count : ℕ) (g : Gave first old before after) → EndsAt old.held len → old.read ≤ old.most
@@ -223,20 +209,17 @@ Finds-read_err first old new before mid after (TooLarge n) g fetched clear withi
     Finds-too_large first old new before mid after g fetched n clear facts.2 going (omega arith)
 Finds-read_err first old new before mid after NoMemory g fetched clear within going same unread large long = tt
 
--- what a fault says of the trouble is what the answer says
-pub Found-err : (first new : Framing) (before after : Option (List ℕ)) (result : Result (Option Message) FrameFault) (fault : FrameFault) (bytes : List ℕ) → result ≡ Err fault
-    → new.read ≡ first.read + length bytes → before ≡ option_map (λ rest. bytes ++ rest) after → (IsTrue first.ended → bytes ≡ []) → Finds first new bytes (Err fault) → Found first new before after result
-Found-err first new before after result fault bytes is count moved idle finds = record {
-  bytes = bytes;
-  count = count;
-  moved = moved;
-  idle = idle;
-  finds = subst (λ (r : Result (Option Message) FrameFault). Finds first new bytes r) (sym is) finds;
-}
+-- what an answer says of all the bytes that the source gave since an earlier call
+pub record FoundSince (old new : Framing) (before after : Option (List ℕ)) (result : Result (Option Message) FrameFault) : Type 0 where
+  pub bytes : List ℕ
+  pub count : new.read ≡ old.read + length bytes
+  pub moved : before ≡ option_map (λ rest. bytes ++ rest) after
+  pub idle : IsTrue old.ended → bytes ≡ []
+  pub finds : Finds old new bytes result
 
 -- what a call finds after earlier ones that gave messages, is found of all that the source gave
 pub Gave-found : (first old new : Framing) (before mid after : Option (List ℕ)) (result : Result (Option Message) FrameFault) → Gave first old before mid → Found old new mid after result
-    → (IsTrue first.ended → IsTrue old.ended) → (IsTrue old.ended → IsTrue new.ended) → (result ≡ Err ReadFault → old.ended ≡ false) → Found first new before after result
+    → (IsTrue first.ended → IsTrue old.ended) → (IsTrue old.ended → IsTrue new.ended) → (result ≡ Err ReadFault → old.ended ≡ false) → FoundSince first new before after result
 Gave-found first old new before mid after result g f ended stays going = record {
   bytes = g.bytes ++ f.bytes;
   count = omega (arith, g.count, f.count, length-append g.bytes f.bytes);
@@ -260,7 +243,7 @@ Gave-found first old new before mid after result g f ended stays going = record 
     joined (Err NoMemory) finds going = tt
 
 -- after a message that came, the calls go on from there
-pub Found-gave : (first new : Framing) (before after : Option (List ℕ)) (m : Message) → Found first new before after (Ok (Some m)) → Gave first new before after
+pub Found-gave : (first new : Framing) (before after : Option (List ℕ)) (m : Message) → FoundSince first new before after (Ok (Some m)) → Gave first new before after
 Found-gave first new before after m f = record {
   bytes = f.bytes;
   count = f.count;

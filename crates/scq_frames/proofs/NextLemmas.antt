@@ -1,5 +1,5 @@
 -- What a framer keeps while it looks for the next message.
-use Rattle.std.proofs.Common.{◌≡◌, ℕ, ◌+◌, ◌≤◌, Bool, true, false, Option, Some, None, Ok, List, [], ◌∷◌, ◌++◌, length, take, drop, map, refl, sym, ◌∙◌, ap, subst, add-zero, arith}
+use Rattle.std.proofs.Common.{◌≡◌, ℕ, ◌+◌, ◌≤◌, Bool, true, false, Option, Some, None, Ok, List, [], ◌∷◌, ◌++◌, length, take, drop, map, refl, sym, ◌∙◌, ap, subst, add-zero, arith, length-append}
 use Rattle.std.specs.Prelude.{IsTrue, IfNone, IfSome, sum_by, if◌then◌else◌}
 use Rattle.std.specs.Option.{option_map, option_to_list}
 use Rattle.scq_frames.specs.Numbered.{numbered}
@@ -8,9 +8,9 @@ use Rattle.std.proofs.lemmas.Bool.{true≢false}
 use Rattle.scq_frames.specs.Lines.{EndsAt, HasNoLineFeed}
 use Rattle.scq_frames.specs.Text.{message_in, messages_after}
 use Rattle.scq_frames.proofs.TextLemmas.{messages_after-ended, messages_after-last, messages_after-nil}
-use Rattle.scq_frames.proofs.FindingLemmas.{Gave, Gave-line, Gave-fetched, Finds-none, Finds-last}
-use Rattle.scq_frames.proofs.ComingLemmas.{Quiet, Quiet-line, Quiet-fetched}
-use Rattle.scq_frames.specs.Finding.{Found}
+use Rattle.scq_frames.proofs.FindingLemmas.{Gave, trouble-line, trouble-fetched, moved-moved, nothing_moved, Finds-none, Finds-last}
+use Rattle.scq_frames.proofs.ComingLemmas.{Quiet, Quiet-start, Quiet-line, Quiet-fetched, Comes-none}
+use Rattle.scq_frames.specs.Coming.{Found}
 use Rattle.scq_frames.specs.Text.{payload_of}
 use Rattle.scq_frames.specs.Framing.{Fetched, bytes_ahead, Framing, NothingLeft, told_ahead, told_size, weight_of}
 use Rattle.scq_frames.specs.declared.message.Message.{Message}
@@ -32,7 +32,35 @@ module _ (number : List ℕ → ℕ) where
     pub kept : faults after ≡ faults source
     pub empty : IsTrue first.ended → first.held ≡ [] → now.held ≡ []
     pub found : Gave first now (left source) (left after)
-    pub quiet : Quiet first now (left source) (left after)
+    pub quiet : Quiet first now found.bytes
+
+  -- a call begins
+  pub Searches-start : {S : Type 0} (left : S → Option (List ℕ)) (faults : S → ℕ) (first now : Framing) (source : S) → now ≡ record first { failed = true } → first.read ≤ first.most
+      → Searches left faults first now source source
+  Searches-start left faults first now source same within = subst (λ (f : Framing). Searches left faults first f source source) (sym same) (record {
+    file = refl;
+    payload = refl;
+    most = refl;
+    failing = refl;
+    ahead = refl;
+    size = refl;
+    end = λ end. end;
+    ended = λ h. (refl, h);
+    line = omega arith;
+    weight = refl;
+    within = within;
+    kept = refl;
+    empty = λ _ none. none;
+    found =
+        record {
+          bytes = [];
+          count = omega arith;
+          moved = nothing_moved (left source);
+          idle = λ _. refl;
+          trouble = λ failed more _. refl;
+        };
+    quiet = Quiet-start first (record first { failed = true }) (λ failed more. refl);
+  })
 
   -- passing a line takes its message off those ahead
   pub told_ahead-line : (old : Framing) (len weight : ℕ) (left : Option (List ℕ)) → EndsAt old.held len
@@ -109,8 +137,15 @@ module _ (number : List ℕ → ℕ) where
         within = s.within;
         kept = s.kept;
         empty = λ ended none. absurd (omega (arith, passed.ends.within, ap length (s.empty ended none)));
-        found = Gave-line first old f (left source) (left after) len f.weight s.found passed.ends s.within passed.fits refl;
-        quiet = Quiet-line first old (left source) (left after) len f.weight s.quiet passed.ends s.within blank;
+        found =
+            record {
+              bytes = s.found.bytes;
+              count = s.found.count;
+              moved = s.found.moved;
+              idle = s.found.idle;
+              trouble = trouble-line first old s.found.bytes len f.weight s.found.trouble passed.ends s.within passed.fits;
+            };
+        quiet = Quiet-line first old s.found.bytes len f.weight s.quiet passed.ends s.within blank;
       })
 
   -- the last line was passed, where there was one
@@ -184,33 +219,52 @@ module _ (number : List ℕ → ℕ) where
     within = within;
     kept = kept ∙ s.kept;
     empty = λ h _. absurd (true≢false (sym (s.ended h).1 ∙ going));
-    found = Gave-fetched first old new (left source) (left mid) (left after) s.found going s.within (λ h. (s.ended h).1) same fetched;
-    quiet = Quiet-fetched first old new (left source) (left mid) (left after) s.quiet fetched clear going s.within few same;
+    found =
+        record {
+          bytes = s.found.bytes ++ fetched.bytes;
+          count = omega (arith, s.found.count, fetched.count, length-append s.found.bytes fetched.bytes);
+          moved = moved-moved s.found.bytes fetched.bytes (left source) (left mid) (left after) s.found.moved fetched.moved;
+          idle = λ h. absurd (true≢false (sym (s.ended h).1 ∙ going));
+          trouble = trouble-fetched first old new (left mid) (left after) s.found.bytes s.found.trouble fetched going s.within same;
+        };
+    quiet = Quiet-fetched first old new (left mid) (left after) s.found.bytes s.quiet fetched clear going s.within few same;
   }
 
   -- where the end gave nothing, nothing was held
-  pub none_held : (old new : Framing) (given : Option Message) → PassedLast old new given → given ≡ None → old.held ≡ []
+  none_held : (old new : Framing) (given : Option Message) → PassedLast old new given → given ≡ None → old.held ≡ []
   none_held old new given p none = no_line (old.line + 1) old.file old.held (sym (ap option_to_list none) ∙ p.gave)
 
-  pub last_read : (old new : Framing) (given : Option Message) → PassedLast old new given → new.read ≡ old.read
+  last_read : (old new : Framing) (given : Option Message) → PassedLast old new given → new.read ≡ old.read
   last_read old new None p = ap (λ (f : Framing). f.read) p.none
   last_read old new (Some m) p = ap (λ (f : Framing). f.read) p.some
 
-  -- and what the end says of the trouble
-  pub Found-last : (first old new : Framing) (before after : Option (List ℕ)) (given : Option Message) → Gave first old before after → PassedLast old new given
+  -- a message was passed: what the source gave so far is found in the call
+  pub Found-line : (first old new : Framing) (before after : Option (List ℕ)) (len : ℕ) (given : Option Message) (m : Message) (g : Gave first old before after) → Quiet first old g.bytes
+      → Passed old new len given → old.read ≤ old.most → given ≡ Some m → Found first new before after (Ok (Some m))
+  Found-line first old new before after len given m g q p within some =
+      let line = trouble-line first old g.bytes len (old.weight + sum_by weight_of (option_to_list given)) g.trouble p.ends within p.fits in
+      subst (λ (f : Framing). Found first f before after (Ok (Some m))) (sym p.after)
+      (record { bytes = g.bytes; count = g.count; moved = g.moved; idle = g.idle; needed = q.needed; finds = line; comes = tt })
+
+  -- the end was read, with the last line or without one
+  pub Found-last : (first old new : Framing) (before after : Option (List ℕ)) (given : Option Message) (g : Gave first old before after) → Quiet first old g.bytes → PassedLast old new given
       → old.read ≤ old.most → length (payload_of old.held) ≤ old.size → Found first new before after (Ok given)
-  Found-last first old new before after None g p within fits = record {
+  Found-last first old new before after None g q p within fits = record {
     bytes = g.bytes;
     count = last_read old new None p ∙ g.count;
     moved = g.moved;
     idle = g.idle;
+    needed = q.needed;
     finds = Finds-none first old new before after g p.clear within fits;
+    comes = Comes-none first old new g.bytes q p.clear within (none_held old new None p refl);
   }
-  Found-last first old new before after (Some m) g p within fits = record {
+  Found-last first old new before after (Some m) g q p within fits = record {
     bytes = g.bytes;
     count = last_read old new (Some m) p ∙ g.count;
     moved = g.moved;
     idle = g.idle;
+    needed = q.needed;
     finds = Finds-last first old new before after m g p.clear within fits (ap (λ (f : Framing). f.ended) p.some ∙ p.ended) (ap (λ (f : Framing). f.held) p.some)
         (subst (λ (f : Framing). f.read ≤ f.most) (sym p.some) within);
+    comes = tt;
   }

@@ -11,12 +11,8 @@ use Rattle.std.proofs.Math.Seq.{take-length}
 use Rattle.std.proofs.lemmas.Grind.{get_or_default_zero}
 use Rattle.memchr.specs.Find.{IsFirstByte, is_byte}
 use Rattle.scq_frames.specs.Lines.{EndsAt, HasNoLineFeed}
-use Rattle.scq_frames.specs.Text.{payload_of, framed, message_in, messages_from, messages_after, lines_of_parts, is_line_feed}
+use Rattle.scq_frames.specs.Text.{payload_of, message_in, messages_from, messages_after, lines_of_parts, is_line_feed}
 use Rattle.scq_topics.specs.Runs.{is_space}
-
-pub message_in-some : (number : ℕ) (line : List ℕ) → length line ≢ 0 → message_in number line ≡ framed number line ∷ []
-message_in-some number [] some = absurd (some refl)
-message_in-some number (b ∷ bs) some = refl
 
 -- a search for the first space finds where the topic ends
 space-some : (line : List ℕ) (n : ℕ) → IsFirstByte (is_byte 32) line (Some n) → position_or_len is_space line ≡ n

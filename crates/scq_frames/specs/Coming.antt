@@ -1,5 +1,6 @@
--- What comes first in the bytes that a framer holds and those that its source gives.
-use Rattle.std.specs.Prelude.{◌≡◌, ◌≢◌, ℕ, ◌+◌, ◌≤◌, Bool, true, false, Option, Some, None, Result, Ok, Err, List, [], ◌∷◌, ◌++◌, length}
+-- What comes first in the bytes that a framer holds and those that its source gives, and what a call
+-- found in all.
+use Rattle.std.specs.Prelude.{◌≡◌, ◌≢◌, ℕ, ◌+◌, ◌≤◌, Bool, true, false, IsTrue, Option, Some, None, Result, Ok, Err, List, [], ◌∷◌, ◌++◌, length}
 use Rattle.std.specs.Option.{option_map}
 use Rattle.scq_frames.specs.declared.message.Message.{Message}
 use Rattle.scq_frames.specs.declared.fault.FrameFault.{FrameFault}
@@ -7,7 +8,7 @@ use Rattle.scq_frames.specs.declared.fault.FrameFault.TheVariants.{ReadFault, To
 use Rattle.scq_frames.specs.Text.{Framed, messages_after}
 use Rattle.scq_frames.specs.Trouble.{counted}
 use Rattle.scq_frames.specs.Framing.{Framing}
-use Rattle.scq_frames.specs.Finding.{limit_left, MayFollow}
+use Rattle.scq_frames.specs.Finding.{limit_left, MayFollow, Finds}
 
 -- the messages ahead of a framer, of lines that count, where these bytes came, and then the end or
 -- a failed read
@@ -38,11 +39,13 @@ pub record IsNeeded (old : Framing) (bytes : List ℕ) : Type 0 where
   pub most : length last ≤ 4096
   pub none : bytes ≢ [] → counted_ahead old true early ≡ []
 
--- in a call the source gave some bytes, as many as the framer counts, which were needed, and the
--- answer says what comes first in them
-pub record Came (old new : Framing) (before after : Option (List ℕ)) (result : Result (Option Message) FrameFault) : Type 0 where
+-- in a call the source gave some bytes: as many as the framer counts, none where the end was read
+-- before it, and each needed. The answer says what trouble they are, and what comes first in them
+pub record Found (old new : Framing) (before after : Option (List ℕ)) (result : Result (Option Message) FrameFault) : Type 0 where
   pub bytes : List ℕ
   pub count : new.read ≡ old.read + length bytes
   pub moved : before ≡ option_map (λ rest. bytes ++ rest) after
+  pub idle : IsTrue old.ended → bytes ≡ []
   pub needed : IsNeeded old bytes
+  pub finds : Finds old new bytes result
   pub comes : Comes old new bytes result

@@ -1,6 +1,5 @@
 -- What trouble a framer finds, in the bytes that it holds and those that its source gives.
 use Rattle.std.specs.Prelude.{◌≡◌, ℕ, ◌+◌, ◌-◌, ◌<◌, Bool, true, false, IsTrue, Option, Some, None, Result, Ok, Err, List, [], ◌++◌, length}
-use Rattle.std.specs.Option.{option_map}
 use Rattle.scq_frames.specs.declared.message.Message.{Message}
 use Rattle.scq_frames.specs.declared.fault.FrameFault.{FrameFault}
 use Rattle.scq_frames.specs.declared.fault.FrameFault.TheVariants.{ReadFault, TooLong, TooLarge, NoMemory}
@@ -33,15 +32,6 @@ Finds old new bytes (Err ReadFault) = trouble_ahead old true bytes ≡ None
 Finds old new bytes (Err (TooLong line len)) = trouble_ahead old false bytes ≡ Some (LongPayload line len)
 Finds old new bytes (Err (TooLarge count)) = trouble_ahead old false bytes ≡ Some ManyBytes
 Finds old new bytes (Err NoMemory) = Unit {0}
-
--- in a call the source gave some bytes, as many as the framer counts and none where the end was read
--- before it, and the answer says what trouble they are
-pub record Found (old new : Framing) (before after : Option (List ℕ)) (result : Result (Option Message) FrameFault) : Type 0 where
-  pub bytes : List ℕ
-  pub count : new.read ≡ old.read + length bytes
-  pub moved : before ≡ option_map (λ rest. bytes ++ rest) after
-  pub idle : IsTrue old.ended → bytes ≡ []
-  pub finds : Finds old new bytes result
 
 -- the line of this number has these bytes, and a payload of so many, which are too many
 pub record IsTooLong (size place : ℕ) (bytes : List ℕ) (line len : ℕ) : Type 0 where

@@ -4,8 +4,8 @@ ghost use Rattle.scq_outside.specs.Faults.{Rose};
 ghost use Rattle.scq_topics.specs.Topics.{topic_of};
 ghost use Rattle.scq_frames.specs.Numbered.{numbered};
 ghost use Rattle.scq_frames.specs.Text.{message_in, payload_of};
-ghost use Rattle.scq_frames.specs.Finding.{Found, IsTooLong};
-ghost use Rattle.scq_frames.specs.Coming.{Came};
+ghost use Rattle.scq_frames.specs.Finding.{IsTooLong};
+ghost use Rattle.scq_frames.specs.Coming.{Found};
 ghost use Rattle.scq_frames.specs.Lines.{EndsAt, HasNoLineFeed};
 ghost use Rattle.scq_frames.specs.Framing.{Fetched, IsNext, NothingLeft, fresh, given_by, told_ahead, told_size, weight_of, work_left};
 
@@ -110,7 +110,6 @@ impl Framer {
         // payload is told only once its line has ended, and each fault behind the messages in front of
         // it. No byte is read too early.
         ensures found { Found self.old self.new (S.left source.old) (S.left source.new) result }
-        ensures came { Came self.old self.new (S.left source.old) (S.left source.new) result }
         ensures read_fault { IsErrOf result FrameFault.ReadFault → Rose (S.faults source.old) (S.faults source.new) }
         ensures going { IsErrOf result FrameFault.ReadFault → self.old.ended ≡ false }
         ensures kept { result ≢ Err FrameFault.ReadFault → S.faults source.new ≡ S.faults source.old }

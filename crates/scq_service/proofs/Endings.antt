@@ -17,8 +17,7 @@ use Rattle.scq_service.specs.Ends.{Ends, Change, output_of, sizes, read_and_left
 use Rattle.scq_service.specs.Faults.{status_of_fault, fault_of_file, bytes_of_large}
 use Rattle.scq_service.specs.Judged.{Judged, Judges}
 use Rattle.scq_service.specs.Writing.{told_with, WrotePart}
-use Rattle.scq_service.specs.declared.fault.Fault.TheVariants.{Words, OpenFault, ReadFault, TooLong, TooLarge, WriteFault, NoMemory}
-use Rattle.scq_service.specs.declared.fault.WordsFault.{WordsFault}
+use Rattle.scq_service.specs.declared.fault.Fault.TheVariants.{OpenFault, ReadFault, TooLong, TooLarge, WriteFault, NoMemory}
 use Rattle.scq_service.proofs.Contents.{told-one}
 use Rattle.scq_service.proofs.Seen.{all-none, all-one, split-told, rest-one, ending-one}
 
@@ -34,35 +33,6 @@ nothing-told (Some files) P p = p
 -- no name left the table
 table_same : (table : Change (Option Table)) → table.new ≡ table.old → table.new ≡ option_map (λ files. files) table.old
 table_same table same = same ∙ sym (option_map_id table.old)
-
--- the words were refused
-pub ended-words : {S : Type 0} (faults : S → ℕ) (left : S → Option (List ℕ)) (table : Change (Option Table)) (files_faults out_faults : Change ℕ)
-    (written : Change (Option (List ℕ))) (fault : WordsFault) → table.new ≡ table.old → files_faults.new ≡ files_faults.old → out_faults.new ≡ out_faults.old → written.new ≡ written.old
-    → Ends faults left [] table files_faults out_faults written 2 (Some (Words fault)) [] 0
-ended-words faults left table files_faults out_faults written fault same_table files_kept kept same = record {
-  status_is = refl;
-  output = λ e. absurd (omega arith);
-  read_to_end = λ e. all-none (λ source. NothingLeft (left source));
-  write_fault = λ e. absurd (omega arith);
-  front = λ e. absurd (omega arith);
-  untouched = λ e f. same;
-  out_kept = λ e. kept;
-  got = refl;
-  table_left = table_same table same_table;
-  files_kept = λ e. files_kept;
-  sources_kept = λ e. all-none (λ source. faults source ≡ 0);
-  open_fault = λ file e. absurd (cc);
-  missing = λ file e. absurd (cc);
-  read_fault = λ file e. absurd (cc);
-  too_long = λ file line len e. absurd (cc);
-  too_large = λ file e. absurd (cc);
-  too_large_told = λ file e. absurd (cc);
-  unread = λ e. refl;
-  rest = nothing-told table.old (λ contents. HaveRest left contents []) tt;
-  cause = nothing-told table.old (λ contents. IsCause (Some (Words fault)) (first_file_fault faults left 1 contents [])) refl;
-  whole = nothing-told table.old (λ contents. IsOfWhole (Some (Words fault)) contents) tt;
-  complete = λ e _ _ _. absurd (e refl);
-}
 
 -- memory was wanted before the source was got
 pub ended-early : {S : Type 0} (faults : S → ℕ) (left : S → Option (List ℕ)) (name : List ℕ) (table : Change (Option Table)) (files_faults out_faults : Change ℕ)

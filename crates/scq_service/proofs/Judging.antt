@@ -2,7 +2,7 @@
 use Rattle.std.proofs.Common.{◌≡◌, ◌∙◌, ℕ, ◌+◌, ◌<◌, ◌^◌, Bool, true, false, refl, sym, ap, subst, arith, List, [], ◌∷◌, ◌++◌, Option, Some, None, Result, Ok, Err, IfSome, length, take, length-append}
 use Rattle.std.specs.Prelude.{IsTrue, nat_lt, if◌then◌else◌}
 use Rattle.std.specs.Option.{option_map, option_or}
-use Rattle.std.proofs.lemmas.List.{take-append-le, append-nil, append_assoc, nil_from_length}
+use Rattle.std.proofs.lemmas.List.{take-append-le, append-nil, append_assoc}
 use Rattle.std.proofs.lemmas.Bool.{lt-ltb, cond-true}
 use Rattle.scq_frames.specs.Trouble.{LongPayload, ManyBytes, counted, trouble_after, whole_lines, first_too_long}
 use Rattle.scq_frames.specs.Text.{Framed, messages_after}
@@ -10,9 +10,9 @@ use Rattle.scq_frames.specs.declared.message.Message.{Message}
 use Rattle.scq_frames.specs.declared.fault.FrameFault.{FrameFault}
 use Rattle.scq_frames.specs.declared.fault.FrameFault.TheVariants.{ReadFault, TooLong, TooLarge, NoMemory}
 use Rattle.scq_frames.specs.Framing.{Framing, NothingLeft, fresh}
-use Rattle.scq_frames.specs.Finding.{Found, limit_left, trouble_ahead}
-use Rattle.scq_frames.specs.Coming.{Came, BeginsWithLong, counted_ahead}
-use Rattle.scq_frames.proofs.FindingLemmas.{Gave, moved-moved}
+use Rattle.scq_frames.specs.Finding.{limit_left, trouble_ahead}
+use Rattle.scq_frames.specs.Coming.{Found, BeginsWithLong, counted_ahead}
+use Rattle.scq_frames.proofs.FindingLemmas.{Gave, FoundSince, moved-moved}
 use Rattle.scq_service.specs.Causes.{file_trouble}
 use Rattle.scq_service.specs.Judged.{Judged}
 
@@ -37,22 +37,15 @@ if-told None P here = tt
 if-told (Some x) P here = here x refl
 
 -- whatever came, want of memory says nothing of it
-pub judged-memory : (first new : Framing) (before after : Option (List ℕ)) (result : Result (Option Message) FrameFault) → Found first new before after result → Judged before after (Some NoMemory)
+pub judged-memory : (first new : Framing) (before after : Option (List ℕ)) (result : Result (Option Message) FrameFault) → FoundSince first new before after result → Judged before after (Some NoMemory)
 judged-memory first new before after result found = record {
   bytes = found.bytes;
   moved = found.moved;
   judges = if-told after _ (λ rest e. tt);
 }
 
-pub judged-gave : (first new : Framing) (before after : Option (List ℕ)) → Gave first new before after → Judged before after (Some NoMemory)
-judged-gave first new before after gave = record {
-  bytes = gave.bytes;
-  moved = gave.moved;
-  judges = if-told after _ (λ rest e. tt);
-}
-
 -- all was read, and nothing is wrong with it
-pub judged-end : (file : ℕ) (new : Framing) (before after : Option (List ℕ)) → Found (fresh file 65536 (2 ^ 30)) new before after (Ok None) → Judged before after None
+pub judged-end : (file : ℕ) (new : Framing) (before after : Option (List ℕ)) → FoundSince (fresh file 65536 (2 ^ 30)) new before after (Ok None) → Judged before after None
 judged-end file new before after found = record {
   bytes = found.bytes;
   moved = found.moved;
@@ -89,27 +82,24 @@ trouble-long f failed bytes line len begins above =
 
 -- a payload is too long, whatever follows its line
 pub judged-long : (file : ℕ) (old new : Framing) (before mid after : Option (List ℕ)) (line len : ℕ) → Gave (fresh file 65536 (2 ^ 30)) old before mid
-    → Found old new mid after (Err (TooLong line len)) → Came old new mid after (Err (TooLong line len)) → old.size < len
+    → Found old new mid after (Err (TooLong line len)) → old.size < len
     → (IsTrue old.ended → IsTrue new.ended) → (IsTrue new.ended → NothingLeft after) → Judged before after (Some (TooLong line len))
-judged-long file old new before mid after line len gave found came above stays end = record {
-  bytes = gave.bytes ++ came.bytes;
-  moved = moved-moved gave.bytes came.bytes before mid after gave.moved came.moved;
-  judges = if-told after _ (λ rest e. (ap (file_trouble false) (sym (append-nil (gave.bytes ++ came.bytes))) ∙ trouble [] (λ h. refl), trouble rest (λ h. nothing rest e h)));
+judged-long file old new before mid after line len gave found above stays end = record {
+  bytes = gave.bytes ++ found.bytes;
+  moved = moved-moved gave.bytes found.bytes before mid after gave.moved found.moved;
+  judges = if-told after _ (λ rest e. (ap (file_trouble false) (sym (append-nil (gave.bytes ++ found.bytes))) ∙ trouble [] (λ h. refl), trouble rest (λ h. nothing rest e h)));
 } where
   nothing : (rest : List ℕ) → after ≡ Some rest → IsTrue new.ended → rest ≡ []
   nothing rest e h = let P : Option (List ℕ) → Type 0 = NothingLeft in subst P e (end h)
 
-  idle : IsTrue old.ended → came.bytes ≡ []
-  idle h = nil_from_length came.bytes (omega (arith, came.count, found.count, ap length (found.idle h)))
-
-  trouble : (more : List ℕ) → (IsTrue new.ended → more ≡ []) → file_trouble false ((gave.bytes ++ came.bytes) ++ more) ≡ Some (LongPayload line len)
+  trouble : (more : List ℕ) → (IsTrue new.ended → more ≡ []) → file_trouble false ((gave.bytes ++ found.bytes) ++ more) ≡ Some (LongPayload line len)
   trouble more none =
-      ap (file_trouble false) (append_assoc gave.bytes came.bytes more)
-      ∙ gave.trouble false (came.bytes ++ more) (λ h. (ap (λ (front : List ℕ). front ++ more) (idle h) ∙ none (stays h), refl))
-      ∙ trouble-long old false (came.bytes ++ more) line len (came.comes false more (λ h. (none h, refl))) above
+      ap (file_trouble false) (append_assoc gave.bytes found.bytes more)
+      ∙ gave.trouble false (found.bytes ++ more) (λ h. (ap (λ (front : List ℕ). front ++ more) (found.idle h) ∙ none (stays h), refl))
+      ∙ trouble-long old false (found.bytes ++ more) line len (found.comes false more (λ h. (none h, refl))) above
 
 -- a fault says what is wrong
-pub judged-fault : (file : ℕ) (new : Framing) (before after : Option (List ℕ)) (fault : FrameFault) → Found (fresh file 65536 (2 ^ 30)) new before after (Err fault)
+pub judged-fault : (file : ℕ) (new : Framing) (before after : Option (List ℕ)) (fault : FrameFault) → FoundSince (fresh file 65536 (2 ^ 30)) new before after (Err fault)
     → ((n : ℕ) → fault ≡ TooLarge n → (2 ^ 30 < n) × (option_map length before ≡ option_map (λ left. n + length left) after))
     → ((line len : ℕ) → fault ≡ TooLong line len → Judged before after (Some (TooLong line len)))
     → Judged before after (Some fault)

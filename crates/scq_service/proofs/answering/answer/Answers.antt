@@ -6,8 +6,7 @@ use Rattle.scq_frames.specs.declared.message.Message.{Message}
 use Rattle.scq_frames.specs.declared.fault.FrameFault.{FrameFault}
 use Rattle.scq_frames.specs.declared.fault.FrameFault.TheVariants.{NoMemory}
 use Rattle.scq_frames.specs.Framing.{Framing, told_ahead, IsNext, fresh}
-use Rattle.scq_frames.specs.Finding.{Found}
-use Rattle.scq_frames.specs.Coming.{Came}
+use Rattle.scq_frames.specs.Coming.{Found}
 use Rattle.scq_frames.proofs.FindingLemmas.{Gave-found, Found-gave}
 use Rattle.scq_service.proofs.Answered.{answered-next, answered-all}
 use Rattle.scq_service.proofs.Begun.{Begun, begun-fresh}
@@ -89,8 +88,7 @@ returns-in_err-message-clause-judged g c =
     (omega (arith, large.0, said.limits.2, c.messages.invariant.most), sized n c.next.new.self.read start now large.1 (said.size ∙ c.messages.invariant.size)))
     (λ line len e.
     let was = c.in_err-message.was ∙ ap Err e in
-    let C : Result (Option Message) FrameFault → Type 0 = λ r. Came c.messages.framer c.next.new.self before now r in
-    judged-long c.args.file c.messages.framer c.next.new.self start before now line len c.messages.invariant.gave (subst Q was said.found) (subst C was said.came)
+    judged-long c.args.file c.messages.framer c.next.new.self start before now line len c.messages.invariant.gave (subst Q was said.found)
     (said.too_long line len was).1 (λ h. (said.ended h).1) (said.end c.messages.invariant.end)))
 
 pub returns-in_err-push_line-clause-judged : goal.returns-in_err-push_line-clause-judged
