@@ -13,7 +13,7 @@ use Rattle.scq_frames.specs.declared.fault.FrameFault.{FrameFault}
 use Rattle.scq_frames.specs.declared.fault.FrameFault.TheVariants as frame
 use Rattle.scq_service.specs.Causes.{file_trouble, first_file_fault, IsCause, IsOfWhole, HaveRest}
 use Rattle.scq_service.specs.Contents.{IfTold, IsMissing}
-use Rattle.scq_service.specs.Ends.{Ends, Change, output_of, sizes, read_and_left}
+use Rattle.scq_service.specs.Ends.{Ends, Change, IsReadOf, output_of}
 use Rattle.scq_service.specs.Faults.{status_of_fault, fault_of_file, bytes_of_large}
 use Rattle.scq_service.specs.Judged.{Judged, Judges}
 use Rattle.scq_service.specs.Writing.{told_with, WrotePart}
@@ -264,8 +264,11 @@ refused faults left name table files_faults out_faults written source content (f
   read_fault = λ file e. absurd (cc);
   too_long = λ file line len e. absurd (cc);
   too_large = λ file e. let P : ℕ → Type 0 = λ n. (0 < n) × (n ≤ 1) × (2 ^ 30 < bytes) in let is : 1 ≡ file = cc in subst P is (omega arith, omega arith, (large bytes refl).0);
-  too_large_told = λ file e. told-one table.old name content (λ contents. sizes contents ≡ read_and_left left bytes (source ∷ [])) got.there
-      (λ c is. ap (λ (size : Option ℕ). size ∷ []) (ap (option_map length) (sym is) ∙ (large bytes refl).1));
+  too_large_told = λ file e.
+      let P : ℕ → Type 0 = λ n. IfTold table.old (name ∷ []) (λ contents. IsReadOf left bytes contents (source ∷ []) n) in
+      let is : 1 ≡ file = cc in
+      subst P is (told-one table.old name content (λ contents. IsReadOf left bytes contents (source ∷ []) 1) got.there
+      (λ c told. ap (option_map length) (sym told) ∙ (large bytes refl).1));
   unread = λ e. absurd (e refl);
   rest = told-parts faults left name table files_faults source content (Some (frame.TooLarge bytes)) (λ contents. HaveRest left contents (source ∷ [])) got (λ c bytes rest is e judged. rest-one left source c bytes rest is e);
   cause = told-parts faults left name table files_faults source content (Some (frame.TooLarge bytes)) (λ contents. IsCause (Some (TooLarge 1)) (first_file_fault faults left 1 contents (source ∷ []))) got (λ c bytes rest is e judged. sym (ending-one faults left source c bytes rest false (Some ManyBytes) (no_failure faults source (calm (λ e. absurd (cc)))) is e judged.0));

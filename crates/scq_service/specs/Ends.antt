@@ -1,5 +1,5 @@
 -- How a run over files ends, up to what is told of it.
-use Rattle.std.specs.Prelude.{◌≡◌, ◌≢◌, ◌⊎◌, false, ℕ, ◌+◌, ◌-◌, ◌^◌, ◌<◌, ◌≤◌, List, [], Option, Some, None, IfSome, IsSomeAnd, length, map, take, slice_get}
+use Rattle.std.specs.Prelude.{◌≡◌, ◌≢◌, ◌⊎◌, false, ℕ, ◌+◌, ◌-◌, ◌^◌, ◌<◌, ◌≤◌, List, [], Option, Some, None, IfSome, IsSomeAnd, length, take, slice_get}
 use Rattle.std.specs.List.{All}
 use Rattle.std.specs.Option.{option_map}
 use Rattle.scq_outside.specs.Faults.{Rose}
@@ -17,13 +17,11 @@ use Rattle.scq_service.specs.declared.fault.Fault.TheVariants.{OpenFault, ReadFa
 abbrev pub output_of : List (List ℕ) → List ℕ
 output_of contents = one_thread_output [] contents
 
--- how large each content is
-abbrev pub sizes : List (List ℕ) → List (Option ℕ)
-sizes contents = map (λ content. Some (length content)) contents
-
--- so many bytes that were read, and what each source has left, where it tells
-abbrev pub read_and_left : {S : Type 0} → (S → Option (List ℕ)) → ℕ → List S → List (Option ℕ)
-read_and_left left read sources = map (λ source. option_map (λ bytes. read + length bytes) (left source)) sources
+-- so many bytes of this file's content were read, and its source has the others left
+abbrev pub IsReadOf : {S : Type 0} → (S → Option (List ℕ)) → ℕ → List (List ℕ) → List S → ℕ → Type 0
+IsReadOf left read contents sources file =
+    IsSomeAnd (slice_get contents (file - 1)) (λ content.
+    IsSomeAnd (slice_get sources (file - 1)) (λ source. Some (length content) ≡ option_map (λ bytes. read + length bytes) (left source)))
 
 -- how many sources of so many files were got: those before the one that wasn't got, and else all.
 -- Want of memory may come before any is.
@@ -57,7 +55,7 @@ pub record Ends {S : Type 0} (faults : S → ℕ) (left : S → Option (List ℕ
   pub read_fault : (file : ℕ) → fault ≡ Some (ReadFault file) → (0 < file) × IsSomeAnd (slice_get sources (file - 1)) (λ source. 0 < faults source)
   pub too_long : (file line len : ℕ) → fault ≡ Some (TooLong file line len) → (0 < file) × (file ≤ length sources) × (0 < line) × (65536 < len)
   pub too_large : (file : ℕ) → fault ≡ Some (TooLarge file) → (0 < file) × (file ≤ length sources) × (2 ^ 30 < read)
-  pub too_large_told : (file : ℕ) → fault ≡ Some (TooLarge file) → IfTold table.old names (λ contents. sizes contents ≡ read_and_left left read sources)
+  pub too_large_told : (file : ℕ) → fault ≡ Some (TooLarge file) → IfTold table.old names (λ contents. IsReadOf left read contents sources file)
   pub unread : status ≢ 6 → read ≡ 0
   pub rest : IfTold table.old (take (length sources) names) (λ contents. HaveRest left contents sources)
   pub cause : IfTold table.old (take (length sources) names) (λ contents. IsCause fault (first_file_fault faults left 1 contents sources))

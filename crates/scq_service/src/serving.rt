@@ -5,7 +5,7 @@ ghost use Rattle.scq_outside.specs.Faults.{Rose};
 ghost use Rattle.scq_frames.specs.Framing.{NothingLeft};
 ghost use Rattle.scq_service.specs.Causes.{HaveRest, IsCause, IsOfWhole, file_trouble, first_file_fault};
 ghost use Rattle.scq_service.specs.Contents.{IfTold, IsMissing, without_all};
-ghost use Rattle.scq_service.specs.Ends.{HaveGot, output_of, sizes, read_and_left};
+ghost use Rattle.scq_service.specs.Ends.{HaveGot, IsReadOf, output_of};
 ghost use Rattle.scq_service.specs.Faults.{status_of, end_line};
 ghost use Rattle.scq_service.specs.declared.fault.Fault.TheVariants.{OpenFault, ReadFault, TooLong, TooLarge};
 ghost use Rattle.scq_service.specs.Words.{files_named, names_asked};
@@ -72,7 +72,7 @@ pub fn serve<F: Files, K: Sink>(
         (0 < file) × (file ≤ vec_len result.sources) × (2 ^ 30 < result.read) }
     ensures too_large_told { (file : ℕ) → result.fault ≡ Some (TooLarge file) →
         IfTold (F.table files.old) (names_asked words.now) (λ contents.
-        sizes contents ≡ read_and_left F.Src.left result.read result.sources.items) }
+        IsReadOf F.Src.left result.read contents result.sources.items file) }
     ensures unread { result.status ≢ 6 → result.read ≡ 0 }
 
     // Where the words are understood, nothing failed, and no content has trouble, the run ends with
