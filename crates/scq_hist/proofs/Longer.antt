@@ -1,9 +1,7 @@
 -- A longer list says the same of its first events, and is lawful where its last event is in its place
-use Rattle.std.proofs.Common.{◌≡◌, ℕ, zero, suc, ◌<◌, ◌≤◌, inl, inr, List, [], ◌∷◌, ◌++◌, length, length-append, slice_get, Option, Some, None, refl, sym, ◌∙◌, subst, arith}
-use Rattle.std.proofs.lemmas.Bool.{cases_order}
-use Rattle.std.proofs.lemmas.Option.{slice_get_past, slice_get_within}
+use Rattle.std.proofs.Common.{◌≡◌, ℕ, zero, suc, ◌<◌, ◌≤◌, List, [], ◌∷◌, ◌++◌, length, slice_get, Some, refl, ◌∙◌, arith}
+use Rattle.std.proofs.lemmas.Option.{slice_get_within}
 use Rattle.scq_hist.specs.Calls.{under_way, puts_before, IsCall}
-use Rattle.scq_hist.specs.Aspects.{IsLawful, IsInPlace}
 use Rattle.scq_hist.specs.declared.events.Call.{Call}
 use Rattle.scq_hist.specs.declared.events.Event.{Event}
 use Rattle.scq_hist.specs.declared.events.Event.TheVariants.{Start, End}
@@ -37,21 +35,3 @@ same_call events more seat s e call reply c =
       under_way_till = same_under_way events more seat e (omega arith) ∙ c.under_way_till;
       ends = same_event events more e here ∙ c.ends;
     }
-
-still_in_place : (events more : List Event) (i : ℕ) (event : Event) → i < length events → IsInPlace events i (Some event) → IsInPlace (events ++ more) i (Some event)
-still_in_place events more i (Start seat call) lt h = same_under_way events more seat i (omega arith) ∙ h
-still_in_place events more i (End seat reply) lt h =
-    record { s = h.s; call = h.call; is_call = same_call events more seat h.s i h.call reply h.is_call; suits = h.suits }
-
-pub lawful_more : (events : List Event) (event : Event) → IsLawful events → IsInPlace (events ++ event ∷ []) (length events) (Some event) → IsLawful (events ++ event ∷ [])
-lawful_more events event lawful last i = elim (cases_order i (length events)) [
-  | inl here ↦ subst (λ k. IsInPlace (events ++ event ∷ []) k (slice_get (events ++ event ∷ []) k)) (sym here)
-      (subst (λ o. IsInPlace (events ++ event ∷ []) (length events) o) (sym (last_event events event)) last)
-  | inr w ↦ elim w [
-    | inl lt ↦ subst (λ o. IsInPlace (events ++ event ∷ []) i o) (sym (same_event events (event ∷ []) i lt)) (before (slice_get events i) refl lt)
-    | inr gt ↦ subst (λ o. IsInPlace (events ++ event ∷ []) i o) (sym (slice_get_past (events ++ event ∷ []) i (simp length-append (omega arith)))) tt
-  ]
-] where
-  before : (o : Option Event) → slice_get events i ≡ o → i < length events → IsInPlace (events ++ event ∷ []) i o
-  before None e lt = tt
-  before (Some x) e lt = still_in_place events (event ∷ []) i x lt (subst (λ o. IsInPlace events i o) e (lawful i))

@@ -3,14 +3,11 @@ use Rattle.std.proofs.Common.{ℕ, suc, ◌+◌, ◌<◌, inl, inr, List, sym, s
 use Rattle.std.proofs.lemmas.Bool.{cases_eq}
 use Rattle.scq_hist.specs.Calls.{IsPending}
 use Rattle.scq_hist.specs.Counts.{IsCount}
-use Rattle.scq_hist.proofs.Counting.{count_none, count_more, count_same}
+use Rattle.scq_hist.proofs.Counting.{count_more, count_same}
 use Rattle.scq_hist.specs.declared.events.Event.{Event}
 
 later : (events : List Event) (queue m n s : ℕ) → s < n → IsPending events queue m s → IsPending events queue n s
 later events queue m n s lt p = record { seat = p.seat; starts = p.starts; before = lt; under_way_still = p.under_way_still }
-
-pub pending_none : (events : List Event) (queue : ℕ) → IsCount (IsPending events queue 0) 0
-pending_none events queue = count_none _ (λ s p. let lt = p.before in absurd (omega arith))
 
 pub pending_more : (events : List Event) (queue s n : ℕ) → IsCount (IsPending events queue s) n → IsPending events queue (suc s) s
     → IsCount (IsPending events queue (s + 1)) (n + 1)

@@ -10,7 +10,7 @@ use Rattle.scq_hist.specs.declared.events.Event.{Event}
 use Rattle.scq_hist.specs.declared.events.PutName.{PutName}
 use Rattle.scq_hist.specs.declared.events.PutName.TheVariants.{Opening, Of}
 use Rattle.scq_hist.specs.declared.events.Reply.TheVariants.{Done}
-use Rattle.scq_hist.proofs.Counting.{count_none, count_more, count_same}
+use Rattle.scq_hist.proofs.Counting.{count_more, count_same}
 use Rattle.scq_hist.proofs.UnderWay.{one_end}
 use Rattle.scq_hist.proofs.Puts.{same_put}
 
@@ -34,13 +34,6 @@ one_get events name s t d e g h =
     let x = g.call.ends in let y = h.call.ends in
     let seat : g.seat ≡ h.seat = cc in
     let u = g.call.under_way_till in let v = h.call.under_way_till in cc
-
-pub tally_none : (events : List Event) (P : PutName → Type 0) → ((name : PutName) → P name → ⊥) → IsTally events P 0 0
-tally_none events P empty = record {
-  ungot = count_none _ (λ name h. empty name h.0);
-  claimed = λ name s e p g. absurd (empty name p);
-  least = λ m lt. absurd (omega arith);
-}
 
 pub tally_same : (events : List Event) (P Q : PutName → Type 0) (u f : ℕ) → IsTally events P u f → ((name : PutName) → P name → Q name)
     → ((name : PutName) → Q name → P name) → IsTally events Q u f
@@ -161,9 +154,3 @@ finished_same opening events queue e u f free t =
 pub tokens_of_queue : (opening : List (List ℕ)) (events : List Event) (queue u f : ℕ) → queue ≡ 0
     → IsTally events (IsFinishedAt opening events 0 0) u f → IsTally events (IsFinishedAt opening events queue 0) u f
 tokens_of_queue opening events queue u f is t = subst (λ q. IsTally events (IsFinishedAt opening events q 0) u f) (sym is) t
-
-pub no_tokens : (opening : List (List ℕ)) (events : List Event) (queue : ℕ) → (queue ≡ 0 → ⊥) → IsTally events (IsFinishedAt opening events queue 0) 0 0
-no_tokens opening events queue other = tally_none events (IsFinishedAt opening events queue 0) none where
-  none : (name : PutName) → IsFinishedAt opening events queue 0 name → ⊥
-  none (Opening number) h = other h.0
-  none (Of k m) h = (let lt = h.1 in absurd (omega arith))

@@ -49,13 +49,6 @@ all_tokens opening events = count_same (Token (length opening)) (Tokens opening 
   from (Opening number) h = h.1
   from (Of k m) h = (let lt = h.1 in absurd (omega arith))
 
-pub tokens_none : (opening : List (List ℕ)) (events : List Event) → TalliesTokens opening events 0 0 0
-tokens_none opening events = record {
-  count = count_none (λ name. Tokens opening events name × IsGotBy events 0 name) (λ name h. (let lt = h.1.before in absurd (omega arith)));
-  claimed = λ name s d t lt g. absurd (omega arith);
-  least = λ m lt. absurd (omega arith);
-}
-
 got_later : (events : List Event) (e : ℕ) (name : PutName) → IsGotBy events e name → IsGotBy events (e + 1) name
 got_later events e name g = record { s = g.s; d = g.d; before = (let lt = g.before in omega arith); get = g.get }
 

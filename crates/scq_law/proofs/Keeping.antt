@@ -10,7 +10,6 @@ use Rattle.scq_core.specs.Machine.{Entries}
 use Rattle.scq_core.specs.Table.{ring_slots}
 use Rattle.scq_core.proofs.Entries.{some_slots}
 use Rattle.scq_law.proofs.Ghosts.{Ghost, PutState, fresh, pending, failed, placed, waiting}
-use Rattle.scq_law.proofs.Deed.{Live}
 use Rattle.scq_law.proofs.Booked.{IsBooked, IsDrawn}
 use Rattle.scq_law.proofs.Books.{IsAlone, IsCovered, IsAfter, Bars, IsBook, IsWindow}
 use Rattle.scq_law.proofs.Flows.{Fails, Flows, Advances}
@@ -49,9 +48,6 @@ module _ (c : Setup) (e : Entries) (g h : Ghost) (tail head head' : ℕ → ℕ)
 
   near : (r t : ℕ) (x : PutState) → g.puts r t ≡ x → x ≢ fresh → t + 2 ≤ head r + ring_slots c
   near r t x is some = window.within r t (below r t x is some) (lawful r t x is some)
-
-  live_below : (r p i : ℕ) → Live g r p i → p < tail r
-  live_below r p i live = below r p (placed i live.content live.maker) live.is (λ is. absurd (cc))
 
   after_stays : (r x t : ℕ) → t < tail r → IsAfter g r x t → IsAfter h r x t
   after_stays r x t low after =

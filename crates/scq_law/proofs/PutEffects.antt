@@ -26,9 +26,6 @@ ours_pending k j i x ours is =
     let same : (j == k) ≡ true = sym (ap (is_ours k) is) ∙ ours in
     eqb-true j k same
 
-pub drawn_ours : (k : ℕ) (x : PutState) → x ≡ fresh → is_ours k x ≡ true
-drawn_ours k x is = ap (is_ours k) is
-
 -- the states of the other tickets, and those that are not ours, stay
 pub put_moves : (c : Setup) (e : Entries) (g : Ghost) (k r t : ℕ) (y : PutState) → is_ours k (g.puts r t) ≡ true → Moves c e g k e (with_put g r t y)
 put_moves c e g k r t y ours =

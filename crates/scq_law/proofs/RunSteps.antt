@@ -36,11 +36,6 @@ run_stops c opening steps told x run step =
     let is = run.told_is in
     along_last c (told_first c opening) steps x ∙ rw is step
 
--- what is told of a run is one thing
-pub run_one : (c : Setup) (opening : List (List ℕ)) (steps : List (ℕ × Step)) (a b : Told) → IsRun c opening steps a → IsRun c opening steps b → a ≡ b
-run_one c opening steps a b one other =
-    let x = one.told_is in let y = other.told_is in cc
-
 -- the empty run
 pub run_first : (c : Setup) (opening : List (List ℕ)) → IsRun c opening [] (told_first c opening)
 run_first c opening = record { told_is = refl }
