@@ -6,7 +6,7 @@ use Rattle.scq_word.specs.Sizes.{n_of}
 use Rattle.scq_word.specs.Words.{packed, mark_of, index_in, safe_in, cycle_in, is_none_in, rank_in}
 use Rattle.scq_word.proofs.WordLemmas.{index_in-packed, safe_in-packed, cycle_in-packed, safe_in_bit, index_in_small, rank_in-empty, rank_in-safe, rank_in-unsafe, rank_in_range, packed-parts}
 use Rattle.scq_word.proofs.TicketLemmas.{ticket_parts}
-use Rattle.std.proofs.Math.Nat.{mul-le-mul_right, mul-le-mul_left}
+use Rattle.std.proofs.Math.Nat.{mul-le-mul_right}
 use Rattle.scq_core.specs.Table.{ring_slots, cycle, passed, zero_level, reset_value}
 use Rattle.scq_core.specs.Laws.{IsAbove}
 
@@ -179,18 +179,6 @@ word_fits c w low =
     let some = some_slots c in
     let fits = packed_fits c (cycle_in (ring_slots c) w) (safe_in (ring_slots c) w) (index_in (ring_slots c) w) low (safe_in_bit (ring_slots c) w) (index_in_small (ring_slots c) w some) in
     rw (packed-parts (ring_slots c) w) at fits
-
--- and its rank is far below
-pub rank_fits : (c : Setup) (w : ℕ) → cycle_in (ring_slots c) w * ring_slots c < c.limit → rank_in (ring_slots c) w < 2 ^ 61
-rank_fits c w low =
-    let some = some_indices c in
-    let high = limit_low c in
-    let range = rank_in_range (ring_slots c) w in
-    let four : cycle_in (ring_slots c) w * 4 ≤ cycle_in (ring_slots c) w * ring_slots c = mul-le-mul_left (cycle_in (ring_slots c) w) (omega arith) in
-    omega arith
-
-pub few_slots : (c : Setup) → ring_slots c ≤ 8192
-few_slots c = let few = few_indices c in omega arith
 
 -- a word that has changed never comes back
 pub above_apart : (m e x y : ℕ) → IsAbove m e x → x ≢ e → IsAbove m x y → y ≢ e

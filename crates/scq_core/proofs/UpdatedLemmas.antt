@@ -54,12 +54,6 @@ written_same m (entry_of r s) = rw (updated_entry_same m.entries.word r s, updat
 pub updated_entry_here : {A : Type 0} → (f : ℕ → ℕ → A) (r s : ℕ) (x : A) → updated_entry f r s x r s ≡ x
 updated_entry_here f r s x = rw (eq-eqb r r refl, eq-eqb s s refl) refl
 
-pub updated_entry_ring : {A : Type 0} → (f : ℕ → ℕ → A) (r s : ℕ) (x : A) (q z : ℕ) → q ≢ r → updated_entry f r s x q z ≡ f q z
-updated_entry_ring f r s x q z apart = rw (ne_eqb q r apart) refl
-
-pub updated_entry_slot : {A : Type 0} → (f : ℕ → ℕ → A) (r s : ℕ) (x : A) (z : ℕ) → z ≢ s → updated_entry f r s x r z ≡ f r z
-updated_entry_slot f r s x z apart = rw (eq-eqb r r refl, ne_eqb z s apart) refl
-
 -- what holds of the new entry there and of the old ones elsewhere holds of each
 pub updated_entry_cases : {A : Type 0} → (P : ℕ → ℕ → A → Type 0) (f : ℕ → ℕ → A) (r s : ℕ) (x : A) (q z : ℕ) → (q ≡ r → z ≡ s → P q z x) → ((q ≡ r → z ≡ s → ⊥) → P q z (f q z)) → P q z (updated_entry f r s x q z)
 updated_entry_cases P f r s x q z here elsewhere =

@@ -31,13 +31,15 @@ reset_value c = 3 * n_of c.order - 1
 abbrev pub reset_level : Setup → ℕ
 reset_level c = zero_level + reset_value c
 
--- how many slots a ring has: 2n. Then the cycle of a ticket there, and the location of the entry in its slot
+-- how many slots a ring has: 2n
 abbrev pub ring_slots : Setup → ℕ
 ring_slots c = slots_of c.order
 
+-- the cycle of a ticket
 abbrev pub cycle : Setup → ℕ → ℕ
 cycle c ticket = cycle_of (ring_slots c) ticket
 
+-- where the entry in a ticket's slot stands
 abbrev pub entry_at : Setup → ℕ → ℕ → Location
 entry_at c ring ticket = entry_of ring (slot_of (ring_slots c) ticket)
 

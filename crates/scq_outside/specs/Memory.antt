@@ -1,4 +1,4 @@
--- Sinks and files in memory.
+-- Files in memory.
 use Rattle.std.specs.Prelude.{ℕ, List, Option}
 use Rattle.std.specs.HashMap.{get_by_text}
 use Rattle.std.specs.Option.{option_map}

@@ -35,12 +35,12 @@ fn read_up_to<S: Source>(
 /// Files whose contents are their names.
 fn files_f_and_g(alloc: Global) -> Result<MemFiles, NoMemory> {
     let mut files = MemFiles::new(alloc);
-    files.add("f", as_asked(alloc, "f")?)?;
-    files.add("g", as_asked(alloc, "g")?)?;
+    files.add("f", source_of(alloc, "f")?)?;
+    files.add("g", source_of(alloc, "g")?)?;
     Ok(files)
 }
 
-fn as_asked(alloc: Global, text: &str) -> Result<MemSource, AllocError>
+fn source_of(alloc: Global, text: &str) -> Result<MemSource, AllocError>
     ensures { IfOk result (λ source. source.faults ≡ 0) }
 {
     let bytes = text.as_bytes().to_vec(alloc)?;

@@ -5,9 +5,9 @@
 #![tactic(auto)]
 
 mod answering;
-#[cfg(test)]
-mod fakes;
 mod fault;
+#[cfg(test)]
+mod harness;
 mod outcome;
 mod output;
 mod run;

@@ -1,6 +1,6 @@
 // Runs over memory, as tables: faulty words, missing files, long payloads, and reads and writes in
 // pieces of which one fails.
-use crate::fakes::{Cut, EndlessFiles, run_in_memory, run_over};
+use crate::harness::{Cut, EndlessFiles, run_in_memory, run_over};
 use scq_word::NoMemory;
 use std::alloc::Global;
 use std::test::Fail;
