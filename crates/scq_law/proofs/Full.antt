@@ -61,7 +61,7 @@ second_turn c j small =
     rw same at row
 
 -- an opening place of this slot is this ticket
-one_place : (c : Setup) (t j : ℕ) → ring_slots c ≤ t → t < ring_slots c + n_of c.order → j < n_of c.order → slot_of (ring_slots c) t ≡ slot_of (ring_slots c) (ring_slots c + j) → t ≡ ring_slots c + j
+pub one_place : (c : Setup) (t j : ℕ) → ring_slots c ≤ t → t < ring_slots c + n_of c.order → j < n_of c.order → slot_of (ring_slots c) t ≡ slot_of (ring_slots c) (ring_slots c + j) → t ≡ ring_slots c + j
 one_place c t j first last low slot =
     let small : t - ring_slots c < ring_slots c = omega arith in
     let same : ring_slots c + (t - ring_slots c) ≡ t = omega arith in

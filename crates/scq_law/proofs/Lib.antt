@@ -67,3 +67,5 @@ pub mod RunSteps
 pub mod RunLaws
 pub mod Rising
 pub mod Replays
+pub mod LeftTurns
+pub mod KeptLaws

@@ -15,6 +15,8 @@ use Rattle.scq_core.proofs.UpdatedLemmas.{updated_or}
 use Rattle.scq_core.proofs.Fits.{words_fit}
 use Rattle.scq_core.proofs.Floor.{threshold_floor}
 use Rattle.scq_law.specs.Bounds.{tally, openings}
+use Rattle.scq_law.specs.Kept.{was_done, was_got, gets_of}
+use Rattle.scq_law.specs.Sums.{sum_to}
 use Rattle.scq_law.proofs.Ghosts.{Ghost, start_ghost}
 use Rattle.scq_law.proofs.Events.{Stance, resting, seeking, stance_of, Event, finished, overran, ended_by}
 use Rattle.scq_law.proofs.Deed.{stance, Deed}
@@ -27,8 +29,7 @@ use Rattle.scq_law.proofs.Counted.{total_change, tally-append}
 use Rattle.scq_law.proofs.ToldRuns.{turn_reaches}
 use Rattle.scq_law.proofs.Done.{is_finish}
 use Rattle.scq_law.proofs.Levels.{here_one, there_none, flying}
-use Rattle.scq_law.proofs.TicketSums.{sum_to}
-use Rattle.scq_law.proofs.Tallies.{placed_bit, placeds, tooks, was_done, was_got, landing, placed_event, took_event, spend_event}
+use Rattle.scq_law.proofs.Tallies.{placed_bit, placeds, tooks, landing, placed_event, took_event, spend_event}
 
 -- a state of a run is reachable
 pub tale_reaches : (c : Setup) (time : ℕ) (g : Ghost) (m : Machine) → Tale c time g m → IsReachable c m
@@ -36,11 +37,8 @@ tale_reaches c time g m (tale_start opening full) = at_start opening full
 tale_reaches c time g m (tale_step {time = t} {g = h} {m = old} k s turn tale low enabled) =
     turn_reaches c old k s turn low enabled (tale_reaches c t h old tale)
 
--- what a seat counts for: its gets that took; its ended puts; these and the one that has landed; its gets that took, its
+-- what a seat counts for beside its gets that took: its ended puts; these and the one that has landed; its gets that took, its
 -- turn in flight and its kept ticket
-abbrev pub got_of : ℕ → Part → ℕ
-got_of r p = tally (was_got r) p.calls
-
 abbrev pub done_of : ℕ → Part → ℕ
 done_of r p = tally (was_done r) p.calls
 
@@ -51,12 +49,12 @@ abbrev pub spend_of : ℕ → Part → ℕ
 spend_of r p = tally (was_got r) p.calls + (flying r (stance_of p.phase) + spent_of p.spent)
 
 pub record IsTallied (c : Setup) (time : ℕ) (g : Ghost) (m : Machine) : Type 0 where
-  pub taken : (r : ℕ) → total (got_of r) m.part c.seats ≤ tooks c g r
+  pub taken : (r : ℕ) → total (gets_of r) m.part c.seats ≤ tooks c g r
   pub placed : (r : ℕ) → placeds c g r ≤ total (laid_of r) m.part c.seats + openings c r
   pub spends : (r : ℕ) → m.cells.head r + m.cells.threshold r ≤ ring_slots c + total (spend_of r) m.part c.seats + total (done_of r) m.part c.seats * (reset_value c + c.seats) + reset_level c
 
 -- a tally of the seat's calls after the event
-calls_then : (f : Ended → ℕ) (c : Setup) (g : Ghost) (m : Machine) (k : ℕ) (e : Event) (n : Machine) → Deed c m g k e n → tally f (n.part k).calls ≡ tally f (m.part k).calls + tally f (ended_by e)
+pub calls_then : (f : Ended → ℕ) (c : Setup) (g : Ghost) (m : Machine) (k : ℕ) (e : Event) (n : Machine) → Deed c m g k e n → tally f (n.part k).calls ≡ tally f (m.part k).calls + tally f (ended_by e)
 calls_then f c g m k e n deed = ap (tally f) deed.calls ∙ tally-append f (m.part k).calls (ended_by e)
 
 -- the opening places
@@ -87,7 +85,7 @@ tallied_start c opening full =
       spends = λ r. let ceiling = (threshold_floor c (start_of c opening) reach).ceiling r in omega arith;
     }
   where
-    nothing : (r k : ℕ) → total (got_of r) (start_of c opening).part k ≤ tooks c (start_ghost c opening) r
+    nothing : (r k : ℕ) → total (gets_of r) (start_of c opening).part k ≤ tooks c (start_ghost c opening) r
     nothing r zero = omega arith
     nothing r (suc k) = let rest = nothing r k in omega arith
 
@@ -165,9 +163,9 @@ spends_reset c time g m k q i w t n tale scene was r =
           rw no_more (omega arith)
     ]
 
-counts_step : (c : Setup) (time : ℕ) (g : Ghost) (m : Machine) (k : ℕ) (e : Event) (n : Machine) → Scene c time g m k e n → IsTallied c time g m → (r : ℕ) → (total (got_of r) n.part c.seats ≤ tooks c (ghost_next time g m k e) r) × (placeds c (ghost_next time g m k e) r ≤ total (laid_of r) n.part c.seats + openings c r)
+counts_step : (c : Setup) (time : ℕ) (g : Ghost) (m : Machine) (k : ℕ) (e : Event) (n : Machine) → Scene c time g m k e n → IsTallied c time g m → (r : ℕ) → (total (gets_of r) n.part c.seats ≤ tooks c (ghost_next time g m k e) r) × (placeds c (ghost_next time g m k e) r ≤ total (laid_of r) n.part c.seats + openings c r)
 counts_step c time g m k e n scene was r =
-    let gots = total_change (got_of r) m.part n.part k c.seats scene.low scene.deed.others in
+    let gots = total_change (gets_of r) m.part n.part k c.seats scene.low scene.deed.others in
     let got_calls = calls_then (was_got r) c g m k e n scene.deed in
     let took_adds = (took_event c time g m k e n scene r).adds in
     let laids = total_change (laid_of r) m.part n.part k c.seats scene.low scene.deed.others in

@@ -4,8 +4,6 @@ use Rattle.std.proofs.Common.{◌≡◌, ◌≢◌, ℕ, ◌+◌, ◌-◌, ◌<�
 use Rattle.std.specs.Prelude.{◌==◌}
 use Rattle.std.proofs.lemmas.Bool.{cases_lt}
 use Rattle.scq_word.specs.declared.setup.Setup.{Setup}
-use Rattle.scq_core.specs.declared.ended.Ended.{Ended}
-use Rattle.scq_core.specs.declared.ended.Ended.TheVariants.{Done, Got}
 use Rattle.scq_core.specs.Machine.{Machine}
 use Rattle.scq_core.specs.Updated.{updated}
 use Rattle.scq_core.specs.Laws.{spent_of}
@@ -13,12 +11,14 @@ use Rattle.scq_core.proofs.UpdatedLemmas.{updated_or}
 use Rattle.scq_core.proofs.Steady.{either_way}
 use Rattle.scq_law.specs.Places.{call_of}
 use Rattle.scq_law.specs.Bounds.{tally}
+use Rattle.scq_law.specs.Kept.{was_done, was_got}
+use Rattle.scq_law.specs.Sums.{sum_to}
 use Rattle.scq_law.proofs.Ghosts.{Ghost, PutState, GetState, fresh, pending, failed, placed, unopened, opened, dead, took}
 use Rattle.scq_law.proofs.Events.{Stance, landed, Event, calm, drew, fell, laid, finished, entered, refused, began, died, saw_end, lifted, taken, lowered, emptied, overran, ended_by}
 use Rattle.scq_law.proofs.Deed.{stance}
 use Rattle.scq_law.proofs.Booked.{IsDrawn}
 use Rattle.scq_law.proofs.Scenes.{Scene, ghost_next}
-use Rattle.scq_law.proofs.TicketSums.{sum_to, OneMore, sum_updated}
+use Rattle.scq_law.proofs.TicketSums.{OneMore, sum_updated}
 use Rattle.scq_law.proofs.Done.{is_finish}
 use Rattle.scq_law.proofs.Levels.{bit, here_one, there_none, flying}
 
@@ -37,15 +37,7 @@ placeds c g r = sum_to (λ p. placed_bit (g.puts r p)) c.limit
 abbrev pub tooks : Setup → Ghost → ℕ → ℕ
 tooks c g r = sum_to (λ p. took_bit (g.gets r p)) c.limit
 
--- 1 for a put of this ring that ended, for a get there that took, for a seat whose put has its index placed
-abbrev pub was_done : ℕ → Ended → ℕ
-was_done r (Done q p w) = bit q r
-was_done r ended = 0
-
-abbrev pub was_got : ℕ → Ended → ℕ
-was_got r (Got q p w) = bit q r
-was_got r ended = 0
-
+-- 1 for a seat whose put has its index placed
 abbrev pub landing : ℕ → Stance → ℕ
 landing r (landed q i w t) = bit q r
 landing r s = 0

@@ -17,6 +17,7 @@ use Rattle.scq_core.specs.Laws.{total, dequeues, dequeues_of, spent_of}
 use Rattle.scq_core.proofs.Floor.{threshold_floor}
 use Rattle.scq_core.proofs.Limits.{counters_bounded}
 use Rattle.scq_law.specs.Bounds.{WithinWindow, ThresholdCovers, tally, was_put, is_putting, enqueues, ticket_bound, TicketsBounded}
+use Rattle.scq_law.specs.Kept.{was_done, gets_of}
 use Rattle.scq_law.proofs.Ghosts.{Ghost, GetState, unopened, opened, dead, took}
 use Rattle.scq_law.proofs.Events.{stance_of}
 use Rattle.scq_law.proofs.Causes.{placement}
@@ -26,8 +27,8 @@ use Rattle.scq_law.proofs.Windows.{windowed}
 use Rattle.scq_law.proofs.Counted.{total_le, total_plus}
 use Rattle.scq_law.proofs.Levels.{flying, covers}
 use Rattle.scq_law.proofs.TicketSums.{sum_le}
-use Rattle.scq_law.proofs.Tallies.{placed_bit, took_bit, placeds, tooks, was_done, landing}
-use Rattle.scq_law.proofs.Spends.{got_of, done_of, laid_of, tallied, tale_reaches}
+use Rattle.scq_law.proofs.Tallies.{placed_bit, took_bit, placeds, tooks, landing}
+use Rattle.scq_law.proofs.Spends.{done_of, laid_of, tallied, tale_reaches}
 
 -- the window and the threshold's cover on every reachable state
 pub within_window : (c : Setup) (m : Machine) → IsReachable c m → WithinWindow c m
@@ -107,7 +108,7 @@ head_bounded c time g m tale r =
     total_le (laid_of r) puts m.part (λ k. let calls = tally_le (was_done r) (was_put r) (done_put r) (m.part k).calls in let phase = landing_putting r (m.part k).phase in omega arith) c.seats in
     let dones : total (done_of r) m.part c.seats ≤ total puts m.part c.seats =
     total_le (done_of r) puts m.part (λ k. let calls = tally_le (was_done r) (was_put r) (done_put r) (m.part k).calls in omega arith) c.seats in
-    let split = total_plus (got_of r) (λ (p : Part). flying r (stance_of p.phase) + spent_of p.spent) m.part c.seats in
+    let split = total_plus (gets_of r) (λ (p : Part). flying r (stance_of p.phase) + spent_of p.spent) m.part c.seats in
     let again = total_plus (λ (p : Part). flying r (stance_of p.phase)) (λ (p : Part). spent_of p.spent) m.part c.seats in
     let flights : total (λ (p : Part). flying r (stance_of p.phase)) m.part c.seats ≤ dequeues_of c m r =
     total_le (λ (p : Part). flying r (stance_of p.phase)) (λ (p : Part). dequeues r p.phase) m.part (λ k. flying_dequeues r (m.part k).phase) c.seats in

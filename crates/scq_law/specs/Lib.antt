@@ -10,3 +10,5 @@ pub mod Replay
 pub mod Telling
 pub mod History
 pub mod Moments
+pub mod Sums
+pub mod Kept

@@ -6,6 +6,7 @@
 
 mod act;
 pub mod bounds;
+pub mod counts;
 pub mod history;
 pub mod laws;
 mod replayed;
