@@ -69,3 +69,4 @@ pub mod Rising
 pub mod Replays
 pub mod LeftTurns
 pub mod KeptLaws
+pub mod SpentLaws

@@ -12,3 +12,4 @@ pub mod History
 pub mod Moments
 pub mod Sums
 pub mod Kept
+pub mod Spent

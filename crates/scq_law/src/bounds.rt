@@ -11,6 +11,7 @@ ghost use Rattle.scq_core.specs.Reach.{IsReachable};
 ghost use Rattle.scq_core.specs.Laws.{CountersBounded, ThresholdFloor};
 ghost use Rattle.scq_law.specs.Run.{Told, IsRun};
 ghost use Rattle.scq_law.specs.Bounds.{WithinWindow, ThresholdCovers, FailsBounded, TicketsBounded, NoneSpent};
+ghost use Rattle.scq_law.specs.Spent.{SpentKept};
 
 /// Tail, as far as it is below the limit, is at most `2n - 1` past Head on each ring of `n` indices.
 pub fn tail_is_within_the_window()
@@ -48,8 +49,14 @@ pub fn tickets_are_bounded()
     ensures { (c : Setup) (m : Machine) → IsReachable c m → TicketsBounded c m }
 {}
 
-/// While the bound for the enqueues begun is within the limit on each ring, no call has ended with
-/// Spent.
+/// While a ring's bound for the enqueues begun is within the limit, no call on that ring has ended with
+/// Spent, whatever became of the other rings.
 pub fn none_is_spent_within_the_bound()
     ensures { (c : Setup) (m : Machine) → IsReachable c m → NoneSpent c m }
+{}
+
+/// A seat that keeps a spent ticket ended its last call with it, on a ring whose bound for the enqueues
+/// begun is past the limit; and a call that ended with Spent is its seat's last, whose ticket it keeps.
+pub fn spent_tickets_are_kept()
+    ensures { (c : Setup) (m : Machine) → IsReachable c m → SpentKept c m }
 {}

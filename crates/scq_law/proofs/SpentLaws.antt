@@ -1,0 +1,110 @@
+-- The ticket that a seat keeps is that of its last call. Plan: a seat whose step is enabled keeps no ticket, and only the
+-- event that ends its call with Spent gives it one.
+use Rattle.std.proofs.Common.{◌≡◌, ℕ, ◌+◌, ◌-◌, ◌<◌, ◌≤◌, Bool, true, false, List, [], ◌∷◌, ◌++◌, length, refl, inl, inr, ap, sym, ◌∙◌, arith}
+use Rattle.std.specs.Prelude.{Option, Some, None, slice_get}
+use Rattle.std.specs.List.{Contains}
+use Rattle.std.proofs.lemmas.Bool.{cases_eq, cases_lt}
+use Rattle.std.proofs.lemmas.List.Elements.{Contains-push}
+use Rattle.scq_word.specs.declared.setup.Setup.{Setup}
+use Rattle.scq_core.specs.declared.ended.Ended.{Ended}
+use Rattle.scq_core.specs.declared.ended.Ended.TheVariants.{Spent}
+use Rattle.scq_core.specs.Machine.{Part, Machine}
+use Rattle.scq_core.specs.Table.{moved}
+use Rattle.scq_core.specs.Reach.{IsReachable}
+use Rattle.scq_core.proofs.Steady.{keeps_none}
+use Rattle.scq_law.specs.Bounds.{enqueues, ticket_bound}
+use Rattle.scq_law.specs.Spent.{EndedSpent, SpentKept}
+use Rattle.scq_law.proofs.Ghosts.{Ghost}
+use Rattle.scq_law.proofs.Events.{Event, overran, ended_by}
+use Rattle.scq_law.proofs.Deed.{Deed}
+use Rattle.scq_law.proofs.Tale.{Tale, tale_start, tale_step, story, event_of}
+use Rattle.scq_law.proofs.Base.{based}
+use Rattle.scq_law.proofs.Scenes.{scene}
+use Rattle.scq_law.proofs.Counted.{contains_none, contains_one}
+use Rattle.scq_law.proofs.Overruns.{overrun, spent_back, ends_otherwise, none_spent}
+
+-- a kept ticket is that of the seat's last call
+abbrev IsLast : Part → ℕ → Type 0
+IsLast p t = (r : ℕ) × EndedSpent p r t
+
+record IsTied (m : Machine) : Type 0 where
+  last : (k t : ℕ) → (m.part k).spent ≡ Some t → IsLast (m.part k) t
+  kept : (k r t : ℕ) (b : Bool) → Contains (m.part k).calls (Spent r t b) → (m.part k).spent ≡ Some t
+
+-- the seat's own part after its event, where it kept none before
+own_last : (c : Setup) (g : Ghost) (m : Machine) (k : ℕ) (e : Event) (n : Machine) → Deed c m g k e n → (m.part k).spent ≡ None → (t : ℕ) → (n.part k).spent ≡ Some t → IsLast (n.part k) t
+own_last c g m k (overran r u b) n deed none t keeps =
+    let same : u ≡ t = let both : Some u ≡ Some t = sym deed.kept ∙ keeps in cc in
+    (r, rw (← same) (record { before = (m.part k).calls; is_put = b; calls = deed.calls }))
+own_last c g m k e n deed none t keeps = absurd (let clash : ◌≡◌ {A = Option ℕ} None (Some t) = sym none ∙ sym deed.kept ∙ keeps in cc)
+
+own_kept : (c : Setup) (g : Ghost) (m : Machine) (k : ℕ) (e : Event) (n : Machine) → Deed c m g k e n → (r t : ℕ) (b : Bool) → Contains (ended_by e) (Spent r t b) → (n.part k).spent ≡ Some t
+own_kept c g m k (overran q u v) n deed r t b has =
+    let same : Spent q u v ≡ Spent r t b = contains_one (Spent q u v) (Spent r t b) has in
+    let ticket : u ≡ t = cc in
+    deed.kept ∙ ap Some ticket
+own_kept c g m k e n deed r t b has = absurd (ends_otherwise e r t b refl has)
+
+tied_step : (c : Setup) (g : Ghost) (m : Machine) (k : ℕ) (e : Event) (n : Machine) → Deed c m g k e n → (m.part k).spent ≡ None → IsTied m → IsTied n
+tied_step c g m k e n deed none was =
+    record {
+      last =
+          λ j t keeps.
+          elim (cases_eq j k) [
+            | inl same ↦ rw same (own_last c g m k e n deed none t (rw same at keeps))
+            | inr other ↦ rw (deed.others j other) (was.last j t (rw (deed.others j other) at keeps))
+          ];
+      kept =
+          λ j r t b has.
+          elim (cases_eq j k) [
+            | inl same ↦
+                let mine : Contains (n.part k).calls (Spent r t b) = rw same at has in
+                elim (spent_back c g m k e n deed k (Spent r t b) mine) [
+                  | inl old ↦
+                      let clash : ◌≡◌ {A = Option ℕ} None (Some t) = sym none ∙ was.kept k r t b old in absurd (cc)
+                  | inr new ↦ rw same (own_kept c g m k e n deed r t b new)
+                ]
+            | inr other ↦
+                rw (deed.others j other) (was.kept j r t b (rw (deed.others j other) at has))
+          ];
+    }
+
+tied : (c : Setup) (time : ℕ) (g : Ghost) (m : Machine) → Tale c time g m → IsTied m
+tied c time g m (tale_start opening full) =
+    record {
+      last = λ k t keeps. absurd (let clash : ◌≡◌ {A = Option ℕ} None (Some t) = keeps in cc);
+      kept = λ k r t b has. absurd (contains_none (Spent r t b) has);
+    }
+tied c time g m (tale_step {time = u} {g = h} {m = old} k s turn tale low enabled) =
+    let base = based c u h old tale in
+    let sc = scene c u h old k s turn low enabled base in
+    let none = keeps_none c old k s turn base.steady enabled in
+    tied_step c h old k (event_of c old turn) (moved c old k turn) sc.deed none (tied c u h old tale)
+
+-- a call that ended so was on one of the rings
+spent_ring : (c : Setup) (time : ℕ) (g : Ghost) (m : Machine) → Tale c time g m → (k r t : ℕ) (b : Bool) → Contains (m.part k).calls (Spent r t b) → r < c.rings
+spent_ring c time g m tale k r t true has = ((overrun c time g m tale).puts k r t has).ring
+spent_ring c time g m tale k r t false has = ((overrun c time g m tale).gets k r t has).ring
+
+-- whose bound is past the limit
+spent_bound : (c : Setup) (m : Machine) (k r t : ℕ) (b : Bool) → IsReachable c m → Contains (m.part k).calls (Spent r t b) → c.limit < ticket_bound c (enqueues c m r)
+spent_bound c m k r t b reach has =
+    elim (cases_lt c.limit (ticket_bound c (enqueues c m r))) [
+      | inl past ↦ past
+      | inr within ↦ absurd ((none_spent c m reach).none r within k t b has)
+    ]
+
+pub spent_kept : (c : Setup) (m : Machine) → IsReachable c m → SpentKept c m
+spent_kept c m reach =
+    let s = story c m reach in
+    let ties = tied c s.time s.ghost m s.tells in
+    record {
+      last =
+          λ k t keeps.
+          let ended = ties.last k t keeps in
+          let r = ended.0 in
+          let e = ended.1 in
+          let has : Contains (m.part k).calls (Spent r t e.is_put) = rw e.calls (Contains-push e.before (Spent r t e.is_put)) in
+          (r, e, spent_ring c s.time s.ghost m s.tells k r t e.is_put has, spent_bound c m k r t e.is_put reach has);
+      kept = ties.kept;
+    }
