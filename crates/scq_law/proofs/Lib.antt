@@ -70,3 +70,4 @@ pub mod Replays
 pub mod LeftTurns
 pub mod KeptLaws
 pub mod SpentLaws
+pub mod BegunLaws

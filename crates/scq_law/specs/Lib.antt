@@ -13,3 +13,4 @@ pub mod Moments
 pub mod Sums
 pub mod Kept
 pub mod Spent
+pub mod Begun

@@ -1,10 +1,16 @@
 //! What is counted over rings, hands and records. The functions do nothing: each stands for its
 //! contract.
 
+ghost use Rattle.std.specs.Prelude.{◌≡◌, ℕ, ◌<◌, List, length};
+ghost use Rattle.std.specs.List.{All};
 ghost use Rattle.scq_word.specs.declared.setup.Setup.{Setup};
+ghost use Rattle.scq_word.specs.Sizes.{n_of};
+ghost use Rattle.scq_core.specs.declared.step.Step.{Step};
 ghost use Rattle.scq_core.specs.Machine.{Machine};
 ghost use Rattle.scq_core.specs.Reach.{IsReachable};
+ghost use Rattle.scq_law.specs.Run.{Told, IsRun};
 ghost use Rattle.scq_law.specs.Kept.{Balanced, AllKept};
+ghost use Rattle.scq_law.specs.Begun.{EnqueuesBegun};
 
 /// On each ring the indices that are left and the gets that took one are as many as the puts that
 /// placed one, the opening puts among them. A put has placed once its exchange has succeeded.
@@ -16,4 +22,10 @@ pub fn rings_are_balanced()
 /// never holds more than `n`.
 pub fn all_indices_are_kept()
     ensures { (c : Setup) (m : Machine) → IsReachable c m → AllKept c m }
+{}
+
+/// After each run, the enqueues begun on a ring, as the bound on tickets counts them, are the puts of that
+/// ring whose Start is in the history, and the opening puts.
+pub fn begun_enqueues_are_starts()
+    ensures { (c : Setup) (opening : List (List ℕ)) (steps : List (ℕ × Step)) (told : Told) → length opening ≡ n_of c.order → All (λ (x : ℕ × Step). x.0 < c.seats) steps → IsRun c opening steps told → EnqueuesBegun c told.state told.events }
 {}
