@@ -71,3 +71,4 @@ pub mod LeftTurns
 pub mod KeptLaws
 pub mod SpentLaws
 pub mod BegunLaws
+pub mod RetryLaws

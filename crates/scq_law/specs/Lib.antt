@@ -14,3 +14,4 @@ pub mod Sums
 pub mod Kept
 pub mod Spent
 pub mod Begun
+pub mod Retries
