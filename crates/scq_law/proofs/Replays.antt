@@ -18,6 +18,8 @@ use Rattle.scq_law.specs.declared.replayed.ReplayFault.{ReplayFault}
 use Rattle.scq_law.specs.Replay.{ShowsRun}
 use Rattle.scq_law.proofs.RunLaws.{run_reaches}
 use Rattle.scq_law.proofs.Fails.{fails_bounded}
+use Rattle.scq_law.specs.Begun.{EnqueuesBegun}
+use Rattle.scq_law.proofs.BegunLaws.{enqueues_begun}
 use Rattle.scq_law.proofs.Chronicle.{chronicle}
 use Rattle.scq_law.proofs.EmptyRight.{has_aspects}
 
@@ -58,4 +60,15 @@ of_fails c opening steps result full seats shown =
     (ShowsRun c opening steps)
     (λ replayed. All (λ fails. fails ≤ reset_value c + c.seats) replayed.fails.items)
     (λ replayed shows. few_fails c opening steps replayed full seats shows)
+    shown
+
+-- the enqueues begun on each ring
+pub of_begun : (c : Setup) (opening : List (List ℕ)) (steps : List (ℕ × Step)) (result : Result Replayed ReplayFault) → All (λ (x : ℕ × Step). x.0 < c.seats) steps → IfOk result (ShowsRun c opening steps)
+    → IfOk result (λ replayed. EnqueuesBegun c (machine_of replayed.state) replayed.events.items)
+of_begun c opening steps result seats shown =
+    IfOk-weaker
+    result
+    (ShowsRun c opening steps)
+    (λ replayed. EnqueuesBegun c (machine_of replayed.state) replayed.events.items)
+    (λ replayed shows. rw (shows.state, shows.events) (enqueues_begun c opening steps shows.told seats shows.run))
     shown

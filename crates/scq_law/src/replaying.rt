@@ -9,6 +9,10 @@ ghost use Rattle.scq_hist.specs.Aspects.{IsLawful, IsFresh, IsOnce, IsInOrder, I
 ghost use Rattle.scq_law.specs.Hands.{OneHand};
 ghost use Rattle.scq_law.specs.Places.{PlacesOnce};
 ghost use Rattle.scq_law.specs.Bounds.{WithinWindow, ThresholdCovers, TicketsBounded, NoneSpent};
+ghost use Rattle.scq_law.specs.Spent.{SpentKept};
+ghost use Rattle.scq_law.specs.Kept.{Balanced, AllKept};
+ghost use Rattle.scq_law.specs.Retries.{RetriesRise};
+ghost use Rattle.scq_law.specs.Begun.{EnqueuesBegun};
 ghost use Rattle.scq_law.specs.Moments.{RisesThroughout};
 ghost use Rattle.scq_law.specs.Replay.{ShowsRun, StopsAt};
 
@@ -42,6 +46,11 @@ pub fn replay(
     ensures tickets_bounded { IfOk result (λ replayed. TicketsBounded setup (machine_of replayed.state)) }
     ensures none_spent { IfOk result (λ replayed. NoneSpent setup (machine_of replayed.state)) }
 
+    ensures spent_kept { IfOk result (λ replayed. SpentKept setup (machine_of replayed.state)) }
+    ensures balanced { IfOk result (λ replayed. Balanced setup (machine_of replayed.state)) }
+    ensures all_kept { IfOk result (λ replayed. AllKept setup (machine_of replayed.state)) }
+    ensures retries_rise { IfOk result (λ replayed. RetriesRise setup (machine_of replayed.state)) }
+
     // Its history and counts.
     ensures lawful { IfOk result (λ replayed. IsLawful replayed.events.items) }
     ensures fresh { IfOk result (λ replayed. IsFresh opening.items replayed.events.items) }
@@ -49,6 +58,7 @@ pub fn replay(
     ensures in_order { IfOk result (λ replayed. IsInOrder opening.items replayed.events.items) }
     ensures empty_right { IfOk result (λ replayed. IsEmptyRight opening.items replayed.events.items) }
     ensures fails_bounded { IfOk result (λ replayed. All (λ fails. fails ≤ reset_value setup + setup.seats) replayed.fails.items) }
+    ensures begun { IfOk result (λ replayed. EnqueuesBegun setup (machine_of replayed.state) replayed.events.items) }
 
     // All along it.
     ensures rises { RisesThroughout setup opening.items steps.now }

@@ -9,12 +9,18 @@ use Rattle.scq_hist.specs.Aspects.{IsLawful, IsFresh, IsOnce, IsInOrder, IsEmpty
 use Rattle.scq_law.specs.Hands.{OneHand}
 use Rattle.scq_law.specs.Places.{PlacesOnce}
 use Rattle.scq_law.specs.Bounds.{WithinWindow, ThresholdCovers, TicketsBounded, NoneSpent}
+use Rattle.scq_law.specs.Spent.{SpentKept}
+use Rattle.scq_law.specs.Kept.{Balanced, AllKept}
+use Rattle.scq_law.specs.Retries.{RetriesRise}
 use Rattle.scq_law.proofs.HandLaws.{one_hand}
 use Rattle.scq_law.proofs.PlaceLaws.{places_once}
 use Rattle.scq_law.proofs.TicketLaws.{within_window, threshold_covers, tickets_bounded}
 use Rattle.scq_law.proofs.Overruns.{none_spent}
+use Rattle.scq_law.proofs.SpentLaws.{spent_kept}
+use Rattle.scq_law.proofs.KeptLaws.{balanced, all_kept}
+use Rattle.scq_law.proofs.RetryLaws.{retries_rise}
 use Rattle.scq_law.proofs.Rising.{rises_throughout}
-use Rattle.scq_law.proofs.Replays.{of_state, of_history, of_fails}
+use Rattle.scq_law.proofs.Replays.{of_state, of_history, of_fails, of_begun}
 use Rattle.scq_law.proofs.replaying.replay.Goals as goal
 
 pub returns-clause-one_hand : goal.returns-clause-one_hand
@@ -57,6 +63,26 @@ returns-clause-none_spent c =
     let setup = c.args.setup in
     of_state setup c.args.opening.items c.args.steps.now c.told.result (λ (m : Machine). NoneSpent setup m) (sym c.args.opening.ok.0 ∙ c.requires.opening) c.requires.seats c.told.ensures.run (none_spent setup)
 
+pub returns-clause-spent_kept : goal.returns-clause-spent_kept
+returns-clause-spent_kept c =
+    let setup = c.args.setup in
+    of_state setup c.args.opening.items c.args.steps.now c.told.result (λ (m : Machine). SpentKept setup m) (sym c.args.opening.ok.0 ∙ c.requires.opening) c.requires.seats c.told.ensures.run (spent_kept setup)
+
+pub returns-clause-balanced : goal.returns-clause-balanced
+returns-clause-balanced c =
+    let setup = c.args.setup in
+    of_state setup c.args.opening.items c.args.steps.now c.told.result (λ (m : Machine). Balanced setup m) (sym c.args.opening.ok.0 ∙ c.requires.opening) c.requires.seats c.told.ensures.run (balanced setup)
+
+pub returns-clause-all_kept : goal.returns-clause-all_kept
+returns-clause-all_kept c =
+    let setup = c.args.setup in
+    of_state setup c.args.opening.items c.args.steps.now c.told.result (λ (m : Machine). AllKept setup m) (sym c.args.opening.ok.0 ∙ c.requires.opening) c.requires.seats c.told.ensures.run (all_kept setup)
+
+pub returns-clause-retries_rise : goal.returns-clause-retries_rise
+returns-clause-retries_rise c =
+    let setup = c.args.setup in
+    of_state setup c.args.opening.items c.args.steps.now c.told.result (λ (m : Machine). RetriesRise setup m) (sym c.args.opening.ok.0 ∙ c.requires.opening) c.requires.seats c.told.ensures.run (retries_rise setup)
+
 pub returns-clause-lawful : goal.returns-clause-lawful
 returns-clause-lawful c =
     let setup = c.args.setup in
@@ -85,6 +111,10 @@ returns-clause-empty_right c =
 pub returns-clause-fails_bounded : goal.returns-clause-fails_bounded
 returns-clause-fails_bounded c =
     of_fails c.args.setup c.args.opening.items c.args.steps.now c.told.result (sym c.args.opening.ok.0 ∙ c.requires.opening) c.requires.seats c.told.ensures.run
+
+pub returns-clause-begun : goal.returns-clause-begun
+returns-clause-begun c =
+    of_begun c.args.setup c.args.opening.items c.args.steps.now c.told.result c.requires.seats c.told.ensures.run
 
 pub returns-clause-rises : goal.returns-clause-rises
 returns-clause-rises c =
