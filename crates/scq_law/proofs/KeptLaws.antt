@@ -22,7 +22,7 @@ use Rattle.scq_law.specs.Bounds.{tally, openings}
 use Rattle.scq_law.specs.Sums.{sum_to}
 use Rattle.scq_law.specs.Kept.{has_index, left_in, left_below, was_done, was_got, has_placed, gets_of, puts_of, Balanced, AllKept}
 use Rattle.scq_law.proofs.Ghosts.{Ghost}
-use Rattle.scq_law.proofs.Events.{putting, trying, stance_of, Event, calm, drew, fell, laid, finished, entered, refused, began, died, saw_end, lifted, taken, lowered, emptied, overran, ended_by}
+use Rattle.scq_law.proofs.Events.{Stance, landed, putting, trying, stance_of, Event, calm, drew, fell, laid, finished, entered, refused, began, died, saw_end, lifted, taken, lowered, emptied, overran, ended_by}
 use Rattle.scq_law.proofs.Deed.{stance}
 use Rattle.scq_law.proofs.Tale.{Tale, tale_start, tale_step, story, event_of}
 use Rattle.scq_law.proofs.Full.{one_place}
@@ -32,7 +32,6 @@ use Rattle.scq_law.proofs.Stances.{stance_has}
 use Rattle.scq_law.proofs.Counted.{total_change}
 use Rattle.scq_law.proofs.TicketSums.{sum_same, sum_change}
 use Rattle.scq_law.proofs.Levels.{bit, here_one, there_none}
-use Rattle.scq_law.proofs.Tallies.{landing}
 use Rattle.scq_law.proofs.Spends.{calls_then}
 use Rattle.scq_law.proofs.HandLemmas.{seen_times}
 use Rattle.scq_law.proofs.Throughout.{once, reached}
@@ -42,7 +41,11 @@ use Rattle.scq_law.proofs.LeftTurns.{laid_bit, got_bit, left_turn}
 abbrev Lefts : Setup → Event → Machine → Machine → Type 0
 Lefts c e m n = (r : ℕ) → left_in c n.cells r + got_bit r e ≡ left_in c m.cells r + laid_bit r e
 
--- a seat's placed index, by its phase and by its stance
+-- a seat's placed index, by its stance and by its phase
+abbrev landing : ℕ → Stance → ℕ
+landing r (landed q i w t) = bit q r
+landing r s = 0
+
 placed_landing : (r : ℕ) (phase : Phase) → has_placed r phase ≡ landing r (stance_of phase)
 placed_landing r (AtD10 q h true) = refl
 placed_landing r (AtD10 q h false) = refl
