@@ -1,5 +1,6 @@
 -- The enqueues begun on a ring are the Starts of puts there and the opening puts. Plan: a turn's calls that end and its next
--- phase come to what the turn is itself; so a seat has begun one more only where its turn begins a put, and that is told.
+-- phase come to what the turn is itself; so a seat has begun one more only where its turn begins a put, and there a Start is
+-- recorded.
 use Rattle.std.proofs.Common.{◌≡◌, ℕ, ◌+◌, ◌<◌, Bool, true, false, ◌&&◌, List, [], ◌∷◌, ◌++◌, length, refl, sym, ◌∙◌, inl, inr, arith}
 use Rattle.std.specs.Prelude.{◌==◌, nat_lt, nat_le, if◌then◌else◌, Option, Some, None, slice_get}
 use Rattle.std.specs.List.{All, count_by}
@@ -85,7 +86,7 @@ none_finishes : (r k : ℕ) (placer : ℕ → ℕ → PutName) (phase : Phase) (
 none_finishes r k placer Idle calls = no_start r k placer _
 none_finishes r k placer phase calls = refl
 
--- what the turn is, is what the phase was and the Start that is told
+-- what the turn is, is what the phase was and the Start that is recorded
 begun_start : (c : Setup) (p : Part) (k r : ℕ) (s : Step) (turn : Phase) → turn_of c p s ≡ Some turn → is_putting r turn ≡ is_putting r p.phase + puts_started r (starts k p.phase turn)
 begun_start c p k r s turn enabled =
     elim (begins c p.hand p.spent p.phase s turn enabled) [
@@ -110,8 +111,8 @@ begun_step c told k s turn low enabled was r =
     let begins = starts k p.phase turn in
     let ends = finishes k next.placer (next.state.part k).phase (next.state.part k).calls in
     let none = none_finishes r k next.placer (next.state.part k).phase (next.state.part k).calls in
-    let told_ends : puts_started r next.events ≡ puts_started r (told.events ++ begins) + puts_started r ends = started-append r (told.events ++ begins) ends in
-    let told_begins = started-append r told.events begins in
+    let with_ends : puts_started r next.events ≡ puts_started r (told.events ++ begins) + puts_started r ends = started-append r (told.events ++ begins) ends in
+    let with_begins = started-append r told.events begins in
     let before = was r in
     omega arith
 

@@ -72,3 +72,4 @@ pub mod KeptLaws
 pub mod SpentLaws
 pub mod BegunLaws
 pub mod RetryLaws
+pub mod CallLaws

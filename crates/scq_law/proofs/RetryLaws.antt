@@ -29,11 +29,11 @@ finds_turn c m hand (AtD9 r h from to) busy = busy.2
 finds_turn c m hand turn busy = tt
 
 -- a word of an earlier cycle has a rank below the ticket's
-earlier_rank : (m x t : ℕ) → cycle_in m x < t → rank_in m x < 3 * t
+pub earlier_rank : (m x t : ℕ) → cycle_in m x < t → rank_in m x < 3 * t
 earlier_rank m x t earlier = let range = rank_in_range m x in let high = range.1 in omega arith
 
 -- the word that an exchange found in place of the one that was loaded
-risen : (m e x : ℕ) → IsAbove m e x → (x ≡ e → ⊥) → rank_in m e < rank_in m x
+pub risen : (m e x : ℕ) → IsAbove m e x → (x ≡ e → ⊥) → rank_in m e < rank_in m x
 risen m e x up miss = elim up.above [ inl same ↦ absurd (miss same) | inr rose ↦ rose ]
 
 module _ (c : Setup) (m : Cells) (p : Part) (bound : (r : ℕ) → m.tail r ≤ c.limit + c.seats) where

@@ -15,3 +15,4 @@ pub mod Kept
 pub mod Spent
 pub mod Begun
 pub mod Retries
+pub mod CallSteps

@@ -13,6 +13,7 @@ ghost use Rattle.scq_law.specs.Run.{Told, IsRun};
 ghost use Rattle.scq_law.specs.Bounds.{WithinWindow, ThresholdCovers, FailsBounded, TicketsBounded, NoneSpent};
 ghost use Rattle.scq_law.specs.Spent.{SpentKept};
 ghost use Rattle.scq_law.specs.Retries.{RetriesRise};
+ghost use Rattle.scq_law.specs.CallSteps.{CallsEnd};
 
 /// Tail, as far as it is below the limit, is at most `2n - 1` past Head on each ring of `n` indices.
 pub fn tail_is_within_the_window()
@@ -69,4 +70,11 @@ pub fn spent_tickets_are_kept()
 /// limit than the number of seats.
 pub fn retries_rise()
     ensures { (c : Setup) (m : Machine) → IsReachable c m → RetriesRise c m }
+{}
+
+/// Each call ends after a bounded number of its seat's steps, whatever the other seats do: each step
+/// leaves the call fewer, and none has more left than a dequeue that begins, which are about `15 L * L`
+/// for the limit `L` of tickets.
+pub fn calls_end()
+    ensures { (c : Setup) (m : Machine) → IsReachable c m → CallsEnd c m }
 {}

@@ -12,6 +12,7 @@ ghost use Rattle.scq_law.specs.Bounds.{WithinWindow, ThresholdCovers, TicketsBou
 ghost use Rattle.scq_law.specs.Spent.{SpentKept};
 ghost use Rattle.scq_law.specs.Kept.{Balanced, AllKept};
 ghost use Rattle.scq_law.specs.Retries.{RetriesRise};
+ghost use Rattle.scq_law.specs.CallSteps.{CallsEnd};
 ghost use Rattle.scq_law.specs.Begun.{EnqueuesBegun};
 ghost use Rattle.scq_law.specs.Moments.{RisesThroughout};
 ghost use Rattle.scq_law.specs.Replay.{ShowsRun, StopsAt};
@@ -45,11 +46,11 @@ pub fn replay(
     ensures threshold_covers { IfOk result (λ replayed. ThresholdCovers setup (machine_of replayed.state)) }
     ensures tickets_bounded { IfOk result (λ replayed. TicketsBounded setup (machine_of replayed.state)) }
     ensures none_spent { IfOk result (λ replayed. NoneSpent setup (machine_of replayed.state)) }
-
     ensures spent_kept { IfOk result (λ replayed. SpentKept setup (machine_of replayed.state)) }
     ensures balanced { IfOk result (λ replayed. Balanced setup (machine_of replayed.state)) }
     ensures all_kept { IfOk result (λ replayed. AllKept setup (machine_of replayed.state)) }
     ensures retries_rise { IfOk result (λ replayed. RetriesRise setup (machine_of replayed.state)) }
+    ensures calls_end { IfOk result (λ replayed. CallsEnd setup (machine_of replayed.state)) }
 
     // Its history and counts.
     ensures lawful { IfOk result (λ replayed. IsLawful replayed.events.items) }

@@ -12,6 +12,7 @@ use Rattle.scq_law.specs.Bounds.{WithinWindow, ThresholdCovers, TicketsBounded, 
 use Rattle.scq_law.specs.Spent.{SpentKept}
 use Rattle.scq_law.specs.Kept.{Balanced, AllKept}
 use Rattle.scq_law.specs.Retries.{RetriesRise}
+use Rattle.scq_law.specs.CallSteps.{CallsEnd}
 use Rattle.scq_law.proofs.HandLaws.{one_hand}
 use Rattle.scq_law.proofs.PlaceLaws.{places_once}
 use Rattle.scq_law.proofs.TicketLaws.{within_window, threshold_covers, tickets_bounded}
@@ -19,6 +20,7 @@ use Rattle.scq_law.proofs.Overruns.{none_spent}
 use Rattle.scq_law.proofs.SpentLaws.{spent_kept}
 use Rattle.scq_law.proofs.KeptLaws.{balanced, all_kept}
 use Rattle.scq_law.proofs.RetryLaws.{retries_rise}
+use Rattle.scq_law.proofs.CallLaws.{calls_end}
 use Rattle.scq_law.proofs.Rising.{rises_throughout}
 use Rattle.scq_law.proofs.Replays.{of_state, of_history, of_fails, of_begun}
 use Rattle.scq_law.proofs.replaying.replay.Goals as goal
@@ -82,6 +84,11 @@ pub returns-clause-retries_rise : goal.returns-clause-retries_rise
 returns-clause-retries_rise c =
     let setup = c.args.setup in
     of_state setup c.args.opening.items c.args.steps.now c.told.result (λ (m : Machine). RetriesRise setup m) (sym c.args.opening.ok.0 ∙ c.requires.opening) c.requires.seats c.told.ensures.run (retries_rise setup)
+
+pub returns-clause-calls_end : goal.returns-clause-calls_end
+returns-clause-calls_end c =
+    let setup = c.args.setup in
+    of_state setup c.args.opening.items c.args.steps.now c.told.result (λ (m : Machine). CallsEnd setup m) (sym c.args.opening.ok.0 ∙ c.requires.opening) c.requires.seats c.told.ensures.run (calls_end setup)
 
 pub returns-clause-lawful : goal.returns-clause-lawful
 returns-clause-lawful c =
