@@ -22,11 +22,11 @@ use Rattle.scq_core.proofs.Counts.{total_updated, total_none}
 use Rattle.scq_core.proofs.Turns.{Begins, begins_put, begins_get, begins, awake}
 use Rattle.scq_hist.specs.declared.events.Event.{Event}
 use Rattle.scq_hist.specs.declared.events.PutName.{PutName}
-use Rattle.scq_law.specs.Run.{Told, starts, end_of, finishes, placer_after, told_after, told_first, IsRun}
+use Rattle.scq_law.specs.Run.{Recorded, starts, end_of, finishes, placer_after, recorded_after, recorded_first, IsRun}
 use Rattle.scq_law.specs.Bounds.{tally, was_put, is_putting, enqueues, openings}
 use Rattle.scq_law.specs.Begun.{starts_put, puts_started, EnqueuesBegun}
-use Rattle.scq_law.proofs.Counted.{tally-append}
-use Rattle.scq_law.proofs.ToldRuns.{all_along}
+use Rattle.scq_law.proofs.Base.SeatSums.{tally-append}
+use Rattle.scq_law.proofs.Replays.RecordedRuns.{all_along}
 
 -- how many puts on a ring a seat has begun
 abbrev begun_of : ℕ → Part → ℕ
@@ -87,7 +87,8 @@ none_finishes r k placer Idle calls = no_start r k placer _
 none_finishes r k placer phase calls = refl
 
 -- what the turn is, is what the phase was and the Start that is recorded
-begun_start : (c : Setup) (p : Part) (k r : ℕ) (s : Step) (turn : Phase) → turn_of c p s ≡ Some turn → is_putting r turn ≡ is_putting r p.phase + puts_started r (starts k p.phase turn)
+begun_start : (c : Setup) (p : Part) (k r : ℕ) (s : Step) (turn : Phase) → turn_of c p s ≡ Some turn
+    → is_putting r turn ≡ is_putting r p.phase + puts_started r (starts k p.phase turn)
 begun_start c p k r s turn enabled =
     elim (begins c p.hand p.spent p.phase s turn enabled) [
       | inl same ↦ rw (same, none_starts k p.phase) (omega arith)
@@ -98,11 +99,13 @@ begun_start c p k r s turn enabled =
     go t (begins_put q i w ring index held) = omega arith
     go t (begins_get q ring) = refl
 
-begun_step : (c : Setup) (told : Told) (k : ℕ) (s : Step) (turn : Phase) → k < c.seats → turn_of c (told.state.part k) s ≡ Some turn → ((r : ℕ) → enqueues c told.state r ≡ puts_started r told.events + openings c r) → (r : ℕ) → enqueues c (told_after c k turn told).state r ≡ puts_started r (told_after c k turn told).events + openings c r
-begun_step c told k s turn low enabled was r =
-    let m = told.state in
+begun_step : (c : Setup) (recorded : Recorded) (k : ℕ) (s : Step) (turn : Phase) → k < c.seats → turn_of c (recorded.state.part k) s ≡ Some turn
+    → ((r : ℕ) → enqueues c recorded.state r ≡ puts_started r recorded.events + openings c r) → (r : ℕ)
+    → enqueues c (recorded_after c k turn recorded).state r ≡ puts_started r (recorded_after c k turn recorded).events + openings c r
+begun_step c recorded k s turn low enabled was r =
+    let m = recorded.state in
     let p = m.part k in
-    let next = told_after c k turn told in
+    let next = recorded_after c k turn recorded in
     let x = read m.cells (location_of c turn) in
     let y = beside m.cells (location_of c turn) in
     let sum = total_updated (begun_of r) m.part k (after c turn x y p) c.seats low in
@@ -111,15 +114,18 @@ begun_step c told k s turn low enabled was r =
     let begins = starts k p.phase turn in
     let ends = finishes k next.placer (next.state.part k).phase (next.state.part k).calls in
     let none = none_finishes r k next.placer (next.state.part k).phase (next.state.part k).calls in
-    let with_ends : puts_started r next.events ≡ puts_started r (told.events ++ begins) + puts_started r ends = started-append r (told.events ++ begins) ends in
-    let with_begins = started-append r told.events begins in
+    let with_ends : puts_started r next.events ≡ puts_started r (recorded.events ++ begins) + puts_started r ends =
+    started-append r (recorded.events ++ begins) ends in
+    let with_begins = started-append r recorded.events begins in
     let before = was r in
     omega arith
 
-pub enqueues_begun : (c : Setup) (opening : List (List ℕ)) (steps : List (ℕ × Step)) (told : Told) → All (λ (x : ℕ × Step). x.0 < c.seats) steps → IsRun c opening steps told → EnqueuesBegun c told.state told.events
-enqueues_begun c opening steps told seats run =
+pub enqueues_begun : (c : Setup) (opening : List (List ℕ)) (steps : List (ℕ × Step)) (recorded : Recorded) → All (λ (x : ℕ × Step). x.0 < c.seats) steps
+    → IsRun c opening steps recorded → EnqueuesBegun c recorded.state recorded.events
+enqueues_begun c opening steps recorded seats run =
     record {
-      begun = all_along c (λ t. (r : ℕ) → enqueues c t.state r ≡ puts_started r t.events + openings c r) (begun_step c) steps (told_first c opening) told seats run.told_is first;
+      begun = all_along c (λ t. (r : ℕ) → enqueues c t.state r ≡ puts_started r t.events + openings c r) (begun_step c) steps (recorded_first c opening)
+          recorded seats run.recorded_is first;
     }
   where
     first : (r : ℕ) → enqueues c (start_of c opening) r ≡ 0 + openings c r

@@ -13,7 +13,7 @@ use Rattle.scq_core.specs.Table.{ring_slots, cycle, zero_level, reset_level, loc
 use Rattle.scq_core.specs.Reach.{IsReachable}
 use Rattle.scq_core.specs.Laws.{IsAbove, Busy, word_at}
 use Rattle.scq_core.proofs.Turns.{awake}
-use Rattle.scq_core.proofs.Entries.{some_slots, cycle_lawful}
+use Rattle.scq_core.proofs.Entries.{some_slots, cycle_below_limit}
 use Rattle.scq_core.proofs.Steady.{has, steady}
 use Rattle.scq_core.proofs.Limits.{counters_bounded}
 use Rattle.scq_law.specs.CallSteps.{top, ticket_steps, steps_past, steps_from, steps_left, CallsEnd}
@@ -25,7 +25,7 @@ module _ (c : Setup) where
   below_top x t low earlier =
       let rank = earlier_rank (ring_slots c) x (cycle c t) earlier in
       let some = some_slots c in
-      let fits = cycle_lawful c t low in
+      let fits = cycle_below_limit c t low in
       let more : 1 * cycle c t ≤ ring_slots c * cycle c t = mul-le-mul_right (cycle c t) some in
       grind arith
 
@@ -60,7 +60,7 @@ module _ (c : Setup) where
     fewer (AtE2 r i w t l) awake busy =
         let x = word_at c m r t in
         let drawn = busy.1 in
-        let low = drawn.lawful in
+        let low = drawn.below_limit in
         let least = busy.2 in
         elim (cases_Bool (nat_lt (cycle_in (ring_slots c) x) (cycle c t) && is_none_in (ring_slots c) x)) [
           | inl fits ↦
@@ -72,7 +72,7 @@ module _ (c : Setup) where
         ]
     fewer (AtE3 r i w t e) awake busy =
         let drawn = busy.1 in
-        let low = drawn.lawful in
+        let low = drawn.below_limit in
         elim (cases_Bool (nat_le (m.head r) t)) [
           | inl at ↦ rw at (omega arith)
           | inr fails ↦ rw fails (let next = from_next t low in omega arith)
@@ -81,7 +81,7 @@ module _ (c : Setup) where
         let x = word_at c m r t in
         let drawn = busy.1 in
         let lags = busy.2 in
-        let high = below_top e t drawn.lawful lags.earlier in
+        let high = below_top e t drawn.below_limit lags.earlier in
         elim (cases_eq x e) [
           | inl hit ↦ rw (eq-eqb x e hit) (omega arith)
           | inr miss ↦
@@ -114,7 +114,7 @@ module _ (c : Setup) where
         let x = word_at c m r h in
         let drawn = busy.1 in
         let lags = busy.2 in
-        let high = below_top e h drawn.lawful lags.earlier in
+        let high = below_top e h drawn.below_limit lags.earlier in
         elim (cases_eq x e) [
           | inl hit ↦ rw (eq-eqb x e hit) (omega arith)
           | inr miss ↦
@@ -132,7 +132,7 @@ module _ (c : Setup) where
     fewer (AtD10 r h true) awake busy = omega arith
     fewer (AtD10 r h false) awake busy =
         let drawn = busy.1 in
-        let low = drawn.lawful in
+        let low = drawn.below_limit in
         elim (cases_Bool (nat_le (m.threshold r) zero_level)) [
           | inl down ↦ rw down (omega arith)
           | inr up ↦ rw up (let next = from_next h low in omega arith)

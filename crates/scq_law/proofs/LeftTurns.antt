@@ -17,23 +17,23 @@ use Rattle.scq_core.proofs.Steady.{either_way}
 use Rattle.scq_core.proofs.Entries.{some_slots, below_mark, none_in-marked, none_in-filled, index_below}
 use Rattle.scq_law.specs.Kept.{has_index, left_in}
 use Rattle.scq_law.specs.Sums.{sum_to}
-use Rattle.scq_law.proofs.Ghosts.{Ghost}
-use Rattle.scq_law.proofs.Events.{Event, laid, taken, event}
-use Rattle.scq_law.proofs.Booked.{Knows}
-use Rattle.scq_law.proofs.TicketSums.{OneMore, sum_updated}
-use Rattle.scq_law.proofs.Levels.{bit, here_one, there_none}
+use Rattle.scq_law.proofs.Base.Ghosts.{Ghost}
+use Rattle.scq_law.proofs.Base.TicketEvents.{TicketEvent, laid, taken, event}
+use Rattle.scq_law.proofs.Base.BaseGroup.{Knows}
+use Rattle.scq_law.proofs.Tickets.TicketSums.{OneMore, sum_updated}
+use Rattle.scq_law.proofs.Threshold.Covering.{bit, here_one, there_none}
 
 -- 1 for an event that places an index on this ring, and for one that takes one from it
-abbrev pub laid_bit : ℕ → Event → ℕ
+abbrev pub laid_bit : ℕ → TicketEvent → ℕ
 laid_bit r (laid q i w t) = bit q r
 laid_bit r e = 0
 
-abbrev pub got_bit : ℕ → Event → ℕ
+abbrev pub got_bit : ℕ → TicketEvent → ℕ
 got_bit r (taken q h i w) = bit q r
 got_bit r e = 0
 
 -- what an event does to the number of indices of a ring
-abbrev Moves : ℕ → Event → ℕ → ℕ → Type 0
+abbrev Moves : ℕ → TicketEvent → ℕ → ℕ → Type 0
 Moves r e before later = later + got_bit r e ≡ before + laid_bit r e
 
 -- the same for a turn: its event does to the ring what the event says
@@ -78,7 +78,9 @@ passed_index c h e =
 
 module _ (c : Setup) (m : Cells) (g : Ghost) (hand : List ℕ) (r : ℕ) where
   -- an entry of a ticket's slot that gets another word
-  entry_moves : (q t x : ℕ) → OneMore q r (left_in c m r) (sum_to (λ s. has_index c (updated_entry m.entries.word q (slot_of (ring_slots c) t) x r s)) (ring_slots c)) (has_index c (word_at c m q t)) (has_index c x)
+  entry_moves : (q t x : ℕ)
+      → OneMore q r (left_in c m r) (sum_to (λ s. has_index c (updated_entry m.entries.word q (slot_of (ring_slots c) t) x r s)) (ring_slots c))
+      (has_index c (word_at c m q t)) (has_index c x)
   entry_moves q t x =
       sum_updated (has_index c) m.entries.word q (slot_of (ring_slots c) t) x r (ring_slots c) (slot_of_small (ring_slots c) t (some_slots c))
 
@@ -86,11 +88,11 @@ module _ (c : Setup) (m : Cells) (g : Ghost) (hand : List ℕ) (r : ℕ) where
   left = left_in c m r
 
   -- a turn that writes what it found
-  only_reads : (turn : Phase) (e : Event) → cells_after c turn m ≡ m → Moves r e left left → Moves r e left (left_in c (cells_after c turn m) r)
+  only_reads : (turn : Phase) (e : TicketEvent) → cells_after c turn m ≡ m → Moves r e left left → Moves r e left (left_in c (cells_after c turn m) r)
   only_reads turn e same moves = rw same moves
 
   -- an event that takes nothing, and places so much
-  adds : (e : Event) (before later much : ℕ) → got_bit r e ≡ 0 → laid_bit r e ≡ much → later ≡ before + much → Moves r e before later
+  adds : (e : TicketEvent) (before later much : ℕ) → got_bit r e ≡ 0 → laid_bit r e ≡ much → later ≡ before + much → Moves r e before later
   adds e before later much none some sum = omega arith
 
   -- an exchange that places, or that fails
@@ -116,7 +118,8 @@ module _ (c : Setup) (m : Cells) (g : Ghost) (hand : List ℕ) (r : ℕ) where
   takes q h some =
       let x = word_at c m q h in
       let moves = entry_moves q h (packed (ring_slots c) (cycle_in (ring_slots c) x) (safe_in (ring_slots c) x) (mark_of (ring_slots c))) in
-      let gone = less q r left _ _ _ (has_one c x some) (has_none c _ (none_in-marked (ring_slots c) (cycle_in (ring_slots c) x) (safe_in (ring_slots c) x) (some_slots c))) moves in
+      let gone = less q r left _ _ _ (has_one c x some)
+      (has_none c _ (none_in-marked (ring_slots c) (cycle_in (ring_slots c) x) (safe_in (ring_slots c) x) (some_slots c))) moves in
       omega arith
 
   -- an exchange that passes an entry, or that fails
@@ -136,7 +139,7 @@ module _ (c : Setup) (m : Cells) (g : Ghost) (hand : List ℕ) (r : ℕ) where
       ]
 
   -- one of two events that place and take nothing
-  abbrev Calm : Event → Type 0
+  abbrev Calm : TicketEvent → Type 0
   Calm e = Moves r e left left
 
   pub left_turn : (turn : Phase) → Busy c m hand turn → Knows c m.entries.word g.gets turn → LeftBy c m r turn

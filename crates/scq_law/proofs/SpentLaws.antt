@@ -14,14 +14,14 @@ use Rattle.scq_core.specs.Reach.{IsReachable}
 use Rattle.scq_core.proofs.Steady.{keeps_none}
 use Rattle.scq_law.specs.Bounds.{enqueues, ticket_bound}
 use Rattle.scq_law.specs.Spent.{EndedSpent, SpentKept}
-use Rattle.scq_law.proofs.Ghosts.{Ghost}
-use Rattle.scq_law.proofs.Events.{Event, overran, ended_by}
-use Rattle.scq_law.proofs.Deed.{Deed}
-use Rattle.scq_law.proofs.Tale.{Tale, tale_start, tale_step, story, event_of}
-use Rattle.scq_law.proofs.Base.{based}
-use Rattle.scq_law.proofs.Scenes.{scene}
-use Rattle.scq_law.proofs.Counted.{contains_none, contains_one}
-use Rattle.scq_law.proofs.Overruns.{overrun, spent_back, ends_otherwise, none_spent}
+use Rattle.scq_law.proofs.Base.Ghosts.{Ghost}
+use Rattle.scq_law.proofs.Base.TicketEvents.{TicketEvent, overran, ended_by}
+use Rattle.scq_law.proofs.Base.EventFacts.{EventFacts}
+use Rattle.scq_law.proofs.Base.Traces.{Trace, trace_start, trace_step, has_trace, event_of}
+use Rattle.scq_law.proofs.Base.Based.{based}
+use Rattle.scq_law.proofs.Base.EventSteps.{event_step}
+use Rattle.scq_law.proofs.Base.SeatSums.{contains_none, contains_one}
+use Rattle.scq_law.proofs.Tickets.SpentTickets.{overrun, spent_back, ends_otherwise, none_spent}
 
 -- a kept ticket is that of the seat's last call
 abbrev IsLast : Part → ℕ → Type 0
@@ -32,62 +32,67 @@ record IsTied (m : Machine) : Type 0 where
   kept : (k r t : ℕ) (b : Bool) → Contains (m.part k).calls (Spent r t b) → (m.part k).spent ≡ Some t
 
 -- the seat's own part after its event, where it kept none before
-own_last : (c : Setup) (g : Ghost) (m : Machine) (k : ℕ) (e : Event) (n : Machine) → Deed c m g k e n → (m.part k).spent ≡ None → (t : ℕ) → (n.part k).spent ≡ Some t → IsLast (n.part k) t
-own_last c g m k (overran r u b) n deed none t keeps =
-    let same : u ≡ t = let both : Some u ≡ Some t = sym deed.kept ∙ keeps in cc in
-    (r, rw (← same) (record { before = (m.part k).calls; is_put = b; calls = deed.calls }))
-own_last c g m k e n deed none t keeps = absurd (let clash : ◌≡◌ {A = Option ℕ} None (Some t) = sym none ∙ sym deed.kept ∙ keeps in cc)
+own_last : (c : Setup) (g : Ghost) (m : Machine) (k : ℕ) (e : TicketEvent) (n : Machine) → EventFacts c m g k e n → (m.part k).spent ≡ None → (t : ℕ)
+    → (n.part k).spent ≡ Some t → IsLast (n.part k) t
+own_last c g m k (overran r u b) n event_facts none t keeps =
+    let same : u ≡ t = let both : Some u ≡ Some t = sym event_facts.kept ∙ keeps in cc in
+    (r, rw (← same) (record { before = (m.part k).calls; is_put = b; calls = event_facts.calls }))
+own_last c g m k e n event_facts none t keeps = absurd (let clash : ◌≡◌ {A = Option ℕ} None (Some t) = sym none ∙ sym event_facts.kept ∙ keeps in cc)
 
-own_kept : (c : Setup) (g : Ghost) (m : Machine) (k : ℕ) (e : Event) (n : Machine) → Deed c m g k e n → (r t : ℕ) (b : Bool) → Contains (ended_by e) (Spent r t b) → (n.part k).spent ≡ Some t
-own_kept c g m k (overran q u v) n deed r t b has =
+own_kept : (c : Setup) (g : Ghost) (m : Machine) (k : ℕ) (e : TicketEvent) (n : Machine) → EventFacts c m g k e n → (r t : ℕ) (b : Bool)
+    → Contains (ended_by e) (Spent r t b) → (n.part k).spent ≡ Some t
+own_kept c g m k (overran q u v) n event_facts r t b has =
     let same : Spent q u v ≡ Spent r t b = contains_one (Spent q u v) (Spent r t b) has in
     let ticket : u ≡ t = cc in
-    deed.kept ∙ ap Some ticket
-own_kept c g m k e n deed r t b has = absurd (ends_otherwise e r t b refl has)
+    event_facts.kept ∙ ap Some ticket
+own_kept c g m k e n event_facts r t b has = absurd (ends_otherwise e r t b refl has)
 
-tied_step : (c : Setup) (g : Ghost) (m : Machine) (k : ℕ) (e : Event) (n : Machine) → Deed c m g k e n → (m.part k).spent ≡ None → IsTied m → IsTied n
-tied_step c g m k e n deed none was =
+tied_step : (c : Setup) (g : Ghost) (m : Machine) (k : ℕ) (e : TicketEvent) (n : Machine) → EventFacts c m g k e n → (m.part k).spent ≡ None → IsTied m
+    → IsTied n
+tied_step c g m k e n event_facts none was =
     record {
       last =
           λ j t keeps.
           elim (cases_eq j k) [
-            | inl same ↦ rw same (own_last c g m k e n deed none t (rw same at keeps))
-            | inr other ↦ rw (deed.others j other) (was.last j t (rw (deed.others j other) at keeps))
+            | inl same ↦ rw same (own_last c g m k e n event_facts none t (rw same at keeps))
+            | inr other ↦ rw (event_facts.others j other) (was.last j t (rw (event_facts.others j other) at keeps))
           ];
       kept =
           λ j r t b has.
           elim (cases_eq j k) [
             | inl same ↦
                 let mine : Contains (n.part k).calls (Spent r t b) = rw same at has in
-                elim (spent_back c g m k e n deed k (Spent r t b) mine) [
+                elim (spent_back c g m k e n event_facts k (Spent r t b) mine) [
                   | inl old ↦
                       let clash : ◌≡◌ {A = Option ℕ} None (Some t) = sym none ∙ was.kept k r t b old in absurd (cc)
-                  | inr new ↦ rw same (own_kept c g m k e n deed r t b new)
+                  | inr new ↦ rw same (own_kept c g m k e n event_facts r t b new)
                 ]
             | inr other ↦
-                rw (deed.others j other) (was.kept j r t b (rw (deed.others j other) at has))
+                rw (event_facts.others j other) (was.kept j r t b (rw (event_facts.others j other) at has))
           ];
     }
 
-tied : (c : Setup) (time : ℕ) (g : Ghost) (m : Machine) → Tale c time g m → IsTied m
-tied c time g m (tale_start opening full) =
+tied : (c : Setup) (time : ℕ) (g : Ghost) (m : Machine) → Trace c time g m → IsTied m
+tied c time g m (trace_start opening full) =
     record {
       last = λ k t keeps. absurd (let clash : ◌≡◌ {A = Option ℕ} None (Some t) = keeps in cc);
       kept = λ k r t b has. absurd (contains_none (Spent r t b) has);
     }
-tied c time g m (tale_step {time = u} {g = h} {m = old} k s turn tale low enabled) =
-    let base = based c u h old tale in
-    let sc = scene c u h old k s turn low enabled base in
+tied c time g m (trace_step {time = u} {g = h} {m = old} k s turn trace low enabled) =
+    let base = based c u h old trace in
+    let sc = event_step c u h old k s turn low enabled base in
     let none = keeps_none c old k s turn base.steady enabled in
-    tied_step c h old k (event_of c old turn) (moved c old k turn) sc.deed none (tied c u h old tale)
+    tied_step c h old k (event_of c old turn) (moved c old k turn) sc.event_facts none (tied c u h old trace)
 
 -- a call that ended so was on one of the rings
-spent_ring : (c : Setup) (time : ℕ) (g : Ghost) (m : Machine) → Tale c time g m → (k r t : ℕ) (b : Bool) → Contains (m.part k).calls (Spent r t b) → r < c.rings
-spent_ring c time g m tale k r t true has = ((overrun c time g m tale).puts k r t has).ring
-spent_ring c time g m tale k r t false has = ((overrun c time g m tale).gets k r t has).ring
+spent_ring : (c : Setup) (time : ℕ) (g : Ghost) (m : Machine) → Trace c time g m → (k r t : ℕ) (b : Bool) → Contains (m.part k).calls (Spent r t b)
+    → r < c.rings
+spent_ring c time g m trace k r t true has = ((overrun c time g m trace).puts k r t has).ring
+spent_ring c time g m trace k r t false has = ((overrun c time g m trace).gets k r t has).ring
 
 -- whose bound is past the limit
-spent_bound : (c : Setup) (m : Machine) (k r t : ℕ) (b : Bool) → IsReachable c m → Contains (m.part k).calls (Spent r t b) → c.limit < ticket_bound c (enqueues c m r)
+spent_bound : (c : Setup) (m : Machine) (k r t : ℕ) (b : Bool) → IsReachable c m → Contains (m.part k).calls (Spent r t b)
+    → c.limit < ticket_bound c (enqueues c m r)
 spent_bound c m k r t b reach has =
     elim (cases_lt c.limit (ticket_bound c (enqueues c m r))) [
       | inl past ↦ past
@@ -96,8 +101,8 @@ spent_bound c m k r t b reach has =
 
 pub spent_kept : (c : Setup) (m : Machine) → IsReachable c m → SpentKept c m
 spent_kept c m reach =
-    let s = story c m reach in
-    let ties = tied c s.time s.ghost m s.tells in
+    let s = has_trace c m reach in
+    let ties = tied c s.time s.ghost m s.trace in
     record {
       last =
           λ k t keeps.
@@ -105,6 +110,6 @@ spent_kept c m reach =
           let r = ended.0 in
           let e = ended.1 in
           let has : Contains (m.part k).calls (Spent r t e.is_put) = rw e.calls (Contains-push e.before (Spent r t e.is_put)) in
-          (r, e, spent_ring c s.time s.ghost m s.tells k r t e.is_put has, spent_bound c m k r t e.is_put reach has);
+          (r, e, spent_ring c s.time s.ghost m s.trace k r t e.is_put has, spent_bound c m k r t e.is_put reach has);
       kept = ties.kept;
     }

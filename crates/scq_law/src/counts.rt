@@ -8,7 +8,7 @@ ghost use Rattle.scq_word.specs.Sizes.{n_of};
 ghost use Rattle.scq_core.specs.declared.step.Step.{Step};
 ghost use Rattle.scq_core.specs.Machine.{Machine};
 ghost use Rattle.scq_core.specs.Reach.{IsReachable};
-ghost use Rattle.scq_law.specs.Run.{Told, IsRun};
+ghost use Rattle.scq_law.specs.Run.{Recorded, IsRun};
 ghost use Rattle.scq_law.specs.Kept.{Balanced, AllKept};
 ghost use Rattle.scq_law.specs.Begun.{EnqueuesBegun};
 
@@ -27,5 +27,6 @@ pub fn all_indices_are_kept()
 /// After each run, the enqueues begun on a ring, as the bound on tickets counts them, are the puts of that
 /// ring whose Start is in the history, and the opening puts.
 pub fn begun_enqueues_are_starts()
-    ensures { (c : Setup) (opening : List (List ℕ)) (steps : List (ℕ × Step)) (told : Told) → length opening ≡ n_of c.order → All (λ (x : ℕ × Step). x.0 < c.seats) steps → IsRun c opening steps told → EnqueuesBegun c told.state told.events }
+    ensures { (c : Setup) (opening : List (List ℕ)) (steps : List (ℕ × Step)) (recorded : Recorded) → length opening ≡ n_of c.order
+        → All (λ (x : ℕ × Step). x.0 < c.seats) steps → IsRun c opening steps recorded → EnqueuesBegun c recorded.state recorded.events }
 {}
