@@ -1,4 +1,4 @@
--- In each state of a run Head with Threshold is within what gets, turns in flight, kept tickets and resets come to.
+-- In each state of a run Head with Threshold is within what gets, attempts in flight, kept tickets and resets come to.
 use Rattle.std.proofs.Common.{◌≡◌, ◌≢◌, ℕ, ◌+◌, ◌*◌, ◌≤◌, ◌⊎◌, Bool, true, false, List, length, refl, inl, inr, ap, sym, ◌∙◌, arith}
 use Rattle.std.specs.Prelude.{Option, Some, None}
 use Rattle.scq_word.specs.declared.setup.Setup.{Setup}
@@ -34,7 +34,7 @@ trace_reaches c time g m (trace_start opening full) = at_start opening full
 trace_reaches c time g m (trace_step {time = t} {g = h} {m = old} k s turn trace low enabled) =
     turn_reaches c old k s turn low enabled (trace_reaches c t h old trace)
 
--- what a seat counts for: its ended puts; its gets that took, its turn in flight and its kept ticket
+-- what a seat counts for: its ended puts; its gets that took, its attempt in flight and its kept ticket
 abbrev pub done_of : ℕ → Part → ℕ
 done_of r p = tally (was_done r) p.calls
 

@@ -1,5 +1,5 @@
--- The ticket bound. Plan: Head is within what gets that took, turns in flight, kept tickets and resets come to; gets took no
--- more than puts placed; the turns in flight are made up by the floor of Threshold, and the rest is within the enqueues that
+-- The ticket bound. Plan: Head is within what gets that took, attempts in flight, kept tickets and resets come to; gets took no
+-- more than puts placed; the attempts in flight are made up by the floor of Threshold, and the rest is within the enqueues that
 -- were begun.
 use Rattle.std.proofs.Common.{◌≡◌, ℕ, ◌+◌, ◌-◌, ◌*◌, ◌≤◌, true, false, List, [], ◌∷◌, inl, inr, arith}
 use Rattle.std.specs.Prelude.{min}
