@@ -1,13 +1,9 @@
 pub mod Window
 pub mod Base
 pub mod Replays
-pub mod LeftTurns
-pub mod KeptLaws
-pub mod SpentLaws
-pub mod BegunLaws
-pub mod RetryLaws
-pub mod CallLaws
 pub mod Places
 pub mod Threshold
 pub mod Tickets
 pub mod Aspects
+pub mod Balance
+pub mod Retries

@@ -19,7 +19,7 @@ use Rattle.scq_law.specs.Replay.{ShowsRun}
 use Rattle.scq_law.proofs.Replays.RunLaws.{run_reaches}
 use Rattle.scq_law.proofs.Threshold.FailsBound.{fails_bounded}
 use Rattle.scq_law.specs.Begun.{EnqueuesBegun}
-use Rattle.scq_law.proofs.BegunLaws.{enqueues_begun}
+use Rattle.scq_law.proofs.Tickets.BegunLaws.{enqueues_begun}
 use Rattle.scq_law.proofs.Aspects.CoupledRuns.{tied_run}
 use Rattle.scq_law.proofs.Aspects.EmptyRight.{has_aspects}
 

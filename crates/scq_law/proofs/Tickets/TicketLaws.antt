@@ -26,7 +26,7 @@ use Rattle.scq_law.proofs.Base.Based.{based}
 use Rattle.scq_law.proofs.Window.CoverThroughout.{windowed}
 use Rattle.scq_law.proofs.Base.SeatSums.{total_le, total_plus}
 use Rattle.scq_law.proofs.Threshold.Covering.{flying, covers}
-use Rattle.scq_law.proofs.KeptLaws.{balanced}
+use Rattle.scq_law.proofs.Balance.KeptLaws.{balanced}
 use Rattle.scq_law.proofs.Tickets.RunCounts.{done_of, tallied, trace_reaches}
 
 -- the window and the threshold's cover on every reachable state

@@ -1,4 +1,4 @@
-use Rattle.scq_law.proofs.CallLaws.{calls_end}
+use Rattle.scq_law.proofs.Retries.CallLaws.{calls_end}
 use Rattle.scq_law.proofs.bounds.calls_end.Goals as goal
 
 pub returns : goal.returns

@@ -1,4 +1,4 @@
-use Rattle.scq_law.proofs.RetryLaws.{retries_rise}
+use Rattle.scq_law.proofs.Retries.RetryLaws.{retries_rise}
 use Rattle.scq_law.proofs.bounds.retries_rise.Goals as goal
 
 pub returns : goal.returns

@@ -1,4 +1,4 @@
-use Rattle.scq_law.proofs.SpentLaws.{spent_kept}
+use Rattle.scq_law.proofs.Tickets.SpentLaws.{spent_kept}
 use Rattle.scq_law.proofs.bounds.spent_tickets_are_kept.Goals as goal
 
 pub returns : goal.returns

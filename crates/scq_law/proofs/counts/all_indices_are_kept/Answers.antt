@@ -1,4 +1,4 @@
-use Rattle.scq_law.proofs.KeptLaws.{all_kept}
+use Rattle.scq_law.proofs.Balance.KeptLaws.{all_kept}
 use Rattle.scq_law.proofs.counts.all_indices_are_kept.Goals as goal
 
 pub returns : goal.returns

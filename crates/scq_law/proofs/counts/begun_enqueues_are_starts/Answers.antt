@@ -1,4 +1,4 @@
-use Rattle.scq_law.proofs.BegunLaws.{enqueues_begun}
+use Rattle.scq_law.proofs.Tickets.BegunLaws.{enqueues_begun}
 use Rattle.scq_law.proofs.counts.begun_enqueues_are_starts.Goals as goal
 
 pub returns : goal.returns

@@ -1,4 +1,4 @@
-use Rattle.scq_law.proofs.KeptLaws.{balanced}
+use Rattle.scq_law.proofs.Balance.KeptLaws.{balanced}
 use Rattle.scq_law.proofs.counts.rings_are_balanced.Goals as goal
 
 pub returns : goal.returns

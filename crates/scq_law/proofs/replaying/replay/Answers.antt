@@ -17,10 +17,10 @@ use Rattle.scq_law.proofs.Places.HandLaws.{one_hand}
 use Rattle.scq_law.proofs.Places.PlaceLaws.{places_once}
 use Rattle.scq_law.proofs.Tickets.TicketLaws.{within_window, threshold_covers, tickets_bounded}
 use Rattle.scq_law.proofs.Tickets.SpentTickets.{none_spent}
-use Rattle.scq_law.proofs.SpentLaws.{spent_kept}
-use Rattle.scq_law.proofs.KeptLaws.{balanced, all_kept}
-use Rattle.scq_law.proofs.RetryLaws.{retries_rise}
-use Rattle.scq_law.proofs.CallLaws.{calls_end}
+use Rattle.scq_law.proofs.Tickets.SpentLaws.{spent_kept}
+use Rattle.scq_law.proofs.Balance.KeptLaws.{balanced, all_kept}
+use Rattle.scq_law.proofs.Retries.RetryLaws.{retries_rise}
+use Rattle.scq_law.proofs.Retries.CallLaws.{calls_end}
 use Rattle.scq_law.proofs.Replays.RisingWords.{rises_throughout}
 use Rattle.scq_law.proofs.Replays.ReplayLaws.{of_state, of_history, of_fails, of_begun}
 use Rattle.scq_law.proofs.replaying.replay.Goals as goal

@@ -1,9 +1,9 @@
 -- Each step of a seat leaves its call fewer steps. Plan: by turns; ranks, Tail and tickets rise as the seat has it, and all
 -- are below their bounds.
-use Rattle.std.proofs.Common.{◌≡◌, ℕ, ◌+◌, ◌-◌, ◌*◌, ◌<◌, ◌≤◌, true, false, ◌&&◌, List, refl, inl, inr, arith, eq-eqb, ne_eqb, ltb-true}
+use Rattle.std.proofs.Common.{◌≡◌, ℕ, ◌+◌, ◌-◌, ◌*◌, ◌<◌, ◌≤◌, true, false, ◌&&◌, refl, inl, inr, arith, eq-eqb, ne_eqb}
 use Rattle.std.specs.Prelude.{◌==◌, nat_lt, nat_le}
 use Rattle.std.proofs.Math.Nat.{mul-le-mul_right}
-use Rattle.std.proofs.lemmas.Bool.{cases_Bool, cases_eq, and_parts, leb-false}
+use Rattle.std.proofs.lemmas.Bool.{cases_Bool, cases_eq}
 use Rattle.scq_word.specs.declared.setup.Setup.{Setup}
 use Rattle.scq_word.specs.Words.{safe_in, cycle_in, is_none_in, rank_in}
 use Rattle.scq_core.specs.declared.phase.Phase.{Phase}
@@ -11,13 +11,13 @@ use Rattle.scq_core.specs.declared.phase.Phase.TheVariants.{Idle, AtE1, AtE2, At
 use Rattle.scq_core.specs.Machine.{Cells, Part, Machine, read, beside}
 use Rattle.scq_core.specs.Table.{ring_slots, cycle, zero_level, reset_level, location_of, after}
 use Rattle.scq_core.specs.Reach.{IsReachable}
-use Rattle.scq_core.specs.Laws.{IsAbove, Busy, word_at}
+use Rattle.scq_core.specs.Laws.{Busy, word_at}
 use Rattle.scq_core.proofs.Turns.{awake}
 use Rattle.scq_core.proofs.Entries.{some_slots, cycle_below_limit}
 use Rattle.scq_core.proofs.Steady.{has, steady}
 use Rattle.scq_core.proofs.Limits.{counters_bounded}
 use Rattle.scq_law.specs.CallSteps.{top, ticket_steps, steps_past, steps_from, steps_left, CallsEnd}
-use Rattle.scq_law.proofs.RetryLaws.{earlier_rank, risen}
+use Rattle.scq_law.proofs.Retries.RetryLaws.{earlier_rank, risen}
 
 module _ (c : Setup) where
   -- a word of an earlier cycle than that of a ticket below the limit has a rank below the top

@@ -1,28 +1,26 @@
 -- The enqueues begun on a ring are the Starts of puts there and the opening puts. Plan: a turn's calls that end and its next
 -- phase come to what the turn is itself; so a seat has begun one more only where its turn begins a put, and there a Start is
 -- recorded.
-use Rattle.std.proofs.Common.{◌≡◌, ℕ, ◌+◌, ◌<◌, Bool, true, false, ◌&&◌, List, [], ◌∷◌, ◌++◌, length, refl, sym, ◌∙◌, inl, inr, arith}
-use Rattle.std.specs.Prelude.{◌==◌, nat_lt, nat_le, if◌then◌else◌, Option, Some, None, slice_get}
-use Rattle.std.specs.List.{All, count_by}
+use Rattle.std.proofs.Common.{◌≡◌, ℕ, ◌+◌, ◌<◌, true, false, ◌&&◌, List, [], ◌∷◌, ◌++◌, refl, inl, inr, arith}
+use Rattle.std.specs.Prelude.{◌==◌, nat_lt, nat_le, if◌then◌else◌, Option, Some, None}
+use Rattle.std.specs.List.{All}
 use Rattle.std.proofs.lemmas.List.Sums.{sum_by-append}
 use Rattle.scq_word.specs.declared.setup.Setup.{Setup}
-use Rattle.scq_word.specs.Sizes.{n_of}
 use Rattle.scq_word.specs.Words.{safe_in, cycle_in, is_none_in}
 use Rattle.scq_core.specs.declared.ended.Ended.{Ended}
 use Rattle.scq_core.specs.declared.ended.Ended.TheVariants.{Done, Got, Nothing, Spent}
 use Rattle.scq_core.specs.declared.phase.Phase.{Phase}
 use Rattle.scq_core.specs.declared.phase.Phase.TheVariants.{Idle, AtE1, AtE2, AtE3, AtE4, AtE5, AtE6, AtD1, AtD2, AtD3, AtD4, AtD5, AtD6, AtD7, AtD8, AtD9, AtD10}
 use Rattle.scq_core.specs.declared.step.Step.{Step}
-use Rattle.scq_core.specs.Machine.{Part, Machine, read, beside}
-use Rattle.scq_core.specs.Table.{ring_slots, cycle, zero_level, reset_level, turn_of, location_of, after, moved}
+use Rattle.scq_core.specs.Machine.{Part, read, beside}
+use Rattle.scq_core.specs.Table.{ring_slots, cycle, zero_level, reset_level, turn_of, location_of, after}
 use Rattle.scq_core.specs.Start.{start_of}
-use Rattle.scq_core.specs.Laws.{total}
 use Rattle.scq_core.proofs.Steady.{either_way}
 use Rattle.scq_core.proofs.Counts.{total_updated, total_none}
 use Rattle.scq_core.proofs.Turns.{Begins, begins_put, begins_get, begins, awake}
 use Rattle.scq_hist.specs.declared.events.Event.{Event}
 use Rattle.scq_hist.specs.declared.events.PutName.{PutName}
-use Rattle.scq_law.specs.Run.{Recorded, starts, end_of, finishes, placer_after, recorded_after, recorded_first, IsRun}
+use Rattle.scq_law.specs.Run.{Recorded, starts, end_of, finishes, recorded_after, recorded_first, IsRun}
 use Rattle.scq_law.specs.Bounds.{tally, was_put, is_putting, enqueues, openings}
 use Rattle.scq_law.specs.Begun.{starts_put, puts_started, EnqueuesBegun}
 use Rattle.scq_law.proofs.Base.SeatSums.{tally-append}

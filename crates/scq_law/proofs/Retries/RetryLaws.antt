@@ -9,9 +9,9 @@ use Rattle.scq_word.proofs.WordLemmas.{rank_in_range}
 use Rattle.scq_core.specs.declared.phase.Phase.{Phase}
 use Rattle.scq_core.specs.declared.phase.Phase.TheVariants.{Idle, AtE1, AtE2, AtE3, AtE4, AtE5, AtE6, AtD1, AtD2, AtD3, AtD4, AtD5, AtD6, AtD7, AtD8, AtD9, AtD10}
 use Rattle.scq_core.specs.Machine.{Cells, Part, Machine, read, beside}
-use Rattle.scq_core.specs.Table.{ring_slots, cycle, zero_level, reset_level, location_of, after}
+use Rattle.scq_core.specs.Table.{ring_slots, cycle, zero_level, location_of, after}
 use Rattle.scq_core.specs.Reach.{IsReachable}
-use Rattle.scq_core.specs.Laws.{IsAbove, Busy, CountersBounded, word_at}
+use Rattle.scq_core.specs.Laws.{IsAbove, Busy, word_at}
 use Rattle.scq_core.proofs.Steady.{has, steady}
 use Rattle.scq_core.proofs.Limits.{counters_bounded}
 use Rattle.scq_law.specs.Retries.{Finds, Rises, RetriesRise}

@@ -20,7 +20,7 @@ use Rattle.scq_law.specs.Sums.{sum_to}
 use Rattle.scq_law.proofs.Base.Ghosts.{Ghost}
 use Rattle.scq_law.proofs.Base.TicketEvents.{TicketEvent, laid, taken, event}
 use Rattle.scq_law.proofs.Base.BaseGroup.{Knows}
-use Rattle.scq_law.proofs.Tickets.TicketSums.{OneMore, sum_updated}
+use Rattle.scq_law.proofs.Balance.Sums.{OneMore, sum_updated}
 use Rattle.scq_law.proofs.Threshold.Covering.{bit, here_one, there_none}
 
 -- 1 for an event that places an index on this ring, and for one that takes one from it

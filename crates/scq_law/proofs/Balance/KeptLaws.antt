@@ -30,12 +30,12 @@ use Rattle.scq_law.proofs.Base.Based.{based, turn_knows}
 use Rattle.scq_law.proofs.Base.EventSteps.{EventStep, event_step}
 use Rattle.scq_law.proofs.Base.SeatStances.{stance_has}
 use Rattle.scq_law.proofs.Base.SeatSums.{total_change}
-use Rattle.scq_law.proofs.Tickets.TicketSums.{sum_same, sum_change}
+use Rattle.scq_law.proofs.Balance.Sums.{sum_same, sum_change}
 use Rattle.scq_law.proofs.Threshold.Covering.{bit, here_one, there_none}
 use Rattle.scq_law.proofs.Tickets.RunCounts.{calls_then}
 use Rattle.scq_law.proofs.Places.HandLemmas.{seen_times}
 use Rattle.scq_law.proofs.Places.Throughout.{once, reached}
-use Rattle.scq_law.proofs.LeftTurns.{laid_bit, got_bit, left_turn}
+use Rattle.scq_law.proofs.Balance.LeftTurns.{laid_bit, got_bit, left_turn}
 
 -- what an event does to the indices of each ring
 abbrev Lefts : Setup → TicketEvent → Machine → Machine → Type 0

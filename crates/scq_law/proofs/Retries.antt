@@ -1,0 +1,2 @@
+pub mod RetryLaws
+pub mod CallLaws
