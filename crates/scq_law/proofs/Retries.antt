@@ -1,2 +1,3 @@
 pub mod RetryLaws
 pub mod CallLaws
+pub mod StepLaws

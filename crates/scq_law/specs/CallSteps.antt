@@ -1,5 +1,6 @@
 -- How many steps of its own a call can still make, whatever the other seats do.
-use Rattle.std.specs.Prelude.{◌≡◌, ℕ, ◌+◌, ◌-◌, ◌*◌, ◌<◌, ◌≤◌, true, false, Some}
+use Rattle.std.specs.Prelude.{◌≡◌, ℕ, ◌+◌, ◌-◌, ◌*◌, ◌<◌, ◌≤◌, true, false, ◌==◌, List, length, Some}
+use Rattle.std.specs.List.{count_by}
 use Rattle.scq_word.specs.declared.setup.Setup.{Setup}
 use Rattle.scq_word.specs.Words.{rank_in}
 use Rattle.scq_core.specs.declared.phase.Phase.{Phase}
@@ -51,3 +52,11 @@ pub record CallsEnd (c : Setup) (m : Machine) : Type 0 where
   pub fewer : (k : ℕ) (s : Step) (turn : Phase) → turn_of c (m.part k) s ≡ Some turn
       → steps_left c (after c turn (read m.cells (location_of c turn)) (beside m.cells (location_of c turn)) (m.part k)).phase < steps_left c turn
   pub most : (phase : Phase) → steps_left c phase ≤ steps_from c 0 + 1
+
+-- how many of a run's steps are those of a seat
+abbrev pub steps_of : ℕ → List (ℕ × Step) → ℕ
+steps_of k steps = count_by (λ (x : ℕ × Step). x.0 == k) steps
+
+-- a seat has made at most so many steps for each call that it has ended, and for one that it has under way
+pub record FewSteps (c : Setup) (steps : List (ℕ × Step)) (m : Machine) : Type 0 where
+  pub few : (k : ℕ) → steps_of k steps ≤ (length (m.part k).calls + 1) * (steps_from c 0 + 1)

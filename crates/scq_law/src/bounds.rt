@@ -13,7 +13,7 @@ ghost use Rattle.scq_law.specs.Run.{Recorded, IsRun};
 ghost use Rattle.scq_law.specs.Bounds.{WithinWindow, ThresholdCovers, FailsBounded, TicketsBounded, NoneSpent};
 ghost use Rattle.scq_law.specs.Spent.{SpentKept};
 ghost use Rattle.scq_law.specs.Retries.{RetriesRise};
-ghost use Rattle.scq_law.specs.CallSteps.{CallsEnd};
+ghost use Rattle.scq_law.specs.CallSteps.{CallsEnd, FewSteps};
 
 /// Tail, as far as it is below the limit, is at most `2n - 1` past Head on each ring of `n` indices.
 pub fn tail_is_within_the_window()
@@ -78,4 +78,11 @@ pub fn retries_rise()
 /// for the limit `L` of tickets.
 pub fn calls_end()
     ensures { (c : Setup) (m : Machine) → IsReachable c m → CallsEnd c m }
+{}
+
+/// So in each run, of any length, a seat makes at most that number of steps for each call that it has
+/// ended, and for the one that it may have under way.
+pub fn calls_take_few_steps()
+    ensures { (c : Setup) (opening : List (List ℕ)) (steps : List (ℕ × Step)) (recorded : Recorded) → length opening ≡ n_of c.order
+        → All (λ (x : ℕ × Step). x.0 < c.seats) steps → IsRun c opening steps recorded → FewSteps c steps recorded.state }
 {}

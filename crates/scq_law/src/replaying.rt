@@ -14,7 +14,7 @@ ghost use Rattle.scq_law.specs.Bounds.{WithinWindow, ThresholdCovers, TicketsBou
 ghost use Rattle.scq_law.specs.Spent.{SpentKept};
 ghost use Rattle.scq_law.specs.Kept.{Balanced, AllKept};
 ghost use Rattle.scq_law.specs.Retries.{RetriesRise};
-ghost use Rattle.scq_law.specs.CallSteps.{CallsEnd};
+ghost use Rattle.scq_law.specs.CallSteps.{CallsEnd, FewSteps};
 ghost use Rattle.scq_law.specs.Begun.{EnqueuesBegun};
 ghost use Rattle.scq_law.specs.Moments.{RisesThroughout};
 ghost use Rattle.scq_law.specs.Replay.{ShowsRun, StopsAt};
@@ -62,6 +62,7 @@ pub fn replay(
     ensures empty_right { IfOk result (λ replayed. IsEmptyRight opening.items replayed.events.items) }
     ensures fails_bounded { IfOk result (λ replayed. All (λ fails. fails ≤ reset_value setup + setup.seats) replayed.fails.items) }
     ensures begun { IfOk result (λ replayed. EnqueuesBegun setup (machine_of replayed.state) replayed.events.items) }
+    ensures few_steps { IfOk result (λ replayed. FewSteps setup steps.now (machine_of replayed.state)) }
 
     // All along it.
     ensures rises { RisesThroughout setup opening.items steps.now }

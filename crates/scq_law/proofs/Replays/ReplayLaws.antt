@@ -18,8 +18,7 @@ use Rattle.scq_law.specs.declared.replayed.ReplayFault.{ReplayFault}
 use Rattle.scq_law.specs.Replay.{ShowsRun}
 use Rattle.scq_law.proofs.Replays.RunLaws.{run_reaches}
 use Rattle.scq_law.proofs.Threshold.FailsBound.{fails_bounded}
-use Rattle.scq_law.specs.Begun.{EnqueuesBegun}
-use Rattle.scq_law.proofs.Tickets.BegunLaws.{enqueues_begun}
+use Rattle.scq_law.specs.Run.{Recorded, IsRun}
 use Rattle.scq_law.proofs.Aspects.CoupledRuns.{tied_run}
 use Rattle.scq_law.proofs.Aspects.EmptyRight.{has_aspects}
 
@@ -67,14 +66,14 @@ of_fails c opening steps result full seats shown =
     (λ replayed shows. few_fails c opening steps replayed full seats shows)
     shown
 
--- the enqueues begun on each ring
-pub of_begun : (c : Setup) (opening : List (List ℕ)) (steps : List (ℕ × Step)) (result : Result Replayed ReplayFault)
-    → All (λ (x : ℕ × Step). x.0 < c.seats) steps → IfOk result (ShowsRun c opening steps)
-    → IfOk result (λ replayed. EnqueuesBegun c (machine_of replayed.state) replayed.events.items)
-of_begun c opening steps result seats shown =
+-- a law of a run's state and history
+pub of_run : (c : Setup) (opening : List (List ℕ)) (steps : List (ℕ × Step)) (result : Result Replayed ReplayFault) (P : Machine → List Event → Type 0)
+    → IfOk result (ShowsRun c opening steps) → ((recorded : Recorded) → IsRun c opening steps recorded → P recorded.state recorded.events)
+    → IfOk result (λ replayed. P (machine_of replayed.state) replayed.events.items)
+of_run c opening steps result P shown law =
     IfOk-weaker
     result
     (ShowsRun c opening steps)
-    (λ replayed. EnqueuesBegun c (machine_of replayed.state) replayed.events.items)
-    (λ replayed shows. rw (shows.state, shows.events) (enqueues_begun c opening steps shows.recorded seats shows.run))
+    (λ replayed. P (machine_of replayed.state) replayed.events.items)
+    (λ replayed shows. rw (shows.state, shows.events) (law shows.recorded shows.run))
     shown

@@ -12,7 +12,8 @@ use Rattle.scq_law.specs.Bounds.{WithinWindow, ThresholdCovers, TicketsBounded, 
 use Rattle.scq_law.specs.Spent.{SpentKept}
 use Rattle.scq_law.specs.Kept.{Balanced, AllKept}
 use Rattle.scq_law.specs.Retries.{RetriesRise}
-use Rattle.scq_law.specs.CallSteps.{CallsEnd}
+use Rattle.scq_law.specs.CallSteps.{CallsEnd, FewSteps}
+use Rattle.scq_law.specs.Begun.{EnqueuesBegun}
 use Rattle.scq_law.proofs.Places.HandLaws.{one_hand}
 use Rattle.scq_law.proofs.Places.PlaceLaws.{places_once}
 use Rattle.scq_law.proofs.Tickets.TicketLaws.{within_window, threshold_covers, tickets_bounded}
@@ -21,8 +22,10 @@ use Rattle.scq_law.proofs.Tickets.SpentLaws.{spent_kept}
 use Rattle.scq_law.proofs.Balance.KeptLaws.{balanced, all_kept}
 use Rattle.scq_law.proofs.Retries.RetryLaws.{retries_rise}
 use Rattle.scq_law.proofs.Retries.CallLaws.{calls_end}
+use Rattle.scq_law.proofs.Retries.StepLaws.{few_steps}
+use Rattle.scq_law.proofs.Tickets.BegunLaws.{enqueues_begun}
 use Rattle.scq_law.proofs.Replays.RisingWords.{rises_throughout}
-use Rattle.scq_law.proofs.Replays.ReplayLaws.{of_state, of_history, of_fails, of_begun}
+use Rattle.scq_law.proofs.Replays.ReplayLaws.{of_state, of_history, of_fails, of_run}
 use Rattle.scq_law.proofs.replaying.replay.Goals as goal
 
 pub returns-clause-one_hand : goal.returns-clause-one_hand
@@ -140,7 +143,19 @@ returns-clause-fails_bounded c =
 
 pub returns-clause-begun : goal.returns-clause-begun
 returns-clause-begun c =
-    of_begun c.args.setup c.args.opening.items c.args.steps.now c.recorded.result c.requires.seats c.recorded.ensures.run
+    let setup = c.args.setup in
+    let opening = c.args.opening.items in
+    let steps = c.args.steps.now in
+    of_run setup opening steps c.recorded.result (EnqueuesBegun setup) c.recorded.ensures.run
+    (λ recorded run. enqueues_begun setup opening steps recorded c.requires.seats run)
+
+pub returns-clause-few_steps : goal.returns-clause-few_steps
+returns-clause-few_steps c =
+    let setup = c.args.setup in
+    let opening = c.args.opening.items in
+    let steps = c.args.steps.now in
+    of_run setup opening steps c.recorded.result (λ m _. FewSteps setup steps m) c.recorded.ensures.run
+    (λ recorded run. few_steps setup opening steps recorded (sym c.args.opening.ok.0 ∙ c.requires.opening) c.requires.seats run)
 
 pub returns-clause-rises : goal.returns-clause-rises
 returns-clause-rises c =
