@@ -25,6 +25,10 @@ steps_past c ticket = (c.limit - ticket) * ticket_steps c
 abbrev pub steps_from : Setup → ℕ → ℕ
 steps_from c least = (c.limit - least + 1) * ticket_steps c
 
+-- the most steps of a call
+abbrev pub call_steps : Setup → ℕ
+call_steps c = steps_from c 0 + 1
+
 -- at most so many steps are left to a call that is at this phase: fewer with one ticket as the rank rises, fewer in a
 -- catch-up as Tail rises, and fewer from ticket to ticket
 abbrev pub steps_left : Setup → Phase → ℕ
@@ -35,7 +39,7 @@ steps_left c (AtE3 r i w t e) = steps_past c t + 3 * (top c - rank_in (ring_slot
 steps_left c (AtE4 r i w t e) = steps_past c t + 3 * (top c - rank_in (ring_slots c) e) + 3
 steps_left c (AtE5 r i w t) = 2
 steps_left c (AtE6 r i w t) = 1
-steps_left c (AtD1 r) = steps_from c 0 + 1
+steps_left c (AtD1 r) = call_steps c
 steps_left c (AtD2 r l) = steps_from c l
 steps_left c (AtD3 r h l) = steps_past c h + 3 * top c + 2 * (top c - l) + 8
 steps_left c (AtD4 r h) = 1
@@ -47,11 +51,11 @@ steps_left c (AtD9 r h from to) = 3 * (top c - from) + 2
 steps_left c (AtD10 r h true) = 1
 steps_left c (AtD10 r h false) = steps_past c h + 1
 
--- each step of a seat leaves its call fewer, and no call has more left than a dequeue that begins
+-- each step of a seat leaves its call fewer, and a call that begins has no more left than this
 pub record CallsEnd (c : Setup) (m : Machine) : Type 0 where
   pub fewer : (k : ℕ) (s : Step) (turn : Phase) → turn_of c (m.part k) s ≡ Some turn
       → steps_left c (after c turn (read m.cells (location_of c turn)) (beside m.cells (location_of c turn)) (m.part k)).phase < steps_left c turn
-  pub most : (phase : Phase) → steps_left c phase ≤ steps_from c 0 + 1
+  pub most : (phase : Phase) → steps_left c phase ≤ call_steps c
 
 -- how many of a run's steps are those of a seat
 abbrev pub steps_of : ℕ → List (ℕ × Step) → ℕ
@@ -59,4 +63,4 @@ steps_of k steps = count_by (λ (x : ℕ × Step). x.0 == k) steps
 
 -- a seat has made at most so many steps for each call that it has ended, and for one that it has under way
 pub record FewSteps (c : Setup) (steps : List (ℕ × Step)) (m : Machine) : Type 0 where
-  pub few : (k : ℕ) → steps_of k steps ≤ (length (m.part k).calls + 1) * (steps_from c 0 + 1)
+  pub few : (k : ℕ) → steps_of k steps ≤ (length (m.part k).calls + 1) * call_steps c

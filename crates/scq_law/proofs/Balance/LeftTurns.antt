@@ -32,14 +32,14 @@ abbrev pub got_bit : ℕ → TicketEvent → ℕ
 got_bit r (taken q h i w) = bit q r
 got_bit r e = 0
 
--- what an event does to the number of indices of a ring
-abbrev Moves : ℕ → TicketEvent → ℕ → ℕ → Type 0
-Moves r e before later = later + got_bit r e ≡ before + laid_bit r e
+-- the number of indices of a ring before and after an event
+abbrev Shifts : ℕ → TicketEvent → ℕ → ℕ → Type 0
+Shifts r e before later = later + got_bit r e ≡ before + laid_bit r e
 
--- the same for a turn: its event does to the ring what the event says
+-- before and after a turn
 abbrev pub LeftBy : Setup → Cells → ℕ → Phase → Type 0
 LeftBy c m r turn =
-    Moves r (event c turn (read m (location_of c turn)) (beside m (location_of c turn))) (left_in c m r) (left_in c (cells_after c turn m) r)
+    Shifts r (event c turn (read m (location_of c turn)) (beside m (location_of c turn))) (left_in c m r) (left_in c (cells_after c turn m) r)
 
 -- a word with and without an index
 has_one : (c : Setup) (w : ℕ) → is_none_in (ring_slots c) w ≡ false → has_index c w ≡ 1
@@ -48,10 +48,11 @@ has_one c w some = rw some refl
 has_none : (c : Setup) (w : ℕ) → is_none_in (ring_slots c) w ≡ true → has_index c w ≡ 0
 has_none c w none = rw none refl
 
--- an entry that has an index, or has none, as it was; that gets one; that loses it
+-- an entry that has an index, or has none, as it was
 still : (q r before later was is : ℕ) → is ≡ was → OneMore q r before later was is → later ≡ before
 still q r before later was is same one = elim one.moves [ inl a ↦ let e = a.1 in omega arith | inr a ↦ a.1 ]
 
+-- one that gets an index
 more : (q r before later was is : ℕ) → was ≡ 0 → is ≡ 1 → OneMore q r before later was is → later ≡ before + bit q r
 more q r before later was is low high one =
     elim one.moves [
@@ -59,6 +60,7 @@ more q r before later was is low high one =
       | inr a ↦ let e = a.1 in let there = there_none q r a.0 in omega arith
     ]
 
+-- one that loses it
 less : (q r before later was is : ℕ) → was ≡ 1 → is ≡ 0 → OneMore q r before later was is → later + bit q r ≡ before
 less q r before later was is high low one =
     elim one.moves [
@@ -88,11 +90,11 @@ module _ (c : Setup) (m : Cells) (g : Ghost) (hand : List ℕ) (r : ℕ) where
   left = left_in c m r
 
   -- a turn that writes what it found
-  only_reads : (turn : Phase) (e : TicketEvent) → cells_after c turn m ≡ m → Moves r e left left → Moves r e left (left_in c (cells_after c turn m) r)
+  only_reads : (turn : Phase) (e : TicketEvent) → cells_after c turn m ≡ m → Shifts r e left left → Shifts r e left (left_in c (cells_after c turn m) r)
   only_reads turn e same moves = rw same moves
 
   -- an event that takes nothing, and places so much
-  adds : (e : TicketEvent) (before later much : ℕ) → got_bit r e ≡ 0 → laid_bit r e ≡ much → later ≡ before + much → Moves r e before later
+  adds : (e : TicketEvent) (before later much : ℕ) → got_bit r e ≡ 0 → laid_bit r e ≡ much → later ≡ before + much → Shifts r e before later
   adds e before later much none some sum = omega arith
 
   -- an exchange that places, or that fails
@@ -140,7 +142,7 @@ module _ (c : Setup) (m : Cells) (g : Ghost) (hand : List ℕ) (r : ℕ) where
 
   -- one of two events that place and take nothing
   abbrev Calm : TicketEvent → Type 0
-  Calm e = Moves r e left left
+  Calm e = Shifts r e left left
 
   pub left_turn : (turn : Phase) → Busy c m hand turn → Knows c m.entries.word g.gets turn → LeftBy c m r turn
   left_turn Idle busy knows = refl

@@ -16,7 +16,7 @@ use Rattle.scq_core.proofs.Turns.{awake}
 use Rattle.scq_core.proofs.Entries.{some_slots, cycle_below_limit}
 use Rattle.scq_core.proofs.Steady.{has, steady}
 use Rattle.scq_core.proofs.Limits.{counters_bounded}
-use Rattle.scq_law.specs.CallSteps.{top, ticket_steps, steps_past, steps_from, steps_left, CallsEnd}
+use Rattle.scq_law.specs.CallSteps.{top, ticket_steps, steps_past, steps_from, call_steps, steps_left, CallsEnd}
 use Rattle.scq_law.proofs.Retries.RetryLaws.{earlier_rank, risen}
 
 module _ (c : Setup) where
@@ -138,8 +138,8 @@ module _ (c : Setup) where
           | inr up ↦ rw up (let next = from_next h low in omega arith)
         ]
 
-  -- no call has more left than one that begins
-  most_steps : (phase : Phase) → steps_left c phase ≤ steps_from c 0 + 1
+  -- no call has more left than the most
+  most_steps : (phase : Phase) → steps_left c phase ≤ call_steps c
   most_steps (AtE1 r i w l) = let all = from_is 0 in let some = from_is l in let le = past_later 0 l (omega arith) in omega arith
   most_steps (AtE2 r i w t l) = let all = from_is 0 in let le = past_later 0 t (omega arith) in omega arith
   most_steps (AtE3 r i w t e) = let all = from_is 0 in let le = past_later 0 t (omega arith) in omega arith

@@ -19,7 +19,7 @@ use Rattle.scq_core.proofs.UpdatedLemmas.{updated_or}
 use Rattle.scq_core.proofs.Steady.{either_way}
 use Rattle.scq_core.proofs.Turns.{begins, awake}
 use Rattle.scq_law.specs.Run.{Recorded, recorded_after, recorded_by, recorded_first, recorded_along, IsRun}
-use Rattle.scq_law.specs.CallSteps.{steps_from, steps_left, steps_of, CallsEnd, FewSteps}
+use Rattle.scq_law.specs.CallSteps.{call_steps, steps_left, steps_of, CallsEnd, FewSteps}
 use Rattle.scq_law.proofs.Retries.CallLaws.{calls_end}
 use Rattle.scq_law.proofs.Replays.RecordedRuns.{chained, recorded_step, turn_reaches}
 
@@ -61,7 +61,7 @@ module _ (c : Setup) (x : ℕ) (y : List ℕ) (p : Part) where
 module _ (c : Setup) where
   -- the most steps of a call
   abbrev most : ℕ
-  most = steps_from c 0 + 1
+  most = call_steps c
 
   -- the steps that the call under way may have taken
   abbrev taken_by : Phase → ℕ

@@ -22,11 +22,12 @@ use Rattle.scq_law.proofs.Base.EventSteps.{event_step}
 use Rattle.scq_law.proofs.Base.SeatSums.{contains_none, contains_one}
 use Rattle.scq_law.proofs.Tickets.SpentTickets.{overrun, spent_back, ends_otherwise, none_spent}
 
--- a kept ticket is that of the seat's last call
+-- the seat's last call ended with Spent and this ticket
 abbrev IsLast : Part → ℕ → Type 0
 IsLast p t = (r : ℕ) × EndedSpent p r t
 
-record IsTied (m : Machine) : Type 0 where
+-- a kept ticket is that of the seat's last call, and a call that ended with Spent is followed by none
+record KeepsLast (m : Machine) : Type 0 where
   last : (k t : ℕ) → (m.part k).spent ≡ Some t → IsLast (m.part k) t
   kept : (k r t : ℕ) (b : Bool) → Contains (m.part k).calls (Spent r t b) → (m.part k).spent ≡ Some t
 
@@ -46,9 +47,9 @@ own_kept c g m k (overran q u v) n event_facts r t b has =
     event_facts.kept ∙ ap Some ticket
 own_kept c g m k e n event_facts r t b has = absurd (ends_otherwise e r t b refl has)
 
-tied_step : (c : Setup) (g : Ghost) (m : Machine) (k : ℕ) (e : TicketEvent) (n : Machine) → EventFacts c m g k e n → (m.part k).spent ≡ None → IsTied m
-    → IsTied n
-tied_step c g m k e n event_facts none was =
+keeps_step : (c : Setup) (g : Ghost) (m : Machine) (k : ℕ) (e : TicketEvent) (n : Machine) → EventFacts c m g k e n → (m.part k).spent ≡ None → KeepsLast m
+    → KeepsLast n
+keeps_step c g m k e n event_facts none was =
     record {
       last =
           λ j t keeps.
@@ -71,17 +72,17 @@ tied_step c g m k e n event_facts none was =
           ];
     }
 
-tied : (c : Setup) (time : ℕ) (g : Ghost) (m : Machine) → Trace c time g m → IsTied m
-tied c time g m (trace_start opening full) =
+keeps_last : (c : Setup) (time : ℕ) (g : Ghost) (m : Machine) → Trace c time g m → KeepsLast m
+keeps_last c time g m (trace_start opening full) =
     record {
       last = λ k t keeps. absurd (let clash : ◌≡◌ {A = Option ℕ} None (Some t) = keeps in cc);
       kept = λ k r t b has. absurd (contains_none (Spent r t b) has);
     }
-tied c time g m (trace_step {time = u} {g = h} {m = old} k s turn trace low enabled) =
+keeps_last c time g m (trace_step {time = u} {g = h} {m = old} k s turn trace low enabled) =
     let base = based c u h old trace in
     let sc = event_step c u h old k s turn low enabled base in
     let none = keeps_none c old k s turn base.steady enabled in
-    tied_step c h old k (event_of c old turn) (moved c old k turn) sc.event_facts none (tied c u h old trace)
+    keeps_step c h old k (event_of c old turn) (moved c old k turn) sc.event_facts none (keeps_last c u h old trace)
 
 -- a call that ended so was on one of the rings
 spent_ring : (c : Setup) (time : ℕ) (g : Ghost) (m : Machine) → Trace c time g m → (k r t : ℕ) (b : Bool) → Contains (m.part k).calls (Spent r t b)
@@ -101,7 +102,7 @@ spent_bound c m k r t b reach has =
 pub spent_kept : (c : Setup) (m : Machine) → IsReachable c m → SpentKept c m
 spent_kept c m reach =
     let s = has_trace c m reach in
-    let ties = tied c s.time s.ghost m s.trace in
+    let ties = keeps_last c s.time s.ghost m s.trace in
     record {
       last =
           λ k t keeps.
