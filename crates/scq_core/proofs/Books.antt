@@ -14,17 +14,16 @@ use Rattle.scq_core.specs.declared.slot.Place.{Place}
 use Rattle.scq_core.specs.declared.slot.Place.TheVariants as place
 use Rattle.scq_core.specs.declared.slot.Slot.{Slot}
 use Rattle.scq_core.specs.Updated.{updated}
-use Rattle.scq_core.specs.Machine.{Cells, Entries, Part, Machine, Location, read, beside, written}
-use Rattle.scq_core.specs.Table.{turn_of, location_of, writes, stores, after, cells_after, moved, step_of}
+use Rattle.scq_core.specs.Machine.{Cells, Entries, Part, Machine, location_at, read, beside, written}
+use Rattle.scq_core.specs.Table.{turn_of, location_of, writes, stores, after, cells_after, moved, step_of, ring_of, place_of}
 use Rattle.scq_core.specs.Start.{idle_part}
 use Rattle.scq_core.specs.Reach.{by_step}
 use Rattle.scq_core.specs.Rings.{RingBook, IsPlace, ring_with}
 use Rattle.scq_core.specs.Book.{Book, no_slot, no_ring, ring_in, cells_of, part_in, machine_of, HasRings, IsSound}
-use Rattle.scq_core.specs.Turn.{ring_of, place_of}
 use Rattle.scq_core.specs.Advance.{found_by, beside_by, CanTurn, rings_after, Advances}
 use Rattle.scq_core.proofs.UpdatedLemmas.{updated_same}
 use Rattle.scq_core.proofs.Readiness.{enabled_ready}
-use Rattle.scq_core.proofs.Places.{location_at, location_of-place, read-place, beside-place, is_place}
+use Rattle.scq_core.proofs.Places.{read-place, beside-place, is_place}
 
 set_at : {A : Type 0} → (xs : List A) (i : ℕ) (x d : A) → i < length xs → (j : ℕ) → slice_index_or (slice_set xs i x) j d ≡ updated (λ k. slice_index_or xs k d) i x j
 set_at xs i x d low j =
@@ -104,10 +103,10 @@ write_cells c rings r (place.Entry slot) x y low at =
     (field c (contents_in c) rings r new low ∙ ap (λ (f : ℕ → List ℕ). updated (λ q. contents_in c (ring_in c rings q)) r f) content))
 
 found_is : (c : Setup) (rings : List RingBook) (turn : Phase) → read (cells_of c rings) (location_of c turn) ≡ found_by c rings turn
-found_is c rings turn = rw (location_of-place c turn) (read-place c rings (ring_of turn) (place_of c turn))
+found_is c rings turn = read-place c rings (ring_of turn) (place_of c turn)
 
 beside_is : (c : Setup) (rings : List RingBook) (turn : Phase) → beside (cells_of c rings) (location_of c turn) ≡ beside_by c rings turn
-beside_is c rings turn = rw (location_of-place c turn) (beside-place c rings (ring_of turn) (place_of c turn))
+beside_is c rings turn = beside-place c rings (ring_of turn) (place_of c turn)
 
 -- the cells after a turn
 cells_turn : (c : Setup) (rings : List RingBook) (turn : Phase) → HasRings c rings → ring_of turn < c.rings → cells_of c (rings_after c rings turn) ≡ cells_after c turn (cells_of c rings)
@@ -117,8 +116,7 @@ cells_turn c rings turn has low =
     let x = found_by c rings turn in
     let y = beside_by c rings turn in
     let wrote : cells_of c (rings_after c rings turn) ≡ written (cells_of c rings) (location_of c turn) (writes c turn x) (stores turn x y) =
-    write_cells c rings (ring_of turn) (place_of c turn) (writes c turn x) (stores turn x y) within at
-    ∙ ap (λ (location : Location). written (cells_of c rings) location (writes c turn x) (stores turn x y)) (sym (location_of-place c turn)) in
+    write_cells c rings (ring_of turn) (place_of c turn) (writes c turn x) (stores turn x y) within at in
     wrote ∙ rw (found_is c rings turn, beside_is c rings turn) refl
 
 pub same_machine : (m n : Cells) (p q : ℕ → Part) (o : List (List ℕ)) → m ≡ n → p ≡ q

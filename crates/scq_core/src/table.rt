@@ -1,17 +1,16 @@
 ghost use Rattle.std.specs.Prelude.{◌≡◌, ℕ, ◌<◌};
 ghost use Rattle.scq_word.specs.Sizes.{n_of};
-ghost use Rattle.scq_word.specs.Tickets.{slot_of};
 ghost use Rattle.scq_word.specs.Words.{mark_of, packed, safe_in, cycle_in};
 ghost use Rattle.scq_word.specs.Entries.{IsIndexOrMark};
 ghost use Rattle.scq_core.specs.declared.slot.Place.TheVariants.{Entry as EntryPlace};
-ghost use Rattle.scq_core.specs.Table.{ring_slots, cycle, reset_level, passed, writes};
-ghost use Rattle.scq_core.specs.Turn.{ring_of, place_of, IsReady};
+ghost use Rattle.scq_core.specs.Table.{ring_slots, cycle, slot, reset_level, passed, writes, ring_of, place_of};
+ghost use Rattle.scq_core.specs.Turn.{IsReady};
 
 use crate::phase::Phase;
 use crate::slot::Place;
 use scq_word::{Entry, Setup, cycle_of, pack, slot_of, unpack};
 
-// The word that stands for a Threshold of 0: it is kept as so much more than its value.
+/// The word that stands for a Threshold of 0: it is kept as so much more than its value.
 pub const ZERO_LEVEL: u64 = 1 << 32;
 
 /// The ring that a turn is on; an idle seat is on none.
@@ -65,7 +64,7 @@ pub fn place_of(setup: &Setup, turn: &Phase) -> Place
 }
 
 fn entry_at(setup: &Setup, ticket: u64) -> Place
-    ensures { result ≡ EntryPlace (slot_of (ring_slots setup.now) ticket) }
+    ensures { result ≡ EntryPlace (slot setup.now ticket) }
 {
     Place::Entry {
         slot: slot_of(setup.shape(), ticket),
@@ -95,8 +94,8 @@ pub fn written(setup: &Setup, turn: &Phase, found: u64) -> u64
     }
 }
 
-// The word of an index at its ticket.
-fn filled(setup: &Setup, ticket: u64, index: u32) -> u64
+/// The word of an index at its ticket.
+pub fn filled(setup: &Setup, ticket: u64, index: u32) -> u64
     requires lawful { ticket < setup.now.limit }
     requires own { index < n_of setup.now.order }
     ensures { result ≡ packed (ring_slots setup.now) (cycle setup.now ticket) 1 index }
@@ -110,11 +109,11 @@ fn filled(setup: &Setup, ticket: u64, index: u32) -> u64
     pack(shape, entry)
 }
 
-// What Threshold is reset to once an index was placed: 3n - 1.
+/// The word of what Threshold is reset to once an index was placed.
 pub fn reset_level(setup: &Setup) -> u64
     ensures { result ≡ reset_level setup.now }
 {
-    ZERO_LEVEL + 3 * u64::from(setup.shape().n()) - 1
+    ZERO_LEVEL + setup.reset_value()
 }
 
 // A fetch_or of the mark takes the index out, and leaves the cycle and the safe bit.
@@ -124,9 +123,9 @@ fn consumed(setup: &Setup, found: u64) -> u64
     found | u64::from(setup.shape().none())
 }
 
-// What a dequeue leaves in an entry of an earlier cycle: without an index it is moved to the cycle of
-// the dequeue's ticket, so that no enqueue with an earlier one fills it; an index is marked unsafe.
-fn passed(setup: &Setup, ticket: u64, found: u64) -> u64
+/// What a dequeue leaves in an entry of an earlier cycle: without an index it is moved to the cycle of
+/// the dequeue's ticket, so that no enqueue with an earlier one fills it; an index is marked unsafe.
+pub fn passed(setup: &Setup, ticket: u64, found: u64) -> u64
     requires lawful { ticket < setup.now.limit }
     requires entry { IsIndexOrMark setup.now.order found }
     ensures { result ≡ passed setup.now ticket found }

@@ -7,7 +7,7 @@ use Rattle.scq_word.specs.Sizes.{n_of}
 use Rattle.scq_core.specs.declared.ended.Ended.{Ended}
 use Rattle.scq_core.specs.Machine.{Part, Machine}
 use Rattle.scq_core.specs.Updated.{updated}
-use Rattle.scq_core.specs.Table.{ring_slots, reset_level, reset_value}
+use Rattle.scq_core.specs.Table.{ring_slots, reset_level}
 use Rattle.scq_core.specs.Start.{start_of}
 use Rattle.scq_core.specs.Reach.{IsReachable, at_start}
 use Rattle.scq_core.specs.Laws.{total, spent_of}
@@ -29,6 +29,7 @@ use Rattle.scq_law.proofs.Done.{is_finish}
 use Rattle.scq_law.proofs.Levels.{here_one, there_none, flying}
 use Rattle.scq_law.proofs.TicketSums.{sum_to}
 use Rattle.scq_law.proofs.Tallies.{placed_bit, placeds, tooks, was_done, was_got, landing, placed_event, took_event, spend_event}
+use Rattle.scq_word.specs.Bounds.{reset_value}
 
 -- a state of a run is reachable
 pub tale_reaches : (c : Setup) (time : ℕ) (g : Ghost) (m : Machine) → Tale c time g m → IsReachable c m
@@ -53,7 +54,7 @@ spend_of r p = tally (was_got r) p.calls + (flying r (stance_of p.phase) + spent
 pub record IsTallied (c : Setup) (time : ℕ) (g : Ghost) (m : Machine) : Type 0 where
   pub taken : (r : ℕ) → total (got_of r) m.part c.seats ≤ tooks c g r
   pub placed : (r : ℕ) → placeds c g r ≤ total (laid_of r) m.part c.seats + openings c r
-  pub spends : (r : ℕ) → m.cells.head r + m.cells.threshold r ≤ ring_slots c + total (spend_of r) m.part c.seats + total (done_of r) m.part c.seats * (reset_value c + c.seats) + reset_level c
+  pub spends : (r : ℕ) → m.cells.head r + m.cells.threshold r ≤ ring_slots c + total (spend_of r) m.part c.seats + total (done_of r) m.part c.seats * (reset_value c.order c.seats + c.seats) + reset_level c
 
 -- a tally of the seat's calls after the event
 calls_then : (f : Ended → ℕ) (c : Setup) (g : Ghost) (m : Machine) (k : ℕ) (e : Event) (n : Machine) → Deed c m g k e n → tally f (n.part k).calls ≡ tally f (m.part k).calls + tally f (ended_by e)
@@ -114,7 +115,7 @@ one_more : (d x : ℕ) → (d + 1) * x ≡ d * x + x
 one_more d x = grind arith
 
 -- an event that ends no put
-spends_on : (c : Setup) (time : ℕ) (g : Ghost) (m : Machine) (k : ℕ) (e : Event) (n : Machine) → Tale c time g m → Scene c time g m k e n → is_finish e ≡ false → IsTallied c time g m → (r : ℕ) → total (done_of r) n.part c.seats ≡ total (done_of r) m.part c.seats → n.cells.head r + n.cells.threshold r ≤ ring_slots c + total (spend_of r) n.part c.seats + total (done_of r) n.part c.seats * (reset_value c + c.seats) + reset_level c
+spends_on : (c : Setup) (time : ℕ) (g : Ghost) (m : Machine) (k : ℕ) (e : Event) (n : Machine) → Tale c time g m → Scene c time g m k e n → is_finish e ≡ false → IsTallied c time g m → (r : ℕ) → total (done_of r) n.part c.seats ≡ total (done_of r) m.part c.seats → n.cells.head r + n.cells.threshold r ≤ ring_slots c + total (spend_of r) n.part c.seats + total (done_of r) n.part c.seats * (reset_value c.order c.seats + c.seats) + reset_level c
 spends_on c time g m k e n tale scene not was r same =
     let fits = words_fit c m (tale_reaches c time g m tale) in
     let sum = total_change (spend_of r) m.part n.part k c.seats scene.low scene.deed.others in
@@ -137,7 +138,7 @@ dones_move c time g m k e n scene r =
     omega arith
 
 -- the event that ends one
-spends_reset : (c : Setup) (time : ℕ) (g : Ghost) (m : Machine) (k q i : ℕ) (w : List ℕ) (t : ℕ) (n : Machine) → Tale c time g m → Scene c time g m k (finished q i w t) n → IsTallied c time g m → (r : ℕ) → n.cells.head r + n.cells.threshold r ≤ ring_slots c + total (spend_of r) n.part c.seats + total (done_of r) n.part c.seats * (reset_value c + c.seats) + reset_level c
+spends_reset : (c : Setup) (time : ℕ) (g : Ghost) (m : Machine) (k q i : ℕ) (w : List ℕ) (t : ℕ) (n : Machine) → Tale c time g m → Scene c time g m k (finished q i w t) n → IsTallied c time g m → (r : ℕ) → n.cells.head r + n.cells.threshold r ≤ ring_slots c + total (spend_of r) n.part c.seats + total (done_of r) n.part c.seats * (reset_value c.order c.seats + c.seats) + reset_level c
 spends_reset c time g m k q i w t n tale scene was r =
     let d = scene.deed in
     let floor = (threshold_floor c m (tale_reaches c time g m tale)).floor r in
@@ -156,7 +157,7 @@ spends_reset c time g m k q i w t n tale scene was r =
           let one = here_one q r a.0 in
           let reset = a.1 in
           let more : total (done_of r) n.part c.seats ≡ total (done_of r) m.part c.seats + 1 = omega arith in
-          let product = one_more (total (done_of r) m.part c.seats) (reset_value c + c.seats) in
+          let product = one_more (total (done_of r) m.part c.seats) (reset_value c.order c.seats + c.seats) in
           rw more (omega arith)
       | inr a ↦
           let none = there_none q r a.0 in
