@@ -60,12 +60,15 @@ opening_cycle c j low =
 -- so each has a slot of its own
 opening_apart : (c : Setup) (i j : ℕ) → i < n_of c.order → j < n_of c.order → slot c (ring_slots c + i) ≡ slot c (ring_slots c + j) → i ≡ j
 opening_apart c i j low lower same =
-    let one : ring_slots c + i ≡ ring_slots c + j = same_ticket c.order (ring_slots c + i) (ring_slots c + j) same (opening_cycle c i (omega arith) ∙ sym (opening_cycle c j (omega arith))) in
+    let one : ring_slots c + i ≡ ring_slots c + j =
+    same_ticket c.order (ring_slots c + i) (ring_slots c + j) same (opening_cycle c i (omega arith) ∙ sym (opening_cycle c j (omega arith))) in
     omega arith
 
 -- the index of an opening ticket stands in its slot, with its content
-opened : (c : Setup) (opening : List (List ℕ)) (j : ℕ) → j < n_of c.order → Filled c opening (n_of c.order) (slot c (ring_slots c + j)) ⊎ Unfilled c (n_of c.order) (slot c (ring_slots c + j))
-    → (filled c (n_of c.order) (slot c (ring_slots c + j)) ≡ packed (ring_slots c) 1 1 j) × (filled_contents c opening (n_of c.order) (slot c (ring_slots c + j)) ≡ slice_index_or opening j [])
+opened : (c : Setup) (opening : List (List ℕ)) (j : ℕ) → j < n_of c.order
+    → Filled c opening (n_of c.order) (slot c (ring_slots c + j)) ⊎ Unfilled c (n_of c.order) (slot c (ring_slots c + j))
+    → (filled c (n_of c.order) (slot c (ring_slots c + j)) ≡ packed (ring_slots c) 1 1 j)
+    × (filled_contents c opening (n_of c.order) (slot c (ring_slots c + j)) ≡ slice_index_or opening j [])
 opened c opening j low (inl f) =
     let same : f.index ≡ j = opening_apart c f.index j f.low low (sym f.slot) in
     (rw same at f.word, rw same at f.content)

@@ -15,8 +15,8 @@ use Rattle.scq_core.specs.declared.ended.Ended.{Ended}
 use Rattle.scq_core.specs.declared.ended.Ended.TheVariants.{Done, Got, Nothing, Spent}
 use Rattle.scq_core.specs.declared.phase.Phase.{Phase}
 use Rattle.scq_core.specs.declared.phase.Phase.TheVariants.{Idle, AtE1, AtE2, AtE3, AtE4, AtE5, AtE6, AtD1, AtD2, AtD3, AtD4, AtD5, AtD6, AtD7, AtD8, AtD9, AtD10}
-use Rattle.scq_core.specs.declared.slot.Place.{Place}
-use Rattle.scq_core.specs.declared.slot.Place.TheVariants.{Tail, Head, Threshold, Entry}
+use Rattle.scq_core.specs.declared.slot.Cell.{Cell}
+use Rattle.scq_core.specs.declared.slot.Cell.TheVariants.{Tail, Head, Threshold, Entry}
 use Rattle.scq_core.specs.declared.step.Step.{Step}
 use Rattle.scq_core.specs.declared.step.Step.TheVariants.{E1, E1Again, E2, E3, E4, E5, E6, D1, D2, D3, D4, D5, D6, D7, D8, D9, D10}
 use Rattle.scq_core.specs.Updated.{updated}
@@ -42,8 +42,8 @@ abbrev pub slot : Setup → ℕ → ℕ
 slot c ticket = slot_of c.order ticket
 
 -- a hand with this index taken out
-abbrev pub without : ℕ → List ℕ → List ℕ
-without index hand = filter (λ i. not (i == index)) hand
+abbrev pub hand_without : ℕ → List ℕ → List ℕ
+hand_without index hand = filter (λ i. not (i == index)) hand
 
 abbrev pub holds_index : List ℕ → ℕ → Bool
 holds_index hand index = list_any (λ i. i == index) hand
@@ -114,28 +114,28 @@ ring_of (AtD9 r h from to) = r
 ring_of (AtD10 r h leaving) = r
 
 -- the place of that ring that the turn reads and writes
-abbrev pub place_of : Setup → Phase → Place
-place_of c Idle = Tail
-place_of c (AtE1 r i w l) = Tail
-place_of c (AtE2 r i w t l) = Entry (slot c t)
-place_of c (AtE3 r i w t e) = Head
-place_of c (AtE4 r i w t e) = Entry (slot c t)
-place_of c (AtE5 r i w t) = Threshold
-place_of c (AtE6 r i w t) = Threshold
-place_of c (AtD1 r) = Threshold
-place_of c (AtD2 r l) = Head
-place_of c (AtD3 r h l) = Entry (slot c h)
-place_of c (AtD4 r h) = Entry (slot c h)
-place_of c (AtD5 r h e) = Entry (slot c h)
-place_of c (AtD6 r h) = Tail
-place_of c (AtD7 r h from to) = Tail
-place_of c (AtD8 r h from) = Head
-place_of c (AtD9 r h from to) = Tail
-place_of c (AtD10 r h leaving) = Threshold
+abbrev pub cell_of : Setup → Phase → Cell
+cell_of c Idle = Tail
+cell_of c (AtE1 r i w l) = Tail
+cell_of c (AtE2 r i w t l) = Entry (slot c t)
+cell_of c (AtE3 r i w t e) = Head
+cell_of c (AtE4 r i w t e) = Entry (slot c t)
+cell_of c (AtE5 r i w t) = Threshold
+cell_of c (AtE6 r i w t) = Threshold
+cell_of c (AtD1 r) = Threshold
+cell_of c (AtD2 r l) = Head
+cell_of c (AtD3 r h l) = Entry (slot c h)
+cell_of c (AtD4 r h) = Entry (slot c h)
+cell_of c (AtD5 r h e) = Entry (slot c h)
+cell_of c (AtD6 r h) = Tail
+cell_of c (AtD7 r h from to) = Tail
+cell_of c (AtD8 r h from) = Head
+cell_of c (AtD9 r h from to) = Tail
+cell_of c (AtD10 r h leaving) = Threshold
 
 -- the location that a turn reads and writes
 abbrev pub location_of : Setup → Phase → Location
-location_of c turn = location_at (ring_of turn) (place_of c turn)
+location_of c turn = location_at (ring_of turn) (cell_of c turn)
 
 -- an entry that a dequeue with a later ticket found: moved to that ticket's cycle where it has no index, else marked unsafe
 abbrev pub passed : Setup → ℕ → ℕ → ℕ
@@ -184,7 +184,7 @@ after c (AtE2 r i w t l) x y p =
 after c (AtE3 r i w t e) x y p = if nat_le x t then goes_on (AtE4 r i w t e) p else goes_on (AtE1 r i w (t + 1)) p
 after c (AtE4 r i w t e) x y p =
     if x == e
-    then goes_on (AtE5 r i w t) (record p { hand = without i p.hand })
+    then goes_on (AtE5 r i w t) (record p { hand = hand_without i p.hand })
     else goes_on (AtE2 r i w t (rank_in (ring_slots c) x)) p
 after c (AtE5 r i w t) x y p = if x == reset_level c then ends (Done r t w) p else goes_on (AtE6 r i w t) p
 after c (AtE6 r i w t) x y p = ends (Done r t w) p

@@ -11,7 +11,7 @@ use Rattle.scq_core.specs.declared.step.Step.TheVariants.{E1, D1}
 use Rattle.scq_core.specs.declared.next.Next.{Next}
 use Rattle.scq_core.specs.declared.next.Next.TheVariants.{Goes, Ends, Spends, Places, Takes}
 use Rattle.scq_core.specs.Machine.{Part}
-use Rattle.scq_core.specs.Table.{ring_of, goes_on, ends, spends, without}
+use Rattle.scq_core.specs.Table.{ring_of, goes_on, ends, spends, hand_without}
 
 -- the ring of the call that a seat is in the middle of
 abbrev pub ring_under_way : Phase → Option ℕ
@@ -35,7 +35,7 @@ abbrev pub part_after : Next → Part → Part
 part_after (Goes phase) p = goes_on phase p
 part_after (Ends ended) p = ends ended p
 part_after (Spends r t is_put) p = spends r t is_put p
-part_after (Places r i w t laid) p = goes_on (AtE5 r i w t) (record p { hand = without i p.hand })
+part_after (Places r i w t laid) p = goes_on (AtE5 r i w t) (record p { hand = hand_without i p.hand })
 part_after (Takes r h i w) p = ends (Got r h w) (record p { hand = p.hand ++ i ∷ [] })
 
 -- the content that is laid beside the entry
