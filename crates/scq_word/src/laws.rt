@@ -1,3 +1,6 @@
+//! Laws of the words of entries, of slots and of the reset value. The functions do nothing: each stands for its
+//! contract.
+
 ghost use Rattle.std.specs.Prelude.{◌≡◌, ℕ, ◌+◌, ◌-◌, ◌%◌, ◌^◌, ◌<◌, ◌≤◌, ◌↔◌, bit_or};
 ghost use Rattle.scq_word.specs.Sizes.{n_of, slots_of};
 ghost use Rattle.scq_word.specs.Tickets.{slot_of};
