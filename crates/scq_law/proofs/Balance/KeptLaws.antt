@@ -4,12 +4,11 @@ use Rattle.std.proofs.Common.{◌≡◌, ◌≢◌, ℕ, zero, suc, ◌+◌, ◌
 use Rattle.std.proofs.lemmas.Bool.{cases_eq, cases_lt}
 use Rattle.scq_word.specs.declared.setup.Setup.{Setup}
 use Rattle.scq_word.specs.Sizes.{n_of}
-use Rattle.scq_word.specs.Tickets.{slot_of}
 use Rattle.scq_word.proofs.TicketLemmas.{slot_of_small}
 use Rattle.scq_core.specs.declared.phase.Phase.{Phase}
 use Rattle.scq_core.specs.declared.phase.Phase.TheVariants.{AtD10}
 use Rattle.scq_core.specs.Machine.{Cells, Part, Machine}
-use Rattle.scq_core.specs.Table.{ring_slots, hand_without, moved}
+use Rattle.scq_core.specs.Table.{ring_slots, slot, hand_without, moved}
 use Rattle.scq_core.specs.Start.{unused, filled, start_cells, start_of}
 use Rattle.scq_core.specs.Reach.{IsReachable}
 use Rattle.scq_core.specs.Laws.{total}
@@ -162,15 +161,15 @@ module _ (c : Setup) where
   slots = ring_slots c
 
   abbrev has_at : ℕ → ℕ → ℕ
-  has_at j s = has_index c (filled slots j s)
+  has_at j s = has_index c (filled c j s)
 
   unused_none : has_index c (unused slots) ≡ 0
   unused_none = rw (none_in-marked slots 0 1 (some_slots c)) refl
 
   -- the slot of the next opening place is free
-  still_free : (j : ℕ) → j < n_of c.order → has_at j (slot_of slots (slots + j)) ≡ 0
+  still_free : (j : ℕ) → j < n_of c.order → has_at j (slot c (slots + j)) ≡ 0
   still_free j low =
-      elim (fills slots [] j (slot_of slots (slots + j))) [
+      elim (fills c [] j (slot c (slots + j))) [
         | inl f ↦
             let less = f.low in
             let same : slots + j ≡ slots + f.index = one_place c (slots + j) f.index (omega arith) (omega arith) (omega arith) f.slot in
@@ -181,12 +180,12 @@ module _ (c : Setup) where
   filled_left : (j : ℕ) → j ≤ n_of c.order → sum_to (has_at j) slots ≡ j
   filled_left zero le = sum_none (has_at 0) slots (λ s low. unused_none)
   filled_left (suc j) le =
-      let at = slot_of slots (slots + j) in
+      let at = slot c (slots + j) in
       let rest = filled_left j (omega arith) in
       let free = still_free j (omega arith) in
       let some = none_in-filled slots 1 1 j (below_mark c j (omega arith)) in
       let here : has_at (suc j) at ≡ 1 = rw (eq-eqb at at refl, some) refl in
-      let moved = sum_change (has_at j) (has_at (suc j)) at slots (slot_of_small slots (slots + j) (some_slots c)) (λ s other. rw (ne_eqb s at other) refl) in
+      let moved = sum_change (has_at j) (has_at (suc j)) at slots (slot_of_small c.order (slots + j)) (λ s other. rw (ne_eqb s at other) refl) in
       omega arith
 
   start_left : (opening : List (List ℕ)) (r : ℕ) → left_in c (start_cells c opening) r ≡ openings c r

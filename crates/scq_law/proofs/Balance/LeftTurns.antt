@@ -4,13 +4,12 @@ use Rattle.std.proofs.Common.{◌≡◌, ℕ, ◌+◌, true, false, ◌&&◌, Li
 use Rattle.std.specs.Prelude.{◌==◌, nat_lt, nat_le, if◌then◌else◌}
 use Rattle.std.proofs.lemmas.Bool.{cases_Bool, cases_eq}
 use Rattle.scq_word.specs.declared.setup.Setup.{Setup}
-use Rattle.scq_word.specs.Tickets.{slot_of}
 use Rattle.scq_word.specs.Words.{packed, mark_of, index_in, safe_in, cycle_in, is_none_in}
 use Rattle.scq_word.proofs.TicketLemmas.{slot_of_small}
 use Rattle.scq_core.specs.declared.phase.Phase.{Phase}
 use Rattle.scq_core.specs.declared.phase.Phase.TheVariants.{Idle, AtE1, AtE2, AtE3, AtE4, AtE5, AtE6, AtD1, AtD2, AtD3, AtD4, AtD5, AtD6, AtD7, AtD8, AtD9, AtD10}
 use Rattle.scq_core.specs.Machine.{Cells, read, beside, updated_entry}
-use Rattle.scq_core.specs.Table.{ring_slots, cycle, zero_level, reset_level, passed, location_of, entry_at, cells_after}
+use Rattle.scq_core.specs.Table.{ring_slots, cycle, slot, zero_level, reset_level, passed, location_of, cells_after}
 use Rattle.scq_core.specs.Laws.{Busy, word_at}
 use Rattle.scq_core.proofs.UpdatedLemmas.{written_same}
 use Rattle.scq_core.proofs.Steady.{either_way}
@@ -81,10 +80,10 @@ passed_index c h e =
 module _ (c : Setup) (m : Cells) (g : Ghost) (hand : List ℕ) (r : ℕ) where
   -- an entry of a ticket's slot that gets another word
   entry_moves : (q t x : ℕ)
-      → OneMore q r (left_in c m r) (sum_to (λ s. has_index c (updated_entry m.entries.word q (slot_of (ring_slots c) t) x r s)) (ring_slots c))
+      → OneMore q r (left_in c m r) (sum_to (λ s. has_index c (updated_entry m.entries.word q (slot c t) x r s)) (ring_slots c))
       (has_index c (word_at c m q t)) (has_index c x)
   entry_moves q t x =
-      sum_updated (has_index c) m.entries.word q (slot_of (ring_slots c) t) x r (ring_slots c) (slot_of_small (ring_slots c) t (some_slots c))
+      sum_updated (has_index c) m.entries.word q (slot c t) x r (ring_slots c) (slot_of_small c.order t)
 
   abbrev left : ℕ
   left = left_in c m r
@@ -148,7 +147,7 @@ module _ (c : Setup) (m : Cells) (g : Ghost) (hand : List ℕ) (r : ℕ) where
   left_turn Idle busy knows = refl
   left_turn (AtE1 q i w l) busy knows = either_way Calm (nat_le c.limit (m.tail q)) _ _ refl refl
   left_turn (AtE2 q i w t l) busy knows =
-      only_reads (AtE2 q i w t l) _ (written_same m (entry_at c q t))
+      only_reads (AtE2 q i w t l) _ (written_same m (location_of c (AtE2 q i w t l)))
       (either_way Calm (nat_lt (cycle_in (ring_slots c) (word_at c m q t)) (cycle c t) && is_none_in (ring_slots c) (word_at c m q t)) _ _ refl refl)
   left_turn (AtE3 q i w t e) busy knows = either_way Calm (nat_le (m.head q) t) _ _ refl refl
   left_turn (AtE4 q i w t e) busy knows = places q i w t e busy
@@ -157,7 +156,7 @@ module _ (c : Setup) (m : Cells) (g : Ghost) (hand : List ℕ) (r : ℕ) where
   left_turn (AtD1 q) busy knows = either_way Calm (nat_lt (m.threshold q) zero_level) _ _ refl refl
   left_turn (AtD2 q l) busy knows = either_way Calm (nat_le c.limit (m.head q)) _ _ refl refl
   left_turn (AtD3 q h l) busy knows =
-      only_reads (AtD3 q h l) _ (written_same m (entry_at c q h))
+      only_reads (AtD3 q h l) _ (written_same m (location_of c (AtD3 q h l)))
       (either_way Calm (cycle_in (ring_slots c) (word_at c m q h) == cycle c h) _ _ refl
       (either_way Calm (nat_lt (cycle_in (ring_slots c) (word_at c m q h)) (cycle c h)) _ _ refl refl))
   left_turn (AtD4 q h) busy knows = takes q h knows.index

@@ -11,7 +11,8 @@ use Rattle.scq_core.specs.Machine.{Part, Machine}
 use Rattle.scq_core.specs.Table.{moved}
 use Rattle.scq_core.specs.Reach.{IsReachable}
 use Rattle.scq_core.proofs.Steady.{keeps_none}
-use Rattle.scq_law.specs.Bounds.{enqueues, ticket_bound}
+use Rattle.scq_word.specs.Bounds.{ticket_bound}
+use Rattle.scq_law.specs.Bounds.{enqueues}
 use Rattle.scq_law.specs.Spent.{EndedSpent, SpentKept}
 use Rattle.scq_law.proofs.Base.Ghosts.{Ghost}
 use Rattle.scq_law.proofs.Base.TicketEvents.{TicketEvent, overran, ended_by}
@@ -92,9 +93,9 @@ spent_ring c time g m trace k r t false has = ((overrun c time g m trace).gets k
 
 -- whose bound is past the limit
 spent_bound : (c : Setup) (m : Machine) (k r t : ℕ) (b : Bool) → IsReachable c m → Contains (m.part k).calls (Spent r t b)
-    → c.limit < ticket_bound c (enqueues c m r)
+    → c.limit < ticket_bound c.order c.seats (enqueues c m r)
 spent_bound c m k r t b reach has =
-    elim (cases_lt c.limit (ticket_bound c (enqueues c m r))) [
+    elim (cases_lt c.limit (ticket_bound c.order c.seats (enqueues c m r))) [
       | inl past ↦ past
       | inr within ↦ absurd ((none_spent c m reach).none r within k t b has)
     ]
