@@ -1,11 +1,17 @@
 -- The public law on what stands in the entries. Plan: the index of an entry is live at the place of its cycle; what was
 -- placed is live there until it is taken.
+use Rattle.std.specs.Prelude.{Some}
 use Rattle.std.proofs.Common.{◌≡◌, ℕ, ◌<◌, true, false, List, refl, ap, sym, ◌∙◌, ◌⊎◌, inl, inr}
 use Rattle.scq_word.specs.declared.setup.Setup.{Setup}
 use Rattle.scq_word.specs.Words.{is_none_in}
-use Rattle.scq_core.specs.Machine.{Machine}
-use Rattle.scq_core.specs.Table.{ring_slots}
+use Rattle.scq_core.specs.declared.phase.Phase.{Phase}
+use Rattle.scq_core.specs.declared.phase.Phase.TheVariants.{AtD4}
+use Rattle.scq_core.specs.declared.step.Step.{Step}
+use Rattle.scq_core.specs.Machine.{Part, Machine}
+use Rattle.scq_core.specs.Table.{ring_slots, turn_of}
+use Rattle.scq_core.specs.Laws.{word_at}
 use Rattle.scq_core.specs.Reach.{IsReachable}
+use Rattle.scq_core.proofs.Turns.{Begins, begins_put, begins_get, begins}
 use Rattle.scq_law.specs.Places.{Maker, IsPlacedBy, IsTaken, IsUntaken}
 use Rattle.scq_law.specs.Standing.{StandsAt, StandsFor, EntriesMatchPlaces}
 use Rattle.scq_law.proofs.Ghosts.{Ghost, GetState, unopened, opened, dead, took, waiting}
@@ -14,7 +20,7 @@ use Rattle.scq_law.proofs.Base.{IsBased, based}
 use Rattle.scq_law.proofs.Records.{IsRecorded}
 use Rattle.scq_law.proofs.Throughout.{recorded}
 use Rattle.scq_law.proofs.HandLaws.{stood_at}
-use Rattle.scq_law.proofs.PlaceLaws.{placed_by, by_placed, taken_at, not_dead}
+use Rattle.scq_law.proofs.PlaceLaws.{placed_by, by_placed, taken_at, not_dead, places_once}
 
 module _ (c : Setup) (g : Ghost) (m : Machine) (base : IsBased c g m) (records : IsRecorded c g m) where
   -- where something may still be taken, nobody has taken
@@ -70,5 +76,24 @@ entries_match_places c m reach =
     }
 
 -- the place of an entry's index, with the content that stands beside it
-pub stands_placed : (c : Setup) (m : Machine) (r s : ℕ) → IsReachable c m → s < ring_slots c → is_none_in (ring_slots c) (m.cells.entries.word r s) ≡ false → StandsFor c m r s
+pub stands_placed : (c : Setup) (m : Machine) (r s : ℕ) → IsReachable c m → s < ring_slots c → is_none_in (ring_slots c) (m.cells.entries.word r s) ≡ false
+    → StandsFor c m r s
 stands_placed c m r s reach low some = (entries_match_places c m reach).placed r s low some
+
+-- no call begins by taking
+begun_takes_nothing : (c : Setup) (hand : List ℕ) (r h : ℕ) (turn : Phase) → Begins c hand turn → turn ≡ AtD4 r h → ⊥
+begun_takes_nothing c hand r h turn (begins_put q i w low small held) is = cc
+begun_takes_nothing c hand r h turn (begins_get q low) is = cc
+
+-- a turn that takes is its seat's phase
+pub takes_phase : (c : Setup) (p : Part) (s : Step) (r h : ℕ) → turn_of c p s ≡ Some (AtD4 r h) → p.phase ≡ AtD4 r h
+takes_phase c p s r h enabled =
+    elim (begins c p.hand p.spent p.phase s (AtD4 r h) enabled) [
+      | inl same ↦ sym same
+      | inr new ↦ absurd (begun_takes_nothing c p.hand r h (AtD4 r h) new.2 refl)
+    ]
+
+-- where a turn takes, an index stands
+pub stands_at_turn : (c : Setup) (m : Machine) (k : ℕ) (s : Step) (r h : ℕ) → IsReachable c m → turn_of c (m.part k) s ≡ Some (AtD4 r h)
+    → is_none_in (ring_slots c) (word_at c m.cells r h) ≡ false
+stands_at_turn c m k s r h reach enabled = (places_once c m reach).stands k r h (takes_phase c (m.part k) s r h enabled)

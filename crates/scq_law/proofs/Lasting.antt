@@ -8,10 +8,12 @@ use Rattle.scq_law.specs.Lasting.{PlacesLastThroughout}
 use Rattle.scq_law.proofs.Rising.{moments_later, moment_reached}
 use Rattle.scq_law.proofs.LaterLaws.{places_last}
 
-pub places_last_throughout : (c : Setup) (opening : List (List ℕ)) (steps : List (ℕ × Step)) → length opening ≡ n_of c.order → All (λ (x : ℕ × Step). x.0 < c.seats) steps → PlacesLastThroughout c opening steps
+pub places_last_throughout : (c : Setup) (opening : List (List ℕ)) (steps : List (ℕ × Step)) → length opening ≡ n_of c.order
+    → All (λ (x : ℕ × Step). x.0 < c.seats) steps → PlacesLastThroughout c opening steps
 places_last_throughout c opening steps full seats =
     record {
       last =
           λ i j now later order first second.
-          places_last c now.state later.state (moment_reached c opening steps i now full seats first) (moments_later c opening steps i j now later seats order first second);
+          places_last c now.state later.state (moment_reached c opening steps i now full seats first)
+          (moments_later c opening steps i j now later seats order first second);
     }

@@ -1,5 +1,5 @@
 -- What was placed or taken stays so, a put that has ended stays so, and what was given up stays given up.
-use Rattle.std.proofs.Common.{◌≡◌, ℕ, ◌+◌, List, length, true, refl, ap, sym, inl, inr}
+use Rattle.std.proofs.Common.{◌≡◌, ℕ, ◌+◌, List, length, refl, sym, inl, inr}
 use Rattle.std.specs.Prelude.{Some, slice_get}
 use Rattle.std.specs.List.{Contains}
 use Rattle.std.proofs.lemmas.Option.{slice_get_within, slice_get_read, get_or_from_slice_get}
@@ -14,13 +14,13 @@ use Rattle.scq_law.specs.Later.{IsLater, at_once, by_step}
 use Rattle.scq_law.specs.Places.{Maker, GaveUp, IsPlacedBy, IsTakenBy}
 use Rattle.scq_law.specs.Bounds.{IsFinished}
 use Rattle.scq_law.specs.Lasting.{PlacesLast}
-use Rattle.scq_law.proofs.Ghosts.{Ghost, placed, dead, is_placed}
+use Rattle.scq_law.proofs.Ghosts.{Ghost, placed, dead}
 use Rattle.scq_law.proofs.Tale.{Tale, story, story_step, event_of, ghost_after}
 use Rattle.scq_law.proofs.Base.{based}
 use Rattle.scq_law.proofs.Scenes.{scene}
 use Rattle.scq_law.proofs.Records.{stays}
 use Rattle.scq_law.proofs.Throughout.{recorded}
-use Rattle.scq_law.proofs.PlaceLaws.{placed_by, by_placed, gave_up_dead}
+use Rattle.scq_law.proofs.PlaceLaws.{placed_by, by_placed, not_dead, gave_up_dead}
 
 -- a later state with its ghost, in which what was placed or given up is so still, and each call that has ended is recorded
 record Onward (c : Setup) (g : Ghost) (m n : Machine) : Type 0 where
@@ -50,12 +50,13 @@ onward c m time g tale n' (by_step {n = n} k s later low is) =
     }
 
 -- a call of a record stays where it is
-pub call_stays_recorded : (c : Setup) (m n : Machine) (k x : ℕ) (y : Ended) → IsReachable c m → IsLater c m n → slice_get (m.part k).calls x ≡ Some y → slice_get (n.part k).calls x ≡ Some y
-call_stays_recorded c m n k x y reach later is =
+pub call_recorded_stays : (c : Setup) (m n : Machine) (k x : ℕ) (y : Ended) → IsReachable c m → IsLater c m n → slice_get (m.part k).calls x ≡ Some y
+    → slice_get (n.part k).calls x ≡ Some y
+call_recorded_stays c m n k x y reach later is =
     let s = story c m reach in (onward c m s.time s.ghost s.tells n later).calls k x y is
 
 pub taken_stays : (c : Setup) (m n : Machine) (r p : ℕ) (w : List ℕ) (k x : ℕ) → IsReachable c m → IsLater c m n → IsTakenBy m r p w k x → IsTakenBy n r p w k x
-taken_stays c m n r p w k x reach later is = call_stays_recorded c m n k x (Got r p w) reach later is
+taken_stays c m n r p w k x reach later is = call_recorded_stays c m n k x (Got r p w) reach later is
 
 pub finished_stays : (c : Setup) (m n : Machine) (r p : ℕ) → IsReachable c m → IsLater c m n → IsFinished c m r p → IsFinished c n r p
 finished_stays c m n r p reach later (inr opening) = inr opening
@@ -63,29 +64,28 @@ finished_stays c m n r p reach later (inl done) =
     let call = Done r p done.content in
     let at = done.ended in
     let here = slice_get_read (m.part done.seat).calls (length (m.part done.seat).calls) at.0 call refl at.1 (sym at.2) in
-    let there = call_stays_recorded c m n done.seat at.0 call reach later here in
+    let there = call_recorded_stays c m n done.seat at.0 call reach later here in
     let ended : Contains (n.part done.seat).calls call =
     (at.0, slice_get_within (n.part done.seat).calls at.0 call there, get_or_from_slice_get (n.part done.seat).calls at.0 call call there) in
     inl (record { seat = done.seat; content = done.content; ended = ended })
 
-pub placed_stays : (c : Setup) (m n : Machine) (r p : ℕ) (w : List ℕ) (a : Maker) → IsReachable c m → IsLater c m n → IsPlacedBy c m r p w a → IsPlacedBy c n r p w a
+pub placed_stays : (c : Setup) (m n : Machine) (r p : ℕ) (w : List ℕ) (a : Maker) → IsReachable c m → IsLater c m n → IsPlacedBy c m r p w a
+    → IsPlacedBy c n r p w a
 placed_stays c m n r p w a reach later by =
     let s = story c m reach in
     let at = placed_by c s.ghost m (based c s.time s.ghost m s.tells) (recorded c s.time s.ghost m s.tells) r p w a by in
     let o = onward c m s.time s.ghost s.tells n later in
     by_placed c o.ghost n (based c o.time o.ghost n o.tells) (recorded c o.time o.ghost n o.tells) r p at.0 w a (o.lies r p at.0 w a at.1)
 
-pub given_up_stays : (c : Setup) (m n : Machine) (k r h : ℕ) → IsReachable c m → IsLater c m n → GaveUp (m.part k).phase r h → (w : List ℕ) (a : Maker) → IsPlacedBy c n r h w a → ⊥
+pub given_up_stays : (c : Setup) (m n : Machine) (k r h : ℕ) → IsReachable c m → IsLater c m n → GaveUp (m.part k).phase r h → (w : List ℕ) (a : Maker)
+    → IsPlacedBy c n r h w a → ⊥
 given_up_stays c m n k r h reach later gave w a by =
     let s = story c m reach in
     let base = based c s.time s.ghost m s.tells in
     let gone = gave_up_dead s.ghost k (length (m.part k).calls) (m.part k).phase r h (base.claims k) gave in
     let o = onward c m s.time s.ghost s.tells n later in
     let later_base = based c o.time o.ghost n o.tells in
-    let at = placed_by c o.ghost n later_base (recorded c o.time o.ghost n o.tells) r h w a by in
-    let has : is_placed (o.ghost.puts r h) ≡ true = ap is_placed at.1 in
-    let not = later_base.booked.never r h (o.ends r h gone) in
-    absurd (cc)
+    not_dead c o.ghost n later_base (recorded c o.time o.ghost n o.tells) r h w a by (o.ends r h gone)
 
 -- the law, from a reachable state to each later one
 pub places_last : (c : Setup) (m n : Machine) → IsReachable c m → IsLater c m n → PlacesLast c m n

@@ -25,7 +25,8 @@ use Rattle.scq_law.proofs.Records.{IsRecorded}
 use Rattle.scq_law.proofs.Throughout.{rooted, reached, recorded}
 
 -- phases and stances
-has_landed : (g : Ghost) (k number : ℕ) (phase : Phase) (r p : ℕ) (w : List ℕ) → Claims g k number (stance_of phase) → HasLanded phase r p w → (i : ℕ) × (g.puts r p ≡ placed i w (call_of k number))
+has_landed : (g : Ghost) (k number : ℕ) (phase : Phase) (r p : ℕ) (w : List ℕ) → Claims g k number (stance_of phase) → HasLanded phase r p w
+    → (i : ℕ) × (g.puts r p ≡ placed i w (call_of k number))
 has_landed g k number (AtE5 q i v t) r p w claims has = (i, rw (← has.0, ← has.1, ← has.2) claims)
 has_landed g k number (AtE6 q i v t) r p w claims has = (i, rw (← has.0, ← has.1, ← has.2) claims)
 has_landed g k number phase r p w claims has = absurd has
@@ -165,7 +166,8 @@ module _ (c : Setup) (g : Ghost) (m : Machine) (base : IsBased c g m) (recorded 
       let not = base.booked.never r p is in
       absurd (cc)
 
-  claimed : IsRooted g m → IsReached c g m → (r p : ℕ) (w : List ℕ) (a : Maker) → IsPlacedBy c m r p w a → IsTaken m r p w ⊎ (m.cells.head r ≤ p) ⊎ OneLooks c m r p
+  claimed : IsRooted g m → IsReached c g m → (r p : ℕ) (w : List ℕ) (a : Maker) → IsPlacedBy c m r p w a
+      → IsTaken m r p w ⊎ (m.cells.head r ≤ p) ⊎ OneLooks c m r p
   claimed roots reach r p w a by = go (g.gets r p) refl
     where
       go : (x : GetState) → g.gets r p ≡ x → IsTaken m r p w ⊎ (m.cells.head r ≤ p) ⊎ OneLooks c m r p
@@ -218,7 +220,8 @@ places_once c m reach =
     }
 
 -- with all seats idle, what was placed below Head has been taken
-pub got_below : (c : Setup) (m : Machine) → IsReachable c m → AllIdle c m → (r p : ℕ) (w : List ℕ) (a : Maker) → IsPlacedBy c m r p w a → p < m.cells.head r → IsTaken m r p w
+pub got_below : (c : Setup) (m : Machine) → IsReachable c m → AllIdle c m → (r p : ℕ) (w : List ℕ) (a : Maker) → IsPlacedBy c m r p w a → p < m.cells.head r
+    → IsTaken m r p w
 got_below c m reach idle r p w a by low =
     elim ((places_once c m reach).claimed r p w a by) [
       | inl taken ↦ taken

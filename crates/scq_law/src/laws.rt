@@ -7,7 +7,7 @@ ghost use Rattle.scq_core.specs.Reach.{IsReachable};
 ghost use Rattle.scq_law.specs.Hands.{OneHand};
 ghost use Rattle.scq_law.specs.Lasting.{PlacesLast};
 ghost use Rattle.scq_law.specs.Later.{IsLater};
-ghost use Rattle.scq_law.specs.Places.{Maker, GaveUp, IsPlacedBy, IsTaken, AllIdle, PlacesOnce};
+ghost use Rattle.scq_law.specs.Places.{Maker, IsPlacedBy, IsTaken, AllIdle, PlacesOnce};
 ghost use Rattle.scq_law.specs.Standing.{EntriesMatchPlaces};
 
 /// Each index is in the hand of one seat, once, or in one entry of one ring, and nowhere else.
@@ -25,23 +25,14 @@ pub fn places_once()
 
 /// While all seats are idle, each place below Head has been taken, with the content that was placed there.
 pub fn places_below_head_are_taken()
-    ensures { (c : Setup) (m : Machine) (r p : ℕ) (w : List ℕ) (a : Maker) → IsReachable c m → AllIdle c m → IsPlacedBy c m r p w a → p < m.cells.head r → IsTaken m r p w }
+    ensures { (c : Setup) (m : Machine) (r p : ℕ) (w : List ℕ) (a : Maker) → IsReachable c m → AllIdle c m → IsPlacedBy c m r p w a → p < m.cells.head r
+        → IsTaken m r p w }
 {}
 
 /// Each entry with an index is that of a place which nobody has taken, with the content that was placed there; and each
 /// place has been taken, or its index and content stand in its slot.
 pub fn entries_match_places()
     ensures { (c : Setup) (m : Machine) → IsReachable c m → EntriesMatchPlaces c m }
-{}
-
-/// At a ticket that a dequeue has given up nothing is ever placed.
-pub fn given_up_for_ever()
-    ensures { (c : Setup) (m n : Machine) (k r h : ℕ) → IsReachable c m → IsLater c m n → GaveUp (m.part k).phase r h → (w : List ℕ) (a : Maker) → IsPlacedBy c n r h w a → ⊥ }
-{}
-
-/// What was placed stays so, with its content and the call that placed it.
-pub fn placed_for_ever()
-    ensures { (c : Setup) (m n : Machine) (r p : ℕ) (w : List ℕ) (a : Maker) → IsReachable c m → IsLater c m n → IsPlacedBy c m r p w a → IsPlacedBy c n r p w a }
 {}
 
 /// From a state to a later one what was placed or taken stays so, with its content and call, a place whose put has ended
