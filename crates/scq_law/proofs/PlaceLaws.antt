@@ -11,7 +11,7 @@ use Rattle.scq_core.specs.Machine.{Part, Machine}
 use Rattle.scq_core.specs.Table.{ring_slots}
 use Rattle.scq_core.specs.Laws.{word_at}
 use Rattle.scq_core.specs.Reach.{IsReachable}
-use Rattle.scq_law.specs.Places.{Maker, opening_put, call_of, HasLanded, LooksAt, GaveUp, IsPlacedBy, at_opening, in_record, under_way, IsTakenBy, IsTaken, OneLooks, AllIdle, PlacesOnce}
+use Rattle.scq_law.specs.Places.{Maker, opening_put, call_of, HasLanded, LooksAt, GaveUp, IsPlacedBy, at_opening, in_record, under_way, IsTakenBy, IsTaken, IsUntaken, OneLooks, AllIdle, PlacesOnce}
 use Rattle.scq_law.proofs.Ghosts.{Ghost, GetState, placed, unopened, opened, dead, took, is_placed}
 use Rattle.scq_law.proofs.Events.{resting, landed, trying, stance_of}
 use Rattle.scq_law.proofs.Tale.{story}
@@ -181,6 +181,16 @@ module _ (c : Setup) (g : Ghost) (m : Machine) (base : IsBased c g m) (recorded 
       go dead is = absurd (not_dead r p w a by is)
       go (took k j) is = inl (taken_at r p w a k j by is)
 
+  looked_at : (k r h : ℕ) → LooksAt (m.part k).phase r h → (h < m.cells.head r) × IsUntaken m r h
+  looked_at k r h looks =
+      let own : g.gets r h ≡ opened k = looks_opened g k (length (m.part k).calls) (m.part k).phase r h (base.claims k) looks in
+      let passed : h < m.cells.head r =
+      elim (cases_lt h (m.cells.head r)) [
+        | inl low ↦ low
+        | inr high ↦ let undrawn = base.drawn.heads r h high in absurd (cc)
+      ] in
+      (passed, λ w j x by. let t = recorded.got j x r h w by in let clash : opened k ≡ took j x = sym own ∙ t.took in cc)
+
   nothing_given_up : (k r h : ℕ) → GaveUp (m.part k).phase r h → (w : List ℕ) (a : Maker) → IsPlacedBy c m r h w a → ⊥
   nothing_given_up k r h gave w a by =
       not_dead r h w a by (gave_up_dead g k (length (m.part k).calls) (m.part k).phase r h (base.claims k) gave)
@@ -214,6 +224,7 @@ places_once c m reach =
       fresh =
           λ r p w k x by. let t = records.got k x r p w by in (t.maker, by_placed c g m base records r p t.index w t.maker t.is);
       claimed = claimed c g m base records roots reach_g;
+      looked_at = looked_at c g m base records;
       given_up = nothing_given_up c g m base records;
       stands = stands_to_take c g m base records;
       answered = answered c g m base records;

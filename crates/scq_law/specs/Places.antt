@@ -81,6 +81,8 @@ pub record PlacesOnce (c : Setup) (m : Machine) : Type 0 where
   pub fresh : (r p : ℕ) (w : List ℕ) (k x : ℕ) → IsTakenBy m r p w k x → (a : Maker) × IsPlacedBy c m r p w a
   -- what was placed has been taken, or is at or above Head, or just one seat looks at it
   pub claimed : (r p : ℕ) (w : List ℕ) (a : Maker) → IsPlacedBy c m r p w a → IsTaken m r p w ⊎ (m.cells.head r ≤ p) ⊎ OneLooks c m r p
+  -- where a dequeue looks Head has passed and nobody has taken
+  pub looked_at : (k r h : ℕ) → LooksAt (m.part k).phase r h → (h < m.cells.head r) × IsUntaken m r h
   -- nothing is placed at a ticket that a dequeue has given up
   pub given_up : (k r h : ℕ) → GaveUp (m.part k).phase r h → (w : List ℕ) (a : Maker) → IsPlacedBy c m r h w a → ⊥
   -- where a dequeue is about to take, an index stands

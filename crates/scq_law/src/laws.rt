@@ -16,9 +16,9 @@ pub fn one_hand()
 {}
 
 /// Each place of a ring is placed at most once, below Tail and the limit, and taken at most once, below Head, with the
-/// content that was placed there. What was placed has been taken, or is at or above Head, or just one seat looks at it.
-/// Nothing is placed at a ticket that a dequeue gave up. Where a dequeue is about to take, an index stands, and what it is
-/// about to answer is what was placed at its ticket.
+/// content that was placed there. What was placed has been taken, or is at or above Head, or just one seat looks at it,
+/// and just one of these holds. Nothing is placed at a ticket that a dequeue gave up. Where a dequeue is about to take, an
+/// index stands, and what it is about to answer is what was placed at its ticket.
 pub fn places_once()
     ensures { (c : Setup) (m : Machine) → IsReachable c m → PlacesOnce c m }
 {}
