@@ -1,7 +1,5 @@
 pub mod Window
 pub mod Base
-pub mod EntryLaws
-pub mod Lasting
 pub mod Replays
 pub mod Places
 pub mod Threshold

@@ -22,7 +22,7 @@ use Rattle.scq_law.proofs.Places.RecordsAgree.{stays}
 use Rattle.scq_law.proofs.Places.Throughout.{records_agree}
 use Rattle.scq_law.proofs.Places.PlaceLaws.{placed_by, by_placed, not_dead, gave_up_dead}
 
--- a later state with its ghost, in which what was placed or given up is so still, and each call that has ended is records_agree
+-- a later state with its ghost, in which what was placed or given up is so still, and each call that has ended stands in its record
 record Onward (c : Setup) (g : Ghost) (m n : Machine) : Type 0 where
   time : ℕ
   ghost : Ghost

@@ -12,11 +12,11 @@ use Rattle.scq_law.specs.Standing.{EntriesMatchPlaces}
 use Rattle.scq_law.specs.Bounds.{WithinWindow, ThresholdCovers, TicketsBounded, NoneSpent}
 use Rattle.scq_law.proofs.Places.HandLaws.{one_hand}
 use Rattle.scq_law.proofs.Places.PlaceLaws.{places_once}
-use Rattle.scq_law.proofs.EntryLaws.{entries_match_places}
+use Rattle.scq_law.proofs.Places.EntryLaws.{entries_match_places}
 use Rattle.scq_law.proofs.Tickets.TicketLaws.{within_window, threshold_covers, tickets_bounded}
 use Rattle.scq_law.proofs.Tickets.SpentTickets.{none_spent}
 use Rattle.scq_law.proofs.Replays.RisingWords.{rises_throughout}
-use Rattle.scq_law.proofs.Lasting.{places_last_throughout}
+use Rattle.scq_law.proofs.Replays.LastingPlaces.{places_last_throughout}
 use Rattle.scq_law.proofs.Replays.ReplayLaws.{of_state, of_history, of_fails}
 use Rattle.scq_law.proofs.replaying.replay.Goals as goal
 
