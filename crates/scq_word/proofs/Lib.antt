@@ -1,3 +1,5 @@
 pub mod WordLemmas
+pub mod Counting
 pub mod TicketLemmas
+pub mod BoundLemmas
 pub mod EntryLemmas

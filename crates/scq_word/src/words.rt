@@ -86,7 +86,7 @@ pub fn cycle_of(shape: Shape, ticket: u64) -> u64
 
 /// The slot of a ticket, below the number of slots.
 pub fn slot_of(shape: Shape, ticket: u64) -> u32
-    ensures slot { result ≡ slot_of (slots_of shape.order) ticket }
+    ensures slot { result ≡ slot_of shape.order ticket }
     ensures small { result < slots_of shape.order }
 {
     (ticket % u64::from(shape.slots())) as u32
