@@ -11,7 +11,7 @@ use Rattle.scq_core.specs.Machine.{Machine}
 use Rattle.scq_core.specs.Table.{ring_slots, zero_level}
 use Rattle.scq_core.specs.Laws.{total}
 use Rattle.scq_law.specs.Run.{Recorded}
-use Rattle.scq_word.specs.Bounds.{reset_value}
+use Rattle.scq_word.specs.Bounds.{reset_value, ticket_bound}
 
 -- no ring's Tail, as far as it is below the limit, is more than twice the number of indices, less one, past its Head
 pub record WithinWindow (c : Setup) (m : Machine) : Type 0 where

@@ -3,3 +3,4 @@ pub mod Counting
 pub mod TicketLemmas
 pub mod BoundLemmas
 pub mod EntryLemmas
+pub mod ColumnLemmas

@@ -1,10 +1,12 @@
 -- The two facts of slots that everything above uses, what follows from them, and cycles of tickets of one slot.
-use Rattle.std.proofs.Common.{◌≡◌, ℕ, ◌+◌, ◌*◌, ◌/◌, ◌%◌, ◌^◌, ◌<◌, ◌≤◌, sym, ◌∙◌, arith, inl, inr}
+use Rattle.std.proofs.Common.{◌≡◌, ℕ, ◌+◌, ◌*◌, ◌/◌, ◌%◌, ◌^◌, ◌<◌, ◌≤◌, refl, sym, ◌∙◌, arith, inl, inr, ltb-true, lt-ltb}
 use Rattle.std.proofs.Math.Nat.{mul-le-mul_right, mod-eq_of_lt}
-use Rattle.std.proofs.lemmas.Bool.{cases_lt}
+use Rattle.std.specs.Prelude.{◌-◌, nat_lt}
+use Rattle.std.proofs.lemmas.Bool.{cases_Bool, cases_lt}
 use Rattle.std.proofs.lemmas.Nat.{pow_pos, div-mul-add, mod-mul-add, div-add-mod', mod_below, le-div}
 use Rattle.scq_word.specs.Sizes.{slots_of}
-use Rattle.scq_word.specs.Tickets.{cycle_of, slot_of}
+use Rattle.scq_word.specs.Tickets.{cycle_of, slot_of, in_columns}
+use Rattle.scq_word.proofs.ColumnLemmas.{in_columns_small, in_columns_apart, columns_of}
 use Rattle.scq_word.proofs.Counting.{IsApart, meets_all}
 
 -- there is a slot
@@ -14,17 +16,50 @@ some_slots_of order = let some : 0 < 2 ^ order = pow_pos order in omega arith
 -- a slot is one of the ring's
 pub slot_of_small : (order t : ℕ) → slot_of order t < slots_of order
 unfolding slot_of
-slot_of_small order t = mod_below t (slots_of order) (some_slots_of order)
+slot_of_small order t =
+    let rest : t % slots_of order < slots_of order = mod_below t (slots_of order) (some_slots_of order) in
+    elim (cases_Bool (nat_lt 3 (order + 1))) [
+      | inl high ↦
+          let columns = columns_of order (ltb-true 3 (order + 1) high) in
+          let small = in_columns_small (2 ^ (order + 1 - 3)) (t % slots_of order) (pow_pos (order + 1 - 3)) (omega arith) in
+          rw high (omega arith)
+      | inr low ↦ rw low rest
+    ]
+
+-- the slot in a ring with columns, and in one without
+pub slot_of-columns : (order t : ℕ) → 3 < order + 1 → in_columns (slots_of order / 8) (t % slots_of order) ≡ slot_of order t
+unfolding slot_of
+slot_of-columns order t high =
+    let columns = columns_of order high in
+    let width : slots_of order / 8 ≡ 2 ^ (order + 1 - 3) = omega arith in
+    rw (width, lt-ltb 3 (order + 1) high) refl
+
+pub slot_of-rest : (order t : ℕ) → order + 1 ≤ 3 → t % slots_of order ≡ slot_of order t
+unfolding slot_of
+slot_of-rest order t low =
+    elim (cases_Bool (nat_lt 3 (order + 1))) [
+      | inl high ↦ let above = ltb-true 3 (order + 1) high in absurd (omega arith)
+      | inr is ↦ rw is refl
+    ]
 
 -- tickets of one slot agree modulo the number of slots
 pub same_rest : (order t u : ℕ) → slot_of order t ≡ slot_of order u → t % slots_of order ≡ u % slots_of order
 unfolding slot_of
-same_rest order t u same = same
+same_rest order t u same =
+    let rest : t % slots_of order < slots_of order = mod_below t (slots_of order) (some_slots_of order) in
+    let rest_too : u % slots_of order < slots_of order = mod_below u (slots_of order) (some_slots_of order) in
+    elim (cases_Bool (nat_lt 3 (order + 1))) [
+      | inl high ↦
+          let columns = columns_of order (ltb-true 3 (order + 1) high) in
+          in_columns_apart (2 ^ (order + 1 - 3)) (t % slots_of order) (u % slots_of order) (pow_pos (order + 1 - 3)) (omega arith) (omega arith)
+          (rw high at same)
+      | inr low ↦ rw low at same
+    ]
 
 -- and tickets that agree have one slot
 pub same_slot : (order t u : ℕ) → t % slots_of order ≡ u % slots_of order → slot_of order t ≡ slot_of order u
 unfolding slot_of
-same_slot order t u same = same
+same_slot order t u same = rw same refl
 
 -- so the tickets of the first round keep their slots apart
 apart_slots : (order : ℕ) → IsApart (slots_of order) (slot_of order)

@@ -16,10 +16,10 @@ pub record Here (A B : Type 0) (c : Setup) (word : ℕ → ℕ → A) (z : A) (s
 -- another ticket of its slot, so of another cycle
 pub record Beside (A B : Type 0) (c : Setup) (word : ℕ → ℕ → A) (z : A) (state : ℕ → ℕ → B) (x : B) (r t q p : ℕ) : Type 0 where
   pub ring : q ≡ r
-  pub slot : slot c p ≡ slot c t
-  pub turn : cycle c p ≢ cycle c t
   pub word_is : updated_entry word r (slot c t) z q (slot c p) ≡ z
   pub state_is : updated_entry state r t x q p ≡ state q p
+  pub slot : slot c p ≡ slot c t
+  pub turn : cycle c p ≢ cycle c t
 
 -- a ticket of another slot or ring
 pub record Apart (A B : Type 0) (c : Setup) (word : ℕ → ℕ → A) (z : A) (state : ℕ → ℕ → B) (x : B) (r t q p : ℕ) : Type 0 where
