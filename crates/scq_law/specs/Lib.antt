@@ -1,6 +1,7 @@
 pub mod Run
 pub mod Runs
 pub mod Places
+pub mod Standing
 pub mod Hands
 pub mod Bounds
 pub mod Later
@@ -16,3 +17,4 @@ pub mod Spent
 pub mod Begun
 pub mod Retries
 pub mod CallSteps
+pub mod Lasting

@@ -162,7 +162,8 @@ none_spent c m reach =
     let bounded = tickets_bounded c m reach in
     record { none = λ r within k t is_put has. go over bounded r within k t is_put has }
   where
-    go : {time : ℕ} {g : Ghost} → IsOverrun c time g m → TicketsBounded c m → (r : ℕ) → ticket_bound c.order c.seats (enqueues c m r) ≤ c.limit → (k t : ℕ) (is_put : Bool)
+    go : {time : ℕ} {g : Ghost} → IsOverrun c time g m → TicketsBounded c m → (r : ℕ) → ticket_bound c.order c.seats (enqueues c m r) ≤ c.limit
+        → (k t : ℕ) (is_put : Bool)
         → Contains (m.part k).calls (Spent r t is_put) → ⊥
     go over bounded r fits k t true has =
         let o = over.puts k r t has in
