@@ -12,8 +12,6 @@ ghost use Rattle.scq_core.specs.Laws.{CountersBounded, ThresholdFloor};
 ghost use Rattle.scq_law.specs.Run.{Recorded, IsRun};
 ghost use Rattle.scq_law.specs.Bounds.{WithinWindow, ThresholdCovers, FailsBounded, TicketsBounded, NoneSpent};
 ghost use Rattle.scq_law.specs.Spent.{SpentKept};
-ghost use Rattle.scq_law.specs.Retries.{RetriesRise};
-ghost use Rattle.scq_law.specs.CallSteps.{CallsEnd, FewSteps};
 
 /// Tail, as far as it is below the limit, is at most `2n - 1` past Head on each ring of `n` indices.
 pub fn tail_is_within_the_window()
@@ -62,27 +60,4 @@ pub fn none_is_spent_within_the_bound()
 /// begun is past the limit; and a call that ended with Spent is its seat's last, whose ticket it keeps.
 pub fn spent_tickets_are_kept()
     ensures { (c : Setup) (m : Machine) → IsReachable c m → SpentKept c m }
-{}
-
-/// Why each loop of a call ends, in its seat's steps. The exchanges with one ticket: a failed one found
-/// an entry of a higher rank, and is tried again only while that is below what the ticket's cycle has.
-/// The tickets of one call: each is higher than the one before, and the call goes on only below the
-/// limit. The catch-up of Tail: a failed exchange found it higher, and it is never further past the
-/// limit than the number of seats.
-pub fn retries_rise()
-    ensures { (c : Setup) (m : Machine) → IsReachable c m → RetriesRise c m }
-{}
-
-/// Each call ends after a bounded number of its seat's steps, whatever the other seats do: each step
-/// leaves the call fewer, and none has more left than a dequeue that begins, which are about `15 L * L`
-/// for the limit `L` of tickets.
-pub fn calls_end()
-    ensures { (c : Setup) (m : Machine) → IsReachable c m → CallsEnd c m }
-{}
-
-/// So in each run, of any length, a seat makes at most that number of steps for each call that it has
-/// ended, and for the one that it may have under way.
-pub fn calls_take_few_steps()
-    ensures { (c : Setup) (opening : List (List ℕ)) (steps : List (ℕ × Step)) (recorded : Recorded) → length opening ≡ n_of c.order
-        → All (λ (x : ℕ × Step). x.0 < c.seats) steps → IsRun c opening steps recorded → FewSteps c steps recorded.state }
 {}

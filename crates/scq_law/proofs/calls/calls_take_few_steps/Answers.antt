@@ -1,5 +1,5 @@
 use Rattle.scq_law.proofs.Retries.StepLaws.{few_steps}
-use Rattle.scq_law.proofs.bounds.calls_take_few_steps.Goals as goal
+use Rattle.scq_law.proofs.calls.calls_take_few_steps.Goals as goal
 
 pub returns : goal.returns
 returns c = λ setup opening steps recorded full seats run. few_steps setup opening steps recorded full seats run
