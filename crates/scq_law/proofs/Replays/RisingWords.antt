@@ -69,7 +69,7 @@ pub rises_throughout : (c : Setup) (opening : List (List ℕ)) (steps : List (�
     → All (λ (x : ℕ × Step). x.0 < c.seats) steps → RisesThroughout c opening steps
 rises_throughout c opening steps full seats =
     let reach : (i : ℕ) (now : Recorded) → IsMoment c opening steps i now → IsReachable c now.state =
-    λ i now is. run_reaches c opening (take i steps) now full (All-take (λ (x : ℕ × Step). x.0 < c.seats) i steps seats) is in
+    λ i now is. run_reaches c opening (take i steps) now is in
     record {
       ranks =
           λ i j now last order first second.
