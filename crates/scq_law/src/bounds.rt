@@ -1,10 +1,8 @@
 //! How far a ring's counters are apart, and how many tickets a number of enqueues can use up. The
 //! functions do nothing: each stands for its contract.
 
-ghost use Rattle.std.specs.Prelude.{◌≡◌, ℕ, ◌<◌, List, length};
-ghost use Rattle.std.specs.List.{All};
+ghost use Rattle.std.specs.Prelude.{ℕ, List};
 ghost use Rattle.scq_word.specs.declared.setup.Setup.{Setup};
-ghost use Rattle.scq_word.specs.Sizes.{n_of};
 ghost use Rattle.scq_core.specs.declared.step.Step.{Step};
 ghost use Rattle.scq_core.specs.Machine.{Machine};
 ghost use Rattle.scq_core.specs.Reach.{IsReachable};
@@ -39,8 +37,8 @@ pub fn counters_are_bounded()
 /// After each run, no more attempts to dequeue from a ring have failed since a put last ended there with Done, or
 /// since the start, than what a reset sets and the number of seats together.
 pub fn fails_are_bounded()
-    ensures { (c : Setup) (opening : List (List ℕ)) (steps : List (ℕ × Step)) (recorded : Recorded) → length opening ≡ n_of c.order
-        → All (λ (x : ℕ × Step). x.0 < c.seats) steps → IsRun c opening steps recorded → FailsBounded c recorded }
+    ensures { (c : Setup) (opening : List (List ℕ)) (steps : List (ℕ × Step)) (recorded : Recorded)
+        → IsRun c opening steps recorded → FailsBounded c recorded }
 {}
 
 /// Head is at most `bound(E) - 2n`, and Tail, as far as it is below the limit, at most `bound(E) - 1`,

@@ -1,10 +1,8 @@
 //! What is counted over rings, hands and records. The functions do nothing: each stands for its
 //! contract.
 
-ghost use Rattle.std.specs.Prelude.{◌≡◌, ℕ, ◌<◌, List, length};
-ghost use Rattle.std.specs.List.{All};
+ghost use Rattle.std.specs.Prelude.{ℕ, List};
 ghost use Rattle.scq_word.specs.declared.setup.Setup.{Setup};
-ghost use Rattle.scq_word.specs.Sizes.{n_of};
 ghost use Rattle.scq_core.specs.declared.step.Step.{Step};
 ghost use Rattle.scq_core.specs.Machine.{Machine};
 ghost use Rattle.scq_core.specs.Reach.{IsReachable};
@@ -27,6 +25,6 @@ pub fn all_indices_are_kept()
 /// After each run, the enqueues begun on a ring, as the bound on tickets counts them, are the puts of that
 /// ring whose Start is in the history, and the opening puts.
 pub fn begun_enqueues_are_starts()
-    ensures { (c : Setup) (opening : List (List ℕ)) (steps : List (ℕ × Step)) (recorded : Recorded) → length opening ≡ n_of c.order
-        → All (λ (x : ℕ × Step). x.0 < c.seats) steps → IsRun c opening steps recorded → EnqueuesBegun c recorded.state recorded.events }
+    ensures { (c : Setup) (opening : List (List ℕ)) (steps : List (ℕ × Step)) (recorded : Recorded)
+        → IsRun c opening steps recorded → EnqueuesBegun c recorded.state recorded.events }
 {}

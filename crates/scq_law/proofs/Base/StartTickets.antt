@@ -1,12 +1,12 @@
 -- The start, with ring 0 full, has all of the base group.
 -- Plan: what stands in a slot is given by `fills`; then each ticket by where it is.
-use Rattle.std.proofs.Common.{◌≡◌, ℕ, ◌+◌, ◌-◌, ◌*◌, ◌<◌, ◌≤◌, true, false, ◌&&◌, List, [], refl, ap, sym, ◌∙◌, ◌⊎◌, inl, inr, arith, eq-eqb, ne_eqb, eqb-true, leb-true, ltb-true, lt-ltb, le-leb}
+use Rattle.std.proofs.Common.{◌≡◌, ℕ, ◌+◌, ◌-◌, ◌<◌, ◌≤◌, true, false, ◌&&◌, List, [], refl, ap, sym, ◌∙◌, ◌⊎◌, inl, inr, arith, eq-eqb, ne_eqb, eqb-true, leb-true, ltb-true, lt-ltb, le-leb}
 use Rattle.std.specs.Prelude.{◌==◌, nat_lt, nat_le, slice_index_or}
 use Rattle.std.proofs.lemmas.Bool.{cases_Bool, cases_eq, and_parts, and_from}
 use Rattle.scq_word.specs.declared.setup.Setup.{Setup}
 use Rattle.scq_word.specs.Sizes.{n_of}
 use Rattle.scq_word.specs.Words.{mark_of, packed, cycle_in, is_none_in}
-use Rattle.scq_word.proofs.TicketLemmas.{same_ticket, cycle_of-row, cycle_of_mono}
+use Rattle.scq_word.proofs.TicketLemmas.{same_ticket, cycle_of_mono}
 use Rattle.scq_word.proofs.WordLemmas.{index_in-packed, cycle_in-packed}
 use Rattle.scq_core.specs.Table.{ring_slots, cycle, slot}
 use Rattle.scq_core.specs.Start.{unused, filled, start_cells}

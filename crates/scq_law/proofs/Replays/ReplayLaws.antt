@@ -31,7 +31,7 @@ of_state c opening steps result P full seats shown law =
     result
     (ShowsRun c opening steps)
     (λ replayed. P (machine_of replayed.state))
-    (λ replayed shows. subst P (sym shows.state) (law shows.recorded.state (run_reaches c opening steps shows.recorded full seats shows.run)))
+    (λ replayed shows. subst P (sym shows.state) (law shows.recorded.state (run_reaches c opening steps shows.recorded shows.run)))
     shown
 
 -- what the aspects of a history say

@@ -6,7 +6,6 @@ use Rattle.std.specs.List.{All}
 use Rattle.std.proofs.lemmas.List.Elements.{All-head, All-tail}
 use Rattle.std.proofs.lemmas.List.Sums.{sum_by-append}
 use Rattle.scq_word.specs.declared.setup.Setup.{Setup}
-use Rattle.scq_word.specs.Sizes.{n_of}
 use Rattle.scq_word.specs.Words.{safe_in, cycle_in, is_none_in}
 use Rattle.scq_core.specs.declared.ended.Ended.{Ended}
 use Rattle.scq_core.specs.declared.phase.Phase.{Phase}
@@ -149,13 +148,13 @@ module _ (c : Setup) where
       let first = steps-first k x xs in
       omega arith
 
-pub few_steps : (c : Setup) (opening : List (List ℕ)) (steps : List (ℕ × Step)) (recorded : Recorded) → length opening ≡ n_of c.order
-    → All (λ (x : ℕ × Step). x.0 < c.seats) steps → IsRun c opening steps recorded → FewSteps c steps recorded.state
-few_steps c opening steps recorded full seats run =
+pub few_steps : (c : Setup) (opening : List (List ℕ)) (steps : List (ℕ × Step)) (recorded : Recorded)
+    → IsRun c opening steps recorded → FewSteps c steps recorded.state
+few_steps c opening steps recorded run =
     record {
       few =
           λ k.
-          let along = made_along c k steps (recorded_first c opening) recorded seats (at_start opening full) run.recorded_is in
+          let along = made_along c k steps (recorded_first c opening) recorded run.seats (at_start opening run.full) run.recorded_is in
           let last = taken_few c (recorded.state.part k).phase in
           let sum = more c (length (recorded.state.part k).calls) in
           omega arith;

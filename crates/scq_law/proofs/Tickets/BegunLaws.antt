@@ -3,7 +3,6 @@
 -- recorded.
 use Rattle.std.proofs.Common.{◌≡◌, ℕ, ◌+◌, ◌<◌, true, false, ◌&&◌, List, [], ◌∷◌, ◌++◌, refl, inl, inr, arith}
 use Rattle.std.specs.Prelude.{◌==◌, nat_lt, nat_le, if◌then◌else◌, Option, Some, None}
-use Rattle.std.specs.List.{All}
 use Rattle.std.proofs.lemmas.List.Sums.{sum_by-append}
 use Rattle.scq_word.specs.declared.setup.Setup.{Setup}
 use Rattle.scq_word.specs.Words.{safe_in, cycle_in, is_none_in}
@@ -118,12 +117,12 @@ begun_step c recorded k s turn low enabled was r =
     let before = was r in
     omega arith
 
-pub enqueues_begun : (c : Setup) (opening : List (List ℕ)) (steps : List (ℕ × Step)) (recorded : Recorded) → All (λ (x : ℕ × Step). x.0 < c.seats) steps
+pub enqueues_begun : (c : Setup) (opening : List (List ℕ)) (steps : List (ℕ × Step)) (recorded : Recorded)
     → IsRun c opening steps recorded → EnqueuesBegun c recorded.state recorded.events
-enqueues_begun c opening steps recorded seats run =
+enqueues_begun c opening steps recorded run =
     record {
       begun = all_along c (λ t. (r : ℕ) → enqueues c t.state r ≡ puts_started r t.events + openings c r) (begun_step c) steps (recorded_first c opening)
-          recorded seats run.recorded_is first;
+          recorded run.seats run.recorded_is first;
     }
   where
     first : (r : ℕ) → enqueues c (start_of c opening) r ≡ 0 + openings c r

@@ -156,7 +156,7 @@ returns-clause-begun c =
     let opening = c.args.opening.items in
     let steps = c.args.steps.now in
     of_run setup opening steps c.recorded.result (EnqueuesBegun setup) c.recorded.ensures.run
-    (λ recorded run. enqueues_begun setup opening steps recorded c.requires.seats run)
+    (enqueues_begun setup opening steps)
 
 pub returns-clause-few_steps : goal.returns-clause-few_steps
 returns-clause-few_steps c =
@@ -164,7 +164,7 @@ returns-clause-few_steps c =
     let opening = c.args.opening.items in
     let steps = c.args.steps.now in
     of_run setup opening steps c.recorded.result (λ m _. FewSteps setup steps m) c.recorded.ensures.run
-    (λ recorded run. few_steps setup opening steps recorded (sym c.args.opening.ok.0 ∙ c.requires.opening) c.requires.seats run)
+    (few_steps setup opening steps)
 
 pub returns-clause-rises : goal.returns-clause-rises
 returns-clause-rises c =
