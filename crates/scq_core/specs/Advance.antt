@@ -4,10 +4,10 @@ use Rattle.scq_word.specs.declared.setup.Setup.{Setup}
 use Rattle.scq_core.specs.declared.phase.Phase.{Phase}
 use Rattle.scq_core.specs.declared.step.Step.{Step}
 use Rattle.scq_core.specs.Machine.{Part}
-use Rattle.scq_core.specs.Table.{writes, stores, after, turn_of}
+use Rattle.scq_core.specs.Table.{writes, stores, after, turn_of, ring_of, cell_of}
 use Rattle.scq_core.specs.Rings.{RingLists, word_in, content_in, ring_with}
 use Rattle.scq_core.specs.StateLists.{ring_in, no_slot}
-use Rattle.scq_core.specs.Turn.{ring_of, cell_of, IsReady}
+use Rattle.scq_core.specs.Turn.{IsReady}
 
 -- the word that a turn finds
 abbrev pub found_by : Setup → List RingLists → Phase → ℕ

@@ -3,12 +3,11 @@
 use Rattle.std.specs.Prelude.{◌≡◌, ℕ, ◌+◌, ◌-◌, ◌<◌, ◌≤◌, ◌⊎◌, List, [], length, Some, slice_get, slice_index_or}
 use Rattle.scq_word.specs.declared.setup.Setup.{Setup}
 use Rattle.scq_word.specs.Sizes.{n_of}
-use Rattle.scq_word.specs.Tickets.{slot_of}
 use Rattle.scq_core.specs.declared.ended.Ended.TheVariants.{Done, Got}
 use Rattle.scq_core.specs.declared.phase.Phase.{Phase}
 use Rattle.scq_core.specs.declared.phase.Phase.TheVariants.{AtE5, AtE6, AtD3, AtD4, AtD5, AtD6, AtD7, AtD8, AtD9, AtD10}
 use Rattle.scq_core.specs.Machine.{Machine}
-use Rattle.scq_core.specs.Table.{ring_slots}
+use Rattle.scq_core.specs.Table.{ring_slots, slot}
 
 -- who placed: an opening put, or a seat's call by its number in the record, from 0
 pub data Maker : Type 0 where
@@ -73,4 +72,4 @@ pub record PlacesOnce (c : Setup) (m : Machine) : Type 0 where
   -- nothing is placed at a ticket that a dequeue has given up
   pub given_up : (k r h : ℕ) → GaveUp (m.part k).phase r h → (w : List ℕ) (a : Maker) → IsPlacedBy c m r h w a → ⊥
   -- what a dequeue is about to answer is what was placed at its ticket
-  pub answered : (k r h : ℕ) → (m.part k).phase ≡ AtD4 r h → (a : Maker) × IsPlacedBy c m r h (m.cells.entries.content r (slot_of (ring_slots c) h)) a
+  pub answered : (k r h : ℕ) → (m.part k).phase ≡ AtD4 r h → (a : Maker) × IsPlacedBy c m r h (m.cells.entries.content r (slot c h)) a

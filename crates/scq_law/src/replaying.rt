@@ -4,7 +4,6 @@ ghost use Rattle.std.specs.Prelude.{◌≡◌, ℕ, ◌+◌, ◌<◌, ◌≤◌,
 ghost use Rattle.std.specs.List.{All};
 ghost use Rattle.scq_word.specs.Sizes.{n_of};
 ghost use Rattle.scq_core.specs.declared.step.Step.{Step as StepOf};
-ghost use Rattle.scq_core.specs.Table.{reset_value};
 ghost use Rattle.scq_core.specs.StateLists.{machine_of};
 ghost use Rattle.scq_core.specs.Laws.{CountersBounded, ThresholdFloor};
 ghost use Rattle.scq_hist.specs.Aspects.{IsLawful, IsFresh, IsOnce, IsInOrder, IsEmptyRight};
@@ -13,6 +12,7 @@ ghost use Rattle.scq_law.specs.Places.{PlacesOnce};
 ghost use Rattle.scq_law.specs.Bounds.{WithinWindow, ThresholdCovers, TicketsBounded, NoneSpent};
 ghost use Rattle.scq_law.specs.Moments.{RisesThroughout};
 ghost use Rattle.scq_law.specs.Replay.{ShowsRun, StopsAt};
+ghost use Rattle.scq_word.specs.Bounds.{reset_value};
 
 use crate::recording::Recording;
 use crate::replayed::{ReplayFault, Replayed};
@@ -50,7 +50,7 @@ pub fn replay(
     ensures once { IfOk result (λ replayed. IsOnce replayed.events.items) }
     ensures in_order { IfOk result (λ replayed. IsInOrder opening.items replayed.events.items) }
     ensures empty_right { IfOk result (λ replayed. IsEmptyRight opening.items replayed.events.items) }
-    ensures fails_bounded { IfOk result (λ replayed. All (λ fails. fails ≤ reset_value setup + setup.seats) replayed.fails.items) }
+    ensures fails_bounded { IfOk result (λ replayed. All (λ fails. fails ≤ reset_value setup.order setup.seats + setup.seats) replayed.fails.items) }
 
     // All along it.
     ensures rises { RisesThroughout setup opening.items steps.now }
