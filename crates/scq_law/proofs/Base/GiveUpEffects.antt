@@ -178,8 +178,8 @@ module _ (c : Setup) (e : Entries) (g : Ghost) (k r h z : ℕ) (mine : g.gets r 
             λ there unsafe p slot gone.
             elim (place q p) [
               | inl a ↦
-                  let slots : slot c h ≡ slot c t = rw (← a.ticket) slot in
-                  let is : z ≡ v = sym a.word_is ∙ rw (← slot) at there in
+                  let slots : slot c h ≡ slot c t = rw (← a.ticket) met in
+                  let is : z ≡ v = sym a.word_is ∙ rw (← met) at there in
                   let stood : at_ticket c e.word r h ≡ v = stood_there q t v loaded a.ring slots is in
                   let none : is_none_in (ring_slots c) z ≡ true = rw is loaded.empty in
                   let later : cycle c h < cycle_in (ring_slots c) (at_ticket c e.word r h) = closes.later none (is ∙ sym stood) in
@@ -187,12 +187,12 @@ module _ (c : Setup) (e : Entries) (g : Ghost) (k r h z : ℕ) (mine : g.gets r 
                   let cycles : cycle_in (ring_slots c) (at_ticket c e.word r h) ≡ cycle_in (ring_slots c) v = ap (cycle_in (ring_slots c)) stood in
                   rw a.ticket (below_cycle c h t (omega arith))
               | inr (inl a) ↦
-                  let slots : slot c h ≡ slot c t = sym a.slot ∙ slot in
-                  let is : z ≡ v = sym a.word_is ∙ rw (← slot) at there in
+                  let slots : slot c h ≡ slot c t = sym a.slot ∙ met in
+                  let is : z ≡ v = sym a.word_is ∙ rw (← met) at there in
                   let stood : at_ticket c e.word r h ≡ v = stood_there q t v loaded a.ring slots is in
-                  old.passed (rw (a.ring, ← slots) stood) unsafe p slot (sym a.state_is ∙ gone)
+                  old.passed (rw (a.ring, ← slots) stood) unsafe p met (sym a.state_is ∙ gone)
               | inr (inr a) ↦
-                  old.passed (rw (← slot) (sym a.word_is) ∙ there) unsafe p slot (sym a.state_is ∙ gone)
+                  old.passed (rw (← met) (sym a.word_is) ∙ there) unsafe p met (sym a.state_is ∙ gone)
             ];
       }
 

@@ -114,15 +114,15 @@ module _ (c : Setup) (e : Entries) (g : Ghost) (k r h z number : ℕ) (mine : g.
             elim (place q p) [
               | inl a ↦ absurd (cc)
               | inr (inl a) ↦
-                  let slots : slot c h ≡ slot c t = sym a.slot ∙ slot in
-                  let is : z ≡ v = sym a.word_is ∙ rw (← slot) at stands in
+                  let slots : slot c h ≡ slot c t = sym a.slot ∙ met in
+                  let is : z ≡ v = sym a.word_is ∙ rw (← met) at stands in
                   let above : IsAbove (ring_slots c) v (at_ticket c e.word r h) = rw (a.ring, ← slots) at loaded.lags.above in
                   let stood : at_ticket c e.word r h ≡ v = came_back (ring_slots c) v (at_ticket c e.word r h) z is above empties.above in
                   let none : is_none_in (ring_slots c) (at_ticket c e.word r h) ≡ true = rw stood loaded.empty in
                   let some = there.index in
                   absurd (cc)
               | inr (inr a) ↦
-                  old.passed (rw (← slot) (sym a.word_is) ∙ stands) unsafe p slot (sym a.state_is ∙ gone)
+                  old.passed (rw (← met) (sym a.word_is) ∙ stands) unsafe p met (sym a.state_is ∙ gone)
             ];
       }
 
