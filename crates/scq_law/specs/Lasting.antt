@@ -9,6 +9,7 @@ use Rattle.scq_law.specs.Moments.{IsMoment}
 use Rattle.scq_law.specs.Places.{Maker, GaveUp, IsPlacedBy, IsTakenBy}
 use Rattle.scq_law.specs.Bounds.{IsFinished}
 
+-- what a later state still has
 pub record PlacesLast (c : Setup) (m later : Machine) : Type 0 where
   -- what stands in a seat's record stays there
   pub records : RecordsGrow m later

@@ -23,6 +23,7 @@ pub record StandsFor (c : Setup) (m : Machine) (r s : ℕ) : Type 0 where
   pub untaken : IsUntaken m r place
   pub cycle : cycle_in (ring_slots c) (m.cells.entries.word r s) ≡ cycle c place
 
+-- what stands in the entries is what was placed and not taken
 pub record EntriesMatchPlaces (c : Setup) (m : Machine) : Type 0 where
   -- each entry with an index is that of a place
   pub placed : (r s : ℕ) → s < ring_slots c → is_none_in (ring_slots c) (m.cells.entries.word r s) ≡ false → StandsFor c m r s
