@@ -13,7 +13,8 @@ use Rattle.scq_core.specs.Rings.{RingLists, IsCell, word_in, content_in, ring_wi
 use Rattle.scq_core.specs.StateLists.{ring_in, no_slot, no_ring, HasRings}
 use Rattle.scq_core.specs.Turn.{copied, started}
 use Rattle.scq_core.specs.Advance.{found_by, beside_by, Advances}
-use Rattle.scq_core.proofs.TurnCells.{enabled_turn, is_cell}
+use Rattle.scq_core.proofs.TurnCells.{is_cell}
+use Rattle.scq_core.proofs.Turns.{enabled_turn}
 
 -- the ring that was indexed is the turn's
 pub ring_read : (c : Setup) (rings : List RingLists) (i : ℕ) (ring : RingLists) → i < length rings → ring ≡ slice_index_or rings i ring

@@ -3,7 +3,7 @@
 use Rattle.std.proofs.Common.{Bool, IsTrue, ◌↔◌, ◌≡◌, ℕ, zero, suc, ◌<◌, ◌≤◌, ◌⊎◌, inl, inr, List, Option, Some, None, slice_get, length, sym, ap, subst, arith}
 use Rattle.std.proofs.lemmas.Bool.{cases_lt, cases_eq}
 use Rattle.std.proofs.lemmas.Option.{slice_get_within}
-use Rattle.scq_hist.specs.Calls.{Names, IsGot, IsGetOf, IsPending}
+use Rattle.scq_hist.specs.Calls.{Names, IsGot, IsGetOf, IsPending, IsFinishedAt}
 use Rattle.scq_hist.specs.Aspects.{IsLawful, IsLawfulAt, IsAnswer, AllClaimed}
 use Rattle.scq_hist.specs.Counts.{IsCount}
 use Rattle.scq_hist.specs.Lookups.{IsFirstNamed, call_start}
@@ -107,3 +107,7 @@ claims_iff events queue m u f p P b lawful t count test = (
   λ h. let both = test.0 h in claims_from_tally events queue m u f p P lawful t count both.0 both.1,
   λ all. test.1 (from_claims events queue m u f P t all, few_from_claims events queue m u f p P t count all),
 )
+
+-- at no moment after position s and up to i are all finished puts of the queue claimed
+pub record NotRightTill (opening : List (List ℕ)) (events : List Event) (queue s i : ℕ) : Type 0 where
+  pub none : (m : ℕ) → s < m → m ≤ i → ¬ AllClaimed events queue m (IsFinishedAt opening events queue m)

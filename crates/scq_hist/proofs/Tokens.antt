@@ -6,7 +6,7 @@ use Rattle.std.proofs.lemmas.Option.{slice_get_within}
 use Rattle.scq_hist.specs.Calls.{IsFinishedAt, IsGot, IsGetOf}
 use Rattle.scq_hist.specs.Aspects.{IsLawful}
 use Rattle.scq_hist.specs.Counts.{IsCount}
-use Rattle.scq_hist.specs.Tallies.{IsTally, IsGotBy, IsTokenGotAt, NoTokenGotAt, TalliesTokens}
+use Rattle.scq_hist.specs.Tallies.{HasLateGet, IsTally, IsTokenGotAt, NoTokenGotAt}
 use Rattle.scq_hist.specs.declared.events.Event.{Event}
 use Rattle.scq_hist.specs.declared.events.Event.TheVariants.{End}
 use Rattle.scq_hist.specs.declared.events.PutName.{PutName}
@@ -16,6 +16,19 @@ use Rattle.scq_hist.proofs.Counting.{count_none, count_more, count_same, count_r
 use Rattle.scq_hist.proofs.NamesLemmas.{same_name}
 use Rattle.scq_hist.proofs.TallyLemmas.{one_get, same_end, names_from_get}
 use Rattle.scq_hist.proofs.Claims.{decide_get}
+
+-- the put is got by a get that ended before position e
+pub record IsGotBy (events : List Event) (e : ℕ) (name : PutName) : Type 0 where
+  pub s : ℕ
+  pub d : ℕ
+  pub before : d < e
+  pub get : IsGetOf events name s d
+
+-- `got` opening tokens are got by gets that ended before position e, and f is the first moment by which these have started
+pub record TalliesTokens (opening : List (List ℕ)) (events : List Event) (e got f : ℕ) : Type 0 where
+  pub count : IsCount (λ name. IsFinishedAt opening events 0 0 name × IsGotBy events e name) got
+  pub claimed : (name : PutName) (s d : ℕ) → IsFinishedAt opening events 0 0 name → d < e → IsGetOf events name s d → s < f
+  pub least : (m : ℕ) → m < f → HasLateGet events (IsFinishedAt opening events 0 0) m
 
 -- the first n tokens
 abbrev Token : ℕ → PutName → Type 0

@@ -1,4 +1,4 @@
--- What the look-ups of `src/calls.rt` answer
+-- For private calls: what the look-ups of `src/calls.rt` and `src/gets.rt` answer
 use Rattle.std.specs.Prelude.{◌≡◌, ℕ, ◌<◌, List, Option, Some, None, slice_get}
 use Rattle.scq_hist.specs.Calls.{under_way, IsPut, IsDoneAt, Names, IsGetOf}
 use Rattle.scq_hist.specs.declared.events.Call.{Call}

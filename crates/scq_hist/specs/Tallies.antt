@@ -1,7 +1,6 @@
--- Of some puts: how many no End has got, and from which moment on the others are claimed
+-- For private calls. Of some puts: how many no End has got, and from which moment on the others are claimed
 use Rattle.std.specs.Prelude.{◌≡◌, ℕ, ◌+◌, ◌<◌, ◌≤◌, ◌⊎◌, max, List, length}
 use Rattle.scq_hist.specs.Calls.{IsCall, IsPut, IsFinishedAt, IsGot, IsGetOf}
-use Rattle.scq_hist.specs.Aspects.{AllClaimed}
 use Rattle.scq_hist.specs.declared.events.Call.TheVariants.{Get}
 use Rattle.scq_hist.specs.declared.events.Reply.TheVariants.{Nothing}
 use Rattle.scq_hist.specs.Counts.{IsCount}
@@ -41,13 +40,6 @@ pub record AddsGot (events : List Event) (name : PutName) (u f v g : ℕ) : Type
 abbrev pub AddsPut : List Event → PutName → ℕ → ℕ → ℕ → ℕ → Type 0
 AddsPut events name u f v g = AddsUngot events name u f v g ⊎ AddsGot events name u f v g
 
--- the put is got by a get that ended before position e
-pub record IsGotBy (events : List Event) (e : ℕ) (name : PutName) : Type 0 where
-  pub s : ℕ
-  pub d : ℕ
-  pub before : d < e
-  pub get : IsGetOf events name s d
-
 -- the get that ends at position e started at s and has got an opening token
 pub record IsTokenGotAt (opening : List (List ℕ)) (events : List Event) (e s : ℕ) : Type 0 where
   pub number : ℕ
@@ -56,12 +48,6 @@ pub record IsTokenGotAt (opening : List (List ℕ)) (events : List Event) (e s :
 
 pub record NoTokenGotAt (opening : List (List ℕ)) (events : List Event) (e : ℕ) : Type 0 where
   pub none : (number s : ℕ) → number < length opening → ¬ IsGetOf events (Opening number) s e
-
--- `got` opening tokens are got by gets that ended before position e, and f is the first moment by which these have started
-pub record TalliesTokens (opening : List (List ℕ)) (events : List Event) (e got f : ℕ) : Type 0 where
-  pub count : IsCount (λ name. IsFinishedAt opening events 0 0 name × IsGotBy events e name) got
-  pub claimed : (name : PutName) (s d : ℕ) → IsFinishedAt opening events 0 0 name → d < e → IsGetOf events name s d → s < f
-  pub least : (m : ℕ) → m < f → HasLateGet events (IsFinishedAt opening events 0 0) m
 
 -- the get that ends at position e has got a seat's put of this queue, which starts at position `start`
 pub record IsPutGotAt (events : List Event) (e queue start : ℕ) : Type 0 where
@@ -82,7 +68,3 @@ pub record IsEmptyAt (events : List Event) (e queue s : ℕ) : Type 0 where
 
 pub record NoEmptyAt (events : List Event) (e : ℕ) : Type 0 where
   pub none : (s seat queue : ℕ) → ¬ IsCall events seat (Get queue) s e Nothing
-
--- at no moment after position s and up to i are all finished puts of the queue claimed
-pub record NotRightTill (opening : List (List ℕ)) (events : List Event) (queue s i : ℕ) : Type 0 where
-  pub none : (m : ℕ) → s < m → m ≤ i → ¬ AllClaimed events queue m (IsFinishedAt opening events queue m)

@@ -1,4 +1,4 @@
--- What a turn may add to what is recorded of its run, as its seat's phase and the step say; and what it adds, by what became of
+-- For private calls: what a turn may add to what is recorded of its run, as its seat's phase and the step say; and what it adds, by what became of
 -- its seat.
 use Rattle.std.specs.Prelude.{ℕ, ◌+◌, ◌-◌, ◌<◌, List, [], ◌∷◌, length, Option, Some, None, slice_get, slice_index, slice_set}
 use Rattle.scq_core.specs.declared.ended.Ended.{Ended}

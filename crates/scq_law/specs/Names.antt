@@ -1,4 +1,4 @@
--- The puts that placed on each ring, as maps by place, one for each ring.
+-- For private calls: the puts that placed on each ring, as maps by place, one for each ring.
 use Rattle.std.specs.Prelude.{ℕ, List, Option, slice_get, unwrap_or, option_and_then, nat_eq}
 use Rattle.std.specs.HashMap.{get, HashMap}
 use Rattle.scq_word.specs.declared.setup.Setup.{Setup}

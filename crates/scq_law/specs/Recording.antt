@@ -1,4 +1,4 @@
--- How the variables of a replay show what is recorded of its steps.
+-- For private calls: how the variables of a replay show what is recorded of its steps.
 use Rattle.std.specs.Prelude.{◌≡◌, ℕ, ◌+◌, ◌^◌, ◌<◌, List, ◌++◌, length, slice_index}
 use Rattle.scq_word.specs.declared.setup.Setup.{Setup}
 use Rattle.scq_core.specs.Machine.{Part}

@@ -1,7 +1,8 @@
 //! Replays of schedules that were worked out by hand. Each line of a table is a seat, its steps, and behind `=` a ring with its
 //! Head, Tail, Threshold and entries, its resets and fails, what the seat's newest call was, or `-` where it is in the middle of
-//! one, and behind `:` the events that the line adds. `E1/1/0/x` is E1 on ring 1 of index 0 with content x, and `D1/1` is D1 on
-//! ring 1. The put `1.2` is the second of seat 1, and `token 0` is the first opening put.
+//! one, and behind `:` the events that the line adds. Where the line's last step is not enabled, the ring and the position of
+//! that step stand there alone. `E1/1/0/x` is E1 on ring 1 of index 0 with content x, and `D1/1` is D1 on ring 1. The put `1.2`
+//! is the second of seat 1, and `token 0` is the first opening put.
 
 ghost use Rattle.std.specs.Prelude.{◌≡◌, ℕ, ◌^◌, ◌<◌, ◌≤◌, IfOk, vec_len};
 ghost use Rattle.std.specs.List.{All};
@@ -27,17 +28,13 @@ fn step_of(alloc: Global, text: &str) -> Result<Step, Fail> {
         "E1" => Ok(Step::E1 {
             ring: number(parts.next())?,
             index: number(parts.next())?,
-            content: bytes_of(alloc, parts.next().ok_or("no content")?)?,
+            content: Bytes::copy_of(alloc, parts.next().ok_or("no content")?.as_bytes())?,
         }),
         "D1" => Ok(Step::D1 {
             ring: number(parts.next())?,
         }),
         _ => bare_step(name),
     }
-}
-
-fn bytes_of(alloc: Global, text: &str) -> Result<Bytes, Fail> {
-    Bytes::copy_of(alloc, text.as_bytes()).map_err(|_| Fail::from("memory"))
 }
 
 fn bare_step(name: &str) -> Result<Step, Fail> {
@@ -227,7 +224,7 @@ fn judge(rt: &(impl Abort + AllocGlobal), limit: u64, steps: &[(u32, Step)]) -> 
     requires seats { All (λ (x : ℕ × StepOf). x.0 < 2) steps.now }
     requires limit { (16 ≤ limit) × (limit ≤ 2 ^ 60) }
 {
-    let tokens = opening(rt.alloc()).map_err(|_| "memory")?;
+    let tokens = opening(rt.alloc())?;
     let events = replayed(rt.alloc(), limit, steps)?.events;
     assert!(rt;
         lawful_calls(&events)
@@ -261,7 +258,7 @@ fn compare(
     Ok(())
 }
 
-/// Replays a table line by line, and judges the history of each cut.
+/// Replays a table line by line, and judges the history of each cut. Where a line stops, it is the last, by its last step.
 fn run(rt: &(impl Abort + AllocGlobal), limit: u64, table: &str) -> Result<(), Fail>
     requires { (16 ≤ limit) × (limit ≤ 2 ^ 60) }
 {
@@ -271,9 +268,17 @@ fn run(rt: &(impl Abort + AllocGlobal), limit: u64, table: &str) -> Result<(), F
     for line in table.lines() {
         let line = parse(line)?;
         push_steps(alloc, line.seat, line.steps, &mut steps)?;
-        let replayed = replayed(alloc, limit, &steps)?;
-        compare(rt, &line, seen, &replayed)?;
-        seen = replayed.events.len();
+        match replayed(alloc, limit, &steps) {
+            Ok(replayed) => {
+                compare(rt, &line, seen, &replayed)?;
+                seen = replayed.events.len();
+            }
+            Err(ReplayFault::NotEnabled { at }) => {
+                let stopped = format!(in alloc; "{} stops at {at}", line.ring)?;
+                assert_eq!(rt; stopped.as_str(), line.words);
+            }
+            Err(ReplayFault::NoMemory) => return Err(Fail::from("memory")),
+        }
     }
     judge_cuts(rt, limit, &steps)
 }
@@ -356,7 +361,7 @@ const EMPTIED: &str = "\
 0 D1/0 D2 D3 D4 = 0 6 6 5 15 15 7 7 0/0 got 5 b: 0 get 0, 0 got token 1 b,
 0 D1/0 D2 D3 D5 D6 D7 D10 = 0 7 7 4 15 15 15 7 0/1 nothing: 0 get 0, 0 nothing,";
 
-/// Ten tickets are left below a limit of 16; the eleventh put draws the limit.
+/// Ten tickets are left below a limit of 16; the eleventh put draws the limit, and its seat begins no other call.
 const SPENT: &str = "\
 0 D1/0 D2 D3 D4 E1/0/0/c E2 E4 E5 = 0 5 7 5 15 13 12 7 1/0 done 6: 0 get 0, 0 got token 0 a, 0 put 0 c, 0 done,
 0 D1/0 D2 D3 D4 E1/0/1/d E2 E4 E5 = 0 6 8 5 15 15 12 13 2/0 done 7: 0 get 0, 0 got token 1 b, 0 put 0 d, 0 done,
@@ -369,47 +374,28 @@ const SPENT: &str = "\
 0 D1/0 D2 D3 D4 E1/0/0/k E2 E4 E5 = 0 13 15 5 31 29 28 23 9/0 done 14: 0 get 0, 0 got 0.7 i, 0 put 0 k, 0 done,
 0 D1/0 D2 D3 D4 E1/0/1/l E2 E4 E5 = 0 14 16 5 31 31 28 29 10/0 done 15: 0 get 0, 0 got 0.8 j, 0 put 0 l, 0 done,
 0 D1/0 D2 D3 D4 = 0 15 16 5 31 31 31 29 10/0 got 14 k: 0 get 0, 0 got 0.9 k,
-0 E1/0/0/m = 0 15 17 5 31 31 31 29 10/0 spent 16: 0 put 0 m, 0 spent,";
+0 E1/0/0/m = 0 15 17 5 31 31 31 29 10/0 spent 16: 0 put 0 m, 0 spent,
+0 D1/0 = 0 stops at 85:";
+
+/// A step out of turn, an index that is not in the hand, an exchange that is over, a ring that is not there: each line for
+/// itself, from the start.
+const STOPPED: &str = "\
+0 E2 = 0 stops at 0:
+0 D1/0 D2 D2 = 0 stops at 2:
+0 E1/1/0/x = 1 stops at 0:
+0 D1/0 D2 D3 D4 E1/1/0/x E2 E4 E4 = 1 stops at 7:
+0 D1/2 = 0 stops at 0:";
 
 #[test]
 fn tables_are_replayed(rt: HostRuntime) -> Result<(), Fail> {
-    for table in [ALONE, CLAIMED, SKIPPED, WIDEST, EMPTIED] {
-        run(&rt, LIMIT, table)?;
+    run(&rt, LIMIT, ALONE)?;
+    run(&rt, LIMIT, CLAIMED)?;
+    run(&rt, LIMIT, SKIPPED)?;
+    run(&rt, LIMIT, WIDEST)?;
+    run(&rt, LIMIT, EMPTIED)?;
+    run(&rt, 16, SPENT)?;
+    for line in STOPPED.lines() {
+        run(&rt, LIMIT, line)?;
     }
-    run(&rt, 16, SPENT)
-}
-
-// The position of the first step that is not enabled is answered: a step out of turn, an index that is not in
-// the hand, a ring that is not there.
-#[test]
-fn steps_out_of_turn_stop_a_replay(rt: HostRuntime) -> Result<(), Fail> {
-    let alloc = rt.alloc();
-    for (limit, text, at) in [
-        (LIMIT, "E2", 0),
-        (LIMIT, "D1/0 D2 D2", 2),
-        (LIMIT, "E1/1/0/x", 0),
-        (LIMIT, "D1/0 D2 D3 D4 E1/1/0/x E2 E4 E4", 7),
-        (LIMIT, "D1/2", 0),
-    ] {
-        let mut steps = Vec::new(alloc);
-        push_steps(alloc, 0, text, &mut steps)?;
-        let fault = replayed(alloc, limit, &steps).err();
-        assert_eq!(rt; fault, Some(ReplayFault::NotEnabled { at }), "{text}");
-    }
-    Ok(())
-}
-
-// After a spent ticket no call begins.
-#[test]
-fn a_spent_seat_begins_nothing(rt: HostRuntime) -> Result<(), Fail> {
-    let alloc = rt.alloc();
-    let mut steps = Vec::new(alloc);
-    for _ in 0..5 {
-        push_steps(alloc, 0, "D1/0 D2 D3 D4 E1/0/0/x E2 E4 E5", &mut steps)?;
-        push_steps(alloc, 0, "D1/0 D2 D3 D4 E1/0/1/y E2 E4 E5", &mut steps)?;
-    }
-    push_steps(alloc, 0, "D1/0 D2 D3 D4 E1/0/0/x D1/0", &mut steps)?;
-    let fault = replayed(alloc, 16, &steps).err();
-    assert_eq!(rt; fault, Some(ReplayFault::NotEnabled { at: 85 }));
     Ok(())
 }

@@ -7,8 +7,8 @@ use Rattle.scq_core.specs.declared.phase.Phase.TheVariants.{Idle, AtE1, AtE2, At
 use Rattle.scq_core.specs.declared.step.Step.{Step}
 use Rattle.scq_core.specs.declared.step.Step.TheVariants.{E1Again, E2, E3, E4, E5, E6, D2, D3, D4, D5, D6, D7, D8, D9, D10}
 use Rattle.scq_core.specs.Machine.{Part}
-use Rattle.scq_core.specs.Table.{turn_at, turn_of}
-use Rattle.scq_core.proofs.Turns.{Begins, begins_put, begins_get, begins}
+use Rattle.scq_core.specs.Table.{turn_of, next_step}
+use Rattle.scq_core.proofs.Turns.{Begins, begins_put, begins_get, begins, Enables, new_put, new_get, continues, enables}
 use Rattle.scq_law.proofs.Base.TicketEvents.{resting, stance_of}
 
 -- a first step of a call; a dequeue's never is what a seat rests at
@@ -17,30 +17,12 @@ is_first (AtE1 r i w l) = true
 is_first (AtD1 r) = true
 is_first _ = false
 
-abbrev pub is_entry : Phase → Bool
-is_entry (AtD1 r) = true
-is_entry _ = false
-
--- no step is enabled where a seat would rest before a dequeue's first step
-entry_sleeps : (c : Setup) (hand : List ℕ) (spent : Option ℕ) (phase : Phase) (step : Step) (turn : Phase) → turn_at c hand spent phase step ≡ Some turn
-    → is_entry phase ≡ false
-entry_sleeps c hand spent Idle step turn e = refl
-entry_sleeps c hand spent (AtE1 r i w l) E1Again turn e = refl
-entry_sleeps c hand spent (AtE2 r i w t l) E2 turn e = refl
-entry_sleeps c hand spent (AtE3 r i w t x) E3 turn e = refl
-entry_sleeps c hand spent (AtE4 r i w t x) E4 turn e = refl
-entry_sleeps c hand spent (AtE5 r i w t) E5 turn e = refl
-entry_sleeps c hand spent (AtE6 r i w t) E6 turn e = refl
-entry_sleeps c hand spent (AtD2 r l) D2 turn e = refl
-entry_sleeps c hand spent (AtD3 r h l) D3 turn e = refl
-entry_sleeps c hand spent (AtD4 r h) D4 turn e = refl
-entry_sleeps c hand spent (AtD5 r h x) D5 turn e = refl
-entry_sleeps c hand spent (AtD6 r h) D6 turn e = refl
-entry_sleeps c hand spent (AtD7 r h from to) D7 turn e = refl
-entry_sleeps c hand spent (AtD8 r h from) D8 turn e = refl
-entry_sleeps c hand spent (AtD9 r h from to) D9 turn e = refl
-entry_sleeps c hand spent (AtD10 r h leaving) D10 turn e = refl
-entry_sleeps c hand spent phase step turn e = absurd (cc)
+-- what a seat in the middle of a call is at has a next step
+next_enabled : (c : Setup) (hand : List ℕ) (spent : Option ℕ) (phase : Phase) (step : Step) (turn : Phase) → Enables c hand spent phase step turn
+    → turn ≡ phase → next_step turn ≡ Some step
+next_enabled c hand spent phase step turn (new_put r i w ring index held) same = absurd (cc)
+next_enabled c hand spent phase step turn (new_get r ring) same = absurd (cc)
+next_enabled c hand spent phase step turn (continues kept own s next new) same = next
 
 -- the seat is idle, keeps no ticket, and the turn is a call's first
 pub record Starts (p : Part) (turn : Phase) : Type 0 where
@@ -51,7 +33,8 @@ pub record Starts (p : Part) (turn : Phase) : Type 0 where
 -- the seat is in the middle of a call
 pub record GoesOn (p : Part) (turn : Phase) : Type 0 where
   pub stance : stance_of p.phase ≡ stance_of turn
-  pub on : is_entry turn ≡ false
+  pub step : Step
+  pub on : next_step turn ≡ Some step
 
 abbrev pub From : Part → Phase → Type 0
 From p turn = Starts p turn ⊎ GoesOn p turn
@@ -65,7 +48,11 @@ came_from c p s turn enabled =
     elim (begins c p.hand p.spent p.phase s turn enabled) [
       | inl same ↦
           inr
-          (record { stance = ap stance_of (sym same); on = ap is_entry same ∙ entry_sleeps c p.hand p.spent p.phase s turn enabled })
+          (record {
+            stance = ap stance_of (sym same);
+            step = s;
+            on = next_enabled c p.hand p.spent p.phase s turn (enables c p.hand p.spent p.phase s turn enabled) same;
+          })
       | inr new ↦
           inl
           (record { rests = ap stance_of new.0; keeps = new.1; first = begins_first c p.hand turn new.2 })

@@ -99,7 +99,8 @@ one_more c opening steps at x old new low is seats recorded after =
           subst
           (λ (xs : List (ℕ × Step)). IsRun c opening xs after.0)
           (sym (more steps at x low is))
-          (run_last c opening (take at steps) recorded.recorded after.0 x recorded.run (subst (λ (y : ℕ × Step). y.0 < c.seats) (sym is) (seats at x low)) after.1);
+          (run_last c opening (take at steps) recorded.recorded after.0 x recorded.run (subst (λ (y : ℕ × Step). y.0 < c.seats) (sym is) (seats at x low))
+          after.1);
       shows = after.2;
     }
 

@@ -14,15 +14,14 @@ use Rattle.scq_core.specs.declared.step.Step.{Step}
 use Rattle.scq_core.specs.declared.step.Step.TheVariants.{E1, E1Again, E2, E3, E4, E5, E6, D1, D2, D3, D4, D5, D6, D7, D8, D9, D10}
 use Rattle.scq_core.specs.Updated.{updated}
 use Rattle.scq_core.specs.Machine.{Cells, Machine, Part, read, beside, updated_entry}
-use Rattle.scq_core.specs.Table.{turn_at, turn_of, step_of, moved, after, location_of}
+use Rattle.scq_core.specs.Table.{turn_at, turn_of, next_step, step_of, moved, after, location_of}
 use Rattle.scq_core.specs.Turn.{started}
 use Rattle.scq_core.specs.StateLists.{machine_of}
 use Rattle.scq_core.specs.Laws.{Busy}
 use Rattle.scq_core.specs.Reach.{IsReachable}
 use Rattle.scq_core.proofs.UpdatedLemmas.{updated_here, updated_entry_or, updated_entry_cases}
-use Rattle.scq_core.proofs.TurnCells.{enabled_turn}
 use Rattle.scq_core.proofs.ListedTurns.{set_is}
-use Rattle.scq_core.proofs.Turns.{turned}
+use Rattle.scq_core.proofs.Turns.{turned, Enables, new_put, new_get, continues, enables}
 use Rattle.scq_core.proofs.Steady.{steady}
 use Rattle.scq_hist.specs.declared.events.Event.{Event}
 use Rattle.scq_hist.specs.declared.events.PutName.{PutName}
@@ -43,37 +42,16 @@ pub data Taken : Phase → Step → Phase → Type 0 where
   begins_get : (r : ℕ) → Taken Idle (D1 r) (AtD1 r)
   goes_on : (phase : Phase) (step : Step) → (phase ≡ Idle → ⊥) → Taken phase step phase
 
-same_turn : (o : Option Phase) (a b : Phase) → o ≡ Some a → (is_some o ≡ true → o ≡ Some b) → b ≡ a
-same_turn None a b is allowed = absurd (cc)
-same_turn (Some d) a b is allowed = let known : Some d ≡ Some b = allowed refl in cc
-
-turn_is : (c : Setup) (hand : List ℕ) (spent : Option ℕ) (phase : Phase) (step : Step) (turn : Phase) → turn_at c hand spent phase step ≡ Some turn
-    → unwrap_or (started step) phase ≡ turn
-turn_is c hand spent phase step turn e =
-    same_turn (turn_at c hand spent phase step) turn (unwrap_or (started step) phase) e (enabled_turn c hand spent phase step)
+taken_by : (c : Setup) (hand : List ℕ) (spent : Option ℕ) (phase : Phase) (step : Step) (turn : Phase) → Enables c hand spent phase step turn
+    → Taken phase step turn
+taken_by c hand spent phase step turn (new_put r i w ring index held) = begins_put r i w
+taken_by c hand spent phase step turn (new_get r ring) = begins_get r
+taken_by c hand spent phase step turn (continues kept same s next new) =
+    goes_on same s (λ idle. let none : next_step Idle ≡ Some s = rw idle at next in cc)
 
 pub taken : (c : Setup) (hand : List ℕ) (spent : Option ℕ) (phase : Phase) (step : Step) (turn : Phase) → turn_at c hand spent phase step ≡ Some turn
     → Taken phase step turn
-taken c hand None Idle (E1 r i w) turn e = rw (← turn_is c hand None Idle (E1 r i w) turn e) (begins_put r i w)
-taken c hand None Idle (D1 r) turn e = rw (← turn_is c hand None Idle (D1 r) turn e) (begins_get r)
-taken c hand (Some ticket) Idle (E1 r i w) turn e = absurd (cc)
-taken c hand (Some ticket) Idle (D1 r) turn e = absurd (cc)
-taken c hand spent (AtE1 r i w l) E1Again turn e = let same : AtE1 r i w l ≡ turn = cc in rw (← same) (goes_on (AtE1 r i w l) E1Again (λ x. cc))
-taken c hand spent (AtE2 r i w t l) E2 turn e = let same : AtE2 r i w t l ≡ turn = cc in rw (← same) (goes_on (AtE2 r i w t l) E2 (λ x. cc))
-taken c hand spent (AtE3 r i w t e') E3 turn e = let same : AtE3 r i w t e' ≡ turn = cc in rw (← same) (goes_on (AtE3 r i w t e') E3 (λ x. cc))
-taken c hand spent (AtE4 r i w t e') E4 turn e = let same : AtE4 r i w t e' ≡ turn = cc in rw (← same) (goes_on (AtE4 r i w t e') E4 (λ x. cc))
-taken c hand spent (AtE5 r i w t) E5 turn e = let same : AtE5 r i w t ≡ turn = cc in rw (← same) (goes_on (AtE5 r i w t) E5 (λ x. cc))
-taken c hand spent (AtE6 r i w t) E6 turn e = let same : AtE6 r i w t ≡ turn = cc in rw (← same) (goes_on (AtE6 r i w t) E6 (λ x. cc))
-taken c hand spent (AtD2 r l) D2 turn e = let same : AtD2 r l ≡ turn = cc in rw (← same) (goes_on (AtD2 r l) D2 (λ x. cc))
-taken c hand spent (AtD3 r h l) D3 turn e = let same : AtD3 r h l ≡ turn = cc in rw (← same) (goes_on (AtD3 r h l) D3 (λ x. cc))
-taken c hand spent (AtD4 r h) D4 turn e = let same : AtD4 r h ≡ turn = cc in rw (← same) (goes_on (AtD4 r h) D4 (λ x. cc))
-taken c hand spent (AtD5 r h e') D5 turn e = let same : AtD5 r h e' ≡ turn = cc in rw (← same) (goes_on (AtD5 r h e') D5 (λ x. cc))
-taken c hand spent (AtD6 r h) D6 turn e = let same : AtD6 r h ≡ turn = cc in rw (← same) (goes_on (AtD6 r h) D6 (λ x. cc))
-taken c hand spent (AtD7 r h from to) D7 turn e = let same : AtD7 r h from to ≡ turn = cc in rw (← same) (goes_on (AtD7 r h from to) D7 (λ x. cc))
-taken c hand spent (AtD8 r h from) D8 turn e = let same : AtD8 r h from ≡ turn = cc in rw (← same) (goes_on (AtD8 r h from) D8 (λ x. cc))
-taken c hand spent (AtD9 r h from to) D9 turn e = let same : AtD9 r h from to ≡ turn = cc in rw (← same) (goes_on (AtD9 r h from to) D9 (λ x. cc))
-taken c hand spent (AtD10 r h leaving) D10 turn e = let same : AtD10 r h leaving ≡ turn = cc in rw (← same) (goes_on (AtD10 r h leaving) D10 (λ x. cc))
-taken c hand spent phase step turn e = absurd (cc)
+taken c hand spent phase step turn e = taken_by c hand spent phase step turn (enables c hand spent phase step turn e)
 
 -- a count that is changed
 pub counts_updated : (n : ℕ) (xs : List ℕ) (f : ℕ → ℕ) (k v w : ℕ) → Counts n xs f → k < n → v ≡ w → Counts n (slice_set xs k v) (updated f k w)

@@ -1,7 +1,8 @@
 use Rattle.std.proofs.Common.{ℕ, ◌+◌, ◌≤◌, List}
 use Rattle.scq_hist.specs.Calls.{IsFinishedAt, IsPending}
 use Rattle.scq_hist.specs.Counts.{IsCount}
-use Rattle.scq_hist.specs.Tallies.{IsTally, NotRightTill}
+use Rattle.scq_hist.specs.Tallies.{IsTally}
+use Rattle.scq_hist.proofs.Claims.{NotRightTill}
 use Rattle.scq_hist.proofs.emptiness.is_right_within.Given as goal
 
 abbrev pub invariant-loop-i : goal.invariant-loop-i

@@ -1,5 +1,5 @@
 use Rattle.std.proofs.Common.{◌≤◌}
-use Rattle.scq_hist.specs.Tallies.{TalliesTokens}
+use Rattle.scq_hist.proofs.Tokens.{TalliesTokens}
 use Rattle.scq_hist.proofs.tallies.opening_tally.Given as goal
 
 abbrev pub invariant-loop-e : goal.invariant-loop-e
