@@ -175,7 +175,7 @@ module _ (c : Setup) (e : Entries) (g : Ghost) (k r h z : ℕ) (mine : g.gets r 
   died_passes q t v loaded old =
       record {
         passed =
-            λ there unsafe p slot gone.
+            λ there unsafe p met gone.
             elim (place q p) [
               | inl a ↦
                   let slots : slot c h ≡ slot c t = rw (← a.ticket) met in

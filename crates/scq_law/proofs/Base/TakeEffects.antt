@@ -110,7 +110,7 @@ module _ (c : Setup) (e : Entries) (g : Ghost) (k r h z number : ℕ) (mine : g.
   took_passes q t v loaded old =
       record {
         passed =
-            λ stands unsafe p slot gone.
+            λ stands unsafe p met gone.
             elim (place q p) [
               | inl a ↦ absurd (cc)
               | inr (inl a) ↦

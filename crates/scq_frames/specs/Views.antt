@@ -2,9 +2,9 @@
 use Rattle.scq_frames.specs.declared.encoded.View.{View}
 use Rattle.scq_frames.specs.declared.message.Message.{Message}
 
--- the message that a view shows
-abbrev pub shown : View → Message
-shown v = record {
+-- the message of a view
+abbrev pub message_of_view : View → Message
+message_of_view v = record {
   file = v.file;
   line = v.line;
   topic = v.topic;

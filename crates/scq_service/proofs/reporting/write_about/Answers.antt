@@ -1,7 +1,7 @@
 use Rattle.std.proofs.Common.{ℕ, ◌++◌, subst, codes, decimal}
 use Rattle.scq_service.specs.Writing.{WrotePart}
-use Rattle.scq_service.proofs.Told.{part-first, part-second}
-use Rattle.scq_service.proofs.telling.write_about.Goals as goal
+use Rattle.scq_service.proofs.Writings.{part-first, part-second}
+use Rattle.scq_service.proofs.reporting.write_about.Goals as goal
 
 pub returns-in_err-write_all-clause-part : goal.returns-in_err-write_all-clause-part
 returns-in_err-write_all-clause-part g c = part-first _ _ (codes "file ") (decimal c.args.file ++ c.args.what.now) c.write_all.ensures.part

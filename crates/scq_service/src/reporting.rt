@@ -1,16 +1,16 @@
 ghost use Rattle.std.specs.Prelude.{◌≡◌, ◌⊎◌, ◌++◌, codes, decimal, OnOk, OnErr};
 ghost use Rattle.scq_outside.specs.Faults.{Rose};
-ghost use Rattle.scq_service.specs.Faults.{fault_line, end_line};
-ghost use Rattle.scq_service.specs.Writing.{told_with, WrotePart};
+ghost use Rattle.scq_service.specs.Faults.{fault_line, report_of};
+ghost use Rattle.scq_service.specs.Writing.{written_with, WrotePart};
 
 use crate::writing::write_all;
 use crate::{Fault, WordsFault};
 use itoa::Buffer;
 use scq_outside::{Failed, Sink};
 
-/// Writes the line about a fault. It takes no memory, so that want of memory can be told too.
-pub fn tell<K: Sink>(sink: &mut K, fault: &Fault) -> Result<(), Failed>
-    ensures whole { OnOk result (K.written sink.new ≡ told_with (K.written sink.old) (fault_line fault.now)) }
+/// Writes the line about a fault. It takes no memory, so that want of memory can be reported too.
+pub fn report<K: Sink>(sink: &mut K, fault: &Fault) -> Result<(), Failed>
+    ensures whole { OnOk result (K.written sink.new ≡ written_with (K.written sink.old) (fault_line fault.now)) }
     ensures part { WrotePart (K.written sink.old) (K.written sink.new) (fault_line fault.now) }
     ensures kept { OnOk result (K.faults sink.new ≡ K.faults sink.old) }
     ensures rose { OnErr result (Rose (K.faults sink.old) (K.faults sink.new)) }
@@ -27,7 +27,7 @@ pub fn tell<K: Sink>(sink: &mut K, fault: &Fault) -> Result<(), Failed>
 }
 
 fn write_too_long<K: Sink>(sink: &mut K, file: u32, line: u32, len: u64) -> Result<(), Failed>
-    ensures whole { OnOk result (K.written sink.new ≡ told_with (K.written sink.old) (fault_line (Fault.TooLong file line len))) }
+    ensures whole { OnOk result (K.written sink.new ≡ written_with (K.written sink.old) (fault_line (Fault.TooLong file line len))) }
     ensures part { WrotePart (K.written sink.old) (K.written sink.new) (fault_line (Fault.TooLong file line len)) }
     ensures kept { OnOk result (K.faults sink.new ≡ K.faults sink.old) }
     ensures rose { OnErr result (Rose (K.faults sink.old) (K.faults sink.new)) }
@@ -38,7 +38,7 @@ fn write_too_long<K: Sink>(sink: &mut K, file: u32, line: u32, len: u64) -> Resu
 }
 
 fn write_about<K: Sink>(sink: &mut K, file: u32, what: &[u8]) -> Result<(), Failed>
-    ensures whole { OnOk result (K.written sink.new ≡ told_with (K.written sink.old) (codes "file " ++ decimal file ++ what.now)) }
+    ensures whole { OnOk result (K.written sink.new ≡ written_with (K.written sink.old) (codes "file " ++ decimal file ++ what.now)) }
     ensures part { WrotePart (K.written sink.old) (K.written sink.new) (codes "file " ++ decimal file ++ what.now) }
     ensures kept { OnOk result (K.faults sink.new ≡ K.faults sink.old) }
     ensures rose { OnErr result (Rose (K.faults sink.old) (K.faults sink.new)) }
@@ -48,7 +48,7 @@ fn write_about<K: Sink>(sink: &mut K, file: u32, what: &[u8]) -> Result<(), Fail
 }
 
 fn write_count<K: Sink>(sink: &mut K, count: u64, what: &[u8]) -> Result<(), Failed>
-    ensures whole { OnOk result (K.written sink.new ≡ told_with (K.written sink.old) (decimal count ++ what.now)) }
+    ensures whole { OnOk result (K.written sink.new ≡ written_with (K.written sink.old) (decimal count ++ what.now)) }
     ensures part { WrotePart (K.written sink.old) (K.written sink.new) (decimal count ++ what.now) }
     ensures kept { OnOk result (K.faults sink.new ≡ K.faults sink.old) }
     ensures rose { OnErr result (Rose (K.faults sink.old) (K.faults sink.new)) }
@@ -57,12 +57,12 @@ fn write_count<K: Sink>(sink: &mut K, count: u64, what: &[u8]) -> Result<(), Fai
     write_all(sink, what)
 }
 
-/// Tells the fault, where there is one. Nothing depends on whether the sink takes it.
-pub fn tell_end<K: Sink>(sink: &mut K, fault: &Option<Fault>)
-    ensures told { Rose (K.faults sink.old) (K.faults sink.new) ⊎ (K.written sink.new ≡ told_with (K.written sink.old) (end_line fault.now)) }
-    ensures front { WrotePart (K.written sink.old) (K.written sink.new) (end_line fault.now) }
+/// Reports the fault, where there is one. Nothing depends on whether the sink takes it.
+pub fn report_end<K: Sink>(sink: &mut K, fault: &Option<Fault>)
+    ensures reported { Rose (K.faults sink.old) (K.faults sink.new) ⊎ (K.written sink.new ≡ written_with (K.written sink.old) (report_of fault.now)) }
+    ensures front { WrotePart (K.written sink.old) (K.written sink.new) (report_of fault.now) }
 {
     if let Some(fault) = fault {
-        let _ = tell(sink, fault);
+        let _ = report(sink, fault);
     }
 }

@@ -1,8 +1,8 @@
 use Rattle.std.proofs.Common.{◌≡◌, ◌∙◌, ap, sym, subst, ℕ, List, ◌++◌, Option, append_assoc, codes, decimal}
 use Rattle.std.specs.Prelude.{OnOk, Result, Ok, Err}
-use Rattle.scq_service.specs.Writing.{told_with, WrotePart}
-use Rattle.scq_service.proofs.Told.{told-then, part-first, part-second}
-use Rattle.scq_service.proofs.telling.write_too_long.Goals as goal
+use Rattle.scq_service.specs.Writing.{written_with, WrotePart}
+use Rattle.scq_service.proofs.Writings.{written-then, part-first, part-second}
+use Rattle.scq_service.proofs.reporting.write_too_long.Goals as goal
 
 -- a line is written in three parts
 in_parts : (a b c d e : List ℕ) → a ++ ((b ++ c) ++ (d ++ e)) ≡ a ++ b ++ c ++ d ++ e
@@ -32,7 +32,7 @@ returns-clause-part g c =
     let second = decimal c.args.line ++ codes ": payload of " in
     let last = decimal c.args.len ++ codes " bytes, limit 65536\n" in
     let P : List ℕ → Type 0 = λ line. WrotePart (g.K.Sink.written c.args.sink.now) (g.K.Sink.written c.write_count-2.new.sink) line in
-    let Q : ℕ → Type 0 = λ n. g.K.Sink.written c.write_count.new.sink ≡ told_with (g.K.Sink.written c.write_about.new.sink) (decimal n ++ codes ": payload of ") in
+    let Q : ℕ → Type 0 = λ n. g.K.Sink.written c.write_count.new.sink ≡ written_with (g.K.Sink.written c.write_about.new.sink) (decimal n ++ codes ": payload of ") in
     subst P (in_parts first (decimal c.args.line) (codes ": payload of ") (decimal c.args.len) (codes " bytes, limit 65536\n"))
     (part-second _ _ _ first (second ++ last) c.in_ok-write_about.ensures.whole (part-second _ _ _ second last (subst Q c.from.ensures c.in_ok-write_count.ensures.whole) c.write_count-2.ensures.part))
 
@@ -41,14 +41,14 @@ returns-clause-whole g c =
     let first = codes "file " ++ decimal c.args.file ++ codes " line " in
     let second = decimal c.args.line ++ codes ": payload of " in
     let last = decimal c.args.len ++ codes " bytes, limit 65536\n" in
-    let Q : ℕ → Type 0 = λ n. g.K.Sink.written c.write_count.new.sink ≡ told_with (g.K.Sink.written c.write_about.new.sink) (decimal n ++ codes ": payload of ") in
+    let Q : ℕ → Type 0 = λ n. g.K.Sink.written c.write_count.new.sink ≡ written_with (g.K.Sink.written c.write_about.new.sink) (decimal n ++ codes ": payload of ") in
     let line = in_parts first (decimal c.args.line) (codes ": payload of ") (decimal c.args.len) (codes " bytes, limit 65536\n") in
     let front = subst Q c.from.ensures c.in_ok-write_count.ensures.whole in
     written-last _ _ _ _ c.write_count-2.result first second last _ line c.in_ok-write_about.ensures.whole front c.write_count-2.ensures.whole
   where
     written-last : {E : Type 0} (old one two new : Option (List ℕ)) (result : Result (Unit {0}) E) (a b d line : List ℕ) → a ++ (b ++ d) ≡ line
-        → one ≡ told_with old a → two ≡ told_with one b → OnOk result (new ≡ told_with two d) → OnOk result (new ≡ told_with old line)
+        → one ≡ written_with old a → two ≡ written_with one b → OnOk result (new ≡ written_with two d) → OnOk result (new ≡ written_with old line)
     written-last old one two new (Ok done) a b d line is first second last =
-        last ∙ ap (λ told. told_with told d) (second ∙ ap (λ told. told_with told b) first) ∙ ap (λ told. told_with told d) (told-then old a b)
-        ∙ told-then old (a ++ b) d ∙ ap (told_with old) (append_assoc a b d ∙ is)
+        last ∙ ap (λ bytes. written_with bytes d) (second ∙ ap (λ bytes. written_with bytes b) first) ∙ ap (λ bytes. written_with bytes d) (written-then old a b)
+        ∙ written-then old (a ++ b) d ∙ ap (written_with old) (append_assoc a b d ∙ is)
     written-last old one two new (Err fault) a b d line is first second last = tt

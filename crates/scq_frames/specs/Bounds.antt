@@ -4,7 +4,7 @@ use Rattle.scq_frames.specs.Lines.{HasNoLineFeed}
 use Rattle.scq_frames.specs.declared.window.Window.TheInside.{Inside}
 
 -- the bytes from start to end are held, and those up to searched are no line feeds
-pub record IsPlace (w : Inside) : Type 0 where
+pub record HasBounds (w : Inside) : Type 0 where
   pub start : w.start ≤ w.searched
   pub searched : w.searched ≤ w.end
   pub end : w.end ≤ length w.room.items

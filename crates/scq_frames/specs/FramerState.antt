@@ -4,7 +4,7 @@ use Rattle.std.specs.Prelude.{◌≡◌, ◌^◌, ◌+◌, ◌<◌, ◌≤◌, f
 use Rattle.scq_frames.specs.Framing.{Framing}
 use Rattle.scq_frames.specs.declared.framer.Framer.TheInside.{Inside}
 
-pub record IsSound (f : Framing) : Type 0 where
+pub record IsFramerState (f : Framing) : Type 0 where
   pub most : f.most ≤ 2 ^ 30
   pub read : f.read ≤ f.most + 1
   pub lines : f.line + length f.held ≤ f.read

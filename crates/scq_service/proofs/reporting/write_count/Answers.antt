@@ -1,7 +1,7 @@
 use Rattle.std.proofs.Common.{◌≡◌, ◌∙◌, List, ℕ, subst, decimal}
-use Rattle.scq_service.specs.Writing.{told_with, WrotePart}
-use Rattle.scq_service.proofs.Told.{part-first, part-second}
-use Rattle.scq_service.proofs.telling.write_count.Goals as goal
+use Rattle.scq_service.specs.Writing.{written_with, WrotePart}
+use Rattle.scq_service.proofs.Writings.{part-first, part-second}
+use Rattle.scq_service.proofs.reporting.write_count.Goals as goal
 
 pub returns-in_err-write_all-clause-part : goal.returns-in_err-write_all-clause-part
 returns-in_err-write_all-clause-part g c =
@@ -10,5 +10,5 @@ returns-in_err-write_all-clause-part g c =
 
 pub returns-clause-part : goal.returns-clause-part
 returns-clause-part g c =
-    let P : List ℕ → Type 0 = λ bytes. g.K.Sink.written c.write_all.new.sink ≡ told_with (g.K.Sink.written c.args.sink.now) bytes in
+    let P : List ℕ → Type 0 = λ bytes. g.K.Sink.written c.write_all.new.sink ≡ written_with (g.K.Sink.written c.args.sink.now) bytes in
     part-second _ _ _ (decimal c.args.count) c.args.what.now (subst P (c.as_bytes.ensures.value ∙ c.format.ensures.text) c.in_ok-write_all.ensures.whole) c.write_all-2.ensures.part
