@@ -16,7 +16,12 @@ pub in_columns-requires-clause-small : goal.in_columns-requires-clause-small
 in_columns-requires-clause-small c =
     let slots : c.from.result ≡ slots_of c.args.shape.order = c.from.ensures ∙ c.slots-slots.ensures in
     rw slots
-    (omega (arith, mod_below c.args.ticket (slots_of c.args.shape.order) (some_slots_of c.args.shape.order), columns_of c.args.shape.order c.if-shape-gt3.true, c.slots-slots.ensures))
+    (omega (
+      arith,
+      mod_below c.args.ticket (slots_of c.args.shape.order) (some_slots_of c.args.shape.order),
+      columns_of c.args.shape.order c.if-shape-gt3.true,
+      c.slots-slots.ensures,
+    ))
 
 pub returns-then-shape-gt3-clause-slot : goal.returns-then-shape-gt3-clause-slot
 returns-then-shape-gt3-clause-slot c =
