@@ -26,5 +26,3 @@ pub use table::{ZERO_LEVEL, filled, passed, reset_level};
 
 #[cfg(test)]
 mod tests;
-#[cfg(test)]
-mod traces;

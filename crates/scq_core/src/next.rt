@@ -41,23 +41,6 @@ pub enum Next {
     },
 }
 
-/// Whether a turn ends its call where it found this word.
-#[tactic(auto, unfolding(crate::specs::Table::zero_level))]
-pub fn ends_call(setup: &Setup, turn: &Phase, found: u64) -> bool
-    ensures { result ≡ ends_call setup.now turn.now found }
-{
-    match turn {
-        Phase::AtE1 { .. } => setup.limit() <= found,
-        Phase::AtE5 { .. } => found == reset_level(setup),
-        Phase::AtE6 { .. } => true,
-        Phase::AtD1 { .. } => found < ZERO_LEVEL,
-        Phase::AtD2 { .. } => setup.limit() <= found,
-        Phase::AtD4 { .. } => true,
-        Phase::AtD10 { leaving, .. } => *leaving || found <= ZERO_LEVEL,
-        _ => false,
-    }
-}
-
 /// What becomes of a seat after its turn, which found this word. `copy` is a copy of the content that
 /// the turn may need twice: a put's own where it may place it, and the one beside the entry where it
 /// is taken.

@@ -7,9 +7,10 @@ ghost use Rattle.scq_core.specs.Start.{idle_part};
 ghost use Rattle.scq_core.specs.Turn.{copied, ends_call, IsReady};
 
 use crate::ended::Ended;
-use crate::next::{Next, ends_call, next_of};
+use crate::next::{Next, next_of};
 use crate::phase::Phase;
 use crate::step::Step;
+use crate::table::ends_call;
 use scq_word::{Bytes, NoMemory, Setup};
 use std::alloc::Global;
 use std::marker::Model;

@@ -6,7 +6,7 @@ ghost use Rattle.scq_word.specs.Words.{mark_of, packed, safe_in, cycle_in};
 ghost use Rattle.scq_word.specs.Entries.{IsIndexOrMark};
 ghost use Rattle.scq_core.specs.declared.slot.Cell.TheVariants.{Entry as EntryCell};
 ghost use Rattle.scq_core.specs.Table.{ring_slots, cycle, slot, reset_level, passed, writes, ring_of, cell_of};
-ghost use Rattle.scq_core.specs.Turn.{IsReady};
+ghost use Rattle.scq_core.specs.Turn.{ends_call, IsReady};
 
 use crate::phase::Phase;
 use crate::slot::Cell;
@@ -94,6 +94,23 @@ pub fn written(setup: &Setup, turn: &Phase, found: u64) -> u64
         Phase::AtD7 { from, to, .. } if found == *from => *to,
         Phase::AtD10 { .. } => found - 1,
         _ => found,
+    }
+}
+
+/// Whether a turn ends its call where it found this word.
+#[tactic(auto, unfolding(crate::specs::Table::zero_level))]
+pub fn ends_call(setup: &Setup, turn: &Phase, found: u64) -> bool
+    ensures { result ≡ ends_call setup.now turn.now found }
+{
+    match turn {
+        Phase::AtE1 { .. } => setup.limit() <= found,
+        Phase::AtE5 { .. } => found == reset_level(setup),
+        Phase::AtE6 { .. } => true,
+        Phase::AtD1 { .. } => found < ZERO_LEVEL,
+        Phase::AtD2 { .. } => setup.limit() <= found,
+        Phase::AtD4 { .. } => true,
+        Phase::AtD10 { leaving, .. } => *leaving || found <= ZERO_LEVEL,
+        _ => false,
     }
 }
 

@@ -65,7 +65,7 @@ fn event_of(alloc: Global, words: &[&str; 6]) -> Result<Event, Fail> {
     }
 }
 
-/// The opening tokens and the events of a text.
+/// The opening tokens of a text, and copies of its events: so each kind of event is judged by a copy.
 fn history_of(alloc: Global, text: &str) -> Result<(Vec<Bytes>, Vec<Event>), Fail> {
     let mut opening = Vec::new(alloc);
     let mut events = Vec::new(alloc);
@@ -75,7 +75,8 @@ fn history_of(alloc: Global, text: &str) -> Result<(Vec<Bytes>, Vec<Event>), Fai
             let token = Bytes::copy_of(alloc, words[1].as_bytes()).map_err(|_| "memory")?;
             opening.push(token)?;
         } else if words[0] != "" {
-            events.push(event_of(alloc, &words)?)?;
+            let event = event_of(alloc, &words)?;
+            events.push(event.copy(alloc)?)?;
         }
     }
     Ok((opening, events))
