@@ -10,8 +10,8 @@ pub mod Fits
 pub mod Starts
 pub mod Packing
 pub mod Indices
-pub mod Places
-pub mod Books
+pub mod TurnCells
+pub mod ListedTurns
 pub mod Advancing
 pub mod Filling
 pub mod Looks

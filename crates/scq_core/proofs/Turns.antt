@@ -55,7 +55,8 @@ get_begins c hand r turn e =
     ]
 
 -- an enabled turn is the seat's phase, or the seat is idle and keeps no ticket and the turn begins a call
-pub begins : (c : Setup) (hand : List ℕ) (spent : Option ℕ) (phase : Phase) (step : Step) (turn : Phase) → turn_at c hand spent phase step ≡ Some turn → (turn ≡ phase) ⊎ ((phase ≡ Idle) × (spent ≡ None) × Begins c hand turn)
+pub begins : (c : Setup) (hand : List ℕ) (spent : Option ℕ) (phase : Phase) (step : Step) (turn : Phase) → turn_at c hand spent phase step ≡ Some turn
+    → (turn ≡ phase) ⊎ ((phase ≡ Idle) × (spent ≡ None) × Begins c hand turn)
 begins c hand None Idle (E1 r i w) turn e = inr (refl, refl, put_begins c hand r i w turn e)
 begins c hand None Idle (D1 r) turn e = inr (refl, refl, get_begins c hand r turn e)
 begins c hand spent (AtE1 r i w l) E1Again turn e = inl (cc)
@@ -85,7 +86,8 @@ idle_sleeps c hand None (D1 r) turn e idle = begun_wakes c hand turn (get_begins
 idle_sleeps c hand spent step turn e idle = cc
 
 -- no turn is idle
-pub awake : (c : Setup) (hand : List ℕ) (spent : Option ℕ) (phase : Phase) (step : Step) (turn : Phase) → turn_at c hand spent phase step ≡ Some turn → turn ≡ Idle → ⊥
+pub awake : (c : Setup) (hand : List ℕ) (spent : Option ℕ) (phase : Phase) (step : Step) (turn : Phase) → turn_at c hand spent phase step ≡ Some turn
+    → turn ≡ Idle → ⊥
 awake c hand spent phase step turn e idle =
     elim (begins c hand spent phase step turn e) [
       | inl same ↦ idle_sleeps c hand spent step turn (rw (sym same ∙ idle) at e) idle

@@ -1,3 +1,5 @@
+//! An entry's word with its content, and which words a ring has.
+
 ghost use Rattle.std.specs.Prelude.{◌≡◌, IfOk};
 
 use scq_word::{Bytes, NoMemory};
@@ -12,7 +14,7 @@ pub struct Slot {
 
 /// One word of a ring.
 #[derive(Clone, Copy, Debug, PartialEq, Eq)]
-pub enum Place {
+pub enum Cell {
     Tail,
     Head,
     Threshold,
@@ -20,6 +22,7 @@ pub enum Place {
 }
 
 impl Slot {
+    /// An equal slot, with a copy of its content.
     pub fn copy(&self, alloc: Global) -> Result<Slot, NoMemory>
         ensures { IfOk result (λ copy. copy ≡ self.now) }
     {

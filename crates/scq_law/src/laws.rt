@@ -22,10 +22,12 @@ pub fn places_once()
 
 /// At a ticket that a dequeue has given up nothing is ever placed.
 pub fn given_up_for_ever()
-    ensures { (c : Setup) (m n : Machine) (k r h : ℕ) → IsReachable c m → IsLater c m n → GaveUp (m.part k).phase r h → (w : List ℕ) (a : Maker) → IsPlacedBy c n r h w a → ⊥ }
+    ensures { (c : Setup) (m n : Machine) (k r h : ℕ) → IsReachable c m → IsLater c m n → GaveUp (m.part k).phase r h → (w : List ℕ) (a : Maker)
+        → IsPlacedBy c n r h w a → ⊥ }
 {}
 
 /// What was placed stays so, with its content and the call that placed it.
 pub fn placed_for_ever()
-    ensures { (c : Setup) (m n : Machine) (r p : ℕ) (w : List ℕ) (a : Maker) → IsReachable c m → IsLater c m n → IsPlacedBy c m r p w a → IsPlacedBy c n r p w a }
+    ensures { (c : Setup) (m n : Machine) (r p : ℕ) (w : List ℕ) (a : Maker) → IsReachable c m → IsLater c m n → IsPlacedBy c m r p w a
+        → IsPlacedBy c n r p w a }
 {}

@@ -1,4 +1,4 @@
-use Rattle.scq_law.proofs.LaterLaws.{given_up_stays}
+use Rattle.scq_law.proofs.Places.LaterLaws.{given_up_stays}
 use Rattle.scq_law.proofs.laws.given_up_for_ever.Goals as goal
 
 pub returns : goal.returns

@@ -1,4 +1,4 @@
-use Rattle.scq_law.proofs.LaterLaws.{placed_stays}
+use Rattle.scq_law.proofs.Places.LaterLaws.{placed_stays}
 use Rattle.scq_law.proofs.laws.placed_for_ever.Goals as goal
 
 pub returns : goal.returns

@@ -1,0 +1,58 @@
+-- What was placed stays placed, and what was given up stays given up.
+use Rattle.std.proofs.Common.{◌≡◌, ℕ, ◌+◌, List, length, true, ap}
+use Rattle.scq_word.specs.declared.setup.Setup.{Setup}
+use Rattle.scq_core.specs.Machine.{Machine}
+use Rattle.scq_core.specs.Reach.{IsReachable}
+use Rattle.scq_core.proofs.Turns.{turned}
+use Rattle.scq_law.specs.Later.{IsLater, at_once, by_step}
+use Rattle.scq_law.specs.Places.{Maker, GaveUp, IsPlacedBy}
+use Rattle.scq_law.proofs.Base.Ghosts.{Ghost, placed, dead, is_placed}
+use Rattle.scq_law.proofs.Base.Traces.{Trace, has_trace, trace_by, ghost_after}
+use Rattle.scq_law.proofs.Base.Based.{based}
+use Rattle.scq_law.proofs.Base.EventSteps.{event_step}
+use Rattle.scq_law.proofs.Places.Throughout.{records_agree}
+use Rattle.scq_law.proofs.Places.PlaceLaws.{placed_by, by_placed, gave_up_dead}
+
+-- a later state with its ghost, in which what was placed or given up is so still
+record Onward (c : Setup) (g : Ghost) (n : Machine) : Type 0 where
+  time : ℕ
+  ghost : Ghost
+  trace : Trace c time ghost n
+  lies : (r p i : ℕ) (w : List ℕ) (a : Maker) → g.puts r p ≡ placed i w a → ghost.puts r p ≡ placed i w a
+  ends : (r h : ℕ) → g.gets r h ≡ dead → ghost.gets r h ≡ dead
+
+onward : (c : Setup) (m : Machine) (time : ℕ) (g : Ghost) → Trace c time g m → (n : Machine) → IsLater c m n → Onward c g n
+onward c m time g trace n at_once =
+    record { time = time; ghost = g; trace = trace; lies = λ r p i w a is. is; ends = λ r h is. is }
+onward c m time g trace n' (by_step {n = n} k s later low is) =
+    let o = onward c m time g trace n later in
+    let t = turned c n k s n' is in
+    let sc = event_step c o.time o.ghost n k s t.turn low t.enabled (based c o.time o.ghost n o.trace) in
+    record {
+      time = o.time + 1;
+      ghost = ghost_after c n o.time k t.turn o.ghost;
+      trace = trace_by c n n' k s o.time o.ghost o.trace low t;
+      lies = λ r p i w a at. sc.moves.lies r p i w a (o.lies r p i w a at);
+      ends = λ r h at. sc.moves.ends r h (o.ends r h at);
+    }
+
+pub placed_stays : (c : Setup) (m n : Machine) (r p : ℕ) (w : List ℕ) (a : Maker) → IsReachable c m → IsLater c m n → IsPlacedBy c m r p w a
+    → IsPlacedBy c n r p w a
+placed_stays c m n r p w a reach later by =
+    let s = has_trace c m reach in
+    let at = placed_by c s.ghost m (based c s.time s.ghost m s.trace) (records_agree c s.time s.ghost m s.trace) r p w a by in
+    let o = onward c m s.time s.ghost s.trace n later in
+    by_placed c o.ghost n (based c o.time o.ghost n o.trace) (records_agree c o.time o.ghost n o.trace) r p at.0 w a (o.lies r p at.0 w a at.1)
+
+pub given_up_stays : (c : Setup) (m n : Machine) (k r h : ℕ) → IsReachable c m → IsLater c m n → GaveUp (m.part k).phase r h → (w : List ℕ) (a : Maker)
+    → IsPlacedBy c n r h w a → ⊥
+given_up_stays c m n k r h reach later gave w a by =
+    let s = has_trace c m reach in
+    let base = based c s.time s.ghost m s.trace in
+    let gone = gave_up_dead s.ghost k (length (m.part k).calls) (m.part k).phase r h (base.claims k) gave in
+    let o = onward c m s.time s.ghost s.trace n later in
+    let later_base = based c o.time o.ghost n o.trace in
+    let at = placed_by c o.ghost n later_base (records_agree c o.time o.ghost n o.trace) r h w a by in
+    let has : is_placed (o.ghost.puts r h) ≡ true = ap is_placed at.1 in
+    let not = later_base.booked.never r h (o.ends r h gone) in
+    absurd (cc)
