@@ -4,14 +4,17 @@ pub mod Entries
 pub mod Ranks
 pub mod Steady
 pub mod Counts
+pub mod Records
 pub mod Limits
 pub mod Floor
 pub mod Fits
 pub mod Starts
 pub mod Packing
 pub mod Indices
+pub mod Readiness
 pub mod TurnCells
 pub mod ListedTurns
+pub mod Memory
 pub mod Advancing
 pub mod Filling
 pub mod Looks

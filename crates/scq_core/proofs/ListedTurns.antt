@@ -9,27 +9,21 @@ use Rattle.std.proofs.lemmas.List.{length-set, get_or-set_same, get_or-set_other
 use Rattle.std.proofs.lemmas.Bool.{cases_eq}
 use Rattle.scq_word.specs.declared.setup.Setup.{Setup}
 use Rattle.scq_core.specs.declared.phase.Phase.{Phase}
-use Rattle.scq_core.specs.declared.phase.Phase.TheVariants.{Idle, AtE1, AtE2, AtE3, AtE4, AtE5, AtE6, AtD1, AtD2, AtD3, AtD4, AtD5, AtD6, AtD7, AtD8, AtD9, AtD10}
 use Rattle.scq_core.specs.declared.step.Step.{Step}
 use Rattle.scq_core.specs.declared.slot.Cell.{Cell}
 use Rattle.scq_core.specs.declared.slot.Cell.TheVariants as cell
 use Rattle.scq_core.specs.declared.slot.Slot.{Slot}
 use Rattle.scq_core.specs.Updated.{updated}
-use Rattle.scq_core.specs.Machine.{Cells, Entries, Part, Machine, Location, read, beside, written}
-use Rattle.scq_core.specs.Table.{turn_of, location_of, writes, stores, after, cells_after, moved, step_of}
+use Rattle.scq_core.specs.Machine.{Cells, Entries, Part, Machine, location_at, read, beside, written}
+use Rattle.scq_core.specs.Table.{turn_of, location_of, writes, stores, after, cells_after, moved, step_of, ring_of, cell_of}
 use Rattle.scq_core.specs.Start.{idle_part}
 use Rattle.scq_core.specs.Reach.{by_step}
 use Rattle.scq_core.specs.Rings.{RingLists, IsCell, ring_with}
 use Rattle.scq_core.specs.StateLists.{StateLists, no_slot, no_ring, ring_in, cells_of, part_in, machine_of, HasRings, IsState}
-use Rattle.scq_core.specs.Turn.{ring_of, cell_of, IsReady}
 use Rattle.scq_core.specs.Advance.{found_by, beside_by, CanTurn, rings_after, Advances}
-use Rattle.scq_core.specs.Laws.{Busy, WordsFit}
 use Rattle.scq_core.proofs.UpdatedLemmas.{updated_same}
-use Rattle.scq_core.proofs.Turns.{awake}
-use Rattle.scq_core.proofs.Steady.{has, steady}
-use Rattle.scq_core.proofs.Fits.{words_fit}
-use Rattle.scq_core.proofs.Indices.{HasIndices, has_indices}
-use Rattle.scq_core.proofs.TurnCells.{location_at, location_of-cell, read-cell, beside-cell, is_cell}
+use Rattle.scq_core.proofs.Readiness.{enabled_ready}
+use Rattle.scq_core.proofs.TurnCells.{read-cell, beside-cell, is_cell}
 
 set_at : {A : Type 0} → (xs : List A) (i : ℕ) (x d : A) → i < length xs → (j : ℕ)
     → slice_index_or (slice_set xs i x) j d ≡ updated (λ k. slice_index_or xs k d) i x j
@@ -114,10 +108,10 @@ write_cells c rings r (cell.Entry slot) x y low at =
     (field c (contents_in c) rings r new low ∙ ap (λ (f : ℕ → List ℕ). updated (λ q. contents_in c (ring_in c rings q)) r f) content))
 
 found_is : (c : Setup) (rings : List RingLists) (turn : Phase) → read (cells_of c rings) (location_of c turn) ≡ found_by c rings turn
-found_is c rings turn = rw (location_of-cell c turn) (read-cell c rings (ring_of turn) (cell_of c turn))
+found_is c rings turn = read-cell c rings (ring_of turn) (cell_of c turn)
 
 beside_is : (c : Setup) (rings : List RingLists) (turn : Phase) → beside (cells_of c rings) (location_of c turn) ≡ beside_by c rings turn
-beside_is c rings turn = rw (location_of-cell c turn) (beside-cell c rings (ring_of turn) (cell_of c turn))
+beside_is c rings turn = beside-cell c rings (ring_of turn) (cell_of c turn)
 
 -- the cells after a turn
 cells_turn : (c : Setup) (rings : List RingLists) (turn : Phase) → HasRings c rings → ring_of turn < c.rings
@@ -128,8 +122,7 @@ cells_turn c rings turn has low =
     let x = found_by c rings turn in
     let y = beside_by c rings turn in
     let wrote : cells_of c (rings_after c rings turn) ≡ written (cells_of c rings) (location_of c turn) (writes c turn x) (stores turn x y) =
-    write_cells c rings (ring_of turn) (cell_of c turn) (writes c turn x) (stores turn x y) within at
-    ∙ ap (λ (location : Location). written (cells_of c rings) location (writes c turn x) (stores turn x y)) (sym (location_of-cell c turn)) in
+    write_cells c rings (ring_of turn) (cell_of c turn) (writes c turn x) (stores turn x y) within at in
     wrote ∙ rw (found_is c rings turn, beside_is c rings turn) refl
 
 pub same_machine : (m n : Cells) (p q : ℕ → Part) (o : List (List ℕ)) → m ≡ n → p ≡ q
@@ -172,58 +165,14 @@ advanced_machine b k step rings seat has low a on =
     same_machine _ _ _ _ b.opening cells part in
     (rw a.enabled (ap Some (sym there)), rw a.words (rings_kept c b.rings a.turn has on))
 
--- the ring of a turn
-ring_low : (c : Setup) (m : Cells) (hand : List ℕ) (turn : Phase) → Busy c m hand turn → ring_of turn < c.rings
-ring_low c m hand Idle busy = let some = c.rings_in_range in omega arith
-ring_low c m hand (AtE1 r i w l) busy = busy.0.ring
-ring_low c m hand (AtE2 r i w t l) busy = busy.0.ring
-ring_low c m hand (AtE3 r i w t e) busy = busy.0.ring
-ring_low c m hand (AtE4 r i w t e) busy = busy.0.ring
-ring_low c m hand (AtE5 r i w t) busy = busy.0
-ring_low c m hand (AtE6 r i w t) busy = busy.0
-ring_low c m hand (AtD1 r) busy = busy
-ring_low c m hand (AtD2 r l) busy = busy.0
-ring_low c m hand (AtD3 r h l) busy = busy.0
-ring_low c m hand (AtD4 r h) busy = busy.0
-ring_low c m hand (AtD5 r h e) busy = busy.0
-ring_low c m hand (AtD6 r h) busy = busy.0
-ring_low c m hand (AtD7 r h from to) busy = busy.0
-ring_low c m hand (AtD8 r h from) busy = busy.0
-ring_low c m hand (AtD9 r h from to) busy = busy.0
-ring_low c m hand (AtD10 r h leaving) busy = busy.0
-
--- what the arithmetic of a turn stands on
-ready_turn : (c : Setup) (m : Cells) (hand : List ℕ) (turn : Phase) → Busy c m hand turn → WordsFit c m → HasIndices c m → (turn ≡ Idle → ⊥)
-    → IsReady c turn (read m (location_of c turn))
-ready_turn c m hand Idle busy fit all wakes = wakes refl
-ready_turn c m hand (AtE1 r i w l) busy fit all wakes = fit.tail r
-ready_turn c m hand (AtE2 r i w t l) busy fit all wakes = (busy.1.below_limit, all.entries r _)
-ready_turn c m hand (AtE3 r i w t e) busy fit all wakes = busy.1.below_limit
-ready_turn c m hand (AtE4 r i w t e) busy fit all wakes = (busy.1.below_limit, busy.0.index, all.entries r _)
-ready_turn c m hand (AtE5 r i w t) busy fit all wakes = tt
-ready_turn c m hand (AtE6 r i w t) busy fit all wakes = tt
-ready_turn c m hand (AtD1 r) busy fit all wakes = tt
-ready_turn c m hand (AtD2 r l) busy fit all wakes = fit.head r
-ready_turn c m hand (AtD3 r h l) busy fit all wakes = (busy.1.below_limit, all.entries r _)
-ready_turn c m hand (AtD4 r h) busy fit all wakes = all.entries r _
-ready_turn c m hand (AtD5 r h e) busy fit all wakes = (busy.1.below_limit, all.entries r _)
-ready_turn c m hand (AtD6 r h) busy fit all wakes = busy.1.below_limit
-ready_turn c m hand (AtD7 r h from to) busy fit all wakes = tt
-ready_turn c m hand (AtD8 r h from) busy fit all wakes = tt
-ready_turn c m hand (AtD9 r h from to) busy fit all wakes = tt
-ready_turn c m hand (AtD10 r h leaving) busy fit all wakes = (busy.1.below_limit, (fit.threshold r).0)
-
 -- on every reachable state an enabled turn can be made
 pub can_turn : (b : StateLists) (k : ℕ) (step : Step) (turn : Phase) → IsState b → turn_of b.setup (part_in b.seats k) step ≡ Some turn
     → CanTurn b.setup b.rings turn
 can_turn b k step turn sound enabled =
     let c = b.setup in
     let m = machine_of b in
-    let busy : Busy c m.cells (m.part k).hand turn = has c m.cells (m.part k) step turn ((steady c m sound.reachable).busy k) enabled in
-    let wakes : turn ≡ Idle → ⊥ = awake c (m.part k).hand (m.part k).spent (m.part k).phase step turn enabled in
-    let ready : IsReady c turn (read m.cells (location_of c turn)) =
-    ready_turn c m.cells (m.part k).hand turn busy (words_fit c m sound.reachable) (has_indices c m sound.reachable) wakes in
-    record { ring = ring_low c m.cells (m.part k).hand turn busy; ready = rw (← found_is c b.rings turn) ready }
+    let may = enabled_ready c m k step turn sound.reachable enabled in
+    record { ring = may.0; ready = rw (← found_is c b.rings turn) may.1 }
 
 -- so a step keeps a state sound
 pub still_sound : (b : StateLists) (k : ℕ) (step : Step) (rings : List RingLists) (seat : Part) → IsState b → k < b.setup.seats

@@ -4,15 +4,17 @@ ghost use Rattle.std.specs.Prelude.{◌≡◌, ℕ, ◌+◌, ◌<◌, ◌≤◌,
 ghost use Rattle.std.specs.List.{All};
 ghost use Rattle.scq_word.specs.Sizes.{n_of};
 ghost use Rattle.scq_core.specs.declared.step.Step.{Step as StepOf};
-ghost use Rattle.scq_core.specs.Table.{reset_value};
 ghost use Rattle.scq_core.specs.StateLists.{machine_of};
 ghost use Rattle.scq_core.specs.Laws.{CountersBounded, ThresholdFloor};
 ghost use Rattle.scq_hist.specs.Aspects.{IsLawful, IsFresh, IsOnce, IsInOrder, IsEmptyRight};
 ghost use Rattle.scq_law.specs.Hands.{OneHand};
+ghost use Rattle.scq_law.specs.Lasting.{PlacesLastThroughout};
 ghost use Rattle.scq_law.specs.Places.{PlacesOnce};
+ghost use Rattle.scq_law.specs.Standing.{EntriesMatchPlaces};
 ghost use Rattle.scq_law.specs.Bounds.{WithinWindow, ThresholdCovers, TicketsBounded, NoneSpent};
 ghost use Rattle.scq_law.specs.Moments.{RisesThroughout};
 ghost use Rattle.scq_law.specs.Replay.{ShowsRun, StopsAt};
+ghost use Rattle.scq_word.specs.Bounds.{reset_value};
 
 use crate::recording::Recording;
 use crate::replayed::{ReplayFault, Replayed};
@@ -37,6 +39,7 @@ pub fn replay(
     // The state that the run has led to.
     ensures one_hand { IfOk result (λ replayed. OneHand setup (machine_of replayed.state)) }
     ensures places_once { IfOk result (λ replayed. PlacesOnce setup (machine_of replayed.state)) }
+    ensures entries_match_places { IfOk result (λ replayed. EntriesMatchPlaces setup (machine_of replayed.state)) }
     ensures counters_bounded { IfOk result (λ replayed. CountersBounded setup (machine_of replayed.state)) }
     ensures threshold_floor { IfOk result (λ replayed. ThresholdFloor setup (machine_of replayed.state)) }
     ensures within_window { IfOk result (λ replayed. WithinWindow setup (machine_of replayed.state)) }
@@ -50,10 +53,11 @@ pub fn replay(
     ensures once { IfOk result (λ replayed. IsOnce replayed.events.items) }
     ensures in_order { IfOk result (λ replayed. IsInOrder opening.items replayed.events.items) }
     ensures empty_right { IfOk result (λ replayed. IsEmptyRight opening.items replayed.events.items) }
-    ensures fails_bounded { IfOk result (λ replayed. All (λ fails. fails ≤ reset_value setup + setup.seats) replayed.fails.items) }
+    ensures fails_bounded { IfOk result (λ replayed. All (λ fails. fails ≤ reset_value setup.order setup.seats + setup.seats) replayed.fails.items) }
 
     // All along it.
     ensures rises { RisesThroughout setup opening.items steps.now }
+    ensures places_last { PlacesLastThroughout setup opening.items steps.now }
 {
     recorded(alloc, setup, opening, steps)
 }

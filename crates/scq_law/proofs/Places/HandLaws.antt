@@ -3,11 +3,10 @@ use Rattle.std.proofs.Common.{◌≡◌, ℕ, ◌<◌, false, refl, ap, sym, ◌
 use Rattle.std.proofs.lemmas.Bool.{cases_lt}
 use Rattle.scq_word.specs.declared.setup.Setup.{Setup}
 use Rattle.scq_word.specs.Sizes.{n_of}
-use Rattle.scq_word.specs.Tickets.{slot_of}
 use Rattle.scq_word.specs.Words.{index_in, cycle_in, is_none_in}
 use Rattle.scq_word.proofs.TicketLemmas.{ticket_in, slot_of_small, slot_of-onto, slot_of-ticket_in, cycle_of-ticket_in}
 use Rattle.scq_core.specs.Machine.{Part, Machine}
-use Rattle.scq_core.specs.Table.{ring_slots, cycle, holds_index}
+use Rattle.scq_core.specs.Table.{ring_slots, cycle, slot, holds_index}
 use Rattle.scq_core.specs.Reach.{IsReachable}
 use Rattle.scq_core.proofs.Entries.{some_slots, below_mark}
 use Rattle.scq_law.specs.Hands.{Home, hand_of, in_slot, IsHome, IsSeen, OneHand}
@@ -25,7 +24,7 @@ use Rattle.scq_law.proofs.Places.Throughout.{once, reached, small}
 -- the home that a spot is
 abbrev home_of : Setup → Spot → Home
 home_of c (in_hand k) = hand_of k
-home_of c (at_place r t) = in_slot r (slot_of (ring_slots c) t)
+home_of c (at_place r t) = in_slot r (slot c t)
 
 -- a spot of this home, where the index is
 record Spotted (c : Setup) (g : Ghost) (m : Machine) (i : ℕ) (h : Home) : Type 0 where
@@ -33,21 +32,26 @@ record Spotted (c : Setup) (g : Ghost) (m : Machine) (i : ℕ) (h : Home) : Type
   is : IsAt g m i spot
   home : home_of c spot ≡ h
 
+-- the place of an entry's index, which is live there
+pub record PlaceIn (c : Setup) (g : Ghost) (m : Machine) (r s : ℕ) : Type 0 where
+  pub place : ℕ
+  pub live : Live g r place (index_in (ring_slots c) (m.cells.entries.word r s))
+  pub slot : slot c place ≡ s
+  pub cycle : cycle c place ≡ cycle_in (ring_slots c) (m.cells.entries.word r s)
+
 module _ (c : Setup) (g : Ghost) (m : Machine) (base : IsBased c g m) where
-  -- the place at which the index of an entry stands
-  stood_at : (r s : ℕ) → s < ring_slots c → is_none_in (ring_slots c) (m.cells.entries.word r s) ≡ false
-      → (q : ℕ) × Live g r q (index_in (ring_slots c) (m.cells.entries.word r s)) × (slot_of (ring_slots c) q ≡ s)
+  pub stood_at : (r s : ℕ) → s < ring_slots c → is_none_in (ring_slots c) (m.cells.entries.word r s) ≡ false → PlaceIn c g m r s
   stood_at r s low some =
       let word = m.cells.entries.word in
-      let at = slot_of-onto (ring_slots c) s low in
+      let at = slot_of-onto c.order s low in
       let x = word r s in
       let q = ticket_in (ring_slots c) at.0 (cycle_in (ring_slots c) x) in
-      let slot : slot_of (ring_slots c) q ≡ s = slot_of-ticket_in (ring_slots c) at.0 (cycle_in (ring_slots c) x) (some_slots c) ∙ at.1 in
+      let slot : slot c q ≡ s = slot_of-ticket_in c.order at.0 (cycle_in (ring_slots c) x) ∙ at.1 in
       let turn : cycle c q ≡ cycle_in (ring_slots c) x = cycle_of-ticket_in (ring_slots c) at.0 (cycle_in (ring_slots c) x) (some_slots c) in
       let is_x : at_ticket c word r q ≡ x = ap (word r) slot in
       let has : Holds c word r q = record { cycle = rw is_x (sym turn); index = rw is_x some } in
       let live : Live g r q (index_in (ring_slots c) (at_ticket c word r q)) = live_at c m.cells.entries g r q base.booked has in
-      (q, rw is_x at live, slot)
+      record { place = q; live = rw is_x at live; slot = slot; cycle = turn }
 
   spotted : (i : ℕ) (h : Home) → i < n_of c.order → IsSeen c m i h → Spotted c g m i h
   spotted i (hand_of k) low seen =
@@ -57,7 +61,7 @@ module _ (c : Setup) (g : Ghost) (m : Machine) (base : IsBased c g m) where
       let mark = below_mark c i low in
       let some : is_none_in (ring_slots c) (m.cells.entries.word r s) ≡ false = ne_eqb _ _ (λ e. omega arith) in
       let at = stood_at r s seen.0 some in
-      record { spot = at_place r at.0; is = moved_to r at.0 _ i index at.1; home = ap (in_slot r) at.2 }
+      record { spot = at_place r at.place; is = moved_to r at.place _ i index at.live; home = ap (in_slot r) at.slot }
     where
       moved_to : (r q x i : ℕ) → x ≡ i → Live g r q x → Live g r q i
       moved_to r q x i same live = rw same at live
@@ -84,7 +88,7 @@ module _ (c : Setup) (g : Ghost) (m : Machine) (base : IsBased c g m) where
             | inl low ↦ low
             | inr high ↦ let fresh_there = reach.rings r t high in let is = at.is in absurd (cc)
           ] in
-          (in_slot r (slot_of (ring_slots c) t), (ring, slot_of_small (ring_slots c) t (some_slots c), stands.index))
+          (in_slot r (slot c t), (ring, slot_of_small c.order t, stands.index))
 
 -- the law, of every reachable state
 pub one_hand : (c : Setup) (m : Machine) → IsReachable c m → OneHand c m
@@ -106,6 +110,6 @@ one_hand c m reach =
       in_hands = λ i k some. few.hands k i (times_seen (m.part k).hand i some);
       in_entries =
           λ r s low some.
-          let live = stood_at c g m base r s low some in
-          few.places r live.0 (index_in (ring_slots c) (m.cells.entries.word r s)) live.1.content live.1.maker live.1.is;
+          let at = stood_at c g m base r s low some in
+          few.places r at.place (index_in (ring_slots c) (m.cells.entries.word r s)) at.live.content at.live.maker at.live.is;
     }

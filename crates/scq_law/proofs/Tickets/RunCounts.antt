@@ -7,7 +7,7 @@ use Rattle.scq_word.specs.Sizes.{n_of}
 use Rattle.scq_core.specs.declared.ended.Ended.{Ended}
 use Rattle.scq_core.specs.Machine.{Part, Machine}
 use Rattle.scq_core.specs.Updated.{updated}
-use Rattle.scq_core.specs.Table.{ring_slots, reset_level, reset_value}
+use Rattle.scq_core.specs.Table.{ring_slots, reset_level}
 use Rattle.scq_core.specs.Start.{start_of}
 use Rattle.scq_core.specs.Reach.{IsReachable, at_start}
 use Rattle.scq_core.specs.Laws.{total, spent_of}
@@ -29,6 +29,7 @@ use Rattle.scq_law.proofs.Threshold.FinishedPlaced.{is_finish}
 use Rattle.scq_law.proofs.Threshold.Covering.{here_one, there_none, flying}
 use Rattle.scq_law.proofs.Tickets.TicketSums.{sum_to}
 use Rattle.scq_law.proofs.Tickets.EventCounts.{placed_bit, placeds, tooks, was_done, was_got, landing, placed_event, took_event, spend_event}
+use Rattle.scq_word.specs.Bounds.{reset_value}
 
 -- a state of a run is reachable
 pub trace_reaches : (c : Setup) (time : ℕ) (g : Ghost) (m : Machine) → Trace c time g m → IsReachable c m
@@ -55,7 +56,7 @@ pub record IsTallied (c : Setup) (time : ℕ) (g : Ghost) (m : Machine) : Type 0
   pub placed : (r : ℕ) → placeds c g r ≤ total (laid_of r) m.part c.seats + openings c r
   pub spends : (r : ℕ)
       → m.cells.head r + m.cells.threshold r ≤ ring_slots c + total (spend_of r) m.part c.seats + total (done_of r) m.part
-      c.seats * (reset_value c + c.seats) + reset_level c
+      c.seats * (reset_value c.order c.seats + c.seats) + reset_level c
 
 -- a tally of the seat's calls after the event
 calls_then : (f : Ended → ℕ) (c : Setup) (g : Ghost) (m : Machine) (k : ℕ) (e : TicketEvent) (n : Machine) → EventFacts c m g k e n
@@ -123,7 +124,7 @@ one_more d x = grind arith
 spends_on : (c : Setup) (time : ℕ) (g : Ghost) (m : Machine) (k : ℕ) (e : TicketEvent) (n : Machine) → Trace c time g m → EventStep c time g m k e n
     → is_finish e ≡ false → IsTallied c time g m → (r : ℕ) → total (done_of r) n.part c.seats ≡ total (done_of r) m.part c.seats
     → n.cells.head r + n.cells.threshold r ≤ ring_slots c + total (spend_of r) n.part c.seats + total (done_of r) n.part
-    c.seats * (reset_value c + c.seats) + reset_level c
+    c.seats * (reset_value c.order c.seats + c.seats) + reset_level c
 spends_on c time g m k e n trace event_step not was r same =
     let fits = words_fit c m (trace_reaches c time g m trace) in
     let sum = total_change (spend_of r) m.part n.part k c.seats event_step.low event_step.event_facts.others in
@@ -150,7 +151,7 @@ dones_move c time g m k e n event_step r =
 spends_reset : (c : Setup) (time : ℕ) (g : Ghost) (m : Machine) (k q i : ℕ) (w : List ℕ) (t : ℕ) (n : Machine) → Trace c time g m
     → EventStep c time g m k (finished q i w t) n → IsTallied c time g m → (r : ℕ)
     → n.cells.head r + n.cells.threshold r ≤ ring_slots c + total (spend_of r) n.part c.seats + total (done_of r) n.part
-    c.seats * (reset_value c + c.seats) + reset_level c
+    c.seats * (reset_value c.order c.seats + c.seats) + reset_level c
 spends_reset c time g m k q i w t n trace event_step was r =
     let d = event_step.event_facts in
     let floor = (threshold_floor c m (trace_reaches c time g m trace)).floor r in
@@ -169,7 +170,7 @@ spends_reset c time g m k q i w t n trace event_step was r =
           let one = here_one q r a.0 in
           let reset = a.1 in
           let more : total (done_of r) n.part c.seats ≡ total (done_of r) m.part c.seats + 1 = omega arith in
-          let product = one_more (total (done_of r) m.part c.seats) (reset_value c + c.seats) in
+          let product = one_more (total (done_of r) m.part c.seats) (reset_value c.order c.seats + c.seats) in
           rw more (omega arith)
       | inr a ↦
           let none = there_none q r a.0 in

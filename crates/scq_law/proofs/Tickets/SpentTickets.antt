@@ -11,7 +11,7 @@ use Rattle.scq_core.specs.Machine.{Machine}
 use Rattle.scq_core.specs.Start.{start_of}
 use Rattle.scq_core.specs.Reach.{IsReachable}
 use Rattle.scq_core.proofs.UpdatedLemmas.{updated_here}
-use Rattle.scq_law.specs.Bounds.{enqueues, ticket_bound, TicketsBounded, NoneSpent}
+use Rattle.scq_law.specs.Bounds.{enqueues, TicketsBounded, NoneSpent}
 use Rattle.scq_law.proofs.Base.Ghosts.{Ghost, start_ghost}
 use Rattle.scq_law.proofs.Base.TicketEvents.{seeking, TicketEvent, finished, refused, taken, emptied, overran, ended_by}
 use Rattle.scq_law.proofs.Base.EventFacts.{EventFacts}
@@ -21,6 +21,7 @@ use Rattle.scq_law.proofs.Base.SeatStances.{stance_has}
 use Rattle.scq_law.proofs.Window.TicketFlows.{advances}
 use Rattle.scq_law.proofs.Base.SeatSums.{contains_none, contains_one}
 use Rattle.scq_law.proofs.Tickets.TicketLaws.{tickets_bounded}
+use Rattle.scq_word.specs.Bounds.{ticket_bound}
 
 -- a ticket at or past the limit that was drawn from this counter of a ring
 pub record Overran (c : Setup) (counter r t : ℕ) : Type 0 where
@@ -163,7 +164,7 @@ none_spent c m reach =
       none = λ within k r t is_put has. go over bounded within k r t is_put has;
     }
   where
-    go : {time : ℕ} {g : Ghost} → IsOverrun c time g m → TicketsBounded c m → ((r : ℕ) → r < c.rings → ticket_bound c (enqueues c m r) ≤ c.limit)
+    go : {time : ℕ} {g : Ghost} → IsOverrun c time g m → TicketsBounded c m → ((r : ℕ) → r < c.rings → ticket_bound c.order c.seats (enqueues c m r) ≤ c.limit)
         → (k r t : ℕ) (is_put : Bool) → Contains (m.part k).calls (Spent r t is_put) → ⊥
     go over bounded within k r t true has =
         let o = over.puts k r t has in

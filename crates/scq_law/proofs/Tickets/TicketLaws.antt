@@ -11,12 +11,11 @@ use Rattle.scq_core.specs.declared.ended.Ended.TheVariants.{Done}
 use Rattle.scq_core.specs.declared.phase.Phase.{Phase}
 use Rattle.scq_core.specs.declared.phase.Phase.TheVariants.{AtE5, AtE6, AtD10}
 use Rattle.scq_core.specs.Machine.{Part, Machine}
-use Rattle.scq_core.specs.Table.{reset_value}
 use Rattle.scq_core.specs.Reach.{IsReachable}
 use Rattle.scq_core.specs.Laws.{total, dequeues, dequeues_of, spent_of}
 use Rattle.scq_core.proofs.Floor.{threshold_floor}
 use Rattle.scq_core.proofs.Limits.{counters_bounded}
-use Rattle.scq_law.specs.Bounds.{WithinWindow, ThresholdCovers, tally, was_put, is_putting, enqueues, ticket_bound, TicketsBounded}
+use Rattle.scq_law.specs.Bounds.{WithinWindow, ThresholdCovers, tally, was_put, is_putting, enqueues, TicketsBounded}
 use Rattle.scq_law.proofs.Base.Ghosts.{Ghost, GetState, unopened, opened, dead, took}
 use Rattle.scq_law.proofs.Base.TicketEvents.{stance_of}
 use Rattle.scq_law.proofs.Window.FailCauses.{placement}
@@ -28,6 +27,7 @@ use Rattle.scq_law.proofs.Threshold.Covering.{flying, covers}
 use Rattle.scq_law.proofs.Tickets.TicketSums.{sum_le}
 use Rattle.scq_law.proofs.Tickets.EventCounts.{placed_bit, took_bit, placeds, tooks, was_done, landing}
 use Rattle.scq_law.proofs.Tickets.RunCounts.{got_of, done_of, laid_of, tallied, trace_reaches}
+use Rattle.scq_word.specs.Bounds.{reset_value, ticket_bound}
 
 -- the window and the threshold's cover on every reachable state
 pub within_window : (c : Setup) (m : Machine) → IsReachable c m → WithinWindow c m
@@ -93,7 +93,7 @@ bound_parts : (e x : ℕ) → (e + 1) * (x + 1) ≡ e * x + e + x + 1
 bound_parts e x = grind arith
 
 head_bounded : (c : Setup) (time : ℕ) (g : Ghost) (m : Machine) → Trace c time g m → (r : ℕ)
-    → m.cells.head r + 2 * n_of c.order ≤ ticket_bound c (enqueues c m r)
+    → m.cells.head r + 2 * n_of c.order ≤ ticket_bound c.order c.seats (enqueues c m r)
 head_bounded c time g m trace r =
     let reach = trace_reaches c time g m trace in
     let t = tallied c time g m trace in
@@ -114,10 +114,10 @@ head_bounded c time g m trace r =
     let again = total_plus (λ (p : Part). flying r (stance_of p.phase)) (λ (p : Part). spent_of p.spent) m.part c.seats in
     let attempts_in_flight : total (λ (p : Part). flying r (stance_of p.phase)) m.part c.seats ≤ dequeues_of c m r =
     total_le (λ (p : Part). flying r (stance_of p.phase)) (λ (p : Part). dequeues r p.phase) m.part (λ k. flying_dequeues r (m.part k).phase) c.seats in
-    let product : total (done_of r) m.part c.seats * (reset_value c + c.seats) ≤ enqueues c m r * (reset_value c + c.seats) =
-    mul-le-mul_right (reset_value c + c.seats) (omega arith) in
-    let parts = bound_parts (enqueues c m r) (reset_value c + c.seats) in
-    let same : reset_value c + 1 + c.seats ≡ reset_value c + c.seats + 1 = omega arith in
+    let product : total (done_of r) m.part c.seats * (reset_value c.order c.seats + c.seats) ≤ enqueues c m r * (reset_value c.order c.seats + c.seats) =
+    mul-le-mul_right (reset_value c.order c.seats + c.seats) (omega arith) in
+    let parts = bound_parts (enqueues c m r) (reset_value c.order c.seats + c.seats) in
+    let same : reset_value c.order c.seats + 1 + c.seats ≡ reset_value c.order c.seats + c.seats + 1 = omega arith in
     rw same (omega arith)
 
 pub tickets_bounded : (c : Setup) (m : Machine) → IsReachable c m → TicketsBounded c m
