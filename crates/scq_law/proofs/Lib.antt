@@ -5,3 +5,5 @@ pub mod Places
 pub mod Threshold
 pub mod Tickets
 pub mod Aspects
+pub mod Balance
+pub mod Retries

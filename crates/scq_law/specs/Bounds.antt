@@ -95,7 +95,6 @@ pub record TicketsBounded (c : Setup) (m : Machine) : Type 0 where
   pub head : (r : ℕ) → m.cells.head r + 2 * n_of c.order ≤ ticket_bound c.order c.seats (enqueues c m r)
   pub tail : (r : ℕ) → min (m.cells.tail r) c.limit + 1 ≤ ticket_bound c.order c.seats (enqueues c m r)
 
--- where the bound is within the limit on each ring, no call has ended for want of tickets
+-- where the bound of a ring is within the limit, no call on that ring has ended for want of tickets
 pub record NoneSpent (c : Setup) (m : Machine) : Type 0 where
-  pub none : ((r : ℕ) → r < c.rings → ticket_bound c.order c.seats (enqueues c m r) ≤ c.limit) → (k r t : ℕ) (is_put : Bool)
-      → Contains (m.part k).calls (Spent r t is_put) → ⊥
+  pub none : (r : ℕ) → ticket_bound c.order c.seats (enqueues c m r) ≤ c.limit → (k t : ℕ) (is_put : Bool) → Contains (m.part k).calls (Spent r t is_put) → ⊥

@@ -12,6 +12,11 @@ ghost use Rattle.scq_law.specs.Lasting.{PlacesLastThroughout};
 ghost use Rattle.scq_law.specs.Places.{PlacesOnce};
 ghost use Rattle.scq_law.specs.Standing.{EntriesMatchPlaces};
 ghost use Rattle.scq_law.specs.Bounds.{WithinWindow, ThresholdCovers, TicketsBounded, NoneSpent};
+ghost use Rattle.scq_law.specs.Spent.{SpentKept};
+ghost use Rattle.scq_law.specs.Kept.{Balanced, AllKept};
+ghost use Rattle.scq_law.specs.Retries.{RetriesRise};
+ghost use Rattle.scq_law.specs.CallSteps.{CallsEnd, FewSteps};
+ghost use Rattle.scq_law.specs.Begun.{EnqueuesBegun};
 ghost use Rattle.scq_law.specs.Moments.{RisesThroughout};
 ghost use Rattle.scq_law.specs.Replay.{ShowsRun, StopsAt};
 ghost use Rattle.scq_word.specs.Bounds.{reset_value};
@@ -46,6 +51,11 @@ pub fn replay(
     ensures threshold_covers { IfOk result (λ replayed. ThresholdCovers setup (machine_of replayed.state)) }
     ensures tickets_bounded { IfOk result (λ replayed. TicketsBounded setup (machine_of replayed.state)) }
     ensures none_spent { IfOk result (λ replayed. NoneSpent setup (machine_of replayed.state)) }
+    ensures spent_kept { IfOk result (λ replayed. SpentKept setup (machine_of replayed.state)) }
+    ensures balanced { IfOk result (λ replayed. Balanced setup (machine_of replayed.state)) }
+    ensures all_kept { IfOk result (λ replayed. AllKept setup (machine_of replayed.state)) }
+    ensures retries_rise { IfOk result (λ replayed. RetriesRise setup (machine_of replayed.state)) }
+    ensures calls_end { IfOk result (λ replayed. CallsEnd setup (machine_of replayed.state)) }
 
     // Its history and counts.
     ensures lawful { IfOk result (λ replayed. IsLawful replayed.events.items) }
@@ -54,6 +64,8 @@ pub fn replay(
     ensures in_order { IfOk result (λ replayed. IsInOrder opening.items replayed.events.items) }
     ensures empty_right { IfOk result (λ replayed. IsEmptyRight opening.items replayed.events.items) }
     ensures fails_bounded { IfOk result (λ replayed. All (λ fails. fails ≤ reset_value setup.order setup.seats + setup.seats) replayed.fails.items) }
+    ensures begun { IfOk result (λ replayed. EnqueuesBegun setup (machine_of replayed.state) replayed.events.items) }
+    ensures few_steps { IfOk result (λ replayed. FewSteps setup steps.now (machine_of replayed.state)) }
 
     // All along it.
     ensures rises { RisesThroughout setup opening.items steps.now }

@@ -8,7 +8,6 @@ use Rattle.scq_word.proofs.TicketLemmas.{lower_ticket}
 use Rattle.scq_core.specs.Machine.{Entries, updated_entry}
 use Rattle.scq_core.specs.Table.{ring_slots, cycle, slot}
 use Rattle.scq_core.proofs.UpdatedLemmas.{updated_entry_cases, updated_entry_here, updated_entry_or}
-use Rattle.scq_core.proofs.Entries.{some_slots}
 use Rattle.scq_law.specs.Places.{Maker}
 use Rattle.scq_law.proofs.Base.Ghosts.{Ghost, PutState, GetState, unopened, opened, dead, took, placed, pending, is_placed, waiting, with_put}
 use Rattle.scq_law.proofs.Base.BaseGroup.{IsBooked, Holds, Stands, Passed, Moves, Effect, at_ticket}

@@ -1,12 +1,12 @@
 -- The start, with ring 0 full, has all of the base group.
 -- Plan: what stands in a slot is given by `fills`; then each ticket by where it is.
-use Rattle.std.proofs.Common.{◌≡◌, ℕ, ◌+◌, ◌-◌, ◌*◌, ◌<◌, ◌≤◌, true, false, ◌&&◌, List, [], refl, ap, sym, ◌∙◌, ◌⊎◌, inl, inr, arith, eq-eqb, ne_eqb, eqb-true, leb-true, ltb-true, lt-ltb, le-leb}
+use Rattle.std.proofs.Common.{◌≡◌, ℕ, ◌+◌, ◌-◌, ◌<◌, ◌≤◌, true, false, ◌&&◌, List, [], refl, ap, sym, ◌∙◌, ◌⊎◌, inl, inr, arith, eq-eqb, ne_eqb, eqb-true, leb-true, ltb-true, lt-ltb, le-leb}
 use Rattle.std.specs.Prelude.{◌==◌, nat_lt, nat_le, slice_index_or}
 use Rattle.std.proofs.lemmas.Bool.{cases_Bool, cases_eq, and_parts, and_from}
 use Rattle.scq_word.specs.declared.setup.Setup.{Setup}
 use Rattle.scq_word.specs.Sizes.{n_of}
 use Rattle.scq_word.specs.Words.{mark_of, packed, cycle_in, is_none_in}
-use Rattle.scq_word.proofs.TicketLemmas.{same_ticket, cycle_of-row, cycle_of_mono}
+use Rattle.scq_word.proofs.TicketLemmas.{same_ticket, cycle_of_mono}
 use Rattle.scq_word.proofs.WordLemmas.{index_in-packed, cycle_in-packed}
 use Rattle.scq_core.specs.Table.{ring_slots, cycle, slot}
 use Rattle.scq_core.specs.Start.{unused, filled, start_cells}
@@ -55,7 +55,7 @@ stands_at c opening r t =
     ]
 
 -- an opening place of this slot is this ticket
-one_place : (c : Setup) (t j : ℕ) → ring_slots c ≤ t → t < ring_slots c + n_of c.order → j < n_of c.order → slot c t ≡ slot c (ring_slots c + j)
+pub one_place : (c : Setup) (t j : ℕ) → ring_slots c ≤ t → t < ring_slots c + n_of c.order → j < n_of c.order → slot c t ≡ slot c (ring_slots c + j)
     → t ≡ ring_slots c + j
 one_place c t j first last low slot =
     let small : t - ring_slots c < ring_slots c = omega arith in

@@ -14,6 +14,6 @@ places_last_throughout c opening steps full seats =
     record {
       last =
           λ i j now later order first second.
-          places_last c now.state later.state (moment_reached c opening steps i now full seats first)
+          places_last c now.state later.state (moment_reached c opening steps i now first)
           (moments_later c opening steps i j now later seats order first second);
     }

@@ -17,6 +17,7 @@ use Rattle.scq_law.specs.declared.replayed.ReplayFault.{ReplayFault}
 use Rattle.scq_law.specs.Replay.{ShowsRun}
 use Rattle.scq_law.proofs.Replays.RunLaws.{run_reaches}
 use Rattle.scq_law.proofs.Threshold.FailsBound.{fails_bounded}
+use Rattle.scq_law.specs.Run.{Recorded, IsRun}
 use Rattle.scq_law.proofs.Aspects.CoupledRuns.{tied_run}
 use Rattle.scq_law.proofs.Aspects.EmptyRight.{has_aspects}
 use Rattle.scq_word.specs.Bounds.{reset_value}
@@ -30,7 +31,7 @@ of_state c opening steps result P full seats shown law =
     result
     (ShowsRun c opening steps)
     (λ replayed. P (machine_of replayed.state))
-    (λ replayed shows. subst P (sym shows.state) (law shows.recorded.state (run_reaches c opening steps shows.recorded full seats shows.run)))
+    (λ replayed shows. subst P (sym shows.state) (law shows.recorded.state (run_reaches c opening steps shows.recorded shows.run)))
     shown
 
 -- what the aspects of a history say
@@ -64,4 +65,16 @@ of_fails c opening steps result full seats shown =
     (ShowsRun c opening steps)
     (λ replayed. All (λ fails. fails ≤ reset_value c.order c.seats + c.seats) replayed.fails.items)
     (λ replayed shows. few_fails c opening steps replayed full seats shows)
+    shown
+
+-- a law of a run's state and history
+pub of_run : (c : Setup) (opening : List (List ℕ)) (steps : List (ℕ × Step)) (result : Result Replayed ReplayFault) (P : Machine → List Event → Type 0)
+    → IfOk result (ShowsRun c opening steps) → ((recorded : Recorded) → IsRun c opening steps recorded → P recorded.state recorded.events)
+    → IfOk result (λ replayed. P (machine_of replayed.state) replayed.events.items)
+of_run c opening steps result P shown law =
+    IfOk-weaker
+    result
+    (ShowsRun c opening steps)
+    (λ replayed. P (machine_of replayed.state) replayed.events.items)
+    (λ replayed shows. rw (shows.state, shows.events) (law shows.recorded shows.run))
     shown

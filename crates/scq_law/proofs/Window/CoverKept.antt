@@ -7,7 +7,6 @@ use Rattle.scq_word.specs.declared.setup.Setup.{Setup}
 use Rattle.scq_word.proofs.TicketLemmas.{earlier_cycle, lower_ticket}
 use Rattle.scq_core.specs.Machine.{Entries}
 use Rattle.scq_core.specs.Table.{ring_slots, slot}
-use Rattle.scq_core.proofs.Entries.{some_slots}
 use Rattle.scq_law.proofs.Base.Ghosts.{Ghost, PutState, fresh, pending, failed, placed, waiting}
 use Rattle.scq_law.proofs.Base.BaseGroup.{IsBooked, IsDrawn}
 use Rattle.scq_law.proofs.Window.FailedTickets.{IsAlone, IsCovered, IsAfter, Bars, FailedTickets, IsWindow}

@@ -1,23 +1,16 @@
--- Sums over the tickets of a ring, when one ticket's state changes.
-use Rattle.std.proofs.Common.{◌≡◌, ◌≢◌, ℕ, zero, suc, ◌+◌, ◌<◌, ◌≤◌, ◌⊎◌, refl, inl, inr, ap, arith}
+-- Sums of numbers, and sums that belong to a ring, when one number changes.
+use Rattle.std.proofs.Common.{◌≡◌, ◌≢◌, ℕ, zero, suc, ◌+◌, ◌<◌, ◌⊎◌, refl, inl, inr, ap, arith}
 use Rattle.std.proofs.lemmas.Bool.{cases_eq}
 use Rattle.scq_core.specs.Machine.{updated_entry}
+use Rattle.scq_law.specs.Sums.{sum_to}
 use Rattle.scq_core.proofs.UpdatedLemmas.{updated_entry_or}
-
-abbrev pub sum_to : (ℕ → ℕ) → ℕ → ℕ
-sum_to f zero = 0
-sum_to f (suc n) = f n + sum_to f n
 
 pub sum_same : (f h : ℕ → ℕ) (n : ℕ) → ((j : ℕ) → j < n → h j ≡ f j) → sum_to h n ≡ sum_to f n
 sum_same f h zero same = refl
 sum_same f h (suc n) same =
     let here = same n (omega arith) in let rest = sum_same f h n (λ j low. same j (omega arith)) in omega arith
 
-pub sum_le : (f h : ℕ → ℕ) (n : ℕ) → ((j : ℕ) → f j ≤ h j) → sum_to f n ≤ sum_to h n
-sum_le f h zero le = omega arith
-sum_le f h (suc n) le = let here = le n in let rest = sum_le f h n le in omega arith
-
-sum_change : (f h : ℕ → ℕ) (k n : ℕ) → k < n → ((j : ℕ) → j ≢ k → h j ≡ f j) → sum_to h n + f k ≡ sum_to f n + h k
+pub sum_change : (f h : ℕ → ℕ) (k n : ℕ) → k < n → ((j : ℕ) → j ≢ k → h j ≡ f j) → sum_to h n + f k ≡ sum_to f n + h k
 sum_change f h k zero low others = absurd (omega arith)
 sum_change f h k (suc n) low others =
     elim (cases_eq n k) [
@@ -32,7 +25,7 @@ sum_change f h k (suc n) low others =
           omega arith
     ]
 
--- a ticket's number before and after, if it is of this ring
+-- a sum of ring r, where a number of ring q changes
 pub record OneMore (q r sum later before after : ℕ) : Type 0 where
   pub moves : ((r ≡ q) × (later + before ≡ sum + after)) ⊎ ((r ≢ q) × (later ≡ sum))
 

@@ -1,6 +1,6 @@
 use Rattle.std.proofs.Common.{refl, sym}
 use Rattle.scq_hist.proofs.NamesLemmas.{first_is_new, named_there, names_there, read}
-use Rattle.scq_hist.proofs.names.names_new.Goals as goal
+use Rattle.scq_hist.proofs.names.is_once_at.Goals as goal
 
 pub returns-in-Some : goal.returns-in-Some
 returns-in-Some c =
@@ -10,10 +10,8 @@ returns-in-Some c =
 
 pub returns-in-None : goal.returns-in-None
 returns-in-None c = (
-  λ _. record {
-    new = λ name d at lt before.
-        let n = named_there c.args.events.now c.args.e c.index-events-e.result name (read _ _ _ _ c.requires c.index-events-e.is refl) at in
-        let k = c.in-None.ensures in absurd cc;
-  },
+  λ _ name d at lt before.
+      let n = named_there c.args.events.now c.args.e c.index-events-e.result name (read _ _ _ _ c.requires c.index-events-e.is refl) at in
+      let k = c.in-None.ensures in absurd cc,
   λ _. refl,
 )
