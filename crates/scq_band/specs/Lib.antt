@@ -1,0 +1,5 @@
+pub mod Layout
+pub mod Numbers
+pub mod Known
+pub mod Shown
+pub mod Turns

@@ -1,0 +1,8 @@
+//! The running rings: the machine's words in one table of atomic words, which threads step by its table.
+#![tactic(auto)]
+
+mod numbers;
+mod view;
+
+pub use numbers::Numbers;
+pub use view::View;
