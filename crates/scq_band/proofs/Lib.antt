@@ -1,3 +1,5 @@
 pub mod Layouts
 pub mod WordLemmas
 pub mod Handles
+pub mod Knowledge
+pub mod Learning
