@@ -3,3 +3,4 @@ pub mod WordLemmas
 pub mod Handles
 pub mod Knowledge
 pub mod Learning
+pub mod Moves
