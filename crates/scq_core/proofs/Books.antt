@@ -9,7 +9,6 @@ use Rattle.std.proofs.lemmas.List.{length-set, get_or-set_same, get_or-set_other
 use Rattle.std.proofs.lemmas.Bool.{cases_eq}
 use Rattle.scq_word.specs.declared.setup.Setup.{Setup}
 use Rattle.scq_core.specs.declared.phase.Phase.{Phase}
-use Rattle.scq_core.specs.declared.phase.Phase.TheVariants.{Idle, AtE1, AtE2, AtE3, AtE4, AtE5, AtE6, AtD1, AtD2, AtD3, AtD4, AtD5, AtD6, AtD7, AtD8, AtD9, AtD10}
 use Rattle.scq_core.specs.declared.step.Step.{Step}
 use Rattle.scq_core.specs.declared.slot.Place.{Place}
 use Rattle.scq_core.specs.declared.slot.Place.TheVariants as place
@@ -21,14 +20,10 @@ use Rattle.scq_core.specs.Start.{idle_part}
 use Rattle.scq_core.specs.Reach.{by_step}
 use Rattle.scq_core.specs.Rings.{RingBook, IsPlace, ring_with}
 use Rattle.scq_core.specs.Book.{Book, no_slot, no_ring, ring_in, cells_of, part_in, machine_of, HasRings, IsSound}
-use Rattle.scq_core.specs.Turn.{ring_of, place_of, IsReady}
+use Rattle.scq_core.specs.Turn.{ring_of, place_of}
 use Rattle.scq_core.specs.Advance.{found_by, beside_by, CanTurn, rings_after, Advances}
-use Rattle.scq_core.specs.Laws.{Busy, WordsFit}
 use Rattle.scq_core.proofs.UpdatedLemmas.{updated_same}
-use Rattle.scq_core.proofs.Turns.{awake}
-use Rattle.scq_core.proofs.Steady.{has, steady}
-use Rattle.scq_core.proofs.Fits.{words_fit}
-use Rattle.scq_core.proofs.Indices.{HasIndices, has_indices}
+use Rattle.scq_core.proofs.Readiness.{enabled_ready}
 use Rattle.scq_core.proofs.Places.{location_at, location_of-place, read-place, beside-place, is_place}
 
 set_at : {A : Type 0} → (xs : List A) (i : ℕ) (x d : A) → i < length xs → (j : ℕ) → slice_index_or (slice_set xs i x) j d ≡ updated (λ k. slice_index_or xs k d) i x j
@@ -163,55 +158,13 @@ advanced_machine b k step rings seat has low a on =
     let there : machine_of (record b { rings = rings; seats = slice_set b.seats k seat }) ≡ moved c (machine_of b) k a.turn = same_machine _ _ _ _ b.opening cells part in
     (rw a.enabled (ap Some (sym there)), rw a.words (rings_kept c b.rings a.turn has on))
 
--- the ring of a turn
-ring_low : (c : Setup) (m : Cells) (hand : List ℕ) (turn : Phase) → Busy c m hand turn → ring_of turn < c.rings
-ring_low c m hand Idle busy = let some = c.rings_in_range in omega arith
-ring_low c m hand (AtE1 r i w l) busy = busy.0.ring
-ring_low c m hand (AtE2 r i w t l) busy = busy.0.ring
-ring_low c m hand (AtE3 r i w t e) busy = busy.0.ring
-ring_low c m hand (AtE4 r i w t e) busy = busy.0.ring
-ring_low c m hand (AtE5 r i w t) busy = busy.0
-ring_low c m hand (AtE6 r i w t) busy = busy.0
-ring_low c m hand (AtD1 r) busy = busy
-ring_low c m hand (AtD2 r l) busy = busy.0
-ring_low c m hand (AtD3 r h l) busy = busy.0
-ring_low c m hand (AtD4 r h) busy = busy.0
-ring_low c m hand (AtD5 r h e) busy = busy.0
-ring_low c m hand (AtD6 r h) busy = busy.0
-ring_low c m hand (AtD7 r h from to) busy = busy.0
-ring_low c m hand (AtD8 r h from) busy = busy.0
-ring_low c m hand (AtD9 r h from to) busy = busy.0
-ring_low c m hand (AtD10 r h leaving) busy = busy.0
-
--- what the arithmetic of a turn stands on
-ready_turn : (c : Setup) (m : Cells) (hand : List ℕ) (turn : Phase) → Busy c m hand turn → WordsFit c m → HasIndices c m → (turn ≡ Idle → ⊥) → IsReady c turn (read m (location_of c turn))
-ready_turn c m hand Idle busy fit all wakes = wakes refl
-ready_turn c m hand (AtE1 r i w l) busy fit all wakes = fit.tail r
-ready_turn c m hand (AtE2 r i w t l) busy fit all wakes = (busy.1.lawful, all.entries r _)
-ready_turn c m hand (AtE3 r i w t e) busy fit all wakes = busy.1.lawful
-ready_turn c m hand (AtE4 r i w t e) busy fit all wakes = (busy.1.lawful, busy.0.index, all.entries r _)
-ready_turn c m hand (AtE5 r i w t) busy fit all wakes = tt
-ready_turn c m hand (AtE6 r i w t) busy fit all wakes = tt
-ready_turn c m hand (AtD1 r) busy fit all wakes = tt
-ready_turn c m hand (AtD2 r l) busy fit all wakes = fit.head r
-ready_turn c m hand (AtD3 r h l) busy fit all wakes = (busy.1.lawful, all.entries r _)
-ready_turn c m hand (AtD4 r h) busy fit all wakes = all.entries r _
-ready_turn c m hand (AtD5 r h e) busy fit all wakes = (busy.1.lawful, all.entries r _)
-ready_turn c m hand (AtD6 r h) busy fit all wakes = busy.1.lawful
-ready_turn c m hand (AtD7 r h from to) busy fit all wakes = tt
-ready_turn c m hand (AtD8 r h from) busy fit all wakes = tt
-ready_turn c m hand (AtD9 r h from to) busy fit all wakes = tt
-ready_turn c m hand (AtD10 r h leaving) busy fit all wakes = (busy.1.lawful, (fit.threshold r).0)
-
 -- on every reachable state an enabled turn can be made
 pub can_turn : (b : Book) (k : ℕ) (step : Step) (turn : Phase) → IsSound b → turn_of b.setup (part_in b.seats k) step ≡ Some turn → CanTurn b.setup b.rings turn
 can_turn b k step turn sound enabled =
     let c = b.setup in
     let m = machine_of b in
-    let busy : Busy c m.cells (m.part k).hand turn = has c m.cells (m.part k) step turn ((steady c m sound.reachable).busy k) enabled in
-    let wakes : turn ≡ Idle → ⊥ = awake c (m.part k).hand (m.part k).spent (m.part k).phase step turn enabled in
-    let ready : IsReady c turn (read m.cells (location_of c turn)) = ready_turn c m.cells (m.part k).hand turn busy (words_fit c m sound.reachable) (has_indices c m sound.reachable) wakes in
-    record { ring = ring_low c m.cells (m.part k).hand turn busy; ready = rw (← found_is c b.rings turn) ready }
+    let may = enabled_ready c m k step turn sound.reachable enabled in
+    record { ring = may.0; ready = rw (← found_is c b.rings turn) may.1 }
 
 -- so a step keeps a state sound
 pub still_sound : (b : Book) (k : ℕ) (step : Step) (rings : List RingBook) (seat : Part) → IsSound b → k < b.setup.seats

@@ -4,12 +4,14 @@ pub mod Entries
 pub mod Ranks
 pub mod Steady
 pub mod Counts
+pub mod Records
 pub mod Limits
 pub mod Floor
 pub mod Fits
 pub mod Starts
 pub mod Packing
 pub mod Indices
+pub mod Readiness
 pub mod Places
 pub mod Books
 pub mod Advancing

@@ -24,6 +24,8 @@ some_if false x is = absurd cc
 pub enabled_turn : (c : Setup) (hand : List ℕ) (spent : Option ℕ) (phase : Phase) (step : Step) → is_some (turn_at c hand spent phase step) ≡ true → turn_at c hand spent phase step ≡ Some (unwrap_or (started step) phase)
 enabled_turn c hand None Idle (E1 r i w) is = some_if _ (AtE1 r i w 0) is
 enabled_turn c hand None Idle (D1 r) is = some_if _ (AtD1 r) is
+enabled_turn c hand (Some ticket) Idle (E1 r i w) is = absurd cc
+enabled_turn c hand (Some ticket) Idle (D1 r) is = absurd cc
 enabled_turn c hand spent (AtE1 r i w l) E1Again is = refl
 enabled_turn c hand spent (AtE2 r i w t l) E2 is = refl
 enabled_turn c hand spent (AtE3 r i w t e) E3 is = refl

@@ -10,7 +10,7 @@ use Rattle.scq_core.specs.declared.phase.Phase.TheVariants.{Idle, AtE1, AtE2, At
 use Rattle.scq_core.specs.declared.step.Step.{Step}
 use Rattle.scq_core.specs.declared.step.Step.TheVariants.{E1, E1Again, E2, E3, E4, E5, E6, D1, D2, D3, D4, D5, D6, D7, D8, D9, D10}
 use Rattle.scq_core.specs.Machine.{Machine}
-use Rattle.scq_core.specs.Table.{turn_at, turn_of, moved, step_of, holds_index}
+use Rattle.scq_core.specs.Table.{turn_at, turn_of, next_step, moved, step_of, holds_index}
 
 -- the turn that a step is: it is enabled, and the state afterwards is the one that it makes
 pub record Turned (c : Setup) (m : Machine) (k : ℕ) (s : Step) (m' : Machine) : Type 0 where
@@ -58,6 +58,8 @@ get_begins c hand r turn e =
 pub begins : (c : Setup) (hand : List ℕ) (spent : Option ℕ) (phase : Phase) (step : Step) (turn : Phase) → turn_at c hand spent phase step ≡ Some turn → (turn ≡ phase) ⊎ ((phase ≡ Idle) × (spent ≡ None) × Begins c hand turn)
 begins c hand None Idle (E1 r i w) turn e = inr (refl, refl, put_begins c hand r i w turn e)
 begins c hand None Idle (D1 r) turn e = inr (refl, refl, get_begins c hand r turn e)
+begins c hand (Some ticket) Idle (E1 r i w) turn e = absurd (cc)
+begins c hand (Some ticket) Idle (D1 r) turn e = absurd (cc)
 begins c hand spent (AtE1 r i w l) E1Again turn e = inl (cc)
 begins c hand spent (AtE2 r i w t l) E2 turn e = inl (cc)
 begins c hand spent (AtE3 r i w t e') E3 turn e = inl (cc)
@@ -82,6 +84,8 @@ begun_wakes c hand turn (begins_get r low) idle = cc
 idle_sleeps : (c : Setup) (hand : List ℕ) (spent : Option ℕ) (step : Step) (turn : Phase) → turn_at c hand spent Idle step ≡ Some turn → turn ≡ Idle → ⊥
 idle_sleeps c hand None (E1 r i w) turn e idle = begun_wakes c hand turn (put_begins c hand r i w turn e) idle
 idle_sleeps c hand None (D1 r) turn e idle = begun_wakes c hand turn (get_begins c hand r turn e) idle
+idle_sleeps c hand (Some ticket) (E1 r i w) turn e idle = cc
+idle_sleeps c hand (Some ticket) (D1 r) turn e idle = cc
 idle_sleeps c hand spent step turn e idle = cc
 
 -- no turn is idle
@@ -91,3 +95,42 @@ awake c hand spent phase step turn e idle =
       | inl same ↦ idle_sleeps c hand spent step turn (rw (sym same ∙ idle) at e) idle
       | inr new ↦ begun_wakes c hand turn new.2 idle
     ]
+
+-- a seat in the middle of a call may make its next step
+pub goes : (c : Setup) (hand : List ℕ) (spent : Option ℕ) (phase : Phase) (step : Step) → next_step phase ≡ Some step → turn_at c hand spent phase step ≡ Some phase
+goes c hand spent (AtE1 r i w l) E1Again e = refl
+goes c hand spent (AtE2 r i w t l) E2 e = refl
+goes c hand spent (AtE3 r i w t e') E3 e = refl
+goes c hand spent (AtE4 r i w t e') E4 e = refl
+goes c hand spent (AtE5 r i w t) E5 e = refl
+goes c hand spent (AtE6 r i w t) E6 e = refl
+goes c hand spent (AtD2 r l) D2 e = refl
+goes c hand spent (AtD3 r h l) D3 e = refl
+goes c hand spent (AtD4 r h) D4 e = refl
+goes c hand spent (AtD5 r h e') D5 e = refl
+goes c hand spent (AtD6 r h) D6 e = refl
+goes c hand spent (AtD7 r h from to) D7 e = refl
+goes c hand spent (AtD8 r h from) D8 e = refl
+goes c hand spent (AtD9 r h from to) D9 e = refl
+goes c hand spent (AtD10 r h leaving) D10 e = refl
+goes c hand spent phase step e = absurd (cc)
+
+-- and no other
+pub goes_alone : (c : Setup) (hand : List ℕ) (spent : Option ℕ) (phase : Phase) (step : Step) (turn : Phase) → (phase ≡ Idle → ⊥) → turn_at c hand spent phase step ≡ Some turn → next_step phase ≡ Some step
+goes_alone c hand spent (AtE1 r i w l) E1Again turn wakes e = refl
+goes_alone c hand spent (AtE2 r i w t l) E2 turn wakes e = refl
+goes_alone c hand spent (AtE3 r i w t e') E3 turn wakes e = refl
+goes_alone c hand spent (AtE4 r i w t e') E4 turn wakes e = refl
+goes_alone c hand spent (AtE5 r i w t) E5 turn wakes e = refl
+goes_alone c hand spent (AtE6 r i w t) E6 turn wakes e = refl
+goes_alone c hand spent (AtD2 r l) D2 turn wakes e = refl
+goes_alone c hand spent (AtD3 r h l) D3 turn wakes e = refl
+goes_alone c hand spent (AtD4 r h) D4 turn wakes e = refl
+goes_alone c hand spent (AtD5 r h e') D5 turn wakes e = refl
+goes_alone c hand spent (AtD6 r h) D6 turn wakes e = refl
+goes_alone c hand spent (AtD7 r h from to) D7 turn wakes e = refl
+goes_alone c hand spent (AtD8 r h from) D8 turn wakes e = refl
+goes_alone c hand spent (AtD9 r h from to) D9 turn wakes e = refl
+goes_alone c hand spent (AtD10 r h leaving) D10 turn wakes e = refl
+goes_alone c hand spent Idle step turn wakes e = absurd (wakes refl)
+goes_alone c hand spent phase step turn wakes e = absurd (cc)

@@ -1,9 +1,10 @@
 -- The laws of the machine that its own arithmetic stands on, for every reachable state and every enabled step.
-use Rattle.std.specs.Prelude.{ℕ, zero, suc, ◌≡◌, ◌≢◌, ◌+◌, ◌*◌, ◌^◌, ◌<◌, ◌≤◌, ◌⊎◌, true, ◌==◌, if◌then◌else◌, List, Option, Some, None}
+use Rattle.std.specs.Prelude.{ℕ, zero, suc, ◌≡◌, ◌≢◌, ◌+◌, ◌*◌, ◌^◌, ◌<◌, ◌≤◌, ◌⊎◌, true, ◌==◌, if◌then◌else◌, List, ◌++◌, Option, Some, None}
 use Rattle.scq_word.specs.declared.setup.Setup.{Setup}
 use Rattle.scq_word.specs.Sizes.{n_of}
 use Rattle.scq_word.specs.Tickets.{slot_of}
 use Rattle.scq_word.specs.Words.{safe_in, cycle_in, is_none_in, rank_in}
+use Rattle.scq_core.specs.declared.ended.Ended.{Ended}
 use Rattle.scq_core.specs.declared.phase.Phase.{Phase}
 use Rattle.scq_core.specs.declared.phase.Phase.TheVariants.{Idle, AtE1, AtE2, AtE3, AtE4, AtE5, AtE6, AtD1, AtD2, AtD3, AtD4, AtD5, AtD6, AtD7, AtD8, AtD9, AtD10}
 use Rattle.scq_core.specs.Machine.{Cells, Part, Machine, Location, written}
@@ -134,6 +135,15 @@ pub record WordsFit (c : Setup) (m : Cells) : Type 0 where
   pub head : (r : ℕ) → m.head r + 1 < 2 ^ 64
   pub threshold : (r : ℕ) → (0 < m.threshold r) × (m.threshold r < 2 ^ 64)
   pub entry : (r s : ℕ) → m.entries.word r s < 2 ^ 64
+
+-- a record of ended calls with more of them at its end
+pub record Grows (before later : List Ended) : Type 0 where
+  pub more : List Ended
+  pub appended : later ≡ before ++ more
+
+-- what stands in a seat's record stays there
+pub record RecordsGrow (before later : Machine) : Type 0 where
+  pub calls : (k : ℕ) → Grows (before.part k).calls (later.part k).calls
 
 -- a step changes at most one word, with the content beside it where it is an entry, and its own seat's part
 pub record ChangesOne (before : Machine) (seat : ℕ) (later : Machine) : Type 0 where

@@ -3,7 +3,7 @@
 -- The letters: c setup; m cells, or the whole state; p a seat's part; r ring; i index; w content of a put; t ticket of an
 -- enqueue; h ticket of a dequeue; e word of the entry that was loaded; l least number that the step will find, at an
 -- entry its rank; x word that the turn finds; y content beside it.
-use Rattle.std.specs.Prelude.{ℕ, ◌+◌, ◌-◌, ◌*◌, ◌^◌, Bool, true, false, ◌==◌, ◌&&◌, not, nat_lt, nat_le, if◌then◌else◌, List, [], ◌∷◌, ◌++◌, filter, Option, Some, None}
+use Rattle.std.specs.Prelude.{ℕ, ◌+◌, ◌-◌, ◌*◌, ◌^◌, Bool, true, false, ◌==◌, ◌&&◌, not, nat_lt, nat_le, if◌then◌else◌, List, [], ◌∷◌, ◌++◌, filter, Option, Some, None, is_none}
 use Rattle.std.specs.List.{list_any}
 use Rattle.std.specs.Option.{option_map}
 use Rattle.scq_word.specs.declared.setup.Setup.{Setup}
@@ -53,9 +53,9 @@ holds_index hand index = list_any (λ i. i == index) hand
 -- the turn of a seat with this hand, kept ticket and phase, where the step is enabled. A seat in the middle of a call
 -- keeps no spent ticket
 abbrev pub turn_at : Setup → List ℕ → Option ℕ → Phase → Step → Option Phase
-turn_at c hand None Idle (E1 r i w) =
-    if nat_lt r c.rings && nat_lt i (n_of c.order) && holds_index hand i then Some (AtE1 r i w 0) else None
-turn_at c hand None Idle (D1 r) = if nat_lt r c.rings then Some (AtD1 r) else None
+turn_at c hand spent Idle (E1 r i w) =
+    if is_none spent && nat_lt r c.rings && nat_lt i (n_of c.order) && holds_index hand i then Some (AtE1 r i w 0) else None
+turn_at c hand spent Idle (D1 r) = if is_none spent && nat_lt r c.rings then Some (AtD1 r) else None
 turn_at c hand spent (AtE1 r i w l) E1Again = Some (AtE1 r i w l)
 turn_at c hand spent (AtE2 r i w t l) E2 = Some (AtE2 r i w t l)
 turn_at c hand spent (AtE3 r i w t e) E3 = Some (AtE3 r i w t e)
@@ -75,6 +75,25 @@ turn_at c hand spent phase step = None
 
 abbrev pub turn_of : Setup → Part → Step → Option Phase
 turn_of c p step = turn_at c p.hand p.spent p.phase step
+
+-- the one step that a seat in the middle of a call makes next
+abbrev pub next_step : Phase → Option Step
+next_step (AtE1 r i w l) = Some E1Again
+next_step (AtE2 r i w t l) = Some E2
+next_step (AtE3 r i w t e) = Some E3
+next_step (AtE4 r i w t e) = Some E4
+next_step (AtE5 r i w t) = Some E5
+next_step (AtE6 r i w t) = Some E6
+next_step (AtD2 r l) = Some D2
+next_step (AtD3 r h l) = Some D3
+next_step (AtD4 r h) = Some D4
+next_step (AtD5 r h e) = Some D5
+next_step (AtD6 r h) = Some D6
+next_step (AtD7 r h from to) = Some D7
+next_step (AtD8 r h from) = Some D8
+next_step (AtD9 r h from to) = Some D9
+next_step (AtD10 r h leaving) = Some D10
+next_step phase = None
 
 -- the location that a turn reads. Idle is no turn: its line is never used
 abbrev pub location_of : Setup → Phase → Location

@@ -1,15 +1,18 @@
 //! Laws of the machine, for every setup and every state that steps reach. The functions do nothing: each
 //! stands for its contract.
 
-ghost use Rattle.std.specs.Prelude.{◌≡◌, ℕ, ◌<◌, List, Some, length};
+ghost use Rattle.std.specs.Prelude.{◌≡◌, ◌≢◌, ℕ, ◌<◌, List, Some, length};
 ghost use Rattle.scq_word.specs.declared.setup.Setup.{Setup};
 ghost use Rattle.scq_word.specs.Sizes.{n_of};
+ghost use Rattle.scq_core.specs.declared.phase.Phase.{Phase};
+ghost use Rattle.scq_core.specs.declared.phase.Phase.TheVariants.{Idle};
 ghost use Rattle.scq_core.specs.declared.step.Step.{Step};
-ghost use Rattle.scq_core.specs.Machine.{Machine};
-ghost use Rattle.scq_core.specs.Table.{step_of};
+ghost use Rattle.scq_core.specs.Machine.{Machine, read};
+ghost use Rattle.scq_core.specs.Table.{turn_of, next_step, location_of, step_of};
+ghost use Rattle.scq_core.specs.Turn.{ring_of, IsReady};
 ghost use Rattle.scq_core.specs.Start.{start_of};
 ghost use Rattle.scq_core.specs.Reach.{IsReachable};
-ghost use Rattle.scq_core.specs.Laws.{ChangesOne, RankRises, CountersRise, IsSteady, CatchUpLags, CountersBounded, ThresholdFloor, CyclesBounded, WordsFit};
+ghost use Rattle.scq_core.specs.Laws.{ChangesOne, RankRises, CountersRise, IsSteady, CatchUpLags, CountersBounded, ThresholdFloor, CyclesBounded, WordsFit, RecordsGrow};
 
 /// The start is reachable, with an opening content for each index.
 pub fn start_is_reachable()
@@ -24,6 +27,19 @@ pub fn steps_stay_reachable()
 /// A step changes at most one word of one ring, with the content beside it, and its own seat's part.
 pub fn steps_change_one_word()
     ensures { (c : Setup) (m later : Machine) (seat : ℕ) (step : Step) → step_of c m seat step ≡ Some later → ChangesOne m seat later }
+{}
+
+/// A seat in the middle of a call has exactly one enabled step, which is its phase.
+pub fn calls_go_on()
+    ensures enabled { (c : Setup) (m : Machine) (seat : ℕ) (step : Step) → next_step (m.part seat).phase ≡ Some step
+        → turn_of c (m.part seat) step ≡ Some (m.part seat).phase }
+    ensures alone { (c : Setup) (m : Machine) (seat : ℕ) (step : Step) (turn : Phase) → (m.part seat).phase ≢ Idle
+        → turn_of c (m.part seat) step ≡ Some turn → next_step (m.part seat).phase ≡ Some step }
+{}
+
+/// What stands in a seat's record stays there: a step adds ended calls only at its end.
+pub fn records_grow()
+    ensures { (c : Setup) (m later : Machine) (seat : ℕ) (step : Step) → step_of c m seat step ≡ Some later → RecordsGrow m later }
 {}
 
 /// Each step leaves each entry as it is or raises its rank.
@@ -67,4 +83,14 @@ pub fn cycles_are_bounded()
 /// Each word is one of 64 bits, with room for a step.
 pub fn words_fit()
     ensures { (c : Setup) (m : Machine) → IsReachable c m → WordsFit c m.cells }
+{}
+
+/// An enabled turn of a reachable state is on one of the setup's rings, and has what its arithmetic stands on: the
+/// counter that it finds has room, its ticket is below the limit, the entry that it finds has an index of the ring or
+/// the mark, and Threshold is not yet at the bottom.
+pub fn enabled_turns_are_ready()
+    ensures ring { (c : Setup) (m : Machine) (seat : ℕ) (step : Step) (turn : Phase) → IsReachable c m
+        → turn_of c (m.part seat) step ≡ Some turn → ring_of turn < c.rings }
+    ensures ready { (c : Setup) (m : Machine) (seat : ℕ) (step : Step) (turn : Phase) → IsReachable c m
+        → turn_of c (m.part seat) step ≡ Some turn → IsReady c turn (read m.cells (location_of c turn)) }
 {}

@@ -54,6 +54,8 @@ turn_is c hand spent phase step turn e =
 pub taken : (c : Setup) (hand : List ℕ) (spent : Option ℕ) (phase : Phase) (step : Step) (turn : Phase) → turn_at c hand spent phase step ≡ Some turn → Taken phase step turn
 taken c hand None Idle (E1 r i w) turn e = rw (← turn_is c hand None Idle (E1 r i w) turn e) (begins_put r i w)
 taken c hand None Idle (D1 r) turn e = rw (← turn_is c hand None Idle (D1 r) turn e) (begins_get r)
+taken c hand (Some ticket) Idle (E1 r i w) turn e = absurd (cc)
+taken c hand (Some ticket) Idle (D1 r) turn e = absurd (cc)
 taken c hand spent (AtE1 r i w l) E1Again turn e = let same : AtE1 r i w l ≡ turn = cc in rw (← same) (goes_on (AtE1 r i w l) E1Again (λ x. cc))
 taken c hand spent (AtE2 r i w t l) E2 turn e = let same : AtE2 r i w t l ≡ turn = cc in rw (← same) (goes_on (AtE2 r i w t l) E2 (λ x. cc))
 taken c hand spent (AtE3 r i w t e') E3 turn e = let same : AtE3 r i w t e' ≡ turn = cc in rw (← same) (goes_on (AtE3 r i w t e') E3 (λ x. cc))

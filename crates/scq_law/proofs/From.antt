@@ -23,8 +23,7 @@ is_entry _ = false
 
 -- no step is enabled where a seat would rest before a dequeue's first step
 entry_sleeps : (c : Setup) (hand : List ℕ) (spent : Option ℕ) (phase : Phase) (step : Step) (turn : Phase) → turn_at c hand spent phase step ≡ Some turn → is_entry phase ≡ false
-entry_sleeps c hand None Idle (E1 r i w) turn e = refl
-entry_sleeps c hand None Idle (D1 r) turn e = refl
+entry_sleeps c hand spent Idle step turn e = refl
 entry_sleeps c hand spent (AtE1 r i w l) E1Again turn e = refl
 entry_sleeps c hand spent (AtE2 r i w t l) E2 turn e = refl
 entry_sleeps c hand spent (AtE3 r i w t x) E3 turn e = refl
