@@ -33,9 +33,15 @@ record Spotted (c : Setup) (g : Ghost) (m : Machine) (i : ℕ) (h : Home) : Type
   is : IsAt g m i spot
   home : home_of c spot ≡ h
 
+-- the place of an entry's index, which is live there
+pub record PlaceIn (c : Setup) (g : Ghost) (m : Machine) (r s : ℕ) : Type 0 where
+  pub place : ℕ
+  pub live : Live g r place (index_in (ring_slots c) (m.cells.entries.word r s))
+  pub slot : slot_of (ring_slots c) place ≡ s
+  pub cycle : cycle c place ≡ cycle_in (ring_slots c) (m.cells.entries.word r s)
+
 module _ (c : Setup) (g : Ghost) (m : Machine) (base : IsBased c g m) where
-  -- the place at which the index of an entry stands
-  stood_at : (r s : ℕ) → s < ring_slots c → is_none_in (ring_slots c) (m.cells.entries.word r s) ≡ false → (q : ℕ) × Live g r q (index_in (ring_slots c) (m.cells.entries.word r s)) × (slot_of (ring_slots c) q ≡ s)
+  pub stood_at : (r s : ℕ) → s < ring_slots c → is_none_in (ring_slots c) (m.cells.entries.word r s) ≡ false → PlaceIn c g m r s
   stood_at r s low some =
       let word = m.cells.entries.word in
       let at = slot_of-onto (ring_slots c) s low in
@@ -46,7 +52,7 @@ module _ (c : Setup) (g : Ghost) (m : Machine) (base : IsBased c g m) where
       let is_x : at_ticket c word r q ≡ x = ap (word r) slot in
       let has : Holds c word r q = record { cycle = rw is_x (sym turn); index = rw is_x some } in
       let live : Live g r q (index_in (ring_slots c) (at_ticket c word r q)) = live_at c m.cells.entries g r q base.booked has in
-      (q, rw is_x at live, slot)
+      record { place = q; live = rw is_x at live; slot = slot; cycle = turn }
 
   spotted : (i : ℕ) (h : Home) → i < n_of c.order → IsSeen c m i h → Spotted c g m i h
   spotted i (hand_of k) low seen =
@@ -56,7 +62,7 @@ module _ (c : Setup) (g : Ghost) (m : Machine) (base : IsBased c g m) where
       let mark = below_mark c i low in
       let some : is_none_in (ring_slots c) (m.cells.entries.word r s) ≡ false = ne_eqb _ _ (λ e. omega arith) in
       let at = stood_at r s seen.0 some in
-      record { spot = at_place r at.0; is = moved_to r at.0 _ i index at.1; home = ap (slot_in r) at.2 }
+      record { spot = at_place r at.place; is = moved_to r at.place _ i index at.live; home = ap (slot_in r) at.slot }
     where
       moved_to : (r q x i : ℕ) → x ≡ i → Live g r q x → Live g r q i
       moved_to r q x i same live = rw same at live
@@ -105,6 +111,6 @@ one_hand c m reach =
       in_hands = λ i k some. few.hands k i (times_seen (m.part k).hand i some);
       in_entries =
           λ r s low some.
-          let live = stood_at c g m base r s low some in
-          few.places r live.0 (index_in (ring_slots c) (m.cells.entries.word r s)) live.1.content live.1.maker live.1.is;
+          let at = stood_at c g m base r s low some in
+          few.places r at.place (index_in (ring_slots c) (m.cells.entries.word r s)) at.live.content at.live.maker at.live.is;
     }

@@ -59,6 +59,7 @@ pub mod TiedTurns
 pub mod Chronicle
 pub mod Claiming
 pub mod Ordered
+pub mod EntryLaws
 pub mod LaterLaws
 pub mod Adding
 pub mod Making
@@ -66,4 +67,5 @@ pub mod EmptyRight
 pub mod RunSteps
 pub mod RunLaws
 pub mod Rising
+pub mod Lasting
 pub mod Replays

@@ -1,15 +1,17 @@
 -- The public law on places, from the tickets' states. Plan: what is placed by the records and phases is what the ticket's
 -- state says, in both directions; then each field is a fact of states.
-use Rattle.std.proofs.Common.{◌≡◌, ℕ, ◌-◌, ◌<◌, ◌≤◌, true, false, List, length, refl, ap, sym, ◌∙◌, ◌⊎◌, inl, inr}
+use Rattle.std.proofs.Common.{◌≡◌, ℕ, ◌-◌, ◌<◌, ◌≤◌, true, false, List, length, refl, ap, sym, ◌∙◌, ◌⊎◌, inl, inr, arith}
 use Rattle.std.proofs.lemmas.Bool.{cases_lt}
 use Rattle.scq_word.specs.declared.setup.Setup.{Setup}
 use Rattle.scq_word.specs.Tickets.{slot_of}
+use Rattle.scq_word.specs.Words.{is_none_in}
 use Rattle.scq_core.specs.declared.phase.Phase.{Phase}
-use Rattle.scq_core.specs.declared.phase.Phase.TheVariants.{AtE5, AtE6, AtD3, AtD4, AtD5, AtD6, AtD7, AtD8, AtD9, AtD10}
+use Rattle.scq_core.specs.declared.phase.Phase.TheVariants.{Idle, AtE5, AtE6, AtD3, AtD4, AtD5, AtD6, AtD7, AtD8, AtD9, AtD10}
 use Rattle.scq_core.specs.Machine.{Part, Machine}
 use Rattle.scq_core.specs.Table.{ring_slots}
+use Rattle.scq_core.specs.Laws.{word_at}
 use Rattle.scq_core.specs.Reach.{IsReachable}
-use Rattle.scq_law.specs.Places.{Maker, opening_put, call_of, HasLanded, LooksAt, GaveUp, IsPlacedBy, at_opening, in_record, under_way, IsTakenBy, IsUntaken, OneLooks, PlacesOnce}
+use Rattle.scq_law.specs.Places.{Maker, opening_put, call_of, HasLanded, LooksAt, GaveUp, IsPlacedBy, at_opening, in_record, under_way, IsTakenBy, IsTaken, IsUntaken, OneLooks, AllIdle, PlacesOnce}
 use Rattle.scq_law.proofs.Ghosts.{Ghost, GetState, placed, unopened, opened, dead, took, is_placed}
 use Rattle.scq_law.proofs.Events.{resting, landed, trying, stance_of}
 use Rattle.scq_law.proofs.Tale.{story}
@@ -23,7 +25,8 @@ use Rattle.scq_law.proofs.Records.{IsRecorded}
 use Rattle.scq_law.proofs.Throughout.{rooted, reached, recorded}
 
 -- phases and stances
-has_landed : (g : Ghost) (k number : ℕ) (phase : Phase) (r p : ℕ) (w : List ℕ) → Claims g k number (stance_of phase) → HasLanded phase r p w → (i : ℕ) × (g.puts r p ≡ placed i w (call_of k number))
+has_landed : (g : Ghost) (k number : ℕ) (phase : Phase) (r p : ℕ) (w : List ℕ) → Claims g k number (stance_of phase) → HasLanded phase r p w
+    → (i : ℕ) × (g.puts r p ≡ placed i w (call_of k number))
 has_landed g k number (AtE5 q i v t) r p w claims has = (i, rw (← has.0, ← has.1, ← has.2) claims)
 has_landed g k number (AtE6 q i v t) r p w claims has = (i, rw (← has.0, ← has.1, ← has.2) claims)
 has_landed g k number phase r p w claims has = absurd has
@@ -145,31 +148,56 @@ module _ (c : Setup) (g : Ghost) (m : Machine) (base : IsBased c g m) (recorded 
             cc;
       }
 
-  claimed : IsRooted g m → IsReached c g m → (r p : ℕ) (w : List ℕ) (a : Maker) → IsPlacedBy c m r p w a → IsUntaken m r p → (m.cells.head r ≤ p) ⊎ OneLooks c m r p
-  claimed roots reach r p w a by untaken = go (g.gets r p) refl
+  -- a call that took at a place has the content that was placed there
+  pub taken_at : (r p : ℕ) (w : List ℕ) (a : Maker) (k j : ℕ) → IsPlacedBy c m r p w a → g.gets r p ≡ took k j → IsTaken m r p w
+  taken_at r p w a k j by is =
+      let t = recorded.taken r p k j is in
+      let made = recorded.got k j r p t.0 t.1 in
+      let x = placed_by r p w a by in
+      let same : placed made.index t.0 made.maker ≡ placed x.0 w a = sym made.is ∙ x.1 in
+      let content : t.0 ≡ w = cc in
+      record { seat = k; number = j; taken = rw (← content) t.1 }
+
+  -- nobody gave up a ticket at which something was placed
+  pub not_dead : (r p : ℕ) (w : List ℕ) (a : Maker) → IsPlacedBy c m r p w a → g.gets r p ≡ dead → ⊥
+  not_dead r p w a by is =
+      let x = placed_by r p w a by in
+      let has : is_placed (g.puts r p) ≡ true = ap is_placed x.1 in
+      let not = base.booked.never r p is in
+      absurd (cc)
+
+  claimed : IsRooted g m → IsReached c g m → (r p : ℕ) (w : List ℕ) (a : Maker) → IsPlacedBy c m r p w a
+      → IsTaken m r p w ⊎ (m.cells.head r ≤ p) ⊎ OneLooks c m r p
+  claimed roots reach r p w a by = go (g.gets r p) refl
     where
-      go : (x : GetState) → g.gets r p ≡ x → (m.cells.head r ≤ p) ⊎ OneLooks c m r p
+      go : (x : GetState) → g.gets r p ≡ x → IsTaken m r p w ⊎ (m.cells.head r ≤ p) ⊎ OneLooks c m r p
       go unopened is =
           elim (cases_lt p (m.cells.head r)) [
             | inl low ↦
                 let lawful = lawful_place r p w a by in absurd (reach.reached r p lawful.0 low lawful.2 is)
-            | inr high ↦ inl high
+            | inr high ↦ inr (inl high)
           ]
-      go (opened k) is = inr (one_looks roots reach r p k is)
-      go dead is =
-          let x = placed_by r p w a by in
-          let has : is_placed (g.puts r p) ≡ true = ap is_placed x.1 in
-          let not = base.booked.never r p is in
-          absurd (cc)
-      go (took k j) is = let t = recorded.taken r p k j is in absurd (untaken t.0 k j t.1)
+      go (opened k) is = inr (inr (one_looks roots reach r p k is))
+      go dead is = absurd (not_dead r p w a by is)
+      go (took k j) is = inl (taken_at r p w a k j by is)
+
+  looked_at : (k r h : ℕ) → LooksAt (m.part k).phase r h → (h < m.cells.head r) × IsUntaken m r h
+  looked_at k r h looks =
+      let own : g.gets r h ≡ opened k = looks_opened g k (length (m.part k).calls) (m.part k).phase r h (base.claims k) looks in
+      let passed : h < m.cells.head r =
+      elim (cases_lt h (m.cells.head r)) [
+        | inl low ↦ low
+        | inr high ↦ let undrawn = base.drawn.heads r h high in absurd (cc)
+      ] in
+      (passed, λ w j x by. let t = recorded.got j x r h w by in let clash : opened k ≡ took j x = sym own ∙ t.took in cc)
 
   nothing_given_up : (k r h : ℕ) → GaveUp (m.part k).phase r h → (w : List ℕ) (a : Maker) → IsPlacedBy c m r h w a → ⊥
   nothing_given_up k r h gave w a by =
-      let gone = gave_up_dead g k (length (m.part k).calls) (m.part k).phase r h (base.claims k) gave in
-      let x = placed_by r h w a by in
-      let has : is_placed (g.puts r h) ≡ true = ap is_placed x.1 in
-      let not = base.booked.never r h gone in
-      absurd (cc)
+      not_dead r h w a by (gave_up_dead g k (length (m.part k).calls) (m.part k).phase r h (base.claims k) gave)
+
+  stands_to_take : (k r h : ℕ) → (m.part k).phase ≡ AtD4 r h → is_none_in (ring_slots c) (word_at c m.cells r h) ≡ false
+  stands_to_take k r h is =
+      let knows : Knows c m.cells.entries.word g.gets (AtD4 r h) = rw is at (base.knows k) in knows.index
 
   answered : (k r h : ℕ) → (m.part k).phase ≡ AtD4 r h → (a : Maker) × IsPlacedBy c m r h (m.cells.entries.content r (slot_of (ring_slots c) h)) a
   answered k r h is =
@@ -196,6 +224,19 @@ places_once c m reach =
       fresh =
           λ r p w k x by. let t = records.got k x r p w by in (t.maker, by_placed c g m base records r p t.index w t.maker t.is);
       claimed = claimed c g m base records roots reach_g;
+      looked_at = looked_at c g m base records;
       given_up = nothing_given_up c g m base records;
+      stands = stands_to_take c g m base records;
       answered = answered c g m base records;
     }
+
+-- with all seats idle, what was placed below Head has been taken
+pub got_below : (c : Setup) (m : Machine) → IsReachable c m → AllIdle c m → (r p : ℕ) (w : List ℕ) (a : Maker) → IsPlacedBy c m r p w a → p < m.cells.head r
+    → IsTaken m r p w
+got_below c m reach idle r p w a by low =
+    elim ((places_once c m reach).claimed r p w a by) [
+      | inl taken ↦ taken
+      | inr (inl high) ↦ absurd (omega arith)
+      | inr (inr one) ↦
+          let at : LooksAt Idle r p = rw (idle one.seat one.low) at one.looks in absurd at
+    ]

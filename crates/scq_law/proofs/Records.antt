@@ -125,7 +125,7 @@ module _ (c : Setup) (time : ℕ) (g : Ghost) (m : Machine) (k : ℕ) (e : Event
       ]
 
   -- a call stays
-  stays : (j x : ℕ) (y : Ended) → slice_get (m.part j).calls x ≡ Some y → slice_get (n.part j).calls x ≡ Some y
+  pub stays : (j x : ℕ) (y : Ended) → slice_get (m.part j).calls x ≡ Some y → slice_get (n.part j).calls x ≡ Some y
   stays j x y is =
       elim (cases_eq j k) [
         | inl own ↦

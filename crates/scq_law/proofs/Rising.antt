@@ -43,7 +43,7 @@ along_later c steps now last seats is =
     at_once
 
 -- so a later moment of a run has a later state
-moments_later : (c : Setup) (opening : List (List ℕ)) (steps : List (ℕ × Step)) (i j : ℕ) (now last : Told) → All (λ (x : ℕ × Step). x.0 < c.seats) steps → i ≤ j → IsMoment c opening steps i now → IsMoment c opening steps j last → IsLater c now.state last.state
+pub moments_later : (c : Setup) (opening : List (List ℕ)) (steps : List (ℕ × Step)) (i j : ℕ) (now last : Told) → All (λ (x : ℕ × Step). x.0 < c.seats) steps → i ≤ j → IsMoment c opening steps i now → IsMoment c opening steps j last → IsLater c now.state last.state
 moments_later c opening steps i j now last seats order first second =
     let apart : i + (j - i) ≡ j = omega arith in
     let cut : take j steps ≡ take i steps ++ take (j - i) (drop i steps) =
@@ -61,10 +61,14 @@ moments_later c opening steps i j now last seats order first second =
     (All-take (λ (x : ℕ × Step). x.0 < c.seats) (j - i) (drop i steps) (All-drop (λ (x : ℕ × Step). x.0 < c.seats) i steps seats))
     along
 
+pub moment_reached : (c : Setup) (opening : List (List ℕ)) (steps : List (ℕ × Step)) (i : ℕ) (now : Told) → length opening ≡ n_of c.order → All (λ (x : ℕ × Step). x.0 < c.seats) steps → IsMoment c opening steps i now → IsReachable c now.state
+moment_reached c opening steps i now full seats is =
+    run_reaches c opening (take i steps) now full (All-take (λ (x : ℕ × Step). x.0 < c.seats) i steps seats) is
+
 pub rises_throughout : (c : Setup) (opening : List (List ℕ)) (steps : List (ℕ × Step)) → length opening ≡ n_of c.order → All (λ (x : ℕ × Step). x.0 < c.seats) steps → RisesThroughout c opening steps
 rises_throughout c opening steps full seats =
     let reach : (i : ℕ) (now : Told) → IsMoment c opening steps i now → IsReachable c now.state =
-    λ i now is. run_reaches c opening (take i steps) now full (All-take (λ (x : ℕ × Step). x.0 < c.seats) i steps seats) is in
+    λ i now is. moment_reached c opening steps i now full seats is in
     record {
       ranks =
           λ i j now last order first second.

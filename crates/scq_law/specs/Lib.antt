@@ -1,6 +1,7 @@
 pub mod Run
 pub mod Runs
 pub mod Places
+pub mod Standing
 pub mod Hands
 pub mod Bounds
 pub mod Later
@@ -10,3 +11,4 @@ pub mod Replay
 pub mod Telling
 pub mod History
 pub mod Moments
+pub mod Lasting

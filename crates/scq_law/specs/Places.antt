@@ -1,14 +1,16 @@
 -- Places of a ring are its tickets at which an index was placed. Each is placed once and taken at most once, and what is
 -- taken there is what was placed there. All of it is read off the seats' records and what they are in the middle of.
-use Rattle.std.specs.Prelude.{◌≡◌, ℕ, ◌+◌, ◌-◌, ◌<◌, ◌≤◌, ◌⊎◌, List, [], length, Some, slice_get, slice_index_or}
+use Rattle.std.specs.Prelude.{◌≡◌, ℕ, ◌+◌, ◌-◌, ◌<◌, ◌≤◌, ◌⊎◌, false, List, [], length, Some, slice_get, slice_index_or}
 use Rattle.scq_word.specs.declared.setup.Setup.{Setup}
 use Rattle.scq_word.specs.Sizes.{n_of}
 use Rattle.scq_word.specs.Tickets.{slot_of}
+use Rattle.scq_word.specs.Words.{is_none_in}
 use Rattle.scq_core.specs.declared.ended.Ended.TheVariants.{Done, Got}
 use Rattle.scq_core.specs.declared.phase.Phase.{Phase}
-use Rattle.scq_core.specs.declared.phase.Phase.TheVariants.{AtE5, AtE6, AtD3, AtD4, AtD5, AtD6, AtD7, AtD8, AtD9, AtD10}
+use Rattle.scq_core.specs.declared.phase.Phase.TheVariants.{Idle, AtE5, AtE6, AtD3, AtD4, AtD5, AtD6, AtD7, AtD8, AtD9, AtD10}
 use Rattle.scq_core.specs.Machine.{Machine}
 use Rattle.scq_core.specs.Table.{ring_slots}
+use Rattle.scq_core.specs.Laws.{word_at}
 
 -- who placed: an opening put, or a seat's call by its number in the record, from 0
 pub data Maker : Type 0 where
@@ -47,6 +49,12 @@ pub data IsPlacedBy (c : Setup) (m : Machine) (r p : ℕ) (w : List ℕ) : Maker
 abbrev pub IsTakenBy : Machine → ℕ → ℕ → List ℕ → ℕ → ℕ → Type 0
 IsTakenBy m r p w seat number = slice_get (m.part seat).calls number ≡ Some (Got r p w)
 
+-- some call in a record took there
+pub record IsTaken (m : Machine) (r p : ℕ) (w : List ℕ) : Type 0 where
+  pub seat : ℕ
+  pub number : ℕ
+  pub taken : IsTakenBy m r p w seat number
+
 -- nobody has taken there
 abbrev pub IsUntaken : Machine → ℕ → ℕ → Type 0
 IsUntaken m r p = (w : List ℕ) (seat number : ℕ) → IsTakenBy m r p w seat number → ⊥
@@ -58,6 +66,10 @@ pub record OneLooks (c : Setup) (m : Machine) (r h : ℕ) : Type 0 where
   pub looks : LooksAt (m.part seat).phase r h
   pub alone : (k : ℕ) → LooksAt (m.part k).phase r h → k ≡ seat
 
+-- no seat is in the middle of a call
+abbrev pub AllIdle : Setup → Machine → Type 0
+AllIdle c m = (k : ℕ) → k < c.seats → (m.part k).phase ≡ Idle
+
 pub record PlacesOnce (c : Setup) (m : Machine) : Type 0 where
   -- a place is placed once, by one call with one content, below Tail and the limit
   pub once : (r p : ℕ) (v w : List ℕ) (a b : Maker) → IsPlacedBy c m r p v a → IsPlacedBy c m r p w b → (a ≡ b) × (v ≡ w)
@@ -67,9 +79,13 @@ pub record PlacesOnce (c : Setup) (m : Machine) : Type 0 where
   pub taken_below : (r p : ℕ) (w : List ℕ) (k x : ℕ) → IsTakenBy m r p w k x → p < m.cells.head r
   -- with the content that was placed there
   pub fresh : (r p : ℕ) (w : List ℕ) (k x : ℕ) → IsTakenBy m r p w k x → (a : Maker) × IsPlacedBy c m r p w a
-  -- what is placed and not taken is at or above Head, or just one seat looks at it
-  pub claimed : (r p : ℕ) (w : List ℕ) (a : Maker) → IsPlacedBy c m r p w a → IsUntaken m r p → (m.cells.head r ≤ p) ⊎ OneLooks c m r p
+  -- what was placed has been taken, or is at or above Head, or just one seat looks at it
+  pub claimed : (r p : ℕ) (w : List ℕ) (a : Maker) → IsPlacedBy c m r p w a → IsTaken m r p w ⊎ (m.cells.head r ≤ p) ⊎ OneLooks c m r p
+  -- where a dequeue looks Head has passed and nobody has taken
+  pub looked_at : (k r h : ℕ) → LooksAt (m.part k).phase r h → (h < m.cells.head r) × IsUntaken m r h
   -- nothing is placed at a ticket that a dequeue has given up
   pub given_up : (k r h : ℕ) → GaveUp (m.part k).phase r h → (w : List ℕ) (a : Maker) → IsPlacedBy c m r h w a → ⊥
+  -- where a dequeue is about to take, an index stands
+  pub stands : (k r h : ℕ) → (m.part k).phase ≡ AtD4 r h → is_none_in (ring_slots c) (word_at c m.cells r h) ≡ false
   -- what a dequeue is about to answer is what was placed at its ticket
   pub answered : (k r h : ℕ) → (m.part k).phase ≡ AtD4 r h → (a : Maker) × IsPlacedBy c m r h (m.cells.entries.content r (slot_of (ring_slots c) h)) a

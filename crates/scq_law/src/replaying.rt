@@ -7,7 +7,9 @@ ghost use Rattle.scq_core.specs.Book.{machine_of};
 ghost use Rattle.scq_core.specs.Laws.{CountersBounded, ThresholdFloor};
 ghost use Rattle.scq_hist.specs.Aspects.{IsLawful, IsFresh, IsOnce, IsInOrder, IsEmptyRight};
 ghost use Rattle.scq_law.specs.Hands.{OneHand};
+ghost use Rattle.scq_law.specs.Lasting.{PlacesLastThroughout};
 ghost use Rattle.scq_law.specs.Places.{PlacesOnce};
+ghost use Rattle.scq_law.specs.Standing.{EntriesMatchPlaces};
 ghost use Rattle.scq_law.specs.Bounds.{WithinWindow, ThresholdCovers, TicketsBounded, NoneSpent};
 ghost use Rattle.scq_law.specs.Moments.{RisesThroughout};
 ghost use Rattle.scq_law.specs.Replay.{ShowsRun, StopsAt};
@@ -35,6 +37,7 @@ pub fn replay(
     // The state that the run has led to.
     ensures one_hand { IfOk result (λ replayed. OneHand setup (machine_of replayed.state)) }
     ensures places_once { IfOk result (λ replayed. PlacesOnce setup (machine_of replayed.state)) }
+    ensures entries_match_places { IfOk result (λ replayed. EntriesMatchPlaces setup (machine_of replayed.state)) }
     ensures counters_bounded { IfOk result (λ replayed. CountersBounded setup (machine_of replayed.state)) }
     ensures threshold_floor { IfOk result (λ replayed. ThresholdFloor setup (machine_of replayed.state)) }
     ensures within_window { IfOk result (λ replayed. WithinWindow setup (machine_of replayed.state)) }
@@ -52,6 +55,7 @@ pub fn replay(
 
     // All along it.
     ensures rises { RisesThroughout setup opening.items steps.now }
+    ensures places_last { PlacesLastThroughout setup opening.items steps.now }
 {
     told(alloc, setup, opening, steps)
 }

@@ -8,12 +8,15 @@ use Rattle.scq_hist.specs.declared.events.Event.{Event}
 use Rattle.scq_hist.specs.Aspects.{IsLawful, IsFresh, IsOnce, IsInOrder, IsEmptyRight}
 use Rattle.scq_law.specs.Hands.{OneHand}
 use Rattle.scq_law.specs.Places.{PlacesOnce}
+use Rattle.scq_law.specs.Standing.{EntriesMatchPlaces}
 use Rattle.scq_law.specs.Bounds.{WithinWindow, ThresholdCovers, TicketsBounded, NoneSpent}
 use Rattle.scq_law.proofs.HandLaws.{one_hand}
 use Rattle.scq_law.proofs.PlaceLaws.{places_once}
+use Rattle.scq_law.proofs.EntryLaws.{entries_match_places}
 use Rattle.scq_law.proofs.TicketLaws.{within_window, threshold_covers, tickets_bounded}
 use Rattle.scq_law.proofs.Overruns.{none_spent}
 use Rattle.scq_law.proofs.Rising.{rises_throughout}
+use Rattle.scq_law.proofs.Lasting.{places_last_throughout}
 use Rattle.scq_law.proofs.Replays.{of_state, of_history, of_fails}
 use Rattle.scq_law.proofs.replaying.replay.Goals as goal
 
@@ -26,6 +29,11 @@ pub returns-clause-places_once : goal.returns-clause-places_once
 returns-clause-places_once c =
     let setup = c.args.setup in
     of_state setup c.args.opening.items c.args.steps.now c.told.result (λ (m : Machine). PlacesOnce setup m) (sym c.args.opening.ok.0 ∙ c.requires.opening) c.requires.seats c.told.ensures.run (places_once setup)
+
+pub returns-clause-entries_match_places : goal.returns-clause-entries_match_places
+returns-clause-entries_match_places c =
+    let setup = c.args.setup in
+    of_state setup c.args.opening.items c.args.steps.now c.told.result (λ (m : Machine). EntriesMatchPlaces setup m) (sym c.args.opening.ok.0 ∙ c.requires.opening) c.requires.seats c.told.ensures.run (entries_match_places setup)
 
 pub returns-clause-counters_bounded : goal.returns-clause-counters_bounded
 returns-clause-counters_bounded c =
@@ -89,3 +97,7 @@ returns-clause-fails_bounded c =
 pub returns-clause-rises : goal.returns-clause-rises
 returns-clause-rises c =
     rises_throughout c.args.setup c.args.opening.items c.args.steps.now (sym c.args.opening.ok.0 ∙ c.requires.opening) c.requires.seats
+
+pub returns-clause-places_last : goal.returns-clause-places_last
+returns-clause-places_last c =
+    places_last_throughout c.args.setup c.args.opening.items c.args.steps.now (sym c.args.opening.ok.0 ∙ c.requires.opening) c.requires.seats

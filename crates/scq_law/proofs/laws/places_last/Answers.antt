@@ -1,0 +1,5 @@
+use Rattle.scq_law.proofs.LaterLaws.{places_last}
+use Rattle.scq_law.proofs.laws.places_last.Goals as goal
+
+pub returns : goal.returns
+returns c = λ setup m n reach later. places_last setup m n reach later
