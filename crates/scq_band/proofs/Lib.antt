@@ -4,3 +4,4 @@ pub mod Handles
 pub mod Knowledge
 pub mod Learning
 pub mod Moves
+pub mod Grounds
