@@ -5,3 +5,4 @@ pub mod Knowledge
 pub mod Learning
 pub mod Moves
 pub mod Grounds
+pub mod Operations

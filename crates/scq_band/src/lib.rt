@@ -2,7 +2,11 @@
 #![tactic(auto)]
 
 mod numbers;
+mod rule;
+mod slot;
+mod steps;
 mod view;
 
 pub use numbers::Numbers;
+pub use slot::Slot;
 pub use view::View;
