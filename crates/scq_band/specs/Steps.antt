@@ -9,6 +9,8 @@ use Rattle.scq_core.specs.Table.{ring_slots, cycle, reset_level, passed}
 use Rattle.scq_core.specs.Start.{idle_part}
 use Rattle.scq_word.specs.Words.{packed}
 use Rattle.scq_band.specs.declared.slot.Slot.{Slot}
+use Rattle.atomic_table.specs.Table.{Me}
+use Rattle.scq_band.specs.Layout.{ring_of_word}
 use Rattle.scq_band.specs.Known.{Member, Known}
 
 -- the one seat that stands in a view, and what it is in the middle of
@@ -45,6 +47,14 @@ loading r phase = phase
 abbrev pub drawing : ℕ → ℕ → List ℕ → Phase → Phase
 drawing r i w Idle = AtE1 r i w 0
 drawing r i w phase = phase
+
+-- the turn of a load of this word
+abbrev pub load_turn : Setup → ℕ → Known → Phase
+load_turn c word v = loading (ring_of_word c word) (my_phase v)
+
+-- the turn of a draw from this word
+abbrev pub draw_turn : {B : Type 0} → (B → List ℕ) → Setup → ℕ → Me (Slot B) Known → Phase
+draw_turn contents c word me = drawing (ring_of_word c word) (front_index me.1) (front_bytes contents me.1) (my_phase me.0)
 
 -- the turns that only read
 abbrev pub IsLoad : Phase → Type 0
