@@ -21,11 +21,11 @@ use Rattle.scq_core.proofs.Fits.{words_fit}
 use Rattle.scq_core.proofs.Indices.{has_indices}
 use Rattle.scq_core.proofs.Readiness.{ring_low, ready_turn}
 use Rattle.scq_law.specs.Later as later
-use Rattle.scq_law.proofs.HandLaws.{one_hand}
-use Rattle.scq_law.proofs.PlaceLaws.{places_once}
+use Rattle.scq_law.proofs.Places.HandLaws.{one_hand}
+use Rattle.scq_law.proofs.Places.PlaceLaws.{places_once}
 use Rattle.scq_law.proofs.EntryLaws.{takes_phase, stands_at_turn}
-use Rattle.scq_law.proofs.LaterLaws.{finished_stays}
-use Rattle.scq_law.proofs.TicketLaws.{threshold_covers}
+use Rattle.scq_law.proofs.Places.LaterLaws.{finished_stays}
+use Rattle.scq_law.proofs.Tickets.TicketLaws.{threshold_covers}
 use Rattle.scq_band.specs.Layout.{ring_at, IsSlotAt, IsLocation}
 use Rattle.scq_band.specs.Turns.{Finds}
 use Rattle.scq_band.proofs.Moves.{Ground}

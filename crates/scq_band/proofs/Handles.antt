@@ -23,7 +23,7 @@ use Rattle.scq_core.specs.Laws.{Busy, word_at}
 use Rattle.scq_core.proofs.UpdatedLemmas.{written_same, updated_entry_or}
 use Rattle.scq_core.proofs.Entries.{some_slots, some_indices, below_mark, none_in-marked, none_in-filled, index_below}
 use Rattle.scq_law.specs.Hands.{times, Home, hand_of, slot_in, OneHand}
-use Rattle.scq_law.proofs.HandLemmas.{seen_times}
+use Rattle.scq_law.proofs.Places.HandLemmas.{seen_times}
 use Rattle.scq_band.specs.Shown.{Has, Stored}
 use Rattle.scq_band.specs.Turns.{Carries, Fronts, Takes, SlotsAfter}
 

@@ -5,25 +5,26 @@ use Rattle.std.proofs.lemmas.List.{get_or_default}
 use Rattle.scq_word.specs.declared.setup.Setup.{Setup}
 use Rattle.scq_core.specs.declared.phase.Phase.{Phase}
 use Rattle.scq_core.specs.declared.step.Step.{Step}
-use Rattle.scq_core.specs.declared.slot.Place.{Place}
+use Rattle.scq_core.specs.declared.slot.Cell.{Cell}
 use Rattle.scq_core.specs.declared.slot.Slot.{Slot}
 use Rattle.scq_core.specs.Machine.{Part}
 use Rattle.scq_core.specs.Table.{writes, stores, after, turn_of}
-use Rattle.scq_core.specs.Rings.{RingBook, IsPlace, word_in, content_in, ring_with}
-use Rattle.scq_core.specs.Book.{ring_in, no_slot, no_ring, HasRings}
-use Rattle.scq_core.specs.Turn.{ring_of, place_of, copied, started}
+use Rattle.scq_core.specs.Rings.{RingLists, IsCell, word_in, content_in, ring_with}
+use Rattle.scq_core.specs.StateLists.{ring_in, no_slot, no_ring, HasRings}
+use Rattle.scq_core.specs.Turn.{ring_of, cell_of, copied, started}
 use Rattle.scq_core.specs.Advance.{found_by, beside_by, Advances}
-use Rattle.scq_core.proofs.Places.{enabled_turn, is_place}
+use Rattle.scq_core.proofs.TurnCells.{enabled_turn, is_cell}
 
 -- the ring that was indexed is the turn's
-pub ring_read : (c : Setup) (rings : List RingBook) (i : ℕ) (ring : RingBook) → i < length rings → ring ≡ slice_index_or rings i ring → ring ≡ ring_in c rings i
+pub ring_read : (c : Setup) (rings : List RingLists) (i : ℕ) (ring : RingLists) → i < length rings → ring ≡ slice_index_or rings i ring
+    → ring ≡ ring_in c rings i
 ring_read c rings i ring low is = is ∙ get_or_default rings i ring (no_ring c) low
 
-pub place_fits : (c : Setup) (rings : List RingBook) (turn : Phase) (i : ℕ) (ring : RingBook) (p : Place) → HasRings c rings → ring_of turn < c.rings
-    → i ≡ ring_of turn → ring ≡ slice_index_or rings i ring → p ≡ place_of c turn → IsPlace ring p
-place_fits c rings turn i ring p has low at is place =
+pub cell_fits : (c : Setup) (rings : List RingLists) (turn : Phase) (i : ℕ) (ring : RingLists) (p : Cell) → HasRings c rings → ring_of turn < c.rings
+    → i ≡ ring_of turn → ring ≡ slice_index_or rings i ring → p ≡ cell_of c turn → IsCell ring p
+cell_fits c rings turn i ring p has low at is cell =
     let within : i < length rings = omega (arith, has.0) in
-    rw (ring_read c rings i ring within is, at, place) (is_place c rings turn has low)
+    rw (ring_read c rings i ring within is, at, cell) (is_cell c rings turn has low)
 
 pub turn_is : (c : Setup) (seat : Part) (step : Step) (begun : Option Phase) (turn : Phase) → is_some (turn_of c seat step) ≡ true → begun ≡ started step
     → turn ≡ unwrap_or begun seat.phase → turn_of c seat step ≡ Some turn
@@ -32,26 +33,27 @@ turn_is c seat step begun turn enabled begins is =
 
 -- Plan: the ring that was read and the one that is written are the turn's, so the word found, the content beside it and the
 -- ring afterwards are those of the table.
-pub advanced : (c : Setup) (step : Step) (rings : List RingBook) (seat seat_then : Part) (turn : Phase) (i : ℕ) (ring lent ring_then : RingBook) (p : Place)
+pub advanced : (c : Setup) (step : Step) (rings : List RingLists) (seat seat_then : Part) (turn : Phase) (i : ℕ) (ring lent ring_then : RingLists) (p : Cell)
     (found word : ℕ) (beside copy : List ℕ) (laid : Option (List ℕ)) → HasRings c rings → ring_of turn < c.rings → turn_of c seat step ≡ Some turn
-    → i ≡ ring_of turn → ring ≡ slice_index_or rings i ring → lent ≡ slice_index_or rings i lent → p ≡ place_of c turn
+    → i ≡ ring_of turn → ring ≡ slice_index_or rings i ring → lent ≡ slice_index_or rings i lent → p ≡ cell_of c turn
     → ((past : Slot) → beside ≡ content_in past ring p) → copy ≡ copied turn beside → ((past : Slot) → found ≡ word_in past ring p)
     → word ≡ writes c turn found → ((b : List ℕ) → copied turn b ≡ copy → seat_then ≡ after c turn found b seat)
     → ((b : List ℕ) → copied turn b ≡ copy → unwrap_or laid b ≡ stores turn found b)
     → ((past : Slot) → ring_then ≡ ring_with lent p word (unwrap_or laid (content_in past lent p)))
     → Advances c step rings seat (slice_set rings i ring_then) seat_then
-advanced c step rings seat seat_then turn i ring lent ring_then p found word beside copy laid has low enabled at is lent_is place stands copy_is found_is word_is part lays writes_it =
+advanced c step rings seat seat_then turn i ring lent ring_then p found word beside copy laid has low enabled at is lent_is cell stands copy_is found_is
+    word_is part lays writes_it =
     let within : i < length rings = omega (arith, has.0) in
     let past = no_slot c in
     let one : ring ≡ ring_in c rings (ring_of turn) = ring_read c rings i ring within is ∙ ap (ring_in c rings) at in
     let same : lent ≡ ring_in c rings (ring_of turn) = ring_read c rings i lent within lent_is ∙ ap (ring_in c rings) at in
-    let read : found ≡ found_by c rings turn = rw (← one, ← place) (found_is past) in
-    let near : beside ≡ beside_by c rings turn = rw (← one, ← place) (stands past) in
+    let read : found ≡ found_by c rings turn = rw (← one, ← cell) (found_is past) in
+    let near : beside ≡ beside_by c rings turn = rw (← one, ← cell) (stands past) in
     let lies : content_in past lent p ≡ beside = rw (same, ← one) (sym (stands past)) in
     let left : ring_then ≡ ring_with lent p word (stores turn found beside) = rw (← lays beside (sym copy_is), ← lies) (writes_it past) in
     record {
       turn = turn;
       enabled = enabled;
-      words = rw (left, same, word_is, place, read, near, at) refl;
+      words = rw (left, same, word_is, cell, read, near, at) refl;
       part = rw (← read, ← near) (part beside (sym copy_is));
     }

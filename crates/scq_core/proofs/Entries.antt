@@ -162,8 +162,8 @@ unfolding reset_value
 reset_small c = let few = few_indices c in omega arith
 
 -- the cycle of a ticket below the limit, times the slots, is below the limit
-pub cycle_lawful : (c : Setup) (t : ℕ) → t < c.limit → cycle c t * ring_slots c < c.limit
-cycle_lawful c t low = let parts = ticket_parts (ring_slots c) t in omega arith
+pub cycle_below_limit : (c : Setup) (t : ℕ) → t < c.limit → cycle c t * ring_slots c < c.limit
+cycle_below_limit c t low = let parts = ticket_parts (ring_slots c) t in omega arith
 
 -- a word of such a cycle is one of 64 bits
 pub packed_fits : (c : Setup) (z s i : ℕ) → z * ring_slots c < c.limit → s < 2 → i < ring_slots c → packed (ring_slots c) z s i < 2 ^ 64
@@ -177,7 +177,8 @@ packed_fits c z s i low bit small =
 pub word_fits : (c : Setup) (w : ℕ) → cycle_in (ring_slots c) w * ring_slots c < c.limit → w < 2 ^ 64
 word_fits c w low =
     let some = some_slots c in
-    let fits = packed_fits c (cycle_in (ring_slots c) w) (safe_in (ring_slots c) w) (index_in (ring_slots c) w) low (safe_in_bit (ring_slots c) w) (index_in_small (ring_slots c) w some) in
+    let fits = packed_fits c (cycle_in (ring_slots c) w) (safe_in (ring_slots c) w) (index_in (ring_slots c) w) low (safe_in_bit (ring_slots c) w)
+    (index_in_small (ring_slots c) w some) in
     rw (packed-parts (ring_slots c) w) at fits
 
 -- a word that has changed never comes back

@@ -34,7 +34,8 @@ words_fit c m reach =
     }
 
 -- a step from a reachable state lowers no rank and no counter
-pub step_rises : (c : Setup) (m m' : Machine) (k : ℕ) (s : Step) → IsReachable c m → step_of c m k s ≡ Some m' → RankRises c m.cells m'.cells × CountersRise m.cells m'.cells
+pub step_rises : (c : Setup) (m m' : Machine) (k : ℕ) (s : Step) → IsReachable c m → step_of c m k s ≡ Some m'
+    → RankRises c m.cells m'.cells × CountersRise m.cells m'.cells
 step_rises c m m' k s reach e =
     let t = turned c m k s m' e in
     let p = m.part k in

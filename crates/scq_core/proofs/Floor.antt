@@ -70,7 +70,8 @@ to_part : (r b : ℕ) (t : Bool) (x y : Part) → dequeues r x.phase ≤ b → d
 to_part r b t x y left right = either_way (λ (v : Part). dequeues r v.phase ≤ b) t x y left right
 
 -- a Threshold that falls by one where a dequeue of its ring ends
-ending_falls : (m : Cells) (q h r : ℕ) (leaving : Bool) → Falls zero_level (m.threshold r) (updated m.threshold q (m.threshold q - 1) r) (dequeues r (AtD10 q h leaving)) 0
+ending_falls : (m : Cells) (q h r : ℕ) (leaving : Bool)
+    → Falls zero_level (m.threshold r) (updated m.threshold q (m.threshold q - 1) r) (dequeues r (AtD10 q h leaving)) 0
 ending_falls m q h r leaving =
     elim (updated_or m.threshold q (m.threshold q - 1) r) [
       | inl here ↦
@@ -80,7 +81,8 @@ ending_falls m q h r leaving =
     ]
 
 -- a dequeue that goes past D1, where Threshold is at 0 or above
-passing_falls : (m : Cells) (q r l : ℕ) → zero_level ≤ m.threshold q → Falls zero_level (m.threshold r) (updated m.threshold q (m.threshold q) r) 0 (dequeues r (AtD2 q l))
+passing_falls : (m : Cells) (q r l : ℕ) → zero_level ≤ m.threshold q
+    → Falls zero_level (m.threshold r) (updated m.threshold q (m.threshold q) r) 0 (dequeues r (AtD2 q l))
 passing_falls m q r l high =
     elim (updated_or m.threshold q (m.threshold q) r) [
       | inl here ↦ rw here.1 (record { falls = inl high })
@@ -90,7 +92,8 @@ passing_falls m q r l high =
     ]
 
 -- one that goes on, where Threshold was above 0
-staying_falls : (m : Cells) (q h r l : ℕ) (leaving : Bool) → zero_level < m.threshold q → Falls zero_level (m.threshold r) (updated m.threshold q (m.threshold q - 1) r) (dequeues r (AtD10 q h leaving)) (dequeues r (AtD2 q l))
+staying_falls : (m : Cells) (q h r l : ℕ) (leaving : Bool) → zero_level < m.threshold q
+    → Falls zero_level (m.threshold r) (updated m.threshold q (m.threshold q - 1) r) (dequeues r (AtD10 q h leaving)) (dequeues r (AtD2 q l))
 staying_falls m q h r l leaving high =
     elim (updated_or m.threshold q (m.threshold q - 1) r) [
       | inl here ↦ rw here.1 (record { falls = inl (omega arith) })
@@ -98,7 +101,8 @@ staying_falls m q h r l leaving high =
     ]
 
 -- each turn's effect
-falls_turn : (c : Setup) (m : Cells) (p : Part) (turn : Phase) (r : ℕ) → (turn ≡ Idle → ⊥) → Falls zero_level (m.threshold r) ((cells_after c turn m).threshold r) (dequeues r turn) (dequeues r (phase_then c m p turn))
+falls_turn : (c : Setup) (m : Cells) (p : Part) (turn : Phase) (r : ℕ) → (turn ≡ Idle → ⊥)
+    → Falls zero_level (m.threshold r) ((cells_after c turn m).threshold r) (dequeues r turn) (dequeues r (phase_then c m p turn))
 falls_turn c m p Idle r awake = absurd (awake refl)
 falls_turn c m p (AtE1 q i w l) r awake = same_falls _ _ _ _ (to_part r 0 (nat_le c.limit (m.tail q)) _ _ (omega arith) (omega arith))
 falls_turn c m p (AtE2 q i w t l) r awake =
@@ -108,7 +112,8 @@ falls_turn c m p (AtE2 q i w t l) r awake =
     _
     _
     _
-    (to_part r 0 (nat_lt (cycle_in (ring_slots c) x) (cycle c t) && is_none_in (ring_slots c) x) _ _ (to_part r 0 (safe_in (ring_slots c) x == 1) _ _ (omega arith) (omega arith)) (omega arith))
+    (to_part r 0 (nat_lt (cycle_in (ring_slots c) x) (cycle c t) && is_none_in (ring_slots c) x) _ _
+    (to_part r 0 (safe_in (ring_slots c) x == 1) _ _ (omega arith) (omega arith)) (omega arith))
 falls_turn c m p (AtE3 q i w t e) r awake = same_falls _ _ _ _ (to_part r 0 (nat_le (m.head q) t) _ _ (omega arith) (omega arith))
 falls_turn c m p (AtE4 q i w t e) r awake = same_falls _ _ _ _ (to_part r 0 (word_at c m q t == e) _ _ (omega arith) (omega arith))
 falls_turn c m p (AtE5 q i w t) r awake =
@@ -135,7 +140,8 @@ falls_turn c m p (AtD3 q h l) r awake =
     _
     _
     _
-    (to_part r (dequeues r (AtD3 q h l)) (cycle_in (ring_slots c) x == cycle c h) _ _ (omega arith) (to_part r (dequeues r (AtD3 q h l)) (nat_lt (cycle_in (ring_slots c) x) (cycle c h)) _ _ (omega arith) (omega arith)))
+    (to_part r (dequeues r (AtD3 q h l)) (cycle_in (ring_slots c) x == cycle c h) _ _ (omega arith)
+    (to_part r (dequeues r (AtD3 q h l)) (nat_lt (cycle_in (ring_slots c) x) (cycle c h)) _ _ (omega arith) (omega arith)))
 falls_turn c m p (AtD4 q h) r awake = same_falls _ _ _ _ (omega arith)
 falls_turn c m p (AtD5 q h e) r awake =
     same_falls _ _ _ _ (to_part r (dequeues r (AtD5 q h e)) (word_at c m q h == e) _ _ (omega arith) (omega arith))
@@ -166,7 +172,8 @@ ceiling_turn c m (AtD10 q h leaving) low r =
 ceiling_turn c m turn low r = low r
 
 -- a turn keeps floor and ceiling
-floor_turn : (c : Setup) (m : Machine) (k : ℕ) (s : Step) (turn : Phase) → k < c.seats → turn_of c (m.part k) s ≡ Some turn → ThresholdFloor c m → ThresholdFloor c (moved c m k turn)
+floor_turn : (c : Setup) (m : Machine) (k : ℕ) (s : Step) (turn : Phase) → k < c.seats → turn_of c (m.part k) s ≡ Some turn → ThresholdFloor c m
+    → ThresholdFloor c (moved c m k turn)
 floor_turn c m k s turn low e was =
     let p = m.part k in
     let x = read m.cells (location_of c turn) in

@@ -50,7 +50,8 @@ passed_here : (c : Setup) (h e x : ℕ) → IsIndexOrMark c.order x → IsIndexO
 passed_here c h e x valid =
     elim (eqb_tells x e) [ inl is ↦ rw is.0 (rw (← is.1) (passed_valid c h x valid)) | inr other ↦ rw other.0 valid ]
 
-written_valid : (c : Setup) (m : Cells) (r s x : ℕ) → HasIndices c m → IsIndexOrMark c.order x → (q z : ℕ) → IsIndexOrMark c.order (updated_entry m.entries.word r s x q z)
+written_valid : (c : Setup) (m : Cells) (r s x : ℕ) → HasIndices c m → IsIndexOrMark c.order x → (q z : ℕ)
+    → IsIndexOrMark c.order (updated_entry m.entries.word r s x q z)
 written_valid c m r s x all valid q z =
     updated_entry_cases (λ (a b v : ℕ). IsIndexOrMark c.order v) m.entries.word r s x q z (λ _ _. valid) (λ _. all.entries q z)
 
@@ -61,7 +62,9 @@ indices_after c m hand (AtE2 r i w t l) busy all =
 indices_after c m hand (AtE4 r i w t e) busy all =
     let x = read m (location_of c (AtE4 r i w t e)) in
     record {
-      entries = written_valid c m r _ _ all (either_way (λ (v : ℕ). IsIndexOrMark c.order v) (x == e) (packed (ring_slots c) (cycle c t) 1 i) x (placed c (cycle c t) 1 i busy.0.index) (all.entries r _));
+      entries = written_valid c m r _ _ all
+          (either_way (λ (v : ℕ). IsIndexOrMark c.order v) (x == e) (packed (ring_slots c) (cycle c t) 1 i) x (placed c (cycle c t) 1 i busy.0.index)
+          (all.entries r _));
     }
 indices_after c m hand (AtD3 r h l) busy all =
     record { entries = written_valid c m r _ _ all (all.entries r _) }

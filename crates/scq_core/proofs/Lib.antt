@@ -12,8 +12,8 @@ pub mod Starts
 pub mod Packing
 pub mod Indices
 pub mod Readiness
-pub mod Places
-pub mod Books
+pub mod TurnCells
+pub mod ListedTurns
 pub mod Advancing
 pub mod Filling
 pub mod Looks

@@ -19,7 +19,7 @@ use Rattle.scq_core.specs.Reach.{IsReachable, at_start, by_step}
 use Rattle.scq_core.specs.Laws.{word_at, Busy, IsSteady, spent_of, spent_seats, CountersBounded, CyclesBounded}
 use Rattle.scq_core.proofs.UpdatedLemmas.{updated_cases, updated_entry_cases}
 use Rattle.scq_core.proofs.Turns.{turned}
-use Rattle.scq_core.proofs.Entries.{some_slots, some_indices, below_mark, limit_high, cycle_lawful}
+use Rattle.scq_core.proofs.Entries.{some_slots, some_indices, below_mark, limit_high, cycle_below_limit}
 use Rattle.scq_core.proofs.Steady.{has, keeps_none, steady, either_way}
 use Rattle.scq_core.proofs.Counts.{total_updated, total_few}
 
@@ -35,7 +35,8 @@ updated_within : (f : ℕ → ℕ) (q x r bound : ℕ) → x ≤ bound → f r �
 updated_within f q x r bound new old = updated_cases (λ (a v : ℕ). v ≤ bound) f q x r (λ _. new) (λ _. old)
 
 -- Tail after a turn, where Tail and Head stood within a bound: one further where the seat now keeps a ticket
-tail_after : (c : Setup) (m : Cells) (p : Part) (turn : Phase) (b : ℕ) → Busy c m p.hand turn → ((r : ℕ) → m.tail r ≤ c.limit + b) → ((r : ℕ) → m.head r ≤ c.limit + b) → (r : ℕ) → (cells_after c turn m).tail r ≤ c.limit + (b + spent_then c m p turn)
+tail_after : (c : Setup) (m : Cells) (p : Part) (turn : Phase) (b : ℕ) → Busy c m p.hand turn → ((r : ℕ) → m.tail r ≤ c.limit + b)
+    → ((r : ℕ) → m.head r ≤ c.limit + b) → (r : ℕ) → (cells_after c turn m).tail r ≤ c.limit + (b + spent_then c m p turn)
 tail_after c m p Idle b busy tails heads r =
     let here = tails 0 in let there = tails r in updated_within m.tail 0 _ r _ (omega arith) (omega arith)
 tail_after c m p (AtE1 q i w l) b busy tails heads r =
@@ -67,7 +68,8 @@ tail_after c m p (AtD9 q h from to) b busy tails heads r =
 tail_after c m p turn b busy tails heads r = let there = tails r in omega arith
 
 -- and Head
-head_after : (c : Setup) (m : Cells) (p : Part) (turn : Phase) (b : ℕ) → ((r : ℕ) → m.head r ≤ c.limit + b) → (r : ℕ) → (cells_after c turn m).head r ≤ c.limit + (b + spent_then c m p turn)
+head_after : (c : Setup) (m : Cells) (p : Part) (turn : Phase) (b : ℕ) → ((r : ℕ) → m.head r ≤ c.limit + b) → (r : ℕ)
+    → (cells_after c turn m).head r ≤ c.limit + (b + spent_then c m p turn)
 head_after c m p (AtD2 q l) b heads r =
     let here = heads q in
     let there = heads r in
@@ -84,7 +86,8 @@ head_after c m p (AtD8 q h from) b heads r =
 head_after c m p turn b heads r = let there = heads r in omega arith
 
 -- the seats that keep a ticket after a turn are those before, and the turn's own where it drew at or past the limit
-spent_moves : (c : Setup) (m : Machine) (k : ℕ) (turn : Phase) → k < c.seats → (m.part k).spent ≡ None → spent_seats c m + spent_then c m.cells (m.part k) turn ≡ spent_seats c (moved c m k turn)
+spent_moves : (c : Setup) (m : Machine) (k : ℕ) (turn : Phase) → k < c.seats → (m.part k).spent ≡ None
+    → spent_seats c m + spent_then c m.cells (m.part k) turn ≡ spent_seats c (moved c m k turn)
 spent_moves c m k turn low none =
     let x = read m.cells (location_of c turn) in
     let y = beside m.cells (location_of c turn) in
@@ -93,7 +96,8 @@ spent_moves c m k turn low none =
     omega arith
 
 -- a turn keeps Tail and Head within their bound
-bounded_turn : (c : Setup) (m : Machine) (k : ℕ) (s : Step) (turn : Phase) → k < c.seats → IsSteady c m → CountersBounded c m → turn_of c (m.part k) s ≡ Some turn → CountersBounded c (moved c m k turn)
+bounded_turn : (c : Setup) (m : Machine) (k : ℕ) (s : Step) (turn : Phase) → k < c.seats → IsSteady c m → CountersBounded c m
+    → turn_of c (m.part k) s ≡ Some turn → CountersBounded c (moved c m k turn)
 bounded_turn c m k s turn low steady bounded e =
     let p = m.part k in
     let none = keeps_none c m k s turn steady e in
@@ -132,8 +136,9 @@ counters_bounded c m (by_step {m = b} seat step reach low e) =
     (bounded_turn c b seat step t.turn low (steady c b reach) (counters_bounded c b reach) t.enabled)
 
 -- the word of an entry that is written: of a lawful cycle where it and the old one are
-entry_lawful : (c : Setup) (m : Cells) (r s x : ℕ) (y : List ℕ) → CyclesBounded c m → cycle_in (ring_slots c) x * ring_slots c < c.limit → CyclesBounded c (written m (entry_of r s) x y)
-entry_lawful c m r s x y was new =
+entry_below_limit : (c : Setup) (m : Cells) (r s x : ℕ) (y : List ℕ) → CyclesBounded c m → cycle_in (ring_slots c) x * ring_slots c < c.limit
+    → CyclesBounded c (written m (entry_of r s) x y)
+entry_below_limit c m r s x y was new =
     record {
       cycles =
           λ q z.
@@ -150,8 +155,9 @@ entry_lawful c m r s x y was new =
     }
 
 -- the cycle of a word that a dequeue with a later ticket leaves
-passed_lawful : (c : Setup) (h e : ℕ) → h < c.limit → cycle_in (ring_slots c) e * ring_slots c < c.limit → cycle_in (ring_slots c) (passed c h e) * ring_slots c < c.limit
-passed_lawful c h e low was =
+passed_below_limit : (c : Setup) (h e : ℕ) → h < c.limit → cycle_in (ring_slots c) e * ring_slots c < c.limit
+    → cycle_in (ring_slots c) (passed c h e) * ring_slots c < c.limit
+passed_below_limit c h e low was =
     let some = some_slots c in
     let bit = safe_in_bit (ring_slots c) e in
     either_way
@@ -159,16 +165,16 @@ passed_lawful c h e low was =
     (is_none_in (ring_slots c) e)
     _
     _
-    (rw (cycle_in-packed (ring_slots c) (cycle c h) (safe_in (ring_slots c) e) (mark_of (ring_slots c)) (omega arith) bit) (cycle_lawful c h low))
+    (rw (cycle_in-packed (ring_slots c) (cycle c h) (safe_in (ring_slots c) e) (mark_of (ring_slots c)) (omega arith) bit) (cycle_below_limit c h low))
     (rw (cycle_in-packed (ring_slots c) (cycle_in (ring_slots c) e) 0 (index_in (ring_slots c) e) (index_in_small (ring_slots c) e some) (omega arith)) was)
 
 -- each turn keeps the cycles of entries lawful
 cycles_turn : (c : Setup) (m : Cells) (hand : List ℕ) (turn : Phase) → Busy c m hand turn → CyclesBounded c m → CyclesBounded c (cells_after c turn m)
-cycles_turn c m hand (AtE2 r i w t l) busy was = entry_lawful c m r (slot_of (ring_slots c) t) _ _ was (was.cycles r _)
+cycles_turn c m hand (AtE2 r i w t l) busy was = entry_below_limit c m r (slot_of (ring_slots c) t) _ _ was (was.cycles r _)
 cycles_turn c m hand (AtE4 r i w t e) busy was =
     let low = below_mark c i busy.0.index in
     let drawn = busy.1 in
-    entry_lawful
+    entry_below_limit
     c
     m
     r
@@ -181,13 +187,13 @@ cycles_turn c m hand (AtE4 r i w t e) busy was =
     (word_at c m r t == e)
     _
     _
-    (rw (cycle_in-packed (ring_slots c) (cycle c t) 1 i (omega arith) (omega arith)) (cycle_lawful c t drawn.lawful))
+    (rw (cycle_in-packed (ring_slots c) (cycle c t) 1 i (omega arith) (omega arith)) (cycle_below_limit c t drawn.below_limit))
     (was.cycles r _))
-cycles_turn c m hand (AtD3 r h l) busy was = entry_lawful c m r (slot_of (ring_slots c) h) _ _ was (was.cycles r _)
+cycles_turn c m hand (AtD3 r h l) busy was = entry_below_limit c m r (slot_of (ring_slots c) h) _ _ was (was.cycles r _)
 cycles_turn c m hand (AtD4 r h) busy was =
     let some = some_slots c in
     let x = word_at c m r h in
-    entry_lawful
+    entry_below_limit
     c
     m
     r
@@ -195,9 +201,10 @@ cycles_turn c m hand (AtD4 r h) busy was =
     _
     _
     was
-    (rw (cycle_in-packed (ring_slots c) (cycle_in (ring_slots c) x) (safe_in (ring_slots c) x) (mark_of (ring_slots c)) (omega arith) (safe_in_bit (ring_slots c) x)) (was.cycles r _))
+    (rw (cycle_in-packed (ring_slots c) (cycle_in (ring_slots c) x) (safe_in (ring_slots c) x) (mark_of (ring_slots c)) (omega arith)
+    (safe_in_bit (ring_slots c) x)) (was.cycles r _))
 cycles_turn c m hand (AtD5 r h e) busy was =
-    entry_lawful
+    entry_below_limit
     c
     m
     r
@@ -208,7 +215,7 @@ cycles_turn c m hand (AtD5 r h e) busy was =
     (elim (cases_eq (word_at c m r h) e) [
       | inl same ↦
           rw (eq-eqb (word_at c m r h) e same)
-          (passed_lawful c h e busy.1.lawful (rw same at (was.cycles r (slot_of (ring_slots c) h))))
+          (passed_below_limit c h e busy.1.below_limit (rw same at (was.cycles r (slot_of (ring_slots c) h))))
       | inr apart ↦ rw (ne_eqb (word_at c m r h) e apart) (was.cycles r _)
     ])
 cycles_turn c m hand turn busy was = record { cycles = was.cycles }

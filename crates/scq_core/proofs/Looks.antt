@@ -2,16 +2,16 @@
 use Rattle.std.proofs.Common.{◌≡◌, ℕ, ◌<◌, ◌^◌, subst, length, arith}
 use Rattle.std.specs.Prelude.{slice_index_or}
 use Rattle.scq_core.specs.Table.{zero_level, reset_value}
-use Rattle.scq_core.specs.declared.slot.Place.{Place}
-use Rattle.scq_core.specs.declared.slot.Place.TheVariants.{Tail, Head, Threshold, Entry}
-use Rattle.scq_core.specs.Rings.{RingBook, IsPlace}
-use Rattle.scq_core.specs.Book.{Book, IsSound, IsPlaceOf, ring_in, machine_of}
+use Rattle.scq_core.specs.declared.slot.Cell.{Cell}
+use Rattle.scq_core.specs.declared.slot.Cell.TheVariants.{Tail, Head, Threshold, Entry}
+use Rattle.scq_core.specs.Rings.{RingLists, IsCell}
+use Rattle.scq_core.specs.StateLists.{StateLists, IsState, IsCellOf, ring_in, machine_of}
 use Rattle.scq_core.proofs.Entries.{few_indices}
 use Rattle.scq_core.proofs.Floor.{threshold_floor}
 use Rattle.scq_core.proofs.Advancing.{ring_read}
 
 -- Threshold is small enough for a signed number
-pub threshold_small : (b : Book) → IsSound b → (r : ℕ) → (machine_of b).cells.threshold r < 2 ^ 62
+pub threshold_small : (b : StateLists) → IsState b → (r : ℕ) → (machine_of b).cells.threshold r < 2 ^ 62
 unfolding zero_level reset_value
 threshold_small b sound r =
     let high = (threshold_floor b.setup (machine_of b) sound.reachable).ceiling r in
@@ -19,16 +19,17 @@ threshold_small b sound r =
     omega arith
 
 -- the ring that was indexed is the state's
-pub indexed_ring : (a b : Book) (r : ℕ) (ring : RingBook) → a ≡ b → IsSound a → r < b.setup.rings → ring ≡ slice_index_or a.rings r ring → ring ≡ ring_in b.setup b.rings r
+pub indexed_ring : (a b : StateLists) (r : ℕ) (ring : RingLists) → a ≡ b → IsState a → r < b.setup.rings → ring ≡ slice_index_or a.rings r ring
+    → ring ≡ ring_in b.setup b.rings r
 indexed_ring a b r ring same sound low is =
-    let now : IsSound b = subst (λ (x : Book). IsSound x) same sound in
-    let read : ring ≡ slice_index_or b.rings r ring = subst (λ (x : Book). ring ≡ slice_index_or x.rings r ring) same is in
+    let now : IsState b = subst (λ (x : StateLists). IsState x) same sound in
+    let read : ring ≡ slice_index_or b.rings r ring = subst (λ (x : StateLists). ring ≡ slice_index_or x.rings r ring) same is in
     let within : r < length b.rings = omega (arith, now.rings.0) in
     ring_read b.setup b.rings r ring within read
 
--- and its places are those of any ring
-pub place_there : (b : Book) (r : ℕ) (p : Place) → IsSound b → r < b.setup.rings → IsPlaceOf b.setup p → IsPlace (ring_in b.setup b.rings r) p
-place_there b r Tail sound low is = tt
-place_there b r Head sound low is = tt
-place_there b r Threshold sound low is = tt
-place_there b r (Entry slot) sound low is = rw (sound.rings.1 r low) is
+-- and its cells are those of any ring
+pub cell_there : (b : StateLists) (r : ℕ) (p : Cell) → IsState b → r < b.setup.rings → IsCellOf b.setup p → IsCell (ring_in b.setup b.rings r) p
+cell_there b r Tail sound low is = tt
+cell_there b r Head sound low is = tt
+cell_there b r Threshold sound low is = tt
+cell_there b r (Entry slot) sound low is = rw (sound.rings.1 r low) is

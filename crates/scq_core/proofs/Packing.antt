@@ -8,7 +8,7 @@ use Rattle.scq_word.specs.declared.setup.Setup.{Setup}
 use Rattle.scq_word.specs.declared.entry.Entry.{Entry}
 use Rattle.scq_word.specs.Sizes.{n_of, slots_of}
 use Rattle.scq_word.specs.Words.{index_in, safe_in, is_none_in}
-use Rattle.scq_word.specs.Entries.{safe_bit, word_of, index_of, entry_of}
+use Rattle.scq_word.specs.Entries.{safe_bit, word_of, index_of, entry_in}
 use Rattle.scq_word.proofs.WordLemmas.{safe_in_bit}
 use Rattle.scq_word.proofs.TicketLemmas.{ticket_parts}
 use Rattle.scq_core.specs.Table.{ring_slots, cycle, passed}
@@ -16,7 +16,7 @@ use Rattle.scq_core.proofs.Entries.{some_indices}
 
 -- the cycle of a ticket below the limit can be packed
 pub cycle_fits : (c : Setup) (t : ℕ) → t < c.limit → cycle c t < 2 ^ 62 / n_of c.order
-cycle_fits c t lawful =
+cycle_fits c t below_limit =
     let range = c.limit_in_range in
     let some = c.order_in_range in
     let turns : (cycle c t + 1) * n_of c.order ≤ 2 ^ 62 = omega (arith, ticket_parts (ring_slots c) t) in
@@ -42,14 +42,15 @@ index_of-some order e i some =
     ]
 
 -- an entry without an index, moved to the cycle of a ticket
-pub passed_moved : (c : Setup) (h e cyc : ℕ) (entry left : Entry) → entry ≡ entry_of c.order e → entry.index ≡ None → cyc ≡ cycle c h
+pub passed_moved : (c : Setup) (h e cyc : ℕ) (entry left : Entry) → entry ≡ entry_in c.order e → entry.index ≡ None → cyc ≡ cycle c h
     → left ≡ record { cycle = cyc; safe = entry.safe; index = entry.index } → word_of c.order left ≡ passed c h e
 passed_moved c h e cyc entry left read none cyc_is left_is =
     let is : index_of c.order e ≡ None = sym (ap (λ (x : Entry). x.index) read) ∙ none in
-    rw (left_is, none, ap (λ (x : Entry). x.safe) read, cyc_is, index_of-none c.order e is, bit_read (safe_in (ring_slots c) e) (safe_in_bit (ring_slots c) e)) refl
+    rw (left_is, none, ap (λ (x : Entry). x.safe) read, cyc_is, index_of-none c.order e is, bit_read (safe_in (ring_slots c) e) (safe_in_bit (ring_slots c) e))
+    refl
 
 -- one with an index, marked unsafe
-pub passed_marked : (c : Setup) (h e i : ℕ) (entry left : Entry) → entry ≡ entry_of c.order e → entry.index ≡ Some i
+pub passed_marked : (c : Setup) (h e i : ℕ) (entry left : Entry) → entry ≡ entry_in c.order e → entry.index ≡ Some i
     → left ≡ record { cycle = entry.cycle; safe = false; index = entry.index } → word_of c.order left ≡ passed c h e
 passed_marked c h e i entry left read some left_is =
     let is : index_of c.order e ≡ Some i = sym (ap (λ (x : Entry). x.index) read) ∙ some in

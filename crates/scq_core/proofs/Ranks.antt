@@ -13,7 +13,8 @@ use Rattle.scq_core.proofs.UpdatedLemmas.{updated_cases, updated_entry_cases}
 use Rattle.scq_core.proofs.Entries.{above_same, above_trans, placing_rises, taking_rises, passing_rises, below_mark, some_slots}
 
 -- one entry written above what stood there
-pub entry_rises : (c : Setup) (m : Cells) (r s x : ℕ) (y : List ℕ) → IsAbove (ring_slots c) (m.entries.word r s) x → RankRises c m (written m (entry_of r s) x y)
+pub entry_rises : (c : Setup) (m : Cells) (r s x : ℕ) (y : List ℕ) → IsAbove (ring_slots c) (m.entries.word r s) x
+    → RankRises c m (written m (entry_of r s) x y)
 entry_rises c m r s x y above =
     record {
       rises =
@@ -31,7 +32,8 @@ entry_rises c m r s x y above =
     }
 
 -- an entry kept where a test fails, and written where it holds
-tested_rises : (c : Setup) (m : Cells) (r s e x : ℕ) → (m.entries.word r s ≡ e → IsAbove (ring_slots c) e x) → IsAbove (ring_slots c) (m.entries.word r s) (if m.entries.word r s == e then x else m.entries.word r s)
+tested_rises : (c : Setup) (m : Cells) (r s e x : ℕ) → (m.entries.word r s ≡ e → IsAbove (ring_slots c) e x)
+    → IsAbove (ring_slots c) (m.entries.word r s) (if m.entries.word r s == e then x else m.entries.word r s)
 tested_rises c m r s e x hit =
     elim (cases_eq (m.entries.word r s) e) [
       | inl same ↦ rw (eq-eqb (m.entries.word r s) e same) (rw same (hit same))

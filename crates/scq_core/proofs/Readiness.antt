@@ -36,24 +36,25 @@ ring_low c m hand (AtD9 r h from to) busy = busy.0
 ring_low c m hand (AtD10 r h leaving) busy = busy.0
 
 -- what the arithmetic of a turn stands on
-pub ready_turn : (c : Setup) (m : Cells) (hand : List ℕ) (turn : Phase) → Busy c m hand turn → WordsFit c m → HasIndices c m → (turn ≡ Idle → ⊥) → IsReady c turn (read m (location_of c turn))
+pub ready_turn : (c : Setup) (m : Cells) (hand : List ℕ) (turn : Phase) → Busy c m hand turn → WordsFit c m → HasIndices c m → (turn ≡ Idle → ⊥)
+    → IsReady c turn (read m (location_of c turn))
 ready_turn c m hand Idle busy fit all wakes = wakes refl
 ready_turn c m hand (AtE1 r i w l) busy fit all wakes = fit.tail r
-ready_turn c m hand (AtE2 r i w t l) busy fit all wakes = (busy.1.lawful, all.entries r _)
-ready_turn c m hand (AtE3 r i w t e) busy fit all wakes = busy.1.lawful
-ready_turn c m hand (AtE4 r i w t e) busy fit all wakes = (busy.1.lawful, busy.0.index, all.entries r _)
+ready_turn c m hand (AtE2 r i w t l) busy fit all wakes = (busy.1.below_limit, all.entries r _)
+ready_turn c m hand (AtE3 r i w t e) busy fit all wakes = busy.1.below_limit
+ready_turn c m hand (AtE4 r i w t e) busy fit all wakes = (busy.1.below_limit, busy.0.index, all.entries r _)
 ready_turn c m hand (AtE5 r i w t) busy fit all wakes = tt
 ready_turn c m hand (AtE6 r i w t) busy fit all wakes = tt
 ready_turn c m hand (AtD1 r) busy fit all wakes = tt
 ready_turn c m hand (AtD2 r l) busy fit all wakes = fit.head r
-ready_turn c m hand (AtD3 r h l) busy fit all wakes = (busy.1.lawful, all.entries r _)
+ready_turn c m hand (AtD3 r h l) busy fit all wakes = (busy.1.below_limit, all.entries r _)
 ready_turn c m hand (AtD4 r h) busy fit all wakes = all.entries r _
-ready_turn c m hand (AtD5 r h e) busy fit all wakes = (busy.1.lawful, all.entries r _)
-ready_turn c m hand (AtD6 r h) busy fit all wakes = busy.1.lawful
+ready_turn c m hand (AtD5 r h e) busy fit all wakes = (busy.1.below_limit, all.entries r _)
+ready_turn c m hand (AtD6 r h) busy fit all wakes = busy.1.below_limit
 ready_turn c m hand (AtD7 r h from to) busy fit all wakes = tt
 ready_turn c m hand (AtD8 r h from) busy fit all wakes = tt
 ready_turn c m hand (AtD9 r h from to) busy fit all wakes = tt
-ready_turn c m hand (AtD10 r h leaving) busy fit all wakes = (busy.1.lawful, (fit.threshold r).0)
+ready_turn c m hand (AtD10 r h leaving) busy fit all wakes = (busy.1.below_limit, (fit.threshold r).0)
 
 -- so each enabled turn of a reachable state can be made
 pub enabled_ready : (c : Setup) (m : Machine) (k : ℕ) (step : Step) (turn : Phase) → IsReachable c m → turn_of c (m.part k) step ≡ Some turn

@@ -25,7 +25,11 @@ grows_by_one calls ended = record { more = ended ∷ []; appended = refl }
 -- more, and more again
 pub grows_on : (a b c : List Ended) → Grows a b → Grows b c → Grows a c
 grows_on a b c first second =
-    record { more = first.more ++ second.more; appended = second.appended ∙ ap (λ (calls : List Ended). calls ++ second.more) first.appended ∙ append_assoc a first.more second.more }
+    record {
+      more = first.more ++ second.more;
+      appended = second.appended ∙ ap (λ (calls : List Ended). calls ++ second.more) first.appended
+          ∙ append_assoc a first.more second.more;
+    }
 
 -- a turn adds at most its own call
 pub calls_after : (c : Setup) (turn : Phase) (x : ℕ) (y : List ℕ) (p : Part) → Grows p.calls (after c turn x y p).calls
@@ -33,7 +37,8 @@ calls_after c Idle x y p = grows_by_none p.calls
 calls_after c (AtE1 r i w l) x y p = either_way (λ (q : Part). Grows p.calls q.calls) (nat_le c.limit x) _ _ (grows_by_one p.calls _) (grows_by_none p.calls)
 calls_after c (AtE2 r i w t l) x y p =
     either_way (λ (q : Part). Grows p.calls q.calls) (nat_lt (cycle_in (ring_slots c) x) (cycle c t) && is_none_in (ring_slots c) x) _ _
-    (either_way (λ (q : Part). Grows p.calls q.calls) (safe_in (ring_slots c) x == 1) _ _ (grows_by_none p.calls) (grows_by_none p.calls)) (grows_by_none p.calls)
+    (either_way (λ (q : Part). Grows p.calls q.calls) (safe_in (ring_slots c) x == 1) _ _ (grows_by_none p.calls) (grows_by_none p.calls))
+    (grows_by_none p.calls)
 calls_after c (AtE3 r i w t e) x y p = either_way (λ (q : Part). Grows p.calls q.calls) (nat_le x t) _ _ (grows_by_none p.calls) (grows_by_none p.calls)
 calls_after c (AtE4 r i w t e) x y p = either_way (λ (q : Part). Grows p.calls q.calls) (x == e) _ _ (grows_by_none p.calls) (grows_by_none p.calls)
 calls_after c (AtE5 r i w t) x y p = either_way (λ (q : Part). Grows p.calls q.calls) (x == reset_level c) _ _ (grows_by_one p.calls _) (grows_by_none p.calls)
@@ -50,7 +55,8 @@ calls_after c (AtD7 r h from to) x y p = either_way (λ (q : Part). Grows p.call
 calls_after c (AtD8 r h from) x y p = grows_by_none p.calls
 calls_after c (AtD9 r h from to) x y p = either_way (λ (q : Part). Grows p.calls q.calls) (nat_le to x) _ _ (grows_by_none p.calls) (grows_by_none p.calls)
 calls_after c (AtD10 r h true) x y p = grows_by_one p.calls _
-calls_after c (AtD10 r h false) x y p = either_way (λ (q : Part). Grows p.calls q.calls) (nat_le x zero_level) _ _ (grows_by_one p.calls _) (grows_by_none p.calls)
+calls_after c (AtD10 r h false) x y p =
+    either_way (λ (q : Part). Grows p.calls q.calls) (nat_le x zero_level) _ _ (grows_by_one p.calls _) (grows_by_none p.calls)
 
 -- so a step leaves what stands in each seat's record
 pub records_grow : (c : Setup) (m later : Machine) (k : ℕ) (step : Step) → step_of c m k step ≡ Some later → RecordsGrow m later

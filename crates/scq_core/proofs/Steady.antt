@@ -35,7 +35,7 @@ has c m p s turn busy e =
     ]
 
 drawn_lasts : (c : Setup) (counter later t : ℕ) → counter ≤ later → Drawn c counter t → Drawn c later t
-drawn_lasts c counter later t up drawn = record { first = drawn.first; below = omega arith; lawful = drawn.lawful }
+drawn_lasts c counter later t up drawn = record { first = drawn.first; below = omega arith; below_limit = drawn.below_limit }
 
 lags_lasts : (c : Setup) (t e now later : ℕ) → IsAbove (ring_slots c) now later → Lags c t e now → Lags c t e later
 lags_lasts c t e now later up lags =
@@ -77,8 +77,8 @@ lasts c m n hand (AtD9 r h from to) ranks up busy =
 lasts c m n hand (AtD10 r h leaving) ranks up busy = (busy.0, drawn_lasts c _ _ h (up.head r) busy.1)
 
 -- a seat's part after its turn on these cells
-abbrev part_after : Setup → Phase → Cells → Part → Part
-part_after c turn m p = after c turn (read m (location_of c turn)) (beside m (location_of c turn)) p
+abbrev turned_part : Setup → Phase → Cells → Part → Part
+turned_part c turn m p = after c turn (read m (location_of c turn)) (beside m (location_of c turn)) p
 
 -- a turn that draws a ticket lifts its counter
 abbrev Draws : Cells → Cells → Phase → Type 0
@@ -92,14 +92,16 @@ draws c m (AtD2 r l) = let here = updated_here m.head r (m.head r + 1) in omega 
 draws c m turn = tt
 
 -- what a seat has after its own turn, of any cells n in which ranks and counters rose
-own : (c : Setup) (m n : Cells) (p : Part) (turn : Phase) → (turn ≡ Idle → ⊥) → ((r : ℕ) → ring_slots c ≤ m.tail r) → ((r : ℕ) → ring_slots c ≤ m.head r) → RankRises c m n → CountersRise m n → Draws m n turn → Busy c m p.hand turn → Busy c n p.hand turn → Busy c n (part_after c turn m p).hand (part_after c turn m p).phase
+own : (c : Setup) (m n : Cells) (p : Part) (turn : Phase) → (turn ≡ Idle → ⊥) → ((r : ℕ) → ring_slots c ≤ m.tail r) → ((r : ℕ) → ring_slots c ≤ m.head r)
+    → RankRises c m n → CountersRise m n → Draws m n turn → Busy c m p.hand turn → Busy c n p.hand turn
+    → Busy c n (turned_part c turn m p).hand (turned_part c turn m p).phase
 own c m n p Idle awake tails heads ranks up drew was now = absurd (awake refl)
 own c m n p (AtE1 r i w l) awake tails heads ranks up drew was now =
     elim (cases_Bool (nat_le c.limit (m.tail r))) [
       | inl past ↦ rw past tt
       | inr under ↦
           let low = leb-false c.limit (m.tail r) under in
-          rw under (now.0, record { first = tails r; below = drew; lawful = low }, omega arith)
+          rw under (now.0, record { first = tails r; below = drew; below_limit = low }, omega arith)
     ]
 own c m n p (AtE2 r i w t l) awake tails heads ranks up drew was now =
     let x = word_at c m r t in
@@ -137,7 +139,7 @@ own c m n p (AtD2 r l) awake tails heads ranks up drew was now =
       | inl past ↦ rw past tt
       | inr under ↦
           let low = leb-false c.limit (m.head r) under in
-          rw under (now.0, record { first = heads r; below = drew; lawful = low }, omega arith)
+          rw under (now.0, record { first = heads r; below = drew; below_limit = low }, omega arith)
     ]
 own c m n p (AtD3 r h l) awake tails heads ranks up drew was now =
     let x = word_at c m r h in
@@ -198,7 +200,8 @@ either_way P true x y left right = left
 either_way P false x y left right = right
 
 -- a turn that draws at or past the limit keeps its ticket and is the call's last; every other leaves what the seat keeps
-pub kept_after : (c : Setup) (turn : Phase) (x : ℕ) (y : List ℕ) (p : Part) → ((after c turn x y p).spent ≡ p.spent) ⊎ (((after c turn x y p).spent ≡ Some x) × ((after c turn x y p).phase ≡ Idle) × (c.limit ≤ x))
+pub kept_after : (c : Setup) (turn : Phase) (x : ℕ) (y : List ℕ) (p : Part)
+    → ((after c turn x y p).spent ≡ p.spent) ⊎ (((after c turn x y p).spent ≡ Some x) × ((after c turn x y p).phase ≡ Idle) × (c.limit ≤ x))
 kept_after c (AtE1 r i w l) x y p =
     elim (cases_Bool (nat_le c.limit x)) [
       | inl past ↦ rw past (inr (refl, refl, leb-true _ _ past))
@@ -232,7 +235,8 @@ kept_after c (AtD9 r h from to) x y p = inl (either_way (λ (q : Part). q.spent 
 kept_after c (AtD10 r h true) x y p = inl refl
 kept_after c (AtD10 r h false) x y p = inl (either_way (λ (q : Part). q.spent ≡ p.spent) (nat_le x zero_level) _ _ refl refl)
 
-own_kept : (c : Setup) (m : Cells) (p : Part) (turn : Phase) → p.spent ≡ None → (t : ℕ) → (part_after c turn m p).spent ≡ Some t → ((part_after c turn m p).phase ≡ Idle) × (c.limit ≤ t)
+own_kept : (c : Setup) (m : Cells) (p : Part) (turn : Phase) → p.spent ≡ None → (t : ℕ) → (turned_part c turn m p).spent ≡ Some t
+    → ((turned_part c turn m p).phase ≡ Idle) × (c.limit ≤ t)
 own_kept c m p turn none t e =
     elim (kept_after c turn (read m (location_of c turn)) (beside m (location_of c turn)) p) [
       | inl same ↦ let clash : ◌≡◌ {A = Option ℕ} None (Some t) = cc in absurd (cc)
@@ -255,7 +259,8 @@ keeps_none c m k s turn steady e =
     ]
 
 -- a turn keeps all of this
-pub steady_turn : (c : Setup) (m : Machine) (k : ℕ) (s : Step) (turn : Phase) → IsSteady c m → turn_of c (m.part k) s ≡ Some turn → IsSteady c (moved c m k turn)
+pub steady_turn : (c : Setup) (m : Machine) (k : ℕ) (s : Step) (turn : Phase) → IsSteady c m → turn_of c (m.part k) s ≡ Some turn
+    → IsSteady c (moved c m k turn)
 steady_turn c m k s turn steady e =
     let p = m.part k in
     let n = cells_after c turn m.cells in
@@ -263,7 +268,7 @@ steady_turn c m k s turn steady e =
     let ranks = rank_rises c m.cells p.hand turn was in
     let up = counters_rise c m.cells p.hand turn was in
     let now = lasts c m.cells n p.hand turn ranks up was in
-    let q = part_after c turn m.cells p in
+    let q = turned_part c turn m.cells p in
     record {
       busy =
           λ j.

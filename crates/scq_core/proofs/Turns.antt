@@ -55,7 +55,8 @@ get_begins c hand r turn e =
     ]
 
 -- an enabled turn is the seat's phase, or the seat is idle and keeps no ticket and the turn begins a call
-pub begins : (c : Setup) (hand : List ℕ) (spent : Option ℕ) (phase : Phase) (step : Step) (turn : Phase) → turn_at c hand spent phase step ≡ Some turn → (turn ≡ phase) ⊎ ((phase ≡ Idle) × (spent ≡ None) × Begins c hand turn)
+pub begins : (c : Setup) (hand : List ℕ) (spent : Option ℕ) (phase : Phase) (step : Step) (turn : Phase) → turn_at c hand spent phase step ≡ Some turn
+    → (turn ≡ phase) ⊎ ((phase ≡ Idle) × (spent ≡ None) × Begins c hand turn)
 begins c hand None Idle (E1 r i w) turn e = inr (refl, refl, put_begins c hand r i w turn e)
 begins c hand None Idle (D1 r) turn e = inr (refl, refl, get_begins c hand r turn e)
 begins c hand (Some ticket) Idle (E1 r i w) turn e = absurd (cc)
@@ -89,7 +90,8 @@ idle_sleeps c hand (Some ticket) (D1 r) turn e idle = cc
 idle_sleeps c hand spent step turn e idle = cc
 
 -- no turn is idle
-pub awake : (c : Setup) (hand : List ℕ) (spent : Option ℕ) (phase : Phase) (step : Step) (turn : Phase) → turn_at c hand spent phase step ≡ Some turn → turn ≡ Idle → ⊥
+pub awake : (c : Setup) (hand : List ℕ) (spent : Option ℕ) (phase : Phase) (step : Step) (turn : Phase) → turn_at c hand spent phase step ≡ Some turn
+    → turn ≡ Idle → ⊥
 awake c hand spent phase step turn e idle =
     elim (begins c hand spent phase step turn e) [
       | inl same ↦ idle_sleeps c hand spent step turn (rw (sym same ∙ idle) at e) idle
@@ -97,7 +99,8 @@ awake c hand spent phase step turn e idle =
     ]
 
 -- a seat in the middle of a call may make its next step
-pub goes : (c : Setup) (hand : List ℕ) (spent : Option ℕ) (phase : Phase) (step : Step) → next_step phase ≡ Some step → turn_at c hand spent phase step ≡ Some phase
+pub goes : (c : Setup) (hand : List ℕ) (spent : Option ℕ) (phase : Phase) (step : Step) → next_step phase ≡ Some step
+    → turn_at c hand spent phase step ≡ Some phase
 goes c hand spent (AtE1 r i w l) E1Again e = refl
 goes c hand spent (AtE2 r i w t l) E2 e = refl
 goes c hand spent (AtE3 r i w t e') E3 e = refl
@@ -116,7 +119,8 @@ goes c hand spent (AtD10 r h leaving) D10 e = refl
 goes c hand spent phase step e = absurd (cc)
 
 -- and no other
-pub goes_alone : (c : Setup) (hand : List ℕ) (spent : Option ℕ) (phase : Phase) (step : Step) (turn : Phase) → (phase ≡ Idle → ⊥) → turn_at c hand spent phase step ≡ Some turn → next_step phase ≡ Some step
+pub goes_alone : (c : Setup) (hand : List ℕ) (spent : Option ℕ) (phase : Phase) (step : Step) (turn : Phase) → (phase ≡ Idle → ⊥)
+    → turn_at c hand spent phase step ≡ Some turn → next_step phase ≡ Some step
 goes_alone c hand spent (AtE1 r i w l) E1Again turn wakes e = refl
 goes_alone c hand spent (AtE2 r i w t l) E2 turn wakes e = refl
 goes_alone c hand spent (AtE3 r i w t e') E3 turn wakes e = refl

@@ -55,7 +55,8 @@ pub updated_entry_here : {A : Type 0} → (f : ℕ → ℕ → A) (r s : ℕ) (x
 updated_entry_here f r s x = rw (eq-eqb r r refl, eq-eqb s s refl) refl
 
 -- what holds of the new entry there and of the old ones elsewhere holds of each
-pub updated_entry_cases : {A : Type 0} → (P : ℕ → ℕ → A → Type 0) (f : ℕ → ℕ → A) (r s : ℕ) (x : A) (q z : ℕ) → (q ≡ r → z ≡ s → P q z x) → ((q ≡ r → z ≡ s → ⊥) → P q z (f q z)) → P q z (updated_entry f r s x q z)
+pub updated_entry_cases : {A : Type 0} → (P : ℕ → ℕ → A → Type 0) (f : ℕ → ℕ → A) (r s : ℕ) (x : A) (q z : ℕ) → (q ≡ r → z ≡ s → P q z x)
+    → ((q ≡ r → z ≡ s → ⊥) → P q z (f q z)) → P q z (updated_entry f r s x q z)
 updated_entry_cases P f r s x q z here elsewhere =
     elim (cases_eq q r) [
       | inl ring ↦
@@ -67,7 +68,8 @@ updated_entry_cases P f r s x q z here elsewhere =
       | inr apart ↦ rw (ne_eqb q r apart) (elsewhere (λ e _. apart e))
     ]
 
-pub updated_entry_or : {A : Type 0} → (f : ℕ → ℕ → A) (r s : ℕ) (x : A) (q z : ℕ) → ((q ≡ r) × (z ≡ s) × (updated_entry f r s x q z ≡ x)) ⊎ ((q ≡ r → z ≡ s → ⊥) × (updated_entry f r s x q z ≡ f q z))
+pub updated_entry_or : {A : Type 0} → (f : ℕ → ℕ → A) (r s : ℕ) (x : A) (q z : ℕ)
+    → ((q ≡ r) × (z ≡ s) × (updated_entry f r s x q z ≡ x)) ⊎ ((q ≡ r → z ≡ s → ⊥) × (updated_entry f r s x q z ≡ f q z))
 updated_entry_or f r s x q z =
     elim (cases_eq q r) [
       | inl ring ↦

@@ -5,37 +5,38 @@ use Rattle.scq_core.specs.declared.phase.Phase.{Phase}
 use Rattle.scq_core.specs.declared.step.Step.{Step}
 use Rattle.scq_core.specs.Machine.{Part}
 use Rattle.scq_core.specs.Table.{writes, stores, after, turn_of}
-use Rattle.scq_core.specs.Rings.{RingBook, word_in, content_in, ring_with}
-use Rattle.scq_core.specs.Book.{ring_in, no_slot}
-use Rattle.scq_core.specs.Turn.{ring_of, place_of, IsReady}
+use Rattle.scq_core.specs.Rings.{RingLists, word_in, content_in, ring_with}
+use Rattle.scq_core.specs.StateLists.{ring_in, no_slot}
+use Rattle.scq_core.specs.Turn.{ring_of, cell_of, IsReady}
 
 -- the word that a turn finds
-abbrev pub found_by : Setup → List RingBook → Phase → ℕ
-found_by c rings turn = word_in (no_slot c) (ring_in c rings (ring_of turn)) (place_of c turn)
+abbrev pub found_by : Setup → List RingLists → Phase → ℕ
+found_by c rings turn = word_in (no_slot c) (ring_in c rings (ring_of turn)) (cell_of c turn)
 
 -- the content beside the word that a turn finds
-abbrev pub beside_by : Setup → List RingBook → Phase → List ℕ
-beside_by c rings turn = content_in (no_slot c) (ring_in c rings (ring_of turn)) (place_of c turn)
+abbrev pub beside_by : Setup → List RingLists → Phase → List ℕ
+beside_by c rings turn = content_in (no_slot c) (ring_in c rings (ring_of turn)) (cell_of c turn)
 
 -- the turn is on one of the rings, and its arithmetic has what it stands on
-pub record CanTurn (c : Setup) (rings : List RingBook) (turn : Phase) : Type 0 where
+pub record CanTurn (c : Setup) (rings : List RingLists) (turn : Phase) : Type 0 where
   pub ring : ring_of turn < c.rings
   pub ready : IsReady c turn (found_by c rings turn)
 
 -- the rings after the turn: one word of one ring is another, and beside an entry its content
-abbrev pub rings_after : Setup → List RingBook → Phase → List RingBook
+abbrev pub rings_after : Setup → List RingLists → Phase → List RingLists
 rings_after c rings turn =
     slice_set
     rings
     (ring_of turn)
-    (ring_with (ring_in c rings (ring_of turn)) (place_of c turn) (writes c turn (found_by c rings turn)) (stores turn (found_by c rings turn) (beside_by c rings turn)))
+    (ring_with (ring_in c rings (ring_of turn)) (cell_of c turn) (writes c turn (found_by c rings turn))
+    (stores turn (found_by c rings turn) (beside_by c rings turn)))
 
 -- the seat's part after the turn
-abbrev pub part_by : Setup → List RingBook → Phase → Part → Part
+abbrev pub part_by : Setup → List RingLists → Phase → Part → Part
 part_by c rings turn p = after c turn (found_by c rings turn) (beside_by c rings turn) p
 
 -- a seat's step makes a turn of it
-pub record Advances (c : Setup) (step : Step) (rings : List RingBook) (seat : Part) (rings_then : List RingBook) (seat_then : Part) : Type 0 where
+pub record Advances (c : Setup) (step : Step) (rings : List RingLists) (seat : Part) (rings_then : List RingLists) (seat_then : Part) : Type 0 where
   pub turn : Phase
   pub enabled : turn_of c seat step ≡ Some turn
   pub words : rings_then ≡ rings_after c rings turn

@@ -37,7 +37,7 @@ pub record Offers (c : Setup) (hand : List ℕ) (r i : ℕ) : Type 0 where
 pub record Drawn (c : Setup) (counter t : ℕ) : Type 0 where
   pub first : ring_slots c ≤ t
   pub below : t < counter
-  pub lawful : t < c.limit
+  pub below_limit : t < c.limit
 
 -- a loaded word of a cycle before the ticket's, which stands there still or never again
 pub record Lags (c : Setup) (t e now : ℕ) : Type 0 where

@@ -5,7 +5,7 @@ pub mod Start
 pub mod Reach
 pub mod Laws
 pub mod Rings
-pub mod Book
+pub mod StateLists
 pub mod Turn
 pub mod Advance
 pub mod Fresh

@@ -44,8 +44,8 @@ abbrev pub entry_at : Setup → ℕ → ℕ → Location
 entry_at c ring ticket = entry_of ring (slot_of (ring_slots c) ticket)
 
 -- a hand with this index taken out
-abbrev pub without : ℕ → List ℕ → List ℕ
-without index hand = filter (λ i. not (i == index)) hand
+abbrev pub hand_without : ℕ → List ℕ → List ℕ
+hand_without index hand = filter (λ i. not (i == index)) hand
 
 abbrev pub holds_index : List ℕ → ℕ → Bool
 holds_index hand index = list_any (λ i. i == index) hand
@@ -162,7 +162,7 @@ after c (AtE2 r i w t l) x y p =
 after c (AtE3 r i w t e) x y p = if nat_le x t then goes_on (AtE4 r i w t e) p else goes_on (AtE1 r i w (t + 1)) p
 after c (AtE4 r i w t e) x y p =
     if x == e
-    then goes_on (AtE5 r i w t) (record p { hand = without i p.hand })
+    then goes_on (AtE5 r i w t) (record p { hand = hand_without i p.hand })
     else goes_on (AtE2 r i w t (rank_in (ring_slots c) x)) p
 after c (AtE5 r i w t) x y p = if x == reset_level c then ends (Done r t w) p else goes_on (AtE6 r i w t) p
 after c (AtE6 r i w t) x y p = ends (Done r t w) p

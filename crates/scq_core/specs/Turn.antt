@@ -9,12 +9,12 @@ use Rattle.scq_core.specs.declared.phase.Phase.{Phase}
 use Rattle.scq_core.specs.declared.phase.Phase.TheVariants.{Idle, AtE1, AtE2, AtE3, AtE4, AtE5, AtE6, AtD1, AtD2, AtD3, AtD4, AtD5, AtD6, AtD7, AtD8, AtD9, AtD10}
 use Rattle.scq_core.specs.declared.step.Step.{Step}
 use Rattle.scq_core.specs.declared.step.Step.TheVariants.{E1, D1}
-use Rattle.scq_core.specs.declared.slot.Place.{Place}
-use Rattle.scq_core.specs.declared.slot.Place.TheVariants.{Tail, Head, Threshold, Entry}
+use Rattle.scq_core.specs.declared.slot.Cell.{Cell}
+use Rattle.scq_core.specs.declared.slot.Cell.TheVariants.{Tail, Head, Threshold, Entry}
 use Rattle.scq_core.specs.declared.next.Next.{Next}
 use Rattle.scq_core.specs.declared.next.Next.TheVariants.{Goes, Ends, Spends, Places, Takes}
 use Rattle.scq_core.specs.Machine.{Part}
-use Rattle.scq_core.specs.Table.{ring_slots, goes_on, ends, spends, without}
+use Rattle.scq_core.specs.Table.{ring_slots, goes_on, ends, spends, hand_without}
 
 -- the ring of a turn
 abbrev pub ring_of : Phase → ℕ
@@ -42,24 +42,24 @@ ring_under_way Idle = None
 ring_under_way phase = Some (ring_of phase)
 
 -- the place of it that the turn reads
-abbrev pub place_of : Setup → Phase → Place
-place_of c Idle = Tail
-place_of c (AtE1 r i w l) = Tail
-place_of c (AtE2 r i w t l) = Entry (slot_of (ring_slots c) t)
-place_of c (AtE3 r i w t e) = Head
-place_of c (AtE4 r i w t e) = Entry (slot_of (ring_slots c) t)
-place_of c (AtE5 r i w t) = Threshold
-place_of c (AtE6 r i w t) = Threshold
-place_of c (AtD1 r) = Threshold
-place_of c (AtD2 r l) = Head
-place_of c (AtD3 r h l) = Entry (slot_of (ring_slots c) h)
-place_of c (AtD4 r h) = Entry (slot_of (ring_slots c) h)
-place_of c (AtD5 r h e) = Entry (slot_of (ring_slots c) h)
-place_of c (AtD6 r h) = Tail
-place_of c (AtD7 r h from to) = Tail
-place_of c (AtD8 r h from) = Head
-place_of c (AtD9 r h from to) = Tail
-place_of c (AtD10 r h leaving) = Threshold
+abbrev pub cell_of : Setup → Phase → Cell
+cell_of c Idle = Tail
+cell_of c (AtE1 r i w l) = Tail
+cell_of c (AtE2 r i w t l) = Entry (slot_of (ring_slots c) t)
+cell_of c (AtE3 r i w t e) = Head
+cell_of c (AtE4 r i w t e) = Entry (slot_of (ring_slots c) t)
+cell_of c (AtE5 r i w t) = Threshold
+cell_of c (AtE6 r i w t) = Threshold
+cell_of c (AtD1 r) = Threshold
+cell_of c (AtD2 r l) = Head
+cell_of c (AtD3 r h l) = Entry (slot_of (ring_slots c) h)
+cell_of c (AtD4 r h) = Entry (slot_of (ring_slots c) h)
+cell_of c (AtD5 r h e) = Entry (slot_of (ring_slots c) h)
+cell_of c (AtD6 r h) = Tail
+cell_of c (AtD7 r h from to) = Tail
+cell_of c (AtD8 r h from) = Head
+cell_of c (AtD9 r h from to) = Tail
+cell_of c (AtD10 r h leaving) = Threshold
 
 -- the turn of a step that begins a call
 abbrev pub started : Step → Option Phase
@@ -78,7 +78,7 @@ abbrev pub part_after : Next → Part → Part
 part_after (Goes phase) p = goes_on phase p
 part_after (Ends ended) p = ends ended p
 part_after (Spends r t is_put) p = spends r t is_put p
-part_after (Places r i w t laid) p = goes_on (AtE5 r i w t) (record p { hand = without i p.hand })
+part_after (Places r i w t laid) p = goes_on (AtE5 r i w t) (record p { hand = hand_without i p.hand })
 part_after (Takes r h i w) p = ends (Got r h w) (record p { hand = p.hand ++ i ∷ [] })
 
 -- the content that is laid beside the entry

@@ -1,13 +1,13 @@
 ghost use Rattle.std.specs.Prelude.{◌≡◌, ◌↔◌, Some, None, Err, OnOk, OnErr};
 ghost use Rattle.scq_core.specs.declared.phase.Phase.{Phase};
 ghost use Rattle.scq_core.specs.Table.{turn_of};
-ghost use Rattle.scq_core.specs.Book.{HasRings};
+ghost use Rattle.scq_core.specs.StateLists.{HasRings};
 ghost use Rattle.scq_core.specs.Advance.{CanTurn, Advances};
 
 use crate::ring::Ring;
 use crate::seat::Seat;
 use crate::step::Step;
-use crate::table::{place_of, ring_of, written};
+use crate::table::{cell_of, ring_of, written};
 use crate::turn::{copied, started};
 use scq_word::{NoMemory, Setup};
 use thiserror::Error;
@@ -53,11 +53,11 @@ pub fn advance(
     let turn = seat.turn(&started);
     let index = ring_of(turn) as usize;
     let ring = &rings[index];
-    let place = place_of(setup, turn);
-    let copy = copied(alloc, turn, ring.beside(place))?;
-    let found = ring.read(place);
+    let cell = cell_of(setup, turn);
+    let copy = copied(alloc, turn, ring.beside(cell))?;
+    let found = ring.read(cell);
     let word = written(setup, turn, found);
     let laid = seat.proceed(setup, started, found, copy)?;
-    rings[index].write(place, word, laid);
+    rings[index].write(cell, word, laid);
     Ok(())
 }

@@ -21,7 +21,8 @@ pub fn start_is_reachable()
 
 /// An enabled step of a seat leads from a reachable state to a reachable state.
 pub fn steps_stay_reachable()
-    ensures { (c : Setup) (m later : Machine) (seat : ℕ) (step : Step) → IsReachable c m → seat < c.seats → step_of c m seat step ≡ Some later → IsReachable c later }
+    ensures { (c : Setup) (m later : Machine) (seat : ℕ) (step : Step) → IsReachable c m → seat < c.seats → step_of c m seat step ≡ Some later
+        → IsReachable c later }
 {}
 
 /// A step changes at most one word of one ring, with the content beside it, and its own seat's part.
@@ -44,12 +45,14 @@ pub fn records_grow()
 
 /// Each step leaves each entry as it is or raises its rank.
 pub fn ranks_rise()
-    ensures { (c : Setup) (m later : Machine) (seat : ℕ) (step : Step) → IsReachable c m → step_of c m seat step ≡ Some later → RankRises c m.cells later.cells }
+    ensures { (c : Setup) (m later : Machine) (seat : ℕ) (step : Step) → IsReachable c m → step_of c m seat step ≡ Some later
+        → RankRises c m.cells later.cells }
 {}
 
 /// Tail and Head never fall.
 pub fn counters_rise()
-    ensures { (c : Setup) (m later : Machine) (seat : ℕ) (step : Step) → IsReachable c m → step_of c m seat step ≡ Some later → CountersRise m.cells later.cells }
+    ensures { (c : Setup) (m later : Machine) (seat : ℕ) (step : Step) → IsReachable c m → step_of c m seat step ≡ Some later
+        → CountersRise m.cells later.cells }
 {}
 
 /// What each seat has by its phase: its ring, index and ticket are in range, its index is in its hand, and what it

@@ -135,7 +135,7 @@ pub fn next_of(setup: &Setup, turn: Phase, found: u64, copy: Bytes) -> Next
     }
 }
 
-// An enqueue has drawn a ticket, which is the value that it found.
+/// An enqueue has drawn a ticket, which is the value that it found.
 fn drawn_by_put(setup: &Setup, ring: u32, index: u32, content: Bytes, found: u64) -> Next
     ensures part { (least : ℕ) (beside : List ℕ) (p : Part) → after setup.now (AtE1 ring index content least) found beside p ≡ part_after result p }
     ensures laid { laid_by result ≡ None }
@@ -157,7 +157,7 @@ fn drawn_by_put(setup: &Setup, ring: u32, index: u32, content: Bytes, found: u64
     }
 }
 
-// An enqueue's exchange found another word than it had loaded: it looks again, with the same ticket.
+/// An enqueue's exchange found another word than it had loaded: it looks again, with the same ticket.
 fn missed_by_put(
     setup: &Setup,
     ring: u32,
@@ -179,7 +179,7 @@ fn missed_by_put(
     })
 }
 
-// An enqueue has placed its index, and Threshold is reset.
+/// An enqueue has placed its index, and Threshold is reset.
 fn finished(ring: u32, place: u64, content: Bytes) -> Next
     ensures { result ≡ Next.Ends (Done ring place content) }
 {
@@ -190,8 +190,8 @@ fn finished(ring: u32, place: u64, content: Bytes) -> Next
     })
 }
 
-// An enqueue has loaded the entry of its slot: it may fill an earlier cycle's entry without an index,
-// where that is safe, or where no dequeue has passed yet.
+/// An enqueue has loaded the entry of its slot: it may fill an earlier cycle's entry without an index,
+/// where that is safe, or where no dequeue has passed yet.
 fn seen_by_put(
     setup: &Setup,
     ring: u32,
@@ -200,7 +200,7 @@ fn seen_by_put(
     ticket: u64,
     found: u64,
 ) -> Next
-    requires lawful { ticket < setup.now.limit }
+    requires below_limit { ticket < setup.now.limit }
     requires entry { IsIndexOrMark setup.now.order found }
     ensures part { (least : ℕ) (beside : List ℕ) (p : Part) → after setup.now (AtE2 ring index content ticket least) found beside p ≡ part_after result p }
     ensures laid { laid_by result ≡ None }
@@ -233,7 +233,7 @@ fn seen_by_put(
     }
 }
 
-// The same for the turns of a dequeue.
+/// The same for the turns of a dequeue.
 #[tactic(auto, unfolding(crate::specs::Table::zero_level))]
 fn next_of_get(setup: &Setup, turn: Phase, found: u64, copy: Bytes) -> Next
     requires ready { IsReady setup.now turn found }
@@ -370,7 +370,7 @@ fn next_of_get(setup: &Setup, turn: Phase, found: u64, copy: Bytes) -> Next
     }
 }
 
-// A dequeue has loaded the entry of its slot: of its own cycle it is taken, an earlier one is passed.
+/// A dequeue has loaded the entry of its slot: of its own cycle it is taken, an earlier one is passed.
 fn seen_by_get(setup: &Setup, ring: u32, ticket: u64, found: u64) -> Next
     requires { IsIndexOrMark setup.now.order found }
     ensures part { (least : ℕ) (beside : List ℕ) (p : Part) → after setup.now (AtD3 ring ticket least) found beside p ≡ part_after result p }

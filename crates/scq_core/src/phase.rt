@@ -188,7 +188,7 @@ impl Phase {
         }
     }
 
-    // The same for what stands in a dequeue.
+    /// The same for what stands in a dequeue.
     fn copy_of_get(&self) -> Phase
         requires { IsOfGet self.now }
         ensures { result ≡ self.now }

@@ -3,12 +3,12 @@ ghost use Rattle.scq_word.specs.Sizes.{n_of};
 ghost use Rattle.scq_word.specs.Tickets.{slot_of};
 ghost use Rattle.scq_word.specs.Words.{packed};
 ghost use Rattle.scq_core.specs.Table.{ring_slots};
-ghost use Rattle.scq_core.specs.Book.{no_slot};
+ghost use Rattle.scq_core.specs.StateLists.{no_slot};
 ghost use Rattle.scq_core.specs.Fresh.{empty_ring, IsFullRing};
-ghost use Rattle.scq_core.specs.Rings.{IsPlace, word_in, content_in, ring_with};
+ghost use Rattle.scq_core.specs.Rings.{IsCell, word_in, content_in, ring_with};
 ghost use Rattle.scq_core.specs.declared.slot.Slot.{Slot};
 
-use crate::slot::{Place, Slot};
+use crate::slot::{Cell, Slot};
 use crate::table::{ZERO_LEVEL, reset_level};
 use scq_word::{Bytes, Entry, NoMemory, Setup, pack, slot_of};
 use std::alloc::Global;
@@ -25,9 +25,9 @@ pub struct Ring {
 }
 
 impl Model for Ring {
-    ghost use Rattle.scq_core.specs.Rings.{RingBook};
+    ghost use Rattle.scq_core.specs.Rings.{RingLists};
 
-    ghost Value = { RingBook };
+    ghost Value = { RingLists };
 
     ghost view = { λ r. record { tail = r.tail; head = r.head; threshold = r.threshold; slots = r.slots.items } };
 }
@@ -84,39 +84,39 @@ impl Ring {
         })
     }
 
-    pub fn read(&self, place: Place) -> u64
-        requires { IsPlace self.now place }
-        ensures { (past : Slot) → result ≡ word_in past self.now place }
+    pub fn read(&self, cell: Cell) -> u64
+        requires { IsCell self.now cell }
+        ensures { (past : Slot) → result ≡ word_in past self.now cell }
     {
-        match place {
-            Place::Tail => self.tail,
-            Place::Head => self.head,
-            Place::Threshold => self.threshold,
-            Place::Entry { slot } => self.slots[slot as usize].word,
+        match cell {
+            Cell::Tail => self.tail,
+            Cell::Head => self.head,
+            Cell::Threshold => self.threshold,
+            Cell::Entry { slot } => self.slots[slot as usize].word,
         }
     }
 
     /// The content beside an entry; beside another word stands none.
-    pub fn beside(&self, place: Place) -> &[u8]
-        requires { IsPlace self.now place }
-        ensures { (past : Slot) → result.now ≡ content_in past self.now place }
+    pub fn beside(&self, cell: Cell) -> &[u8]
+        requires { IsCell self.now cell }
+        ensures { (past : Slot) → result.now ≡ content_in past self.now cell }
     {
-        match place {
-            Place::Entry { slot } => self.slots[slot as usize].content.bytes(),
+        match cell {
+            Cell::Entry { slot } => self.slots[slot as usize].content.bytes(),
             _ => &[],
         }
     }
 
-    /// Writes the word at a place, and beside an entry the content, where one is given.
-    pub fn write(&mut self, place: Place, word: u64, content: Option<Bytes>)
-        requires { IsPlace self.old place }
-        ensures { (past : Slot) → self.new ≡ ring_with self.old place word (unwrap_or content (content_in past self.old place)) }
+    /// Writes the word at a cell, and beside an entry the content, where one is given.
+    pub fn write(&mut self, cell: Cell, word: u64, content: Option<Bytes>)
+        requires { IsCell self.old cell }
+        ensures { (past : Slot) → self.new ≡ ring_with self.old cell word (unwrap_or content (content_in past self.old cell)) }
     {
-        match place {
-            Place::Tail => self.tail = word,
-            Place::Head => self.head = word,
-            Place::Threshold => self.threshold = word,
-            Place::Entry { slot } => {
+        match cell {
+            Cell::Tail => self.tail = word,
+            Cell::Head => self.head = word,
+            Cell::Threshold => self.threshold = word,
+            Cell::Entry { slot } => {
                 let slot = &mut self.slots[slot as usize];
                 slot.word = word;
                 if let Some(content) = content {
@@ -127,7 +127,7 @@ impl Ring {
     }
 }
 
-// The slots of a ring in which nothing was ever placed.
+/// The slots of a ring in which nothing was ever placed.
 fn unused(alloc: Global, setup: &Setup) -> Result<Vec<Slot>, NoMemory>
     ensures { IfOk result (λ slots. slots.items ≡ replicate (ring_slots setup.now) (no_slot setup.now)) }
 {
@@ -149,7 +149,7 @@ fn unused(alloc: Global, setup: &Setup) -> Result<Vec<Slot>, NoMemory>
     Ok(slots)
 }
 
-// Places an index at the ticket of the first turn that has its number.
+/// Places an index at the ticket of the first turn that has its number.
 fn fill(setup: &Setup, slots: &mut Vec<Slot>, index: u32, content: Bytes)
     requires many { vec_len slots.old ≡ ring_slots setup.now }
     requires own { index < n_of setup.now.order }

@@ -1,6 +1,6 @@
 ghost use Rattle.std.specs.Option.{option_copied};
 ghost use Rattle.std.specs.Prelude.{◌-◌, length, slice_get, ◌≡◌, ℕ, List, ◌<◌, is_some, unwrap_or, IfOk, OnOk, OnErr};
-ghost use Rattle.scq_core.specs.Table.{turn_of, after, stores, without, holds_index};
+ghost use Rattle.scq_core.specs.Table.{turn_of, after, stores, hand_without, holds_index};
 ghost use Rattle.scq_core.specs.Start.{idle_part};
 ghost use Rattle.scq_core.specs.Turn.{copied, IsReady};
 
@@ -195,7 +195,7 @@ impl Seat {
 }
 
 fn take_out(hand: &mut Vec<u32>, index: u32)
-    ensures { hand.new.items ≡ without index hand.old.items }
+    ensures { hand.new.items ≡ hand_without index hand.old.items }
 {
     hand.retain(|held| *held != index);
 }

@@ -12,7 +12,7 @@ pub struct Slot {
 
 /// One word of a ring.
 #[derive(Clone, Copy, Debug, PartialEq, Eq)]
-pub enum Place {
+pub enum Cell {
     Tail,
     Head,
     Threshold,

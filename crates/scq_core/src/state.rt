@@ -9,7 +9,7 @@ use crate::ended::Ended;
 use crate::phase::Phase;
 use crate::ring::Ring;
 use crate::seat::Seat;
-use crate::slot::Place;
+use crate::slot::Cell;
 use crate::step::Step;
 use crate::table::{ZERO_LEVEL, ring_of};
 use scq_word::{Bytes, NoMemory, Setup};
@@ -26,13 +26,13 @@ pub struct State {
 }
 
 impl Model for State {
-    ghost use Rattle.scq_core.specs.Book.{Book, IsSound};
+    ghost use Rattle.scq_core.specs.StateLists.{StateLists, IsState};
 
-    ghost Value = { Book };
+    ghost Value = { StateLists };
 
     ghost view = { λ s. record { setup = s.setup; rings = s.rings.items; seats = s.seats.items; opening = s.opening.items } };
 
-    ghost invariant = { λ s. IsSound (record { setup = s.setup; rings = s.rings.items; seats = s.seats.items; opening = s.opening.items }) };
+    ghost invariant = { λ s. IsState (record { setup = s.setup; rings = s.rings.items; seats = s.seats.items; opening = s.opening.items }) };
 }
 
 impl State {
@@ -41,7 +41,7 @@ impl State {
     ghost use Rattle.scq_core.specs.Turn.{ring_under_way};
     ghost use Rattle.scq_core.specs.Start.{start_of};
     ghost use Rattle.scq_core.specs.Reach.{IsReachable};
-    ghost use Rattle.scq_core.specs.Book.{machine_of, ring_in, no_slot, IsPlaceOf};
+    ghost use Rattle.scq_core.specs.StateLists.{machine_of, ring_in, no_slot, IsCellOf};
     ghost use Rattle.scq_core.specs.Rings.{word_in};
 
     /// Ring 0 full with the opening contents, all other rings empty, each seat idle with an empty hand.
@@ -91,27 +91,27 @@ impl State {
         })
     }
 
-    fn word(&self, ring: u32, place: Place) -> u64
+    fn word(&self, ring: u32, cell: Cell) -> u64
         requires ring { ring < self.now.setup.rings }
-        requires place { IsPlaceOf self.now.setup place }
-        ensures word { result ≡ word_in (no_slot self.now.setup) (ring_in self.now.setup self.now.rings ring) place }
+        requires cell { IsCellOf self.now.setup cell }
+        ensures word { result ≡ word_in (no_slot self.now.setup) (ring_in self.now.setup self.now.rings ring) cell }
         ensures fits { (machine_of self.now).cells.threshold ring < 2 ^ 62 }
     {
-        self.rings[ring as usize].read(place)
+        self.rings[ring as usize].read(cell)
     }
 
     pub fn head(&self, ring: u32) -> u64
         requires { ring < self.now.setup.rings }
         ensures { result ≡ (machine_of self.now).cells.head ring }
     {
-        self.word(ring, Place::Head)
+        self.word(ring, Cell::Head)
     }
 
     pub fn tail(&self, ring: u32) -> u64
         requires { ring < self.now.setup.rings }
         ensures { result ≡ (machine_of self.now).cells.tail ring }
     {
-        self.word(ring, Place::Tail)
+        self.word(ring, Cell::Tail)
     }
 
     /// Threshold as a signed number: the machine keeps it as `2^32` more.
@@ -120,7 +120,7 @@ impl State {
         requires { ring < self.now.setup.rings }
         ensures { result +ℤ pos zero_level ≡ pos ((machine_of self.now).cells.threshold ring) }
     {
-        self.word(ring, Place::Threshold) as i64 - ZERO_LEVEL as i64
+        self.word(ring, Cell::Threshold) as i64 - ZERO_LEVEL as i64
     }
 
     /// The word of an entry.
@@ -129,7 +129,7 @@ impl State {
         requires slot { slot < ring_slots self.now.setup }
         ensures { result ≡ (machine_of self.now).cells.entries.word ring slot }
     {
-        self.word(ring, Place::Entry { slot })
+        self.word(ring, Cell::Entry { slot })
     }
 
     pub fn in_hand(&self, seat: u32, index: u32) -> bool
@@ -185,7 +185,7 @@ impl State {
     }
 }
 
-// Ring 0 full, and the others empty.
+/// Ring 0 full, and the others empty.
 fn start_rings(alloc: Global, setup: &Setup, opening: &Vec<Bytes>) -> Result<Vec<Ring>, NoMemory>
     requires { vec_len opening.now ≡ n_of setup.now.order }
     ensures { IfOk result (λ rings. IsStart setup.now opening.now.items (setup.now.rings - 1) rings.items) }

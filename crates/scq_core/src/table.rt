@@ -3,15 +3,15 @@ ghost use Rattle.scq_word.specs.Sizes.{n_of};
 ghost use Rattle.scq_word.specs.Tickets.{slot_of};
 ghost use Rattle.scq_word.specs.Words.{mark_of, packed, safe_in, cycle_in};
 ghost use Rattle.scq_word.specs.Entries.{IsIndexOrMark};
-ghost use Rattle.scq_core.specs.declared.slot.Place.TheVariants.{Entry as EntryPlace};
+ghost use Rattle.scq_core.specs.declared.slot.Cell.TheVariants.{Entry as EntryCell};
 ghost use Rattle.scq_core.specs.Table.{ring_slots, cycle, reset_level, passed, writes};
-ghost use Rattle.scq_core.specs.Turn.{ring_of, place_of, IsReady};
+ghost use Rattle.scq_core.specs.Turn.{ring_of, cell_of, IsReady};
 
 use crate::phase::Phase;
-use crate::slot::Place;
+use crate::slot::Cell;
 use scq_word::{Entry, Setup, cycle_of, pack, slot_of, unpack};
 
-// The word that stands for a Threshold of 0: it is kept as so much more than its value.
+/// The word that stands for a Threshold of 0: it is kept as so much more than its value.
 pub const ZERO_LEVEL: u64 = 1 << 32;
 
 /// The ring that a turn is on; an idle seat is on none.
@@ -40,34 +40,34 @@ pub fn ring_of(turn: &Phase) -> u32
 }
 
 /// The one word of that ring that the turn reads and writes.
-pub fn place_of(setup: &Setup, turn: &Phase) -> Place
-    ensures { result ≡ place_of setup.now turn.now }
+pub fn cell_of(setup: &Setup, turn: &Phase) -> Cell
+    ensures { result ≡ cell_of setup.now turn.now }
 {
     match turn {
-        Phase::Idle => Place::Tail,
-        Phase::AtE1 { .. } => Place::Tail,
+        Phase::Idle => Cell::Tail,
+        Phase::AtE1 { .. } => Cell::Tail,
         Phase::AtE2 { ticket, .. } => entry_at(setup, *ticket),
-        Phase::AtE3 { .. } => Place::Head,
+        Phase::AtE3 { .. } => Cell::Head,
         Phase::AtE4 { ticket, .. } => entry_at(setup, *ticket),
-        Phase::AtE5 { .. } => Place::Threshold,
-        Phase::AtE6 { .. } => Place::Threshold,
-        Phase::AtD1 { .. } => Place::Threshold,
-        Phase::AtD2 { .. } => Place::Head,
+        Phase::AtE5 { .. } => Cell::Threshold,
+        Phase::AtE6 { .. } => Cell::Threshold,
+        Phase::AtD1 { .. } => Cell::Threshold,
+        Phase::AtD2 { .. } => Cell::Head,
         Phase::AtD3 { ticket, .. } => entry_at(setup, *ticket),
         Phase::AtD4 { ticket, .. } => entry_at(setup, *ticket),
         Phase::AtD5 { ticket, .. } => entry_at(setup, *ticket),
-        Phase::AtD6 { .. } => Place::Tail,
-        Phase::AtD7 { .. } => Place::Tail,
-        Phase::AtD8 { .. } => Place::Head,
-        Phase::AtD9 { .. } => Place::Tail,
-        Phase::AtD10 { .. } => Place::Threshold,
+        Phase::AtD6 { .. } => Cell::Tail,
+        Phase::AtD7 { .. } => Cell::Tail,
+        Phase::AtD8 { .. } => Cell::Head,
+        Phase::AtD9 { .. } => Cell::Tail,
+        Phase::AtD10 { .. } => Cell::Threshold,
     }
 }
 
-fn entry_at(setup: &Setup, ticket: u64) -> Place
-    ensures { result ≡ EntryPlace (slot_of (ring_slots setup.now) ticket) }
+fn entry_at(setup: &Setup, ticket: u64) -> Cell
+    ensures { result ≡ EntryCell (slot_of (ring_slots setup.now) ticket) }
 {
-    Place::Entry {
+    Cell::Entry {
         slot: slot_of(setup.shape(), ticket),
     }
 }
@@ -95,9 +95,9 @@ pub fn written(setup: &Setup, turn: &Phase, found: u64) -> u64
     }
 }
 
-// The word of an index at its ticket.
+/// The word of an index at its ticket.
 fn filled(setup: &Setup, ticket: u64, index: u32) -> u64
-    requires lawful { ticket < setup.now.limit }
+    requires below_limit { ticket < setup.now.limit }
     requires own { index < n_of setup.now.order }
     ensures { result ≡ packed (ring_slots setup.now) (cycle setup.now ticket) 1 index }
 {
@@ -110,24 +110,25 @@ fn filled(setup: &Setup, ticket: u64, index: u32) -> u64
     pack(shape, entry)
 }
 
-// What Threshold is reset to once an index was placed: 3n - 1.
+/// What Threshold is reset to once an index was placed: 3n - 1.
 pub fn reset_level(setup: &Setup) -> u64
     ensures { result ≡ reset_level setup.now }
 {
     ZERO_LEVEL + 3 * u64::from(setup.shape().n()) - 1
 }
 
-// A fetch_or of the mark takes the index out, and leaves the cycle and the safe bit.
+/// A fetch_or of the mark takes the index out, and leaves the cycle and the safe bit.
 fn consumed(setup: &Setup, found: u64) -> u64
-    ensures { result ≡ packed (ring_slots setup.now) (cycle_in (ring_slots setup.now) found) (safe_in (ring_slots setup.now) found) (mark_of (ring_slots setup.now)) }
+    ensures { result ≡ packed (ring_slots setup.now) (cycle_in (ring_slots setup.now) found) (safe_in (ring_slots setup.now) found)
+        (mark_of (ring_slots setup.now)) }
 {
     found | u64::from(setup.shape().none())
 }
 
-// What a dequeue leaves in an entry of an earlier cycle: without an index it is moved to the cycle of
-// the dequeue's ticket, so that no enqueue with an earlier one fills it; an index is marked unsafe.
+/// What a dequeue leaves in an entry of an earlier cycle: without an index it is moved to the cycle of
+/// the dequeue's ticket, so that no enqueue with an earlier one fills it; an index is marked unsafe.
 fn passed(setup: &Setup, ticket: u64, found: u64) -> u64
-    requires lawful { ticket < setup.now.limit }
+    requires below_limit { ticket < setup.now.limit }
     requires entry { IsIndexOrMark setup.now.order found }
     ensures { result ≡ passed setup.now ticket found }
 {

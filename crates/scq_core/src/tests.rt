@@ -5,7 +5,7 @@ use scq_word::{Bytes, NoMemory, Setup};
 use std::alloc::Global;
 use std::test::Fail;
 
-// Order 1, two rings, two seats, and the opening contents `a` and `b`.
+/// Order 1, two rings, two seats, and the opening contents `a` and `b`.
 fn started(alloc: Global) -> Result<State, NoMemory>
     ensures { IfOk result (λ state. (state.setup.order ≡ 1) × (state.setup.rings ≡ 2) × (state.setup.seats ≡ 2)) }
 {

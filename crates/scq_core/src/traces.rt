@@ -6,9 +6,9 @@ use std::alloc::Global;
 use std::process::Abort;
 use std::test::Fail;
 
-// Each line of a table is a seat, its steps, and behind `=` a ring with its Head, Tail, Threshold and
-// entries, and what the seat's newest call was, or `-` where it is in the middle of one. `E1/1/0/x` is
-// E1 on ring 1 of index 0 with content x, and `D1/1` is D1 on ring 1.
+/// Each line of a table is a seat, its steps, and behind `=` a ring with its Head, Tail, Threshold and
+/// entries, and what the seat's newest call was, or `-` where it is in the middle of one. `E1/1/0/x` is
+/// E1 on ring 1 of index 0 with content x, and `D1/1` is D1 on ring 1.
 fn number(text: Option<&str>) -> Result<u32, Fail> {
     Ok(text.ok_or("a number is missing")?.parse::<u32>()?)
 }
@@ -52,7 +52,7 @@ fn bare_step(name: &str) -> Result<Step, Fail> {
     }
 }
 
-// Makes the steps of one line.
+/// Makes the steps of one line.
 fn make(alloc: Global, state: &mut State, seat: u32, steps: &str) -> Result<(), Fail>
     requires { seat < state.old.setup.seats }
     ensures { state.new.setup ≡ state.old.setup }
@@ -63,7 +63,7 @@ fn make(alloc: Global, state: &mut State, seat: u32, steps: &str) -> Result<(), 
     Ok(())
 }
 
-// What a line tells of the state.
+/// What a line says of the state.
 fn shown(alloc: Global, state: &State, seat: u32, ring: u32) -> Result<String, Fail>
     requires seat { seat < state.now.setup.seats }
     requires ring { ring < state.now.setup.rings }
@@ -98,8 +98,8 @@ fn reply(alloc: Global, last: Option<&Ended>) -> Result<String, Fail> {
     }
 }
 
-// Runs a table from the start of a setup with two indices, rings and seats, and the opening contents
-// `a` and `b`, and compares each line.
+/// Runs a table from the start of a setup with two indices, rings and seats, and the opening contents
+/// `a` and `b`, and compares each line.
 fn run(rt: &(impl Abort + AllocGlobal), table: &str) -> Result<(), Fail> {
     let alloc = rt.alloc();
     let setup = Setup::new(1, 2, 2, 1 << 60)?;
@@ -121,8 +121,8 @@ fn run(rt: &(impl Abort + AllocGlobal), table: &str) -> Result<(), Fail> {
     Ok(())
 }
 
-// The exchange of seat 0 meets an entry that another put has filled: word and content stay, and each get takes what
-// was placed where it takes.
+/// The exchange of seat 0 meets an entry that another put has filled: word and content stay, and each get takes what
+/// was placed where it takes.
 const OVERTAKEN: &str = "\
 0 D1/0 D2 D3 D4 = 0 5 6 5 15 13 7 7 got 4 a
 1 D1/0 D2 D3 D4 = 0 6 6 5 15 15 7 7 got 5 b
@@ -139,7 +139,7 @@ const OVERTAKEN: &str = "\
 1 D1/1 D2 D3 D4 = 1 9 10 5 23 20 15 15 got 8 s
 1 D1/1 D2 D3 D4 = 1 10 10 5 23 23 15 15 got 9 z";
 
-// The dequeue of seat 0 stops with its ticket drawn, and comes back to an entry of a later cycle.
+/// The dequeue of seat 0 stops with its ticket drawn, and comes back to an entry of a later cycle.
 const LATE: &str = "\
 0 D1/0 D2 D3 D4 = 0 5 6 5 15 13 7 7 got 4 a
 0 E1/1/0/x E2 E4 E5 E6 = 1 4 5 5 12 7 7 7 done 4

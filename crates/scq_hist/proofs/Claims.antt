@@ -1,10 +1,10 @@
--- A tally decides whether all its puts are claimed. Plan: in a list it can be told whether a put is got; a get that starts too
+-- A tally decides whether all its puts are claimed. Plan: in a list it is decided whether a put is got; a get that starts too
 -- late shows that the moment is too early, and the two counts are compared by a one-to-one map
 use Rattle.std.proofs.Common.{Bool, IsTrue, ◌↔◌, ◌≡◌, ℕ, zero, suc, ◌<◌, ◌≤◌, ◌⊎◌, inl, inr, List, Option, Some, None, slice_get, length, sym, ap, subst, arith}
 use Rattle.std.proofs.lemmas.Bool.{cases_lt, cases_eq}
 use Rattle.std.proofs.lemmas.Option.{slice_get_within}
 use Rattle.scq_hist.specs.Calls.{Names, IsGot, IsGetOf, IsPending}
-use Rattle.scq_hist.specs.Aspects.{IsLawful, IsInPlace, IsAnswer, AllClaimed}
+use Rattle.scq_hist.specs.Aspects.{IsLawful, IsLawfulAt, IsAnswer, AllClaimed}
 use Rattle.scq_hist.specs.Counts.{IsCount}
 use Rattle.scq_hist.specs.Lookups.{IsFirstNamed, call_start}
 use Rattle.scq_hist.specs.Tallies.{HasLateGet, IsTally}
@@ -57,7 +57,7 @@ find_first events name (suc m) = elim (find_first events name m) [
   ]
 ]
 
--- the get of a put, with its places
+-- the get of a put, with its positions
 pub record Get_of (events : List Event) (name : PutName) : Type 0 where
   pub s : ℕ
   pub e : ℕ
@@ -67,7 +67,7 @@ pub decide_get : (events : List Event) (name : PutName) → IsLawful events → 
 decide_get events name lawful = elim (find_first events name (length events)) [
   | inl f ↦ (let n = f.1.names in
       let ends : slice_get events f.0 ≡ Some (End n.seat (Got name n.content)) = n.ends in
-      let answer : IsAnswer events n.seat f.0 (Got name n.content) = subst (λ event. IsInPlace events f.0 event) ends (lawful f.0) in
+      let answer : IsAnswer events n.seat f.0 (Got name n.content) = subst (λ event. IsLawfulAt events f.0 event) ends (lawful f.0) in
       inl (record {
         s = answer.s;
         e = f.0;

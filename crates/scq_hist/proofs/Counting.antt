@@ -1,5 +1,5 @@
 -- Counts, and that a count is at most another exactly where there is a one-to-one map. Plan: a map sends a list of different
--- members into the other list, and each that is sent takes one place away; back, members at one place of the two lists are partners
+-- members into the other list, and each that is sent takes one position away; back, members at one position of the two lists are partners
 use Rattle.std.proofs.Common.{◌≡◌, ℕ, suc, ◌+◌, ◌-◌, ◌≤◌, ◌⊎◌, inl, inr, List, [], ◌∷◌, length, refl, sym, ap, ◌∙◌, subst, arith}
 use Rattle.scq_hist.specs.Counts.{AtMostAsMany, Member, Distinct, IsCount}
 
@@ -7,7 +7,8 @@ pub count_none : {X : Type 0} (A : X → Type 0) → ((x : X) → A x → ⊥) �
 count_none {X} A empty = record { members = []; many = refl; sound = λ x h. absurd h; complete = λ x h. absurd (empty x h); distinct = tt }
 
 -- one member more
-pub count_more : {X : Type 0} (A B : X → Type 0) (x : X) (c : ℕ) → IsCount A c → (A x → ⊥) → B x → ((y : X) → A y → B y) → ((y : X) → B y → (x ≡ y) ⊎ A y) → IsCount B (c + 1)
+pub count_more : {X : Type 0} (A B : X → Type 0) (x : X) (c : ℕ) → IsCount A c → (A x → ⊥) → B x → ((y : X) → A y → B y) → ((y : X) → B y → (x ≡ y) ⊎ A y)
+    → IsCount B (c + 1)
 count_more {X} A B x c n new here old split = record {
   members = x ∷ n.members;
   many = (let m = n.many in omega arith);
@@ -26,20 +27,20 @@ count_same {X} A B c n to from = record {
 }
 
 -- a list without one of its members, which stands in it once
-pub record Without {Y : Type 0} (ys : List Y) (y : Y) : Type 0 where
+pub record Removed {Y : Type 0} (ys : List Y) (y : Y) : Type 0 where
   pub others : List Y
   pub many : length ys ≡ suc (length others)
   pub keeps : (z : Y) → Member ys z → (y ≡ z) ⊎ Member others z
 
-without : {Y : Type 0} (ys : List Y) (y : Y) → Member ys y → Without ys y
-without {Y} [] y h = absurd h
-without {Y} (z ∷ zs) y (inl e) = record {
+removed : {Y : Type 0} (ys : List Y) (y : Y) → Member ys y → Removed ys y
+removed {Y} [] y h = absurd h
+removed {Y} (z ∷ zs) y (inl e) = record {
   others = zs;
   many = refl;
   keeps = λ x h. elim h [ inl e2 ↦ inl (sym e ∙ e2) | inr m ↦ inr m ];
 }
-without {Y} (z ∷ zs) y (inr h) =
-    let w = without zs y h in
+removed {Y} (z ∷ zs) y (inr h) =
+    let w = removed zs y h in
     record {
       others = z ∷ w.others;
       many = ap suc w.many;
@@ -52,7 +53,7 @@ pigeons : {X Y : Type 0} (A : X → Type 0) (partner : (x : X) → A x → Y) (o
 pigeons {X} {Y} A partner one [] ys d each = omega arith
 pigeons {X} {Y} A partner one (x ∷ xs) ys d each =
     let first : (h : A x) × Member ys (partner x h) = each x (inl refl) in
-    let w = without ys (partner x first.0) first.1 in
+    let w = removed ys (partner x first.0) first.1 in
     let rest : length xs ≤ length w.others = pigeons A partner one xs w.others d.1 (λ z m.
     let mine = each z (inr m) in (
       mine.0,
@@ -159,7 +160,7 @@ sift {X} B (x ∷ xs) d decide =
       }
     ]
 
--- those of A without B, where B can be told
+-- those of A without B, where B is decidable
 pub record Rest {X : Type 0} (A B : X → Type 0) (n k : ℕ) : Type 0 where
   pub fits : k ≤ n
   pub rest : IsCount (λ x. A x × (¬ B x)) (n - k)

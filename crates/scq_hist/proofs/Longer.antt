@@ -1,4 +1,4 @@
--- A longer list says the same of its first events, and is lawful where its last event is in its place
+-- A longer list says the same of its first events, and is lawful where its last event is lawful there
 use Rattle.std.proofs.Common.{◌≡◌, ℕ, zero, suc, ◌<◌, ◌≤◌, List, [], ◌∷◌, ◌++◌, length, slice_get, Some, refl, ◌∙◌, arith}
 use Rattle.std.proofs.lemmas.Option.{slice_get_within}
 use Rattle.scq_hist.specs.Calls.{under_way, puts_before, IsCall}
@@ -26,7 +26,8 @@ same_puts_before events more seat zero le = refl
 same_puts_before events more seat (suc m) le =
     rw (same_event events more m (omega arith), same_puts_before events more seat m (omega arith)) refl
 
-pub same_call : (events more : List Event) (seat s e : ℕ) (call : Call) (reply : Reply) → IsCall events seat call s e reply → IsCall (events ++ more) seat call s e reply
+pub same_call : (events more : List Event) (seat s e : ℕ) (call : Call) (reply : Reply) → IsCall events seat call s e reply
+    → IsCall (events ++ more) seat call s e reply
 same_call events more seat s e call reply c =
     let here = slice_get_within events e (End seat reply) c.ends in
     let start = slice_get_within events s (Start seat call) c.starts in

@@ -4,7 +4,7 @@ use Rattle.std.specs.Option.{option_eq}
 use Rattle.std.proofs.lemmas.Bool.Decides.{nat_tests}
 use Rattle.std.proofs.lemmas.Option.{slice_get_read}
 use Rattle.scq_hist.specs.Calls.{under_way, Names, IsGot, IsGetOf}
-use Rattle.scq_hist.specs.Aspects.{IsLawful, IsInPlace, IsAnswer, Suits}
+use Rattle.scq_hist.specs.Aspects.{IsLawful, IsLawfulAt, IsAnswer, Suits}
 use Rattle.scq_hist.specs.Lookups.{got_name, call_start, IsFirstNamed, NamesNew, EndsNoGet}
 use Rattle.scq_hist.specs.declared.events.Call.{Call}
 use Rattle.scq_hist.specs.declared.events.Call.TheVariants.{Put, Get}
@@ -13,14 +13,16 @@ use Rattle.scq_hist.specs.declared.events.Event.TheVariants.{Start, End}
 use Rattle.scq_hist.specs.declared.events.PutName.{PutName}
 use Rattle.scq_hist.specs.declared.events.Reply.TheVariants.{Done, Got, Nothing, Spent}
 
-pub names_there : (events : List Event) (e : ℕ) (event : Event) (name : PutName) → slice_get events e ≡ Some event → got_name event ≡ Some name → Names events e name
+pub names_there : (events : List Event) (e : ℕ) (event : Event) (name : PutName) → slice_get events e ≡ Some event → got_name event ≡ Some name
+    → Names events e name
 names_there events e (Start k c) name at h = absurd cc
 names_there events e (End k Done) name at h = absurd cc
 names_there events e (End k (Got m c)) name at h = record { seat = k; content = c; ends = (let same : m ≡ name = cc in cc) }
 names_there events e (End k Nothing) name at h = absurd cc
 names_there events e (End k Spent) name at h = absurd cc
 
-pub named_there : (events : List Event) (e : ℕ) (event : Event) (name : PutName) → slice_get events e ≡ Some event → Names events e name → got_name event ≡ Some name
+pub named_there : (events : List Event) (e : ℕ) (event : Event) (name : PutName) → slice_get events e ≡ Some event → Names events e name
+    → got_name event ≡ Some name
 named_there events e event name at n =
     let ends = n.ends in
     let same : event ≡ End n.seat (Got name n.content) = cc in
@@ -60,7 +62,7 @@ pub get_from_first : (events : List Event) (name : PutName) (s e : ℕ) → IsLa
 get_from_first events name s e lawful first start =
     let n = first.names in
     let ends : slice_get events e ≡ Some (End n.seat (Got name n.content)) = n.ends in
-    let answer : IsAnswer events n.seat e (Got name n.content) = subst (λ event. IsInPlace events e event) ends (lawful e) in
+    let answer : IsAnswer events n.seat e (Got name n.content) = subst (λ event. IsLawfulAt events e event) ends (lawful e) in
     let started : Some s ≡ under_way events n.seat e = subst (λ event. Some s ≡ call_start events e event) ends start in
     let call = answer.is_call in
     let get = suits_got answer.call name n.content answer.suits in
@@ -82,7 +84,8 @@ pub no_get : (events : List Event) (e : ℕ) (name : PutName) (r : Option ℕ) �
 no_get events e name r n h other = record {
   none = λ m s get.
       let there : Names events e m = record { seat = get.seat; content = get.content; ends = get.call.ends } in
-      let new : NamesNew events e = record { new = λ z d at lt before. get.first d lt (subst (λ x. Names events d x) (same_name events e z m at there) before) } in
+      let new : NamesNew events e =
+      record { new = λ z d at lt before. get.first d lt (subst (λ x. Names events d x) (same_name events e z m at there) before) } in
       let same = (first_is_new events e name r n h).1 new in absurd cc;
 }
 

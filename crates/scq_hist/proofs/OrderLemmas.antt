@@ -1,5 +1,5 @@
--- In order at one get. A get that ends at a place has got one put, which starts at one place, so what is decided for these
--- two places is decided for all
+-- In order at one get. A get that ends at a position has got one put, which starts at one position, so what is decided for these
+-- two positions is decided for all
 use Rattle.std.proofs.Common.{Bool, ◌≡◌, ℕ, ◌<◌, ◌≤◌, ◌↔◌, List, length, IsTrue, subst, arith}
 use Rattle.std.proofs.lemmas.Option.{slice_get_within}
 use Rattle.scq_hist.specs.Calls.{IsPut, IsFinishedAt, IsGetOf}
@@ -13,7 +13,7 @@ use Rattle.scq_hist.proofs.NamesLemmas.{same_name}
 use Rattle.scq_hist.proofs.Puts.{SamePut, same_put}
 use Rattle.scq_hist.proofs.TallyLemmas.{names_from_get}
 
--- a get that ends at place e has got one put, which starts at one place
+-- a get that ends at position e has got one put, which starts at one position
 same_got : (events : List Event) (e queue start s seat number r t : ℕ) (content : List ℕ) (put : IsPutGotAt events e queue start)
     → IsGetOf events (Of seat number) s e → IsPut events seat number r content t → SamePut queue r start t put.content content
 same_got events e queue start s seat number r t content put get other =
@@ -47,6 +47,8 @@ claims_decide opening events e queue start b put test = (
 pub no_put_in_order : (opening : List (List ℕ)) (events : List Event) (e : ℕ) → NoPutGotAt events e → IsInOrderAt opening events e
 no_put_in_order opening events e free s seat number queue start content get put = absurd (free.none s seat number queue start content get put)
 
-pub in_order_from_all : (opening : List (List ℕ)) (events : List Event) (i : ℕ) → length events ≤ i → ((e : ℕ) → e < i → IsInOrderAt opening events e) → IsInOrder opening events
+pub in_order_from_all : (opening : List (List ℕ)) (events : List Event) (i : ℕ) → length events ≤ i → ((e : ℕ) → e < i → IsInOrderAt opening events e)
+    → IsInOrder opening events
 in_order_from_all opening events i past each e s seat number queue start content get put =
-    each e (let lt = slice_get_within events e (End get.seat (Got (Of seat number) get.content)) get.call.ends in omega arith) s seat number queue start content get put
+    each e (let lt = slice_get_within events e (End get.seat (Got (Of seat number) get.content)) get.call.ends in omega arith) s seat number queue start
+    content get put

@@ -37,13 +37,14 @@ one_start events seat number q r s t c d p o =
       ]
     ]
 
--- what a name tells of its put
+-- what a name says of its put
 pub record SamePut (q r s t : ℕ) (c d : List ℕ) : Type 0 where
   pub start : s ≡ t
   pub queue : q ≡ r
   pub content : c ≡ d
 
-pub same_put : (events : List Event) (seat number q r s t : ℕ) (c d : List ℕ) → IsPut events seat number q c s → IsPut events seat number r d t → SamePut q r s t c d
+pub same_put : (events : List Event) (seat number q r s t : ℕ) (c d : List ℕ) → IsPut events seat number q c s → IsPut events seat number r d t
+    → SamePut q r s t c d
 same_put events seat number q r s t c d p o =
     let start = one_start events seat number q r s t c d p o in
     let a = p.starts in let b = o.starts in

@@ -1,4 +1,4 @@
--- A tally grows by one put at a time. Plan: a put has one get, and ends with Done at one place, so the put that ends at place e
+-- A tally grows by one put at a time. Plan: a put has one get, and ends with Done at one position, so the put that ends at position e
 -- is new there; then it is one more that isn't got, or its get's Start moves the moment from which all are claimed
 use Rattle.std.proofs.Common.{◌≡◌, ℕ, ◌+◌, ◌⊎◌, inl, inr, List, Some, sym, subst, arith}
 use Rattle.std.proofs.lemmas.Bool.{cases_order, cases_lt, cases_eq}
@@ -91,13 +91,14 @@ pub tally_more : (events : List Event) (P Q : PutName → Type 0) (x : PutName) 
 tally_more events P Q x u f v g t new here to split (inl a) = tally_ungot events P Q x u f v g t new here to split a
 tally_more events P Q x u f v g t new here to split (inr a) = tally_got events P Q x u f v g t new here to split a
 
--- a put ends with Done at one place
+-- a put ends with Done at one position
 one_done : (events : List Event) (queue d e seat number : ℕ) → IsDoneAt events queue d seat number → IsDoneAt events queue e seat number → d ≡ e
 one_done events queue d e seat number a b =
     let start = (same_put events seat number queue queue a.s b.s a.content b.content a.put b.put).start in
-    one_end events seat a.s d e Done Done a.call.under_way_till a.call.ends (subst (λ s. under_way events seat e ≡ Some s) (sym start) b.call.under_way_till) b.call.ends
+    one_end events seat a.s d e Done Done a.call.under_way_till a.call.ends (subst (λ s. under_way events seat e ≡ Some s) (sym start) b.call.under_way_till)
+    b.call.ends
 
--- at one place ends one put
+-- at one position ends one put
 one_put : (events : List Event) (queue e k m seat number : ℕ) → IsDoneAt events queue e k m → IsDoneAt events queue e seat number → Of k m ≡ Of seat number
 one_put events queue e k m seat number a b =
     let x = a.call.ends in let y = b.call.ends in
@@ -121,11 +122,13 @@ finished_split opening events queue e (Of k m) (Of seat number) done h =
       | inr ne ↦ (let lt = h.1 in inr (h.0, omega arith, h.2))
     ]
 
-finished_new : (opening : List (List ℕ)) (events : List Event) (queue e : ℕ) (x : PutName) → EndsDone events queue e x → IsFinishedAt opening events queue e x → ⊥
+finished_new : (opening : List (List ℕ)) (events : List Event) (queue e : ℕ) (x : PutName) → EndsDone events queue e x → IsFinishedAt opening events queue e x
+    → ⊥
 finished_new opening events queue e (Opening k) done h = done
 finished_new opening events queue e (Of k m) done h = let lt = h.1 in let same = one_done events queue h.0 e k m h.2 done in omega arith
 
-finished_here : (opening : List (List ℕ)) (events : List Event) (queue e : ℕ) (x : PutName) → EndsDone events queue e x → IsFinishedAt opening events queue (e + 1) x
+finished_here : (opening : List (List ℕ)) (events : List Event) (queue e : ℕ) (x : PutName) → EndsDone events queue e x
+    → IsFinishedAt opening events queue (e + 1) x
 finished_here opening events queue e (Opening k) done = absurd done
 finished_here opening events queue e (Of k m) done = (e, omega arith, done)
 

@@ -27,14 +27,16 @@ tokens zero = count_none (Token 0) none where
   none : (name : PutName) → Token 0 name → ⊥
   none (Opening number) lt = absurd (omega arith)
   none (Of k m) h = h
-tokens (suc n) = subst (λ k. IsCount (Token (suc n)) k) (add-one n) (count_more (Token n) (Token (suc n)) (Opening n) n (tokens n) (λ lt. absurd (omega arith)) (omega arith) more split) where
-  more : (name : PutName) → Token n name → Token (suc n) name
-  more (Opening number) lt = omega arith
-  more (Of k m) h = h
+tokens (suc n) =
+    subst (λ k. IsCount (Token (suc n)) k) (add-one n)
+    (count_more (Token n) (Token (suc n)) (Opening n) n (tokens n) (λ lt. absurd (omega arith)) (omega arith) more split) where
+      more : (name : PutName) → Token n name → Token (suc n) name
+      more (Opening number) lt = omega arith
+      more (Of k m) h = h
 
-  split : (name : PutName) → Token (suc n) name → (Opening n ≡ name) ⊎ Token n name
-  split (Opening number) lt = elim (cases_eq n number) [ inl e ↦ inl (ap Opening e) | inr ne ↦ inr (omega arith) ]
-  split (Of k m) h = absurd h
+      split : (name : PutName) → Token (suc n) name → (Opening n ≡ name) ⊎ Token n name
+      split (Opening number) lt = elim (cases_eq n number) [ inl e ↦ inl (ap Opening e) | inr ne ↦ inr (omega arith) ]
+      split (Of k m) h = absurd h
 
 abbrev Tokens : List (List ℕ) → List Event → PutName → Type 0
 Tokens opening events = IsFinishedAt opening events 0 0
@@ -62,7 +64,7 @@ got_by events name i lawful past = elim (decide_get events name lawful) [
   | inr free ↦ inr (λ g. free (g.d, names_from_get events name g.s g.d g.get))
 ]
 
--- a get that ends at place e has got this put and no other
+-- a get that ends at position e has got this put and no other
 same_get : (events : List Event) (e s t : ℕ) (a b : PutName) → IsGetOf events a s e → IsGetOf events b t e → a ≡ b
 same_get events e s t a b g h = same_name events e a b (names_from_get events a s e g) (names_from_get events b t e h)
 
@@ -71,7 +73,8 @@ pub tokens_more : (opening : List (List ℕ)) (events : List Event) (e got f s :
 tokens_more opening events e got f s here t =
     let x : PutName = Opening here.number in
     record {
-      count = count_more (λ name. Tokens opening events name × IsGotBy events e name) (λ name. Tokens opening events name × IsGotBy events (e + 1) name) x got t.count
+      count = count_more (λ name. Tokens opening events name × IsGotBy events e name) (λ name. Tokens opening events name × IsGotBy events (e + 1) name) x got
+          t.count
           (λ h. (let at = same_end events x h.1.s s h.1.d e h.1.get here.get in let lt = h.1.before in absurd (omega arith)))
           ((refl, here.token), record { s = s; d = e; before = omega arith; get = here.get })
           (λ name h. (h.0, got_later events e name h.1))
@@ -94,7 +97,8 @@ pub tokens_same : (opening : List (List ℕ)) (events : List Event) (e got f : �
     → TalliesTokens opening events e got f → TalliesTokens opening events (e + 1) got f
 tokens_same opening events e got f free t =
     record {
-      count = count_same (λ name. Tokens opening events name × IsGotBy events e name) (λ name. Tokens opening events name × IsGotBy events (e + 1) name) got t.count
+      count = count_same (λ name. Tokens opening events name × IsGotBy events e name) (λ name. Tokens opening events name × IsGotBy events (e + 1) name) got
+          t.count
           (λ name h. (h.0, got_later events e name h.1))
           (λ name h. elim (cases_eq h.1.d e) [
             | inl at ↦ absurd (not_here name h.1.s h.0 (subst (λ d. IsGetOf events name h.1.s d) at h.1.get))
@@ -120,7 +124,8 @@ pub tokens_tally : (opening : List (List ℕ)) (events : List Event) (i got f : 
 tokens_tally opening events i got f lawful past t =
     let rest = tokens_rest opening events i got f lawful past t in
     record {
-      ungot = count_same (λ name. Tokens opening events name × (¬ IsGotBy events i name)) (λ name. Tokens opening events name × (¬ IsGot events name)) (length opening - got) rest.rest
+      ungot = count_same (λ name. Tokens opening events name × (¬ IsGotBy events i name)) (λ name. Tokens opening events name × (¬ IsGot events name))
+          (length opening - got) rest.rest
           (λ name h. (
             h.0,
             elim (decide_get events name lawful) [
@@ -133,5 +138,6 @@ tokens_tally opening events i got f lawful past t =
       least = t.least;
     }
 
-pub tokens_at : (opening : List (List ℕ)) (events : List Event) (e got f a b : ℕ) → a ≡ got → b ≡ f → TalliesTokens opening events e got f → TalliesTokens opening events e a b
+pub tokens_at : (opening : List (List ℕ)) (events : List Event) (e got f a b : ℕ) → a ≡ got → b ≡ f → TalliesTokens opening events e got f
+    → TalliesTokens opening events e a b
 tokens_at opening events e got f a b p q t = rw (p, q) t

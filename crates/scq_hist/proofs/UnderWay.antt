@@ -1,4 +1,4 @@
--- What `under_way` tells of the events. Plan: by induction on the moment, each event either starts or ends the seat's call or
+-- What `under_way` says of the events. Plan: by induction on the moment, each event either starts or ends the seat's call or
 -- leaves it as it was
 use Rattle.std.proofs.Common.{◌≡◌, ℕ, zero, suc, ◌<◌, ◌≤◌, ◌==◌, List, Option, Some, None, slice_get, length, refl, sym, ◌∙◌, subst, inl, inr, ◌⊎◌, arith, eq-eqb}
 use Rattle.std.proofs.lemmas.Bool.{cases_order, cases_lt, cond-true}
@@ -11,13 +11,13 @@ use Rattle.scq_hist.specs.declared.events.Event.TheVariants.{Start, End}
 use Rattle.scq_hist.specs.declared.events.Reply.{Reply}
 
 -- one event more: the call is the one that starts there, or it was under way before
-after_tells : (event : Option Event) (i seat s : ℕ) (before : Option ℕ) → under_way_after event i seat before ≡ Some s
+after_says : (event : Option Event) (i seat s : ℕ) (before : Option ℕ) → under_way_after event i seat before ≡ Some s
     → ((s ≡ i) × ((call : Call) × (event ≡ Some (Start seat call)))) ⊎ (before ≡ Some s)
-after_tells (Some (Start k c)) i seat s before h =
+after_says (Some (Start k c)) i seat s before h =
     elim (eqb_tells k seat) [ inl e ↦ let h' = rw e.0 at h in inl (cc, (c, cc)) | inr e ↦ inr (rw e.0 at h) ]
-after_tells (Some (End k r)) i seat s before h =
+after_says (Some (End k r)) i seat s before h =
     elim (eqb_tells k seat) [ inl e ↦ let h' = rw e.0 at h in absurd cc | inr e ↦ inr (rw e.0 at h) ]
-after_tells None i seat s before h = inr h
+after_says None i seat s before h = inr h
 
 -- a call that is under way started before, at a Start of its seat
 pub record Started (events : List Event) (seat m s : ℕ) : Type 0 where
@@ -28,7 +28,7 @@ pub record Started (events : List Event) (seat m s : ℕ) : Type 0 where
 pub started : (events : List Event) (seat m s : ℕ) → under_way events seat m ≡ Some s → Started events seat m s
 started events seat zero s h = absurd cc
 started events seat (suc m) s h =
-    elim (after_tells (slice_get events m) m seat s (under_way events seat m) h) [
+    elim (after_says (slice_get events m) m seat s (under_way events seat m) h) [
       | inl w ↦ record { before = omega arith; call = w.1.0; starts = (let e = w.1.1 in let q = w.0 in cc) }
       | inr w ↦ (let p = started events seat m s w in record { before = omega arith; call = p.call; starts = p.starts })
     ]
@@ -48,7 +48,7 @@ restarted events seat a (suc b) s idle le h =
     elim (cases_lt b a) [
       | inl lt ↦ (let e : a ≡ suc b = omega arith in let idle2 : under_way events seat (suc b) ≡ None = subst (λ m. under_way events seat m ≡ None) e idle in
           absurd (none-some s (sym idle2 ∙ h)))
-      | inr le2 ↦ elim (after_tells (slice_get events b) b seat s (under_way events seat b) h) [
+      | inr le2 ↦ elim (after_says (slice_get events b) b seat s (under_way events seat b) h) [
         | inl w ↦ (let q = w.0 in omega arith)
         | inr w ↦ restarted events seat a b s idle le2 w
       ]

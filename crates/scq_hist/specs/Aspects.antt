@@ -23,24 +23,24 @@ Suits (Get _) Nothing = Unit {0}
 Suits (Get _) Spent = Unit {0}
 Suits (Get _) Done = ⊥
 
--- at place e a call ends by a reply that suits it
+-- at position e a call ends by a reply that suits it
 pub record IsAnswer (events : List Event) (seat e : ℕ) (reply : Reply) : Type 0 where
   pub s : ℕ
   pub call : Call
   pub is_call : IsCall events seat call s e reply
   pub suits : Suits call reply
 
--- the event at place i is in its place: a seat starts a call when it has none under way, and ends the one that it has
-abbrev pub IsInPlace : List Event → ℕ → Option Event → Type 0
-IsInPlace events i (Some (Start seat _)) = under_way events seat i ≡ None
-IsInPlace events i (Some (End seat reply)) = IsAnswer events seat i reply
-IsInPlace events i None = Unit {0}
+-- the event at position i is lawful there: a seat starts a call when it has none under way, and ends the one that it has
+abbrev pub IsLawfulAt : List Event → ℕ → Option Event → Type 0
+IsLawfulAt events i (Some (Start seat _)) = under_way events seat i ≡ None
+IsLawfulAt events i (Some (End seat reply)) = IsAnswer events seat i reply
+IsLawfulAt events i None = Unit {0}
 
 -- lawful: the events of each seat alternate, beginning with a Start, and each reply suits its call
 abbrev pub IsLawful : List Event → Type 0
-IsLawful events = (i : ℕ) → IsInPlace events i (slice_get events i)
+IsLawful events = (i : ℕ) → IsLawfulAt events i (slice_get events i)
 
--- the put of this name is of this queue and content, and is an opening token or starts before place e
+-- the put of this name is of this queue and content, and is an opening token or starts before position e
 abbrev pub IsBegun : List (List ℕ) → List Event → PutName → ℕ → List ℕ → ℕ → Type 0
 IsBegun opening events (Opening number) queue content e = (queue ≡ 0) × (slice_get opening number ≡ Some content)
 IsBegun opening events (Of seat number) queue content e = (s : ℕ) × (s < e) × IsPut events seat number queue content s
@@ -64,11 +64,11 @@ pub record AllClaimed (events : List Event) (queue m : ℕ) (Puts : PutName → 
   pub claimed : (name : PutName) → Puts name → IsClaimed events m name
   pub matched : AtMostAsMany (λ name. Puts name × (¬ IsGot events name)) (IsPending events queue m)
 
--- the put precedes the one of this queue that starts at place s: it is of the same queue, and an opening token or ended with Done before
+-- the put precedes the one of this queue that starts at position s: it is of the same queue, and an opening token or ended with Done before
 abbrev pub Precedes : List (List ℕ) → List Event → ℕ → ℕ → PutName → Type 0
 Precedes opening events queue s name = IsFinishedAt opening events queue s name
 
--- in order, for the get that ends at place e: when it ends, all that precede the put which it has got are claimed
+-- in order, for the get that ends at position e: when it ends, all that precede the put which it has got are claimed
 abbrev pub IsInOrderAt : List (List ℕ) → List Event → ℕ → Type 0
 IsInOrderAt opening events e = (s seat number queue start : ℕ) (content : List ℕ)
     → IsGetOf events (Of seat number) s e → IsPut events seat number queue content start
@@ -79,7 +79,7 @@ IsInOrderAt opening events e = (s seat number queue start : ℕ) (content : List
 abbrev pub IsInOrder : List (List ℕ) → List Event → Type 0
 IsInOrder opening events = (e : ℕ) → IsInOrderAt opening events e
 
--- an Empty of this queue is right in a call that starts at place s and ends at place e: there is a moment inside it at which all
+-- an Empty of this queue is right in a call that starts at position s and ends at position e: there is a moment inside it at which all
 -- finished puts are claimed
 abbrev pub IsRightWithin : List (List ℕ) → List Event → ℕ → ℕ → ℕ → Type 0
 IsRightWithin opening events queue s e = (m : ℕ) × (s < m) × (m ≤ e) × AllClaimed events queue m (IsFinishedAt opening events queue m)

@@ -41,14 +41,14 @@ pub record AddsGot (events : List Event) (name : PutName) (u f v g : ℕ) : Type
 abbrev pub AddsPut : List Event → PutName → ℕ → ℕ → ℕ → ℕ → Type 0
 AddsPut events name u f v g = AddsUngot events name u f v g ⊎ AddsGot events name u f v g
 
--- the put is got by a get that ended before place e
+-- the put is got by a get that ended before position e
 pub record IsGotBy (events : List Event) (e : ℕ) (name : PutName) : Type 0 where
   pub s : ℕ
   pub d : ℕ
   pub before : d < e
   pub get : IsGetOf events name s d
 
--- the get that ends at place e started at s and has got an opening token
+-- the get that ends at position e started at s and has got an opening token
 pub record IsTokenGotAt (opening : List (List ℕ)) (events : List Event) (e s : ℕ) : Type 0 where
   pub number : ℕ
   pub token : number < length opening
@@ -57,13 +57,13 @@ pub record IsTokenGotAt (opening : List (List ℕ)) (events : List Event) (e s :
 pub record NoTokenGotAt (opening : List (List ℕ)) (events : List Event) (e : ℕ) : Type 0 where
   pub none : (number s : ℕ) → number < length opening → ¬ IsGetOf events (Opening number) s e
 
--- `got` opening tokens are got by gets that ended before place e, and f is the first moment by which these have started
+-- `got` opening tokens are got by gets that ended before position e, and f is the first moment by which these have started
 pub record TalliesTokens (opening : List (List ℕ)) (events : List Event) (e got f : ℕ) : Type 0 where
   pub count : IsCount (λ name. IsFinishedAt opening events 0 0 name × IsGotBy events e name) got
   pub claimed : (name : PutName) (s d : ℕ) → IsFinishedAt opening events 0 0 name → d < e → IsGetOf events name s d → s < f
   pub least : (m : ℕ) → m < f → HasLateGet events (IsFinishedAt opening events 0 0) m
 
--- the get that ends at place e has got a seat's put of this queue, which starts at place `start`
+-- the get that ends at position e has got a seat's put of this queue, which starts at position `start`
 pub record IsPutGotAt (events : List Event) (e queue start : ℕ) : Type 0 where
   pub s : ℕ
   pub seat : ℕ
@@ -75,7 +75,7 @@ pub record IsPutGotAt (events : List Event) (e queue start : ℕ) : Type 0 where
 pub record NoPutGotAt (events : List Event) (e : ℕ) : Type 0 where
   pub none : (s seat number queue start : ℕ) (content : List ℕ) → IsGetOf events (Of seat number) s e → IsPut events seat number queue content start → ⊥
 
--- a get of this queue that starts at place s ends with Nothing at place e
+-- a get of this queue that starts at position s ends with Nothing at position e
 pub record IsEmptyAt (events : List Event) (e queue s : ℕ) : Type 0 where
   pub seat : ℕ
   pub call : IsCall events seat (Get queue) s e Nothing
@@ -83,10 +83,10 @@ pub record IsEmptyAt (events : List Event) (e queue s : ℕ) : Type 0 where
 pub record NoEmptyAt (events : List Event) (e : ℕ) : Type 0 where
   pub none : (s seat queue : ℕ) → ¬ IsCall events seat (Get queue) s e Nothing
 
--- if an Empty ends at place e, it is right
+-- if an Empty ends at position e, it is right
 pub record IsRightAt (opening : List (List ℕ)) (events : List Event) (e : ℕ) : Type 0 where
   pub right : (s seat queue : ℕ) → IsCall events seat (Get queue) s e Nothing → IsRightWithin opening events queue s e
 
--- at no moment after place s and up to i are all finished puts of the queue claimed
+-- at no moment after position s and up to i are all finished puts of the queue claimed
 pub record NotRightTill (opening : List (List ℕ)) (events : List Event) (queue s i : ℕ) : Type 0 where
   pub none : (m : ℕ) → s < m → m ≤ i → ¬ AllClaimed events queue m (IsFinishedAt opening events queue m)

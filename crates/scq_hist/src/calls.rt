@@ -7,7 +7,7 @@ ghost use Rattle.scq_hist.specs.Lookups.{HasUnderWay, NoPutBefore, EndsDone, NoD
 use crate::events::{Call, Event, PutName, Reply};
 use scq_word::Bytes;
 
-/// The place of the Start of the call that the seat has under way at this moment.
+/// The position of the Start of the call that the seat has under way at this moment.
 pub(crate) fn under_way(events: &[Event], seat: u32, moment: usize) -> Option<usize>
     requires { moment ≤ length events.now }
     ensures { result ≡ under_way events.now seat moment }
@@ -23,7 +23,7 @@ pub(crate) fn under_way(events: &[Event], seat: u32, moment: usize) -> Option<us
     started
 }
 
-/// That call, with the place of its Start.
+/// That call, with the position of its Start.
 pub(crate) fn call_under_way(events: &[Event], seat: u32, moment: usize) -> Option<(usize, &Call)>
     requires { moment ≤ length events.now }
     ensures { MatchOption result
@@ -56,7 +56,7 @@ pub(crate) fn puts_before(events: &[Event], seat: u32, moment: usize) -> u64
     puts
 }
 
-/// The seat's put of this number: the place of its Start, its queue and its content.
+/// The seat's put of this number: the position of its Start, its queue and its content.
 pub(crate) fn put_named(events: &[Event], seat: u32, number: u64) -> Option<(usize, u32, &Bytes)>
     ensures { MatchOption result
         (NoPutBefore events.now seat number (length events.now))
@@ -80,7 +80,7 @@ pub(crate) fn put_named(events: &[Event], seat: u32, number: u64) -> Option<(usi
     None
 }
 
-/// The put of this queue that ends with Done at this place.
+/// The put of this queue that ends with Done at this position.
 pub(crate) fn done_put(events: &[Event], queue: u32, e: usize) -> Option<PutName>
     requires { e < length events.now }
     ensures { MatchOption result (NoDoneAt events.now queue e) (EndsDone events.now queue e) }

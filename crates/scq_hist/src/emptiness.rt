@@ -9,7 +9,7 @@ use crate::gets::{pending_after, pending_gets};
 use crate::tallies::{Tally, are_claimed, finished_tally, opening_tally, tally_after};
 use scq_word::Bytes;
 
-/// Whether at some moment between these two places all finished puts of the queue are claimed.
+/// Whether at some moment between these two positions all finished puts of the queue are claimed.
 fn is_right_within(tokens: Tally, events: &[Event], queue: u32, start: usize, end: usize) -> bool
     requires lawful { IsLawful events.now }
     requires order { start ≤ end }
@@ -31,7 +31,7 @@ fn is_right_within(tokens: Tally, events: &[Event], queue: u32, start: usize, en
     false
 }
 
-/// The get that ends with Nothing at this place: the place of its Start, and its queue.
+/// The get that ends with Nothing at this position: the position of its Start, and its queue.
 fn empty_at(events: &[Event], e: usize) -> Option<(usize, u32)>
     requires { e < length events.now }
     ensures { MatchOption result (NoEmptyAt events.now e) (λ get. IsEmptyAt events.now e get.1 get.0) }
@@ -48,7 +48,7 @@ fn empty_at(events: &[Event], e: usize) -> Option<(usize, u32)>
     }
 }
 
-/// Whether an Empty that ends at this place, if one does, is right.
+/// Whether an Empty that ends at this position, if one does, is right.
 fn is_right_at(tokens: Tally, events: &[Event], e: usize) -> bool
     requires lawful { IsLawful events.now }
     requires within { e < length events.now }

@@ -23,7 +23,7 @@ fn is_token(opening: &[Bytes], number: u32, queue: u32, content: &Bytes) -> bool
     }
 }
 
-/// Whether the seat's put of this number is of this queue and content, and starts before place e.
+/// Whether the seat's put of this number is of this queue and content, and starts before position e.
 fn is_put(events: &[Event], seat: u32, number: u64, queue: u32, content: &Bytes, e: usize) -> bool
     ensures { IsTrue result
         ↔ ((s : ℕ) × (s < e) × IsPut events.now seat number queue content.now s) }

@@ -28,7 +28,7 @@ fn names(event: &Event, name: PutName) -> bool
     got_name(event) == Some(name)
 }
 
-/// The place of the first End with Got that names this put.
+/// The position of the first End with Got that names this put.
 pub(crate) fn first_named(events: &[Event], name: PutName) -> Option<usize>
     ensures { MatchOption result (¬ (IsGot events.now name)) (IsFirstNamed events.now name) }
 {
@@ -40,7 +40,7 @@ pub(crate) fn first_named(events: &[Event], name: PutName) -> Option<usize>
     None
 }
 
-/// The place of the Start of the call that ends at this place.
+/// The position of the Start of the call that ends at this position.
 fn call_start(events: &[Event], e: usize) -> Option<usize>
     requires { e < length events.now }
     ensures { result ≡ call_start events.now e (slice_get events.now e) }
@@ -51,7 +51,7 @@ fn call_start(events: &[Event], e: usize) -> Option<usize>
     }
 }
 
-/// The place of the Start of the get that has got this put.
+/// The position of the Start of the get that has got this put.
 pub(crate) fn get_of(events: &[Event], name: PutName) -> Option<usize>
     requires { IsLawful events.now }
     ensures { MatchOption result
@@ -62,7 +62,7 @@ pub(crate) fn get_of(events: &[Event], name: PutName) -> Option<usize>
     call_start(events, e)
 }
 
-/// If the call that ends at this place is the get that has got a put: that put, and the place of the
+/// If the call that ends at this position is the get that has got a put: that put, and the position of the
 /// get's Start.
 pub(crate) fn get_ending_at(events: &[Event], e: usize) -> Option<(PutName, usize)>
     requires lawful { IsLawful events.now }
@@ -90,8 +90,8 @@ fn never_ends(events: &[Event], queue: u32, s: usize) -> bool
     }
 }
 
-/// From the number of gets of this queue that started before place s and are under way at the end of
-/// the list to that of those which started up to place s.
+/// From the number of gets of this queue that started before position s and are under way at the end of
+/// the list to that of those which started up to position s.
 pub(crate) fn pending_after(pending: usize, events: &[Event], queue: u32, s: usize) -> usize
     requires within { s < length events.now }
     requires room { pending + 1 < 2 ^ 64 }

@@ -1,5 +1,5 @@
 ghost use Rattle.std.specs.Prelude.{◌↔◌, ◌<◌, IsTrue, length, slice_get};
-ghost use Rattle.scq_hist.specs.Aspects.{Suits, IsInPlace, IsLawful};
+ghost use Rattle.scq_hist.specs.Aspects.{Suits, IsLawfulAt, IsLawful};
 
 use crate::calls::{call_under_way, under_way};
 use crate::events::{Call, Event, Reply};
@@ -13,9 +13,9 @@ fn suits(call: &Call, reply: &Reply) -> bool
     }
 }
 
-fn is_in_place(events: &[Event], i: usize) -> bool
+fn is_lawful_at(events: &[Event], i: usize) -> bool
     requires { i < length events.now }
-    ensures { IsTrue result ↔ IsInPlace events.now i (slice_get events.now i) }
+    ensures { IsTrue result ↔ IsLawfulAt events.now i (slice_get events.now i) }
 {
     match &events[i] {
         Event::Start { seat, .. } => under_way(events, *seat, i).is_none(),
@@ -32,7 +32,7 @@ pub fn lawful_calls(events: &[Event]) -> bool
     ensures { IsTrue result ↔ IsLawful events.now }
 {
     for i in 0..events.len() {
-        if !is_in_place(events, i) {
+        if !is_lawful_at(events, i) {
             return false;
         }
     }

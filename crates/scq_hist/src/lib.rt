@@ -1,7 +1,7 @@
-// Histories: lists of start and end events of calls of queues, and five tests that judge one. It
-// stands on `scq_word` for the bytes of a content. The rules are the four violations of Henzinger,
-// Sezgin and Vafeiadis (CONCUR 2013), stated in `specs/Aspects.antt` over the events alone. The
-// layer above uses that each test is the truth of its definition there.
+//! Histories: lists of start and end events of calls of queues, and five tests that judge one. It
+//! stands on `scq_word` for the bytes of a content. The rules are the four violations of Henzinger,
+//! Sezgin and Vafeiadis (CONCUR 2013), stated in `specs/Aspects.antt` over the events alone. The
+//! layer above uses that each test is the truth of its definition there.
 #![tactic(auto)]
 
 mod calls;

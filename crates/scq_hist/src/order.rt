@@ -9,7 +9,7 @@ use crate::gets::{get_ending_at, pending_gets};
 use crate::tallies::{Tally, are_claimed, finished_tally, opening_tally};
 use scq_word::Bytes;
 
-/// The seat's put that the get which ends at this place has got: the place of its Start, and its
+/// The seat's put that the get which ends at this position has got: the position of its Start, and its
 /// queue.
 fn put_got_at(events: &[Event], e: usize) -> Option<(usize, u32)>
     requires lawful { IsLawful events.now }
@@ -28,7 +28,7 @@ fn put_got_at(events: &[Event], e: usize) -> Option<(usize, u32)>
     }
 }
 
-/// Whether all that precede the put which the get that ends at this place has got are claimed by then.
+/// Whether all that precede the put which the get that ends at this position has got are claimed by then.
 fn is_in_order_at(tokens: Tally, events: &[Event], e: usize) -> bool
     requires lawful { IsLawful events.now }
     requires within { e < length events.now }

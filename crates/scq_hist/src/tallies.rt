@@ -35,7 +35,7 @@ fn with_put(tally: Tally, events: &[Event], name: PutName) -> Tally
     }
 }
 
-/// From the puts of this queue that are finished just before the event at place e to those that are
+/// From the puts of this queue that are finished just before the event at position e to those that are
 /// finished just after it.
 pub(crate) fn tally_after(tally: Tally, events: &[Event], queue: u32, e: usize) -> Tally
     requires lawful { IsLawful events.now }
@@ -52,7 +52,7 @@ pub(crate) fn tally_after(tally: Tally, events: &[Event], queue: u32, e: usize) 
     }
 }
 
-/// The place of the Start of the get that ends at this place and has got an opening token.
+/// The position of the Start of the get that ends at this position and has got an opening token.
 fn token_got_at(opening: &[Bytes], events: &[Event], e: usize) -> Option<usize>
     requires lawful { IsLawful events.now }
     requires within { e < length events.now }

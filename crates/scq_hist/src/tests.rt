@@ -39,7 +39,7 @@ fn call_of(alloc: Global, words: &[&str; 6]) -> Result<Call, Fail> {
     }
 }
 
-fn reply_of(alloc: Global, words: &[&str; 6]) -> Result<Reply, Fail> {
+fn read_reply(alloc: Global, words: &[&str; 6]) -> Result<Reply, Fail> {
     if words[2] == "done" {
         Ok(Reply::Done)
     } else if words[2] == "nothing" {
@@ -59,7 +59,7 @@ fn event_of(alloc: Global, words: &[&str; 6]) -> Result<Event, Fail> {
         let call = call_of(alloc, words)?;
         Ok(Event::Start { seat, call })
     } else {
-        let reply = reply_of(alloc, words)?;
+        let reply = read_reply(alloc, words)?;
         Ok(Event::End { seat, reply })
     }
 }
@@ -285,7 +285,7 @@ fn judges_histories(rt: HostRuntime) -> Result<(), Fail> {
 }
 
 #[test]
-fn tells_lawful_lists(rt: HostRuntime) -> Result<(), Fail> {
+fn knows_lawful_lists(rt: HostRuntime) -> Result<(), Fail> {
     let rows = [
         ("", true),
         ("end 0 done", false),

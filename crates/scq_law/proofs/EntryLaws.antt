@@ -14,15 +14,15 @@ use Rattle.scq_core.specs.Reach.{IsReachable}
 use Rattle.scq_core.proofs.Turns.{Begins, begins_put, begins_get, begins}
 use Rattle.scq_law.specs.Places.{Maker, IsPlacedBy, IsTaken, IsUntaken}
 use Rattle.scq_law.specs.Standing.{StandsAt, StandsFor, EntriesMatchPlaces}
-use Rattle.scq_law.proofs.Ghosts.{Ghost, GetState, unopened, opened, dead, took, waiting}
-use Rattle.scq_law.proofs.Tale.{story}
-use Rattle.scq_law.proofs.Base.{IsBased, based}
-use Rattle.scq_law.proofs.Records.{IsRecorded}
-use Rattle.scq_law.proofs.Throughout.{recorded}
-use Rattle.scq_law.proofs.HandLaws.{stood_at}
-use Rattle.scq_law.proofs.PlaceLaws.{placed_by, by_placed, taken_at, not_dead, places_once}
+use Rattle.scq_law.proofs.Base.Ghosts.{Ghost, GetState, unopened, opened, dead, took, waiting}
+use Rattle.scq_law.proofs.Base.Traces.{has_trace}
+use Rattle.scq_law.proofs.Base.Based.{IsBased, based}
+use Rattle.scq_law.proofs.Places.RecordsAgree.{RecordsAgree}
+use Rattle.scq_law.proofs.Places.Throughout.{records_agree}
+use Rattle.scq_law.proofs.Places.HandLaws.{stood_at}
+use Rattle.scq_law.proofs.Places.PlaceLaws.{placed_by, by_placed, taken_at, not_dead, places_once}
 
-module _ (c : Setup) (g : Ghost) (m : Machine) (base : IsBased c g m) (records : IsRecorded c g m) where
+module _ (c : Setup) (g : Ghost) (m : Machine) (base : IsBased c g m) (records : RecordsAgree c g m) where
   -- where something may still be taken, nobody has taken
   waits_untaken : (r p : ℕ) → waiting (g.gets r p) ≡ true → IsUntaken m r p
   waits_untaken r p waits w k x by =
@@ -67,9 +67,9 @@ module _ (c : Setup) (g : Ghost) (m : Machine) (base : IsBased c g m) (records :
 -- the law, of every reachable state
 pub entries_match_places : (c : Setup) (m : Machine) → IsReachable c m → EntriesMatchPlaces c m
 entries_match_places c m reach =
-    let s = story c m reach in
-    let base = based c s.time s.ghost m s.tells in
-    let records = recorded c s.time s.ghost m s.tells in
+    let s = has_trace c m reach in
+    let base = based c s.time s.ghost m s.trace in
+    let records = records_agree c s.time s.ghost m s.trace in
     record {
       placed = stands_for c s.ghost m base records;
       stands = taken_or_stands c s.ghost m base records;

@@ -5,8 +5,8 @@ use Rattle.scq_word.specs.declared.setup.Setup.{Setup}
 use Rattle.scq_word.specs.Sizes.{n_of}
 use Rattle.scq_core.specs.declared.step.Step.{Step}
 use Rattle.scq_law.specs.Lasting.{PlacesLastThroughout}
-use Rattle.scq_law.proofs.Rising.{moments_later, moment_reached}
-use Rattle.scq_law.proofs.LaterLaws.{places_last}
+use Rattle.scq_law.proofs.Replays.RisingWords.{moments_later, moment_reached}
+use Rattle.scq_law.proofs.Places.LaterLaws.{places_last}
 
 pub places_last_throughout : (c : Setup) (opening : List (List ℕ)) (steps : List (ℕ × Step)) → length opening ≡ n_of c.order
     → All (λ (x : ℕ × Step). x.0 < c.seats) steps → PlacesLastThroughout c opening steps

@@ -1,4 +1,4 @@
--- What a turn may add to what is told of its run, as its seat's phase and the step say; and what it adds, by what became of
+-- What a turn may add to what is recorded of its run, as its seat's phase and the step say; and what it adds, by what became of
 -- its seat.
 use Rattle.std.specs.Prelude.{ℕ, ◌+◌, ◌-◌, ◌<◌, List, [], ◌∷◌, length, Option, Some, None, slice_get, slice_index, slice_set}
 use Rattle.scq_core.specs.declared.ended.Ended.{Ended}
@@ -24,11 +24,11 @@ act_of (AtD10 r h leaving) step = Fails r
 act_of phase step = Moves
 
 -- the ring that it counts on is one of so many
-abbrev pub IsWithin : ℕ → Act → Type 0
-IsWithin rings (Exchanges r t) = r < rings
-IsWithin rings (Settles r) = r < rings
-IsWithin rings (Fails r) = r < rings
-IsWithin rings act = Unit {0}
+abbrev pub IsOnRing : ℕ → Act → Type 0
+IsOnRing rings (Exchanges r t) = r < rings
+IsOnRing rings (Settles r) = r < rings
+IsOnRing rings (Fails r) = r < rings
+IsOnRing rings act = Unit {0}
 
 abbrev pub starts_by : ℕ → Act → List Event
 starts_by seat (Begins call) = Start seat call ∷ []

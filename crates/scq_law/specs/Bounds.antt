@@ -10,7 +10,7 @@ use Rattle.scq_core.specs.declared.phase.Phase.TheVariants.{AtE1, AtE2, AtE3, At
 use Rattle.scq_core.specs.Machine.{Machine}
 use Rattle.scq_core.specs.Table.{ring_slots, zero_level, reset_value}
 use Rattle.scq_core.specs.Laws.{total}
-use Rattle.scq_law.specs.Run.{Told}
+use Rattle.scq_law.specs.Run.{Recorded}
 
 -- no ring's Tail, as far as it is below the limit, is more than twice the number of indices, less one, past its Head
 pub record WithinWindow (c : Setup) (m : Machine) : Type 0 where
@@ -18,20 +18,20 @@ pub record WithinWindow (c : Setup) (m : Machine) : Type 0 where
 
 -- 1 for a seat whose turn is in flight on this ring: it has drawn a ticket below the limit to dequeue, and hasn't yet
 -- taken what is there or counted the turn as failed
-abbrev pub flies : ℕ → Phase → ℕ
-flies r (AtD3 q h l) = if q == r then 1 else 0
-flies r (AtD4 q h) = if q == r then 1 else 0
-flies r (AtD5 q h e) = if q == r then 1 else 0
-flies r (AtD6 q h) = if q == r then 1 else 0
-flies r (AtD7 q h from to) = if q == r then 1 else 0
-flies r (AtD8 q h from) = if q == r then 1 else 0
-flies r (AtD9 q h from to) = if q == r then 1 else 0
-flies r (AtD10 q h leaving) = if q == r then 1 else 0
-flies r phase = 0
+abbrev pub in_flight : ℕ → Phase → ℕ
+in_flight r (AtD3 q h l) = if q == r then 1 else 0
+in_flight r (AtD4 q h) = if q == r then 1 else 0
+in_flight r (AtD5 q h e) = if q == r then 1 else 0
+in_flight r (AtD6 q h) = if q == r then 1 else 0
+in_flight r (AtD7 q h from to) = if q == r then 1 else 0
+in_flight r (AtD8 q h from) = if q == r then 1 else 0
+in_flight r (AtD9 q h from to) = if q == r then 1 else 0
+in_flight r (AtD10 q h leaving) = if q == r then 1 else 0
+in_flight r phase = 0
 
 -- how many turns of this ring are in flight
-abbrev pub flights : Setup → Machine → ℕ → ℕ
-flights c m r = total (λ p. flies r p.phase) m.part c.seats
+abbrev pub attempts_in_flight : Setup → Machine → ℕ → ℕ
+attempts_in_flight c m r = total (λ p. in_flight r p.phase) m.part c.seats
 
 -- a seat's record has a put that ended at this place of the ring
 pub record IsDone (m : Machine) (r p : ℕ) : Type 0 where
@@ -52,11 +52,11 @@ IsFinished c m r p = IsDone m r p ⊎ IsOpening c r p
 -- with q turns in flight, Threshold is at least (p - Head) + q + 2 for each finished place p at or past Head. Both sides
 -- are raised by Head and by what the word of 0 is
 pub record ThresholdCovers (c : Setup) (m : Machine) : Type 0 where
-  pub covers : (r p : ℕ) → IsFinished c m r p → m.cells.head r ≤ p → zero_level + p + flights c m r + 2 ≤ m.cells.threshold r + m.cells.head r
+  pub covers : (r p : ℕ) → IsFinished c m r p → m.cells.head r ≤ p → zero_level + p + attempts_in_flight c m r + 2 ≤ m.cells.threshold r + m.cells.head r
 
 -- since a put last ended with Done on a ring, or since the start, no more dequeue turns have failed there than a reset sets and there are seats
-pub record FailsBounded (c : Setup) (told : Told) : Type 0 where
-  pub fails : (r : ℕ) → told.fails r ≤ reset_value c + c.seats
+pub record FailsBounded (c : Setup) (recorded : Recorded) : Type 0 where
+  pub fails : (r : ℕ) → recorded.fails r ≤ reset_value c + c.seats
 
 -- the sum of a number over the calls that have ended
 abbrev pub tally : (Ended → ℕ) → List Ended → ℕ
@@ -100,4 +100,5 @@ pub record TicketsBounded (c : Setup) (m : Machine) : Type 0 where
 
 -- where the bound is within the limit on each ring, no call has ended for want of tickets
 pub record NoneSpent (c : Setup) (m : Machine) : Type 0 where
-  pub none : ((r : ℕ) → r < c.rings → ticket_bound c (enqueues c m r) ≤ c.limit) → (k r t : ℕ) (is_put : Bool) → Contains (m.part k).calls (Spent r t is_put) → ⊥
+  pub none : ((r : ℕ) → r < c.rings → ticket_bound c (enqueues c m r) ≤ c.limit) → (k r t : ℕ) (is_put : Bool) → Contains (m.part k).calls (Spent r t is_put)
+      → ⊥

@@ -3,7 +3,7 @@ use Rattle.std.specs.Prelude.{ℕ, ◌≤◌, List}
 use Rattle.scq_word.specs.declared.setup.Setup.{Setup}
 use Rattle.scq_core.specs.declared.step.Step.{Step}
 use Rattle.scq_core.specs.Machine.{Machine}
-use Rattle.scq_law.specs.Run.{Told}
+use Rattle.scq_law.specs.Run.{Recorded}
 use Rattle.scq_law.specs.Moments.{IsMoment}
 use Rattle.scq_law.specs.Places.{Maker, GaveUp, IsPlacedBy, IsTakenBy}
 use Rattle.scq_law.specs.Bounds.{IsFinished}
@@ -20,4 +20,4 @@ pub record PlacesLast (c : Setup) (m later : Machine) : Type 0 where
 
 -- all along these steps
 pub record PlacesLastThroughout (c : Setup) (opening : List (List ℕ)) (steps : List (ℕ × Step)) : Type 0 where
-  pub last : (i j : ℕ) (now later : Told) → i ≤ j → IsMoment c opening steps i now → IsMoment c opening steps j later → PlacesLast c now.state later.state
+  pub last : (i j : ℕ) (now later : Recorded) → i ≤ j → IsMoment c opening steps i now → IsMoment c opening steps j later → PlacesLast c now.state later.state

@@ -8,7 +8,7 @@ pub mod Later
 pub mod Acts
 pub mod Names
 pub mod Replay
-pub mod Telling
+pub mod Recording
 pub mod History
 pub mod Moments
 pub mod Lasting

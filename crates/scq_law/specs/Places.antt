@@ -41,7 +41,8 @@ GaveUp phase r h = ⊥
 
 -- the content w was placed at the place p of ring r: at the start, by a call in a record, or by one that has not ended
 pub data IsPlacedBy (c : Setup) (m : Machine) (r p : ℕ) (w : List ℕ) : Maker → Type 0 where
-  at_opening : r ≡ 0 → ring_slots c ≤ p → p < ring_slots c + n_of c.order → w ≡ slice_index_or m.opening (p - ring_slots c) [] → IsPlacedBy c m r p w opening_put
+  at_opening : r ≡ 0 → ring_slots c ≤ p → p < ring_slots c + n_of c.order → w ≡ slice_index_or m.opening (p - ring_slots c) []
+      → IsPlacedBy c m r p w opening_put
   in_record : (seat number : ℕ) → slice_get (m.part seat).calls number ≡ Some (Done r p w) → IsPlacedBy c m r p w (call_of seat number)
   under_way : (seat : ℕ) → HasLanded (m.part seat).phase r p w → IsPlacedBy c m r p w (call_of seat (length (m.part seat).calls))
 
@@ -73,7 +74,7 @@ AllIdle c m = (k : ℕ) → k < c.seats → (m.part k).phase ≡ Idle
 pub record PlacesOnce (c : Setup) (m : Machine) : Type 0 where
   -- a place is placed once, by one call with one content, below Tail and the limit
   pub once : (r p : ℕ) (v w : List ℕ) (a b : Maker) → IsPlacedBy c m r p v a → IsPlacedBy c m r p w b → (a ≡ b) × (v ≡ w)
-  pub lawful : (r p : ℕ) (w : List ℕ) (a : Maker) → IsPlacedBy c m r p w a → (ring_slots c ≤ p) × (p < m.cells.tail r) × (p < c.limit)
+  pub below_limit : (r p : ℕ) (w : List ℕ) (a : Maker) → IsPlacedBy c m r p w a → (ring_slots c ≤ p) × (p < m.cells.tail r) × (p < c.limit)
   -- it is taken once, below Head
   pub taken_once : (r p : ℕ) (v w : List ℕ) (k x j y : ℕ) → IsTakenBy m r p v k x → IsTakenBy m r p w j y → (k ≡ j) × (x ≡ y)
   pub taken_below : (r p : ℕ) (w : List ℕ) (k x : ℕ) → IsTakenBy m r p w k x → p < m.cells.head r

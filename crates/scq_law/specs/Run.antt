@@ -1,4 +1,4 @@
--- What a run is, and what is told of it: the state that it leads to, its history, and the counts of each ring.
+-- What a run is, and what is recorded of it: the state that it leads to, its history, and the counts of each ring.
 use Rattle.std.specs.Prelude.{◌≡◌, ℕ, ◌+◌, ◌-◌, ◌==◌, ◌&&◌, nat_le, nat_lt, if◌then◌else◌, List, [], ◌∷◌, ◌++◌, length, Option, Some, None, slice_get}
 use Rattle.std.specs.Option.{option_and_then, option_map}
 use Rattle.scq_word.specs.declared.setup.Setup.{Setup}
@@ -20,10 +20,10 @@ use Rattle.scq_hist.specs.declared.events.PutName.TheVariants.{Opening, Of}
 use Rattle.scq_hist.specs.declared.events.Reply.{Reply}
 use Rattle.scq_hist.specs.declared.events.Reply.TheVariants.{Done, Got, Nothing, Spent}
 
--- what is told of a run: the state that it has led to, the events so far, how many puts each seat has begun, the put that
+-- what is recorded of a run: the state that it has led to, the events so far, how many puts each seat has begun, the put that
 -- placed at each place of each ring, and for each ring how often a put has ended with Done and how many dequeue turns failed
 -- since the last of these, or since the start
-pub record Told : Type 0 where
+pub record Recorded : Type 0 where
   pub state : Machine
   pub events : List Event
   pub puts : ℕ → ℕ
@@ -32,11 +32,11 @@ pub record Told : Type 0 where
   pub fails : ℕ → ℕ
 
 -- the reply of a call that has ended: a get names the put that placed where it took
-abbrev pub reply_of : (ℕ → ℕ → PutName) → Ended → Reply
-reply_of placer (ended.Done r p w) = Done
-reply_of placer (ended.Got r p w) = Got (placer r p) w
-reply_of placer (ended.Nothing r) = Nothing
-reply_of placer (ended.Spent r t is_put) = Spent
+abbrev pub recorded_reply : (ℕ → ℕ → PutName) → Ended → Reply
+recorded_reply placer (ended.Done r p w) = Done
+recorded_reply placer (ended.Got r p w) = Got (placer r p) w
+recorded_reply placer (ended.Nothing r) = Nothing
+recorded_reply placer (ended.Spent r t is_put) = Spent
 
 -- the Start at a call's first step: the seat was idle before it
 abbrev pub starts : ℕ → Phase → Phase → List Event
@@ -47,7 +47,7 @@ starts seat phase turn = []
 -- the End at a call's last step: the seat is idle after it, and its record has the call at its end
 abbrev pub end_of : ℕ → (ℕ → ℕ → PutName) → Option Ended → List Event
 end_of seat placer None = []
-end_of seat placer (Some call) = End seat (reply_of placer call) ∷ []
+end_of seat placer (Some call) = End seat (recorded_reply placer call) ∷ []
 
 abbrev pub finishes : ℕ → (ℕ → ℕ → PutName) → Phase → List Ended → List Event
 finishes seat placer Idle calls = end_of seat placer (slice_get calls (length calls - 1))
@@ -80,26 +80,26 @@ fails_after (AtD10 r h leaving) reset fails = updated fails r (fails r + 1)
 fails_after turn None fails = fails
 fails_after turn (Some r) fails = updated fails r 0
 
--- what is told after a turn of a seat
-abbrev pub told_after : Setup → ℕ → Phase → Told → Told
-told_after c seat turn told =
-    let before = told.state.part seat in
-    let state = moved c told.state seat turn in
-    let found = read told.state.cells (location_of c turn) in
+-- what is recorded after a turn of a seat
+abbrev pub recorded_after : Setup → ℕ → Phase → Recorded → Recorded
+recorded_after c seat turn recorded =
+    let before = recorded.state.part seat in
+    let state = moved c recorded.state seat turn in
+    let found = read recorded.state.cells (location_of c turn) in
     let after = state.part seat in
-    let placer = placer_after seat turn found told.puts told.placer in
+    let placer = placer_after seat turn found recorded.puts recorded.placer in
     record {
       state = state;
-      events = told.events ++ starts seat before.phase turn ++ finishes seat placer after.phase after.calls;
-      puts = puts_after seat before.phase turn told.puts;
+      events = recorded.events ++ starts seat before.phase turn ++ finishes seat placer after.phase after.calls;
+      puts = puts_after seat before.phase turn recorded.puts;
       placer = placer;
-      resets = resets_after (is_reset turn after.phase) told.resets;
-      fails = fails_after turn (is_reset turn after.phase) told.fails;
+      resets = resets_after (is_reset turn after.phase) recorded.resets;
+      fails = fails_after turn (is_reset turn after.phase) recorded.fails;
     }
 
--- what is told after one more step, or None where it isn't enabled
-abbrev pub told_by : Setup → Told → ℕ × Step → Option Told
-told_by c told x = option_map (λ turn. told_after c x.0 turn told) (turn_of c (told.state.part x.0) x.1)
+-- what is recorded after one more step, or None where it isn't enabled
+abbrev pub recorded_by : Setup → Recorded → ℕ × Step → Option Recorded
+recorded_by c recorded x = option_map (λ turn. recorded_after c x.0 turn recorded) (turn_of c (recorded.state.part x.0) x.1)
 
 -- the name of no put, since a seat's puts are numbered from 1
 abbrev pub nobody : PutName
@@ -110,9 +110,9 @@ abbrev pub first_placer : Setup → ℕ → ℕ → PutName
 first_placer c r p =
     if (r == 0) && nat_le (ring_slots c) p && nat_lt p (ring_slots c + n_of c.order) then Opening (p - ring_slots c) else nobody
 
--- what is told before the first step
-abbrev pub told_first : Setup → List (List ℕ) → Told
-told_first c opening = record {
+-- what is recorded before the first step
+abbrev pub recorded_first : Setup → List (List ℕ) → Recorded
+recorded_first c opening = record {
   state = start_of c opening;
   events = [];
   puts = λ seat. 0;
@@ -121,16 +121,16 @@ told_first c opening = record {
   fails = λ r. 0;
 }
 
--- what is told after more steps, or None where one of them isn't enabled
-abbrev pub told_along : Setup → Told → List (ℕ × Step) → Option Told
-told_along c told [] = Some told
-told_along c told (x ∷ xs) = option_and_then (λ next. told_along c next xs) (told_by c told x)
+-- what is recorded after more steps, or None where one of them isn't enabled
+abbrev pub recorded_along : Setup → Recorded → List (ℕ × Step) → Option Recorded
+recorded_along c recorded [] = Some recorded
+recorded_along c recorded (x ∷ xs) = option_and_then (λ next. recorded_along c next xs) (recorded_by c recorded x)
 
--- what is told of these steps from the start, or None where they are no run: where one isn't enabled in its turn
-abbrev pub told_of : Setup → List (List ℕ) → List (ℕ × Step) → Option Told
-told_of c opening steps = told_along c (told_first c opening) steps
+-- what is recorded of these steps from the start, or None where they are no run: where one isn't enabled in its turn
+abbrev pub recorded_of : Setup → List (List ℕ) → List (ℕ × Step) → Option Recorded
+recorded_of c opening steps = recorded_along c (recorded_first c opening) steps
 
--- these steps are a run, and this is told of it. That there is an opening content for each index, and that the seats of
+-- these steps are a run, and this is recorded of it. That there is an opening content for each index, and that the seats of
 -- the steps are the setup's, is asked beside it where a law speaks of every run
-pub record IsRun (c : Setup) (opening : List (List ℕ)) (steps : List (ℕ × Step)) (told : Told) : Type 0 where
-  pub told_is : told_of c opening steps ≡ Some told
+pub record IsRun (c : Setup) (opening : List (List ℕ)) (steps : List (ℕ × Step)) (recorded : Recorded) : Type 0 where
+  pub recorded_is : recorded_of c opening steps ≡ Some recorded

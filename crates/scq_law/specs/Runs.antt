@@ -5,14 +5,14 @@ use Rattle.scq_word.specs.declared.setup.Setup.{Setup}
 use Rattle.scq_word.specs.Sizes.{n_of}
 use Rattle.scq_core.specs.declared.step.Step.{Step}
 use Rattle.scq_core.specs.Machine.{Machine}
-use Rattle.scq_law.specs.Run.{Told, IsRun}
+use Rattle.scq_law.specs.Run.{Recorded, IsRun}
 
 -- some run of the setup's seats ends in this state
 pub record EndsRun (c : Setup) (m : Machine) : Type 0 where
   pub opening : List (List ℕ)
   pub steps : List (ℕ × Step)
-  pub told : Told
+  pub recorded : Recorded
   pub full : length opening ≡ n_of c.order
   pub seats : All (λ (x : ℕ × Step). x.0 < c.seats) steps
-  pub run : IsRun c opening steps told
-  pub ends : told.state ≡ m
+  pub run : IsRun c opening steps recorded
+  pub ends : recorded.state ≡ m

@@ -6,7 +6,7 @@ use scq_hist::Call;
 use scq_word::{Bytes, NoMemory};
 use std::alloc::Global;
 
-/// What a turn may add to what is told of its run, whatever word it finds.
+/// What a turn may add to what is recorded of its run, whatever word it finds.
 #[derive(Debug, Drop)]
 pub(crate) enum Act {
     /// It begins a call.

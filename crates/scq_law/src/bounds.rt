@@ -9,7 +9,7 @@ ghost use Rattle.scq_core.specs.declared.step.Step.{Step};
 ghost use Rattle.scq_core.specs.Machine.{Machine};
 ghost use Rattle.scq_core.specs.Reach.{IsReachable};
 ghost use Rattle.scq_core.specs.Laws.{CountersBounded, ThresholdFloor};
-ghost use Rattle.scq_law.specs.Run.{Told, IsRun};
+ghost use Rattle.scq_law.specs.Run.{Recorded, IsRun};
 ghost use Rattle.scq_law.specs.Bounds.{WithinWindow, ThresholdCovers, FailsBounded, TicketsBounded, NoneSpent};
 
 /// Tail, as far as it is below the limit, is at most `2n - 1` past Head on each ring of `n` indices.
@@ -38,7 +38,8 @@ pub fn counters_are_bounded()
 /// After each run, no more dequeue turns of a ring have failed since a put last ended there with Done, or
 /// since the start, than what a reset sets and the number of seats together.
 pub fn fails_are_bounded()
-    ensures { (c : Setup) (opening : List (List ℕ)) (steps : List (ℕ × Step)) (told : Told) → length opening ≡ n_of c.order → All (λ (x : ℕ × Step). x.0 < c.seats) steps → IsRun c opening steps told → FailsBounded c told }
+    ensures { (c : Setup) (opening : List (List ℕ)) (steps : List (ℕ × Step)) (recorded : Recorded) → length opening ≡ n_of c.order
+        → All (λ (x : ℕ × Step). x.0 < c.seats) steps → IsRun c opening steps recorded → FailsBounded c recorded }
 {}
 
 /// Head is at most `bound(E) - 2n`, and Tail, as far as it is below the limit, at most `bound(E) - 1`,

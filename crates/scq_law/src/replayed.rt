@@ -5,7 +5,7 @@ use scq_hist::Event;
 use scq_word::NoMemory;
 use thiserror::Error;
 
-/// What is told of a run: the state that it led to, its history, and for each ring how many puts have
+/// What is recorded of a run: the state that it led to, its history, and for each ring how many puts have
 /// ended with Done there, and how many dequeue turns have failed since the last of these, or since the
 /// start.
 #[derive(Debug, Drop)]

@@ -3,7 +3,7 @@ ghost use Rattle.std.specs.List.{All};
 ghost use Rattle.scq_word.specs.Sizes.{n_of};
 ghost use Rattle.scq_core.specs.declared.step.Step.{Step as StepOf};
 ghost use Rattle.scq_core.specs.Table.{reset_value};
-ghost use Rattle.scq_core.specs.Book.{machine_of};
+ghost use Rattle.scq_core.specs.StateLists.{machine_of};
 ghost use Rattle.scq_core.specs.Laws.{CountersBounded, ThresholdFloor};
 ghost use Rattle.scq_hist.specs.Aspects.{IsLawful, IsFresh, IsOnce, IsInOrder, IsEmptyRight};
 ghost use Rattle.scq_law.specs.Hands.{OneHand};
@@ -14,14 +14,14 @@ ghost use Rattle.scq_law.specs.Bounds.{WithinWindow, ThresholdCovers, TicketsBou
 ghost use Rattle.scq_law.specs.Moments.{RisesThroughout};
 ghost use Rattle.scq_law.specs.Replay.{ShowsRun, StopsAt};
 
+use crate::recording::Recording;
 use crate::replayed::{ReplayFault, Replayed};
-use crate::telling::Telling;
 use scq_core::{ApplyFault, Step};
 use scq_word::{Bytes, Setup};
 use std::alloc::Global;
 
 /// Makes the steps one after another from the start, where the opening contents stand in ring 0, and
-/// tells what is told of them. After each run the laws of the machine hold.
+/// answers what is recorded of them. After each run the laws of the machine hold.
 pub fn replay(
     alloc: Global,
     setup: Setup,
@@ -57,11 +57,11 @@ pub fn replay(
     ensures rises { RisesThroughout setup opening.items steps.now }
     ensures places_last { PlacesLastThroughout setup opening.items steps.now }
 {
-    told(alloc, setup, opening, steps)
+    recorded(alloc, setup, opening, steps)
 }
 
-// The steps one after another, and what is told of them.
-fn told(
+/// The steps one after another, and what is recorded of them.
+fn recorded(
     alloc: Global,
     setup: Setup,
     opening: Vec<Bytes>,
@@ -72,21 +72,21 @@ fn told(
     ensures run { IfOk result (ShowsRun setup opening.items steps.now) }
     ensures not_enabled { (at : ℕ) → result ≡ Err (ReplayFault.NotEnabled at) → StopsAt setup opening.items steps.now at }
 {
-    let mut telling = Telling::first(alloc, setup, opening)?;
+    let mut recording = Recording::first(alloc, setup, opening)?;
     for (at, (seat, step)) in steps.iter().enumerate() {
-        match telling.make(&setup, *seat, step) {
+        match recording.make(&setup, *seat, step) {
             Ok(()) => {}
             Err(ApplyFault::NotEnabled) => return Err(ReplayFault::NotEnabled { at: at as u64 }),
             Err(ApplyFault::NoMemory) => return Err(ReplayFault::NoMemory),
         }
     }
-    let Telling {
+    let Recording {
         state,
         events,
         resets,
         fails,
         ..
-    } = telling;
+    } = recording;
     Ok(Replayed {
         state,
         events,

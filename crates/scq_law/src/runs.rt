@@ -10,13 +10,13 @@ ghost use Rattle.scq_core.specs.Machine.{Machine};
 ghost use Rattle.scq_core.specs.Reach.{IsReachable};
 ghost use Rattle.scq_core.specs.Laws.{RankRises, CountersRise};
 ghost use Rattle.scq_law.specs.Later.{IsLater};
-ghost use Rattle.scq_law.specs.Run.{Told, IsRun};
+ghost use Rattle.scq_law.specs.Run.{Recorded, IsRun};
 ghost use Rattle.scq_law.specs.Runs.{EndsRun};
 
 /// The reachable states are those in which a run of the setup's seats ends.
 pub fn runs_end_in_the_reachable_states()
-    ensures reached { (c : Setup) (opening : List (List ℕ)) (steps : List (ℕ × Step)) (told : Told) → length opening ≡ n_of c.order
-        → All (λ (x : ℕ × Step). x.0 < c.seats) steps → IsRun c opening steps told → IsReachable c told.state }
+    ensures reached { (c : Setup) (opening : List (List ℕ)) (steps : List (ℕ × Step)) (recorded : Recorded) → length opening ≡ n_of c.order
+        → All (λ (x : ℕ × Step). x.0 < c.seats) steps → IsRun c opening steps recorded → IsReachable c recorded.state }
     ensures no_others { (c : Setup) (m : Machine) → IsReachable c m → EndsRun c m }
 {}
 

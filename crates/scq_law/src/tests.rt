@@ -11,10 +11,10 @@ use std::alloc::Global;
 use std::process::Abort;
 use std::test::Fail;
 
-// Each line of a table is a seat, its steps, and behind `=` a ring with its Head, Tail, Threshold and
-// entries, its resets and fails, what the seat's newest call was, or `-` where it is in the middle of one, and behind `:` the
-// events that the line adds. `E1/1/0/x` is E1 on ring 1 of index 0 with content x, and `D1/1` is D1 on
-// ring 1. The put `1.2` is the second of seat 1, and `token 0` is the first opening put.
+/// Each line of a table is a seat, its steps, and behind `=` a ring with its Head, Tail, Threshold and
+/// entries, its resets and fails, what the seat's newest call was, or `-` where it is in the middle of one, and behind `:` the
+/// events that the line adds. `E1/1/0/x` is E1 on ring 1 of index 0 with content x, and `D1/1` is D1 on
+/// ring 1. The put `1.2` is the second of seat 1, and `token 0` is the first opening put.
 fn number(text: Option<&str>) -> Result<u32, Fail> {
     Ok(text.ok_or("a number is missing")?.parse::<u32>()?)
 }
@@ -66,7 +66,7 @@ fn opening(alloc: Global) -> Result<Vec<Bytes>, NoMemory>
     Ok(vec![in alloc; Bytes::copy_of(alloc, b"a")?, Bytes::copy_of(alloc, b"b")?]?)
 }
 
-// From the start of a setup with two indices, rings and seats, and the opening contents `a` and `b`.
+/// From the start of a setup with two indices, rings and seats, and the opening contents `a` and `b`.
 fn replayed(alloc: Global, limit: u64, steps: &[(u32, Step)]) -> Result<Replayed, ReplayFault>
     requires seats { All (λ (x : ℕ × StepOf). x.0 < 2) steps.now }
     requires limit { (16 ≤ limit) × (limit ≤ 2 ^ 60) }
@@ -82,7 +82,7 @@ fn replayed(alloc: Global, limit: u64, steps: &[(u32, Step)]) -> Result<Replayed
     replay(alloc, setup, opening(alloc)?, steps)
 }
 
-// A line taken apart.
+/// A line taken apart.
 #[derive(Drop)]
 struct Line<'a> {
     seat: u32,
@@ -113,7 +113,7 @@ fn parse(line: &str) -> Result<Line, Fail>
     }
 }
 
-// The seat's steps of a line.
+/// The seat's steps of a line.
 fn push_steps(
     alloc: Global,
     seat: u32,
@@ -130,7 +130,7 @@ fn push_steps(
     Ok(())
 }
 
-// What a line tells of the ring and of the seat's newest call.
+/// What a line says of the ring and of the seat's newest call.
 fn shown(alloc: Global, state: &State, line: &Line) -> Result<String, Fail>
     requires seat { line.now.seat < state.now.setup.seats }
     requires ring { line.now.ring < state.now.setup.rings }
@@ -221,7 +221,7 @@ fn events_text(alloc: Global, events: &[Event]) -> Result<String, Fail> {
     Ok(text)
 }
 
-// The history of each cut of the steps passes the five tests.
+/// The history of each cut of the steps passes the five tests.
 fn judge(rt: &(impl Abort + AllocGlobal), limit: u64, steps: &[(u32, Step)]) -> Result<(), Fail>
     requires seats { All (λ (x : ℕ × StepOf). x.0 < 2) steps.now }
     requires limit { (16 ≤ limit) × (limit ≤ 2 ^ 60) }
@@ -238,7 +238,7 @@ fn judge(rt: &(impl Abort + AllocGlobal), limit: u64, steps: &[(u32, Step)]) -> 
     Ok(())
 }
 
-// What was replayed up to a line, with the events after those that were seen before.
+/// What was replayed up to a line, with the events after those that were seen before.
 fn compare(
     rt: &(impl Abort + AllocGlobal),
     line: &Line,
@@ -254,13 +254,13 @@ fn compare(
     let counts = counts(alloc, replayed, line.ring)?;
     let call = call(alloc, &replayed.state, line.seat)?;
     let events = events_text(alloc, replayed.events.get(seen..).ok_or("no events")?)?;
-    let told = format!(in alloc; "{words} {counts} {call}")?;
-    assert_eq!(rt; told.as_str(), line.words);
+    let recorded = format!(in alloc; "{words} {counts} {call}")?;
+    assert_eq!(rt; recorded.as_str(), line.words);
     assert_eq!(rt; events.as_str(), line.events);
     Ok(())
 }
 
-// Replays a table line by line, and judges the history of each cut.
+/// Replays a table line by line, and judges the history of each cut.
 fn run(rt: &(impl Abort + AllocGlobal), limit: u64, table: &str) -> Result<(), Fail>
     requires { (16 ≤ limit) × (limit ≤ 2 ^ 60) }
 {
@@ -293,7 +293,7 @@ fn judge_cuts(
 
 const LIMIT: u64 = 1 << 60;
 
-// A put, its get, and six gets that find nothing: the last leaves Threshold at -1, and the next looks no further.
+/// A put, its get, and six gets that find nothing: the last leaves Threshold at -1, and the next looks no further.
 const ALONE: &str = "\
 0 D1/0 D2 D3 D4 = 0 5 6 5 15 13 7 7 0/0 got 4 a: 0 get 0, 0 got token 0 a,
 0 E1/1/0/x E2 E4 E5 E6 = 1 4 5 5 12 7 7 7 1/0 done 4: 0 put 1 x, 0 done,
@@ -306,8 +306,8 @@ const ALONE: &str = "\
 0 D1/1 D2 D3 D5 D6 D7 D10 = 1 11 11 -1 23 23 23 15 1/6 nothing: 0 get 1, 0 nothing,
 0 D1/1 = 1 11 11 -1 23 23 23 15 1/6 nothing: 0 get 1, 0 nothing,";
 
-// While seat 0 has loaded the entry of its message, gets of seat 1 find nothing and pass that entry: it is marked
-// unsafe. Later an enqueue finds the mark, looks at Head, and may place.
+/// While seat 0 has loaded the entry of its message, gets of seat 1 find nothing and pass that entry: it is marked
+/// unsafe. Later an enqueue finds the mark, looks at Head, and may place.
 const CLAIMED: &str = "\
 0 D1/0 D2 D3 D4 = 0 5 6 5 15 13 7 7 0/0 got 4 a: 0 get 0, 0 got token 0 a,
 1 D1/0 D2 D3 D4 = 0 6 6 5 15 15 7 7 0/0 got 5 b: 1 get 0, 1 got token 1 b,
@@ -326,7 +326,7 @@ const CLAIMED: &str = "\
 1 D1/1 D2 D3 D4 = 1 11 12 5 11 23 23 21 5/0 got 10 v: 1 get 1, 1 got 0.2 v,
 1 E1/1/0/u E2 E3 E4 E5 = 1 11 13 5 28 23 23 21 6/0 done 12: 1 put 1 u, 1 done,";
 
-// The slow enqueue of seat 0 finds its slot passed, and draws another ticket.
+/// The slow enqueue of seat 0 finds its slot passed, and draws another ticket.
 const SKIPPED: &str = "\
 0 D1/0 D2 D3 D4 = 0 5 6 5 15 13 7 7 0/0 got 4 a: 0 get 0, 0 got token 0 a,
 1 D1/0 D2 D3 D4 = 0 6 6 5 15 15 7 7 0/0 got 5 b: 1 get 0, 1 got token 1 b,
@@ -335,7 +335,7 @@ const SKIPPED: &str = "\
 1 D1/1 D2 D3 D5 D6 D10 D2 D3 D4 = 1 6 6 4 15 15 7 7 1/1 got 5 y: 1 get 1, 1 got 1.1 y,
 0 E2 E1Again E2 E4 E5 E6 = 1 6 7 5 15 15 12 7 2/0 done 6: 0 done,";
 
-// While seat 0 has loaded the entry of its message, Tail comes as far past Head as it can: twice the indices, less one.
+/// While seat 0 has loaded the entry of its message, Tail comes as far past Head as it can: twice the indices, less one.
 const WIDEST: &str = "\
 0 D1/0 D2 D3 D4 = 0 5 6 5 15 13 7 7 0/0 got 4 a: 0 get 0, 0 got token 0 a,
 1 D1/0 D2 D3 D4 = 0 6 6 5 15 15 7 7 0/0 got 5 b: 1 get 0, 1 got token 1 b,
@@ -349,13 +349,13 @@ const WIDEST: &str = "\
 0 D4 = 1 8 10 5 15 21 15 15 3/0 got 4 x: 0 got 0.1 x,
 0 E1/1/0/v E2 E4 E5 = 1 8 11 5 15 21 20 15 4/0 done 10: 0 put 1 v, 0 done,";
 
-// Ring 0 is emptied, and answers so.
+/// Ring 0 is emptied, and answers so.
 const EMPTIED: &str = "\
 0 D1/0 D2 D3 D4 = 0 5 6 5 15 13 7 7 0/0 got 4 a: 0 get 0, 0 got token 0 a,
 0 D1/0 D2 D3 D4 = 0 6 6 5 15 15 7 7 0/0 got 5 b: 0 get 0, 0 got token 1 b,
 0 D1/0 D2 D3 D5 D6 D7 D10 = 0 7 7 4 15 15 15 7 0/1 nothing: 0 get 0, 0 nothing,";
 
-// Ten tickets are left below a limit of 16; the eleventh put draws the limit.
+/// Ten tickets are left below a limit of 16; the eleventh put draws the limit.
 const SPENT: &str = "\
 0 D1/0 D2 D3 D4 E1/0/0/c E2 E4 E5 = 0 5 7 5 15 13 12 7 1/0 done 6: 0 get 0, 0 got token 0 a, 0 put 0 c, 0 done,
 0 D1/0 D2 D3 D4 E1/0/1/d E2 E4 E5 = 0 6 8 5 15 15 12 13 2/0 done 7: 0 get 0, 0 got token 1 b, 0 put 0 d, 0 done,
@@ -378,7 +378,7 @@ fn tables_are_replayed(rt: HostRuntime) -> Result<(), Fail> {
     run(&rt, 16, SPENT)
 }
 
-// The place of the first step that is not enabled is told: a step out of turn, an index that is not in
+// The place of the first step that is not enabled is answered: a step out of turn, an index that is not in
 // the hand, a ring that is not there.
 #[test]
 fn steps_out_of_turn_stop_a_replay(rt: HostRuntime) -> Result<(), Fail> {

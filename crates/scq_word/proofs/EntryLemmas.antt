@@ -11,7 +11,7 @@ use Rattle.std.proofs.lemmas.Grind.{common_steps}
 use Rattle.scq_word.specs.declared.entry.Entry.{Entry}
 use Rattle.scq_word.specs.Sizes.{n_of, slots_of}
 use Rattle.scq_word.specs.Words.{mark_of, packed, index_in, safe_in, cycle_in, rank_in}
-use Rattle.scq_word.specs.Entries.{safe_bit, index_bits, word_of, entry_of, HasOwnIndex, IsIndexOrMark, rank_of, rank_within}
+use Rattle.scq_word.specs.Entries.{safe_bit, index_bits, word_of, entry_in, HasOwnIndex, IsIndexOrMark, rank_of, rank_within}
 use Rattle.scq_word.proofs.WordLemmas.{bit_or-mark, index_in-packed, safe_in-packed, cycle_in-packed, packed-parts, safe_in_bit}
 
 -- there is at least one index
@@ -63,9 +63,9 @@ same_entry a b cycle safe index =
     ap (λ (c : ℕ). made c a.safe a.index) cycle ∙ ap (λ (s : Bool). made b.cycle s a.index) safe ∙ ap (λ (i : Option ℕ). made b.cycle b.safe i) index
 
 -- what was packed is read again
-pub entry_of-word_of : (order : ℕ) (e : Entry) → HasOwnIndex order e → entry_of order (word_of order e) ≡ e
-entry_of-word_of order e own =
-    same_entry (entry_of order (word_of order e)) e
+pub entry_in-word_of : (order : ℕ) (e : Entry) → HasOwnIndex order e → entry_in order (word_of order e) ≡ e
+entry_in-word_of order e own =
+    same_entry (entry_in order (word_of order e)) e
     (cycle_in-word_of order e own)
     (rw (safe_in-word_of order e own) (safe_read e.safe))
     (rw (index_in-word_of order e own) (index_read order e.index own))
@@ -81,8 +81,8 @@ bits_read order i =
     ]
 
 -- and what was read is packed again
-pub word_of-entry_of : (order w : ℕ) → word_of order (entry_of order w) ≡ w
-word_of-entry_of order w =
+pub word_of-entry_in : (order w : ℕ) → word_of order (entry_in order w) ≡ w
+word_of-entry_in order w =
     rw (bit_read (safe_in (slots_of order) w) (safe_in_bit (slots_of order) w), bits_read order (index_in (slots_of order) w))
     (packed-parts (slots_of order) w)
 
@@ -98,7 +98,7 @@ own_read order i j bits is =
     ]
 
 -- an index that was read is one of the ring's
-pub entry_of_own : (order w : ℕ) → IsIndexOrMark order w → HasOwnIndex order (entry_of order w)
+pub entry_of_own : (order w : ℕ) → IsIndexOrMark order w → HasOwnIndex order (entry_in order w)
 entry_of_own order w bits i is = own_read order (index_in (slots_of order) w) i bits is
 
 -- a packed word fits 64 bits
@@ -134,10 +134,10 @@ cycle_in_fits order over w sum small =
 -- the quotients and the rest that make an entry
 pub read_parts : (order w slots : ℕ) (i : Option ℕ) → slots ≡ slots_of order
     → i ≡ cond (w % slots == mark_of (slots_of order)) None (Some (w % slots))
-    → (let read : Entry = record { cycle = w / slots / 2; safe = w / slots % 2 == 1; index = i } in read) ≡ entry_of order w
+    → (let read : Entry = record { cycle = w / slots / 2; safe = w / slots % 2 == 1; index = i } in read) ≡ entry_in order w
 unfolding cycle_in safe_in index_in
 read_parts order w slots i slots_is index_is =
-    same_entry (record { cycle = w / slots / 2; safe = w / slots % 2 == 1; index = i }) (entry_of order w)
+    same_entry (record { cycle = w / slots / 2; safe = w / slots % 2 == 1; index = i }) (entry_in order w)
     (rw slots_is refl) (rw slots_is refl) (index_is ∙ rw slots_is refl)
 
 rank_read : (order : ℕ) (i : Option ℕ) (s : Bool) → ForSome i (λ index. index < n_of order)

@@ -25,8 +25,8 @@ abbrev pub index_of : ℕ → ℕ → Option ℕ
 index_of order word = if is_none_in (slots_of order) word then None else Some (index_in (slots_of order) word)
 
 -- the entry of a word
-abbrev pub entry_of : ℕ → ℕ → Entry
-entry_of order word = record {
+abbrev pub entry_in : ℕ → ℕ → Entry
+entry_in order word = record {
   cycle = cycle_in (slots_of order) word;
   safe = safe_in (slots_of order) word == 1;
   index = index_of order word;

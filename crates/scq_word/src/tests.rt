@@ -8,7 +8,7 @@ use crate::{
 };
 use std::test::Fail;
 
-// Bytes on the heap, as the smallest buffer.
+/// Bytes on the heap, as the smallest buffer.
 #[derive(Drop)]
 struct Heap {
     bytes: Vec<u8>,
@@ -42,7 +42,7 @@ impl Buffer for Heap {
     }
 }
 
-// What generic code knows of a buffer after a write through the loan.
+/// What generic code knows of a buffer after a write through the loan.
 fn fill<B: Buffer>(buffer: &mut B, from: &[u8])
     requires { length from.now ≡ length (B.contents buffer.old) }
     ensures bytes { B.contents buffer.new ≡ from.now }

@@ -3,7 +3,7 @@ ghost use Rattle.std.specs.Option.{ForSome};
 ghost use Rattle.scq_word.specs.Sizes.{n_of, slots_of};
 ghost use Rattle.scq_word.specs.Words.{mark_of, rank_in};
 ghost use Rattle.scq_word.specs.Tickets.{cycle_of, slot_of};
-ghost use Rattle.scq_word.specs.Entries.{word_of, entry_of, index_bits, HasOwnIndex, IsIndexOrMark, rank_of};
+ghost use Rattle.scq_word.specs.Entries.{word_of, entry_in, index_bits, HasOwnIndex, IsIndexOrMark, rank_of};
 
 use crate::entry::Entry;
 use crate::shape::Shape;
@@ -14,7 +14,7 @@ pub fn pack(shape: Shape, entry: Entry) -> u64
     requires cycle { entry.cycle < 2 ^ 62 / n_of shape.order }
     requires index { HasOwnIndex shape.order entry }
     ensures word { result ≡ word_of shape.order entry }
-    ensures unpacked { entry_of shape.order result ≡ entry }
+    ensures unpacked { entry_in shape.order result ≡ entry }
 {
     let slots = u64::from(shape.slots());
     let safe = u64::from(entry.safe);
@@ -33,7 +33,7 @@ fn packed_index(shape: Shape, index: Option<u32>) -> u64
 /// The entry of a word whose index bits are an index of the ring or the mark.
 pub fn unpack(shape: Shape, word: u64) -> Entry
     requires { IsIndexOrMark shape.order word }
-    ensures entry { result ≡ entry_of shape.order word }
+    ensures entry { result ≡ entry_in shape.order word }
     ensures packed { word_of shape.order result ≡ word }
     ensures cycle { result.cycle < 2 ^ 62 / n_of shape.order }
     ensures index { HasOwnIndex shape.order result }

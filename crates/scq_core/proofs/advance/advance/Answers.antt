@@ -1,29 +1,32 @@
--- The ring that is read is the one of the turn, and its place is one of the ring's; then the clauses of the pieces say what
+-- The ring that is read is the one of the turn, and its cell is one of the ring's; then the clauses of the pieces say what
 -- the words and the seat's part are.
 use Rattle.std.proofs.Common.{◌≡◌, List, ℕ, rules}
 use Rattle.std.specs.Prelude.{unwrap_or}
 use Rattle.scq_core.specs.Table.{after, stores}
 use Rattle.scq_core.specs.Turn.{copied}
-use Rattle.scq_core.proofs.Advancing.{place_fits, turn_is, advanced}
+use Rattle.scq_core.proofs.Advancing.{cell_fits, turn_is, advanced}
 use Rattle.scq_core.proofs.advance.advance.Goals as goal
 
 pub beside-requires : goal.beside-requires
 beside-requires c =
-    let enabled = turn_is c.args.setup.now c.args.seat.now c.args.step.now c.in_ok-started.started c.turn-turn.result.now (search rules) (search rules) c.turn-turn.ensures in
-    place_fits c.args.setup.now c.args.rings.now.items c.turn-turn.result.now c.ring_of-index.result c.index-ring.result.now c.place_of-place.result
-    c.requires.rings (c.requires.ready c.turn-turn.result.now enabled).ring c.ring_of-index.ensures c.index-ring.ensures c.place_of-place.ensures
+    let enabled = turn_is c.args.setup.now c.args.seat.now c.args.step.now c.in_ok-started.started c.turn-turn.result.now (search rules) (search rules)
+    c.turn-turn.ensures in
+    cell_fits c.args.setup.now c.args.rings.now.items c.turn-turn.result.now c.ring_of-index.result c.index-ring.result.now c.cell_of-cell.result
+    c.requires.rings (c.requires.ready c.turn-turn.result.now enabled).ring c.ring_of-index.ensures c.index-ring.ensures c.cell_of-cell.ensures
 
 pub read-found-requires : goal.read-found-requires
 read-found-requires c =
-    let enabled = turn_is c.args.setup.now c.args.seat.now c.args.step.now c.in_ok-started.started c.turn-turn.result.now (search rules) (search rules) c.turn-turn.ensures in
-    place_fits c.args.setup.now c.args.rings.now.items c.turn-turn.result.now c.ring_of-index.result c.index-ring.result.now c.place_of-place.result
-    c.requires.rings (c.requires.ready c.turn-turn.result.now enabled).ring c.ring_of-index.ensures c.index-ring.ensures c.place_of-place.ensures
+    let enabled = turn_is c.args.setup.now c.args.seat.now c.args.step.now c.in_ok-started.started c.turn-turn.result.now (search rules) (search rules)
+    c.turn-turn.ensures in
+    cell_fits c.args.setup.now c.args.rings.now.items c.turn-turn.result.now c.ring_of-index.result c.index-ring.result.now c.cell_of-cell.result
+    c.requires.rings (c.requires.ready c.turn-turn.result.now enabled).ring c.ring_of-index.ensures c.index-ring.ensures c.cell_of-cell.ensures
 
 pub write-requires : goal.write-requires
 write-requires c =
-    let enabled = turn_is c.args.setup.now c.args.seat.now c.args.step.now c.in_ok-started.started c.turn-turn.result.now (search rules) (search rules) c.turn-turn.ensures in
-    place_fits c.args.setup.now c.args.rings.now.items c.turn-turn.result.now c.ring_of-index.result c.index_mut.result.now c.place_of-place.result
-    c.requires.rings (c.requires.ready c.turn-turn.result.now enabled).ring c.ring_of-index.ensures c.index_mut.ensures.value c.place_of-place.ensures
+    let enabled = turn_is c.args.setup.now c.args.seat.now c.args.step.now c.in_ok-started.started c.turn-turn.result.now (search rules) (search rules)
+    c.turn-turn.ensures in
+    cell_fits c.args.setup.now c.args.rings.now.items c.turn-turn.result.now c.ring_of-index.result c.index_mut.result.now c.cell_of-cell.result
+    c.requires.rings (c.requires.ready c.turn-turn.result.now enabled).ring c.ring_of-index.ensures c.index_mut.ensures.value c.cell_of-cell.ensures
 
 pub returns-clause-ok : goal.returns-clause-ok
 returns-clause-ok c =
@@ -34,6 +37,7 @@ returns-clause-ok c =
     let lays : (b : List ℕ) → copied t b ≡ c.in_ok-copy.copy → unwrap_or c.in_ok-laid.laid b ≡ stores t c.read-found.result b =
     rw (← c.turn-turn.ensures) at c.in_ok-laid.ensures.laid in
     advanced c.args.setup.now c.args.step.now c.args.rings.now.items c.args.seat.now c.proceed.new.self t c.ring_of-index.result c.index-ring.result.now
-    c.index_mut.result.now c.write.new.self c.place_of-place.result c.read-found.result c.written-word.result c.beside.result.now c.in_ok-copy.copy c.in_ok-laid.laid
-    c.requires.rings (c.requires.ready t enabled).ring enabled c.ring_of-index.ensures c.index-ring.ensures c.index_mut.ensures.value c.place_of-place.ensures
+    c.index_mut.result.now c.write.new.self c.cell_of-cell.result c.read-found.result c.written-word.result c.beside.result.now c.in_ok-copy.copy
+    c.in_ok-laid.laid
+    c.requires.rings (c.requires.ready t enabled).ring enabled c.ring_of-index.ensures c.index-ring.ensures c.index_mut.ensures.value c.cell_of-cell.ensures
     c.beside.ensures c.in_ok-copy.ensures c.read-found.ensures c.written-word.ensures part lays c.write.ensures

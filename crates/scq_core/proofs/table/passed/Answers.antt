@@ -2,7 +2,7 @@ use Rattle.std.proofs.Common.{◌≡◌, ℕ, ◌∙◌, ap}
 use Rattle.scq_word.specs.declared.entry.Entry.{Entry}
 use Rattle.scq_word.specs.Sizes.{slots_of}
 use Rattle.scq_word.specs.Tickets.{cycle_of}
-use Rattle.scq_word.specs.Entries.{word_of, entry_of}
+use Rattle.scq_word.specs.Entries.{word_of, entry_in}
 use Rattle.scq_core.proofs.Packing.{cycle_fits, passed_moved, passed_marked}
 use Rattle.scq_core.proofs.table.passed.Goals as goal
 use Rattle.scq_core.proofs.table.passed.Goals.{in-None, in-Some}
@@ -11,7 +11,8 @@ pub pack-requires-clause-cycle : goal.pack-requires-clause-cycle
 pack-requires-clause-cycle c =
     elim c.match-entry.branch [
       | in-None w ↦
-          rw (ap (λ (x : Entry). x.cycle) w.left-is, w.cycle_of.ensures, c.shape-shape.ensures) (cycle_fits c.args.setup.now c.args.ticket c.requires.lawful)
+          rw (ap (λ (x : Entry). x.cycle) w.left-is, w.cycle_of.ensures, c.shape-shape.ensures)
+          (cycle_fits c.args.setup.now c.args.ticket c.requires.below_limit)
       | in-Some w ↦ rw (ap (λ (x : Entry). x.cycle) w.left-is) c.unpack-entry.ensures.cycle
     ]
 
@@ -19,7 +20,7 @@ pub returns : goal.returns
 returns c =
     let order_is = c.shape-shape.ensures in
     let word : c.pack.result ≡ word_of c.args.setup.now.order c.match-entry.left = rw order_is at c.pack.ensures.word in
-    let read : c.unpack-entry.result ≡ entry_of c.args.setup.now.order c.args.found = rw order_is at c.unpack-entry.ensures.entry in
+    let read : c.unpack-entry.result ≡ entry_in c.args.setup.now.order c.args.found = rw order_is at c.unpack-entry.ensures.entry in
     word ∙ elim c.match-entry.branch [
       | in-None w ↦
           passed_moved c.args.setup.now c.args.ticket c.args.found w.cycle_of.result c.unpack-entry.result c.match-entry.left read w.in-None.is

@@ -8,12 +8,14 @@ use Rattle.scq_hist.specs.declared.events.Event.TheVariants.{End}
 use Rattle.scq_hist.specs.declared.events.Reply.TheVariants.{Nothing}
 use Rattle.scq_hist.proofs.emptiness.empty_right.Goals as goal
 
-all_right : (opening : List (List ℕ)) (events : List Event) (i : ℕ) → length events ≤ i → ((e : ℕ) → e < i → IsRightAt opening events e) → IsEmptyRight opening events
+all_right : (opening : List (List ℕ)) (events : List Event) (i : ℕ) → length events ≤ i → ((e : ℕ) → e < i → IsRightAt opening events e)
+    → IsEmptyRight opening events
 all_right opening events i past each s e seat queue call =
     (each e (let lt = slice_get_within events e (End seat Nothing) call.ends in omega arith)).right s seat queue call
 
 pub loop-e-preserved : goal.loop-e-preserved
-loop-e-preserved c = below_more _ _ c.loop-e.invariant ((c.is_right_at.ensures c.args.opening.now c.opening_tally-tokens.ensures.tally).0 c.if-not-is_right_at.false)
+loop-e-preserved c =
+    below_more _ _ c.loop-e.invariant ((c.is_right_at.ensures c.args.opening.now c.opening_tally-tokens.ensures.tally).0 c.if-not-is_right_at.false)
 
 pub returns-then-not-is_right_at : goal.returns-then-not-is_right_at
 returns-then-not-is_right_at c = (

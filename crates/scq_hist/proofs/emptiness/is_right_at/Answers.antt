@@ -22,7 +22,9 @@ this_empty opening events e queue s b here test = (
 )
 
 pub is_right_within-requires-clause-order : goal.is_right_within-requires-clause-order
-is_right_within-requires-clause-order c = (let before : c.in-Some.start < c.args.e = (started c.args.events.now c.in-Some.ensures.seat c.args.e c.in-Some.start c.in-Some.ensures.call.under_way_till).before in omega arith)
+is_right_within-requires-clause-order c =
+    (let before : c.in-Some.start < c.args.e =
+    (started c.args.events.now c.in-Some.ensures.seat c.args.e c.in-Some.start c.in-Some.ensures.call.under_way_till).before in omega arith)
 
 pub returns-in-None : goal.returns-in-None
 returns-in-None c = λ opening t. (λ _. record { right = λ s seat queue call. absurd (c.in-None.ensures.none s seat queue call) }, λ _. refl)

@@ -24,8 +24,10 @@ loop-i-preserved c =
       gets = c.pending_after-pending.ensures.count old.gets;
       not_yet = λ opening t. record {
         none = λ m after until all. elim (cases_eq m (c.loop-i.i + 1)) [
-          | inl here ↦ iff_false (claims_iff c.args.events.now c.args.queue (c.loop-i.i + 1) _ _ _ (IsFinishedAt opening c.args.events.now c.args.queue (c.loop-i.i + 1)) _
-              c.requires.lawful (c.tally_after-tally.ensures.tally opening (old.tally opening t)) (c.pending_after-pending.ensures.count old.gets) c.are_claimed.ensures)
+          | inl here ↦ iff_false
+              (claims_iff c.args.events.now c.args.queue (c.loop-i.i + 1) _ _ _ (IsFinishedAt opening c.args.events.now c.args.queue (c.loop-i.i + 1)) _
+              c.requires.lawful (c.tally_after-tally.ensures.tally opening (old.tally opening t)) (c.pending_after-pending.ensures.count old.gets)
+              c.are_claimed.ensures)
               c.if-are_claimed.false (subst (λ x. AllClaimed c.args.events.now c.args.queue x (IsFinishedAt opening c.args.events.now c.args.queue x)) here all)
           | inr ne ↦ (old.not_yet opening t).none m after (omega arith) all
         ];
@@ -41,7 +43,8 @@ returns-then-are_claimed c = λ opening t.
         omega arith,
         omega arith,
         (claims_iff c.args.events.now c.args.queue (c.loop-i.i + 1) _ _ _ (IsFinishedAt opening c.args.events.now c.args.queue (c.loop-i.i + 1)) _
-            c.requires.lawful (c.tally_after-tally.ensures.tally opening (old.tally opening t)) (c.pending_after-pending.ensures.count old.gets) c.are_claimed.ensures).0 c.if-are_claimed.true,
+            c.requires.lawful (c.tally_after-tally.ensures.tally opening (old.tally opening t)) (c.pending_after-pending.ensures.count old.gets)
+            c.are_claimed.ensures).0 c.if-are_claimed.true,
       ),
       λ _. refl,
     )

@@ -7,7 +7,8 @@ use Rattle.scq_hist.specs.declared.events.Event.TheVariants.{End}
 use Rattle.scq_hist.specs.declared.events.Reply.TheVariants.{Got}
 use Rattle.scq_hist.proofs.freshness.fresh.Goals as goal
 
-all_fresh : (opening : List (List ℕ)) (events : List Event) (i : ℕ) → length events ≤ i → ((e : ℕ) → e < i → IsFreshAt opening events e) → IsFresh opening events
+all_fresh : (opening : List (List ℕ)) (events : List Event) (i : ℕ) → length events ≤ i → ((e : ℕ) → e < i → IsFreshAt opening events e)
+    → IsFresh opening events
 all_fresh opening events i past each s e seat queue name content call =
     (each e (let lt = slice_get_within events e (End seat (Got name content)) call.ends in omega arith)).begun s seat queue name content call
 

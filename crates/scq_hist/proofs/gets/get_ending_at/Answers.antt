@@ -5,10 +5,12 @@ use Rattle.scq_hist.proofs.gets.get_ending_at.Goals as goal
 
 pub returns-then-ne : goal.returns-then-ne
 returns-then-ne c =
-    let at = names_there c.args.events.now c.args.e c.index-events-e.result c.in_ok-name.name (read _ _ _ _ c.requires.within c.index-events-e.is refl) (sym c.in_ok-name.ensures) in
+    let at = names_there c.args.events.now c.args.e c.index-events-e.result c.in_ok-name.name (read _ _ _ _ c.requires.within c.index-events-e.is refl)
+    (sym c.in_ok-name.ensures) in
     no_get _ _ _ _ at c.first_named.ensures (not-true _ (sym c.if-ne.ensures))
 
 pub returns : goal.returns
 returns c =
-    let at = names_there c.args.events.now c.args.e c.index-events-e.result c.in_ok-name.name (read _ _ _ _ c.requires.within c.index-events-e.is refl) (sym c.in_ok-name.ensures) in
+    let at = names_there c.args.events.now c.args.e c.index-events-e.result c.in_ok-name.name (read _ _ _ _ c.requires.within c.index-events-e.is refl)
+    (sym c.in_ok-name.ensures) in
     get_from_first _ _ _ _ c.requires.lawful (first_here _ _ _ _ at c.first_named.ensures (not-false _ (sym c.if-ne.ensures))) c.in_ok-call_start.ensures

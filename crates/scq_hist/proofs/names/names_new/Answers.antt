@@ -4,7 +4,8 @@ use Rattle.scq_hist.proofs.names.names_new.Goals as goal
 
 pub returns-in-Some : goal.returns-in-Some
 returns-in-Some c =
-    let at = names_there c.args.events.now c.args.e c.index-events-e.result c.in-Some.name (read _ _ _ _ c.requires c.index-events-e.is refl) (sym c.in-Some.ensures) in
+    let at = names_there c.args.events.now c.args.e c.index-events-e.result c.in-Some.name (read _ _ _ _ c.requires c.index-events-e.is refl)
+    (sym c.in-Some.ensures) in
     rw c.eq.ensures (first_is_new c.args.events.now c.args.e c.in-Some.name c.first_named.result at c.first_named.ensures)
 
 pub returns-in-None : goal.returns-in-None

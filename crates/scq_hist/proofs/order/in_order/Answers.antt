@@ -4,7 +4,8 @@ use Rattle.scq_hist.proofs.OrderLemmas.{in_order_from_all}
 use Rattle.scq_hist.proofs.order.in_order.Goals as goal
 
 pub loop-e-preserved : goal.loop-e-preserved
-loop-e-preserved c = below_more _ _ c.loop-e.invariant ((c.is_in_order_at.ensures c.args.opening.now c.opening_tally-tokens.ensures.tally).0 c.if-not-is_in_order_at.false)
+loop-e-preserved c =
+    below_more _ _ c.loop-e.invariant ((c.is_in_order_at.ensures c.args.opening.now c.opening_tally-tokens.ensures.tally).0 c.if-not-is_in_order_at.false)
 
 pub returns-then-not-is_in_order_at : goal.returns-then-not-is_in_order_at
 returns-then-not-is_in_order_at c = (

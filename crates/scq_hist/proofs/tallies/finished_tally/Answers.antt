@@ -19,5 +19,6 @@ pub returns-clause-tally : goal.returns-clause-tally
 returns-clause-tally c =
     let past = c.loop-e-test.false in let end = c.loop-e.auto.e-end in
     let same : c.loop-e.e ≡ c.args.moment = omega arith in
-    λ opening t. subst (λ m. IsTally c.args.events.now (IsFinishedAt opening c.args.events.now c.args.queue m) c.loop-e.tally.ungot c.loop-e.tally.claimed_from) same
+    λ opening t. subst (λ m.
+    IsTally c.args.events.now (IsFinishedAt opening c.args.events.now c.args.queue m) c.loop-e.tally.ungot c.loop-e.tally.claimed_from) same
     (c.loop-e.invariant.tally opening t)

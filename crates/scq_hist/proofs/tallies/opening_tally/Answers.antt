@@ -11,7 +11,8 @@ loop-e-preserved c = elim c.match-token_got_at.branch [
   }
   | in-Some w ↦ record {
     few = (let g = w.got-is in let few = c.loop-e.invariant.few in omega arith);
-    tallies = tokens_at _ _ _ _ _ _ _ w.got-is (w.claimed_from-is ∙ w.max-claimed_from.ensures) (tokens_more _ _ _ _ _ _ w.in-Some.ensures c.loop-e.invariant.tallies);
+    tallies = tokens_at _ _ _ _ _ _ _ w.got-is (w.claimed_from-is ∙ w.max-claimed_from.ensures)
+        (tokens_more _ _ _ _ _ _ w.in-Some.ensures c.loop-e.invariant.tallies);
   }
 ]
 

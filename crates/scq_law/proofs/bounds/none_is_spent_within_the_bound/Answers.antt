@@ -1,4 +1,4 @@
-use Rattle.scq_law.proofs.Overruns.{none_spent}
+use Rattle.scq_law.proofs.Tickets.SpentTickets.{none_spent}
 use Rattle.scq_law.proofs.bounds.none_is_spent_within_the_bound.Goals as goal
 
 pub returns : goal.returns

@@ -1,4 +1,4 @@
-use Rattle.scq_law.proofs.TicketLaws.{within_window}
+use Rattle.scq_law.proofs.Tickets.TicketLaws.{within_window}
 use Rattle.scq_law.proofs.bounds.tail_is_within_the_window.Goals as goal
 
 pub returns : goal.returns

@@ -1,4 +1,4 @@
-use Rattle.scq_law.proofs.TicketLaws.{threshold_covers}
+use Rattle.scq_law.proofs.Tickets.TicketLaws.{threshold_covers}
 use Rattle.scq_law.proofs.bounds.threshold_covers_the_finished.Goals as goal
 
 pub returns : goal.returns

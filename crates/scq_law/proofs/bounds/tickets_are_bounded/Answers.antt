@@ -1,4 +1,4 @@
-use Rattle.scq_law.proofs.TicketLaws.{tickets_bounded}
+use Rattle.scq_law.proofs.Tickets.TicketLaws.{tickets_bounded}
 use Rattle.scq_law.proofs.bounds.tickets_are_bounded.Goals as goal
 
 pub returns : goal.returns

@@ -1,6 +1,6 @@
-use Rattle.scq_law.proofs.EmptyRight.{empty_right}
-use Rattle.scq_law.proofs.Chronicle.{chronicle}
+use Rattle.scq_law.proofs.Aspects.EmptyRight.{empty_right}
+use Rattle.scq_law.proofs.Aspects.CoupledRuns.{tied_run}
 use Rattle.scq_law.proofs.history.empties_are_right.Goals as goal
 
 pub returns : goal.returns
-returns c = λ setup opening steps told full low run. empty_right setup opening full told (chronicle setup opening steps told full low run)
+returns c = λ setup opening steps recorded full low run. empty_right setup opening full recorded (tied_run setup opening steps recorded full low run)

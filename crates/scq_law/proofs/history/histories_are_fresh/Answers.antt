@@ -1,6 +1,6 @@
-use Rattle.scq_law.proofs.Claiming.{fresh}
-use Rattle.scq_law.proofs.Chronicle.{chronicle}
+use Rattle.scq_law.proofs.Aspects.ClaimedPuts.{fresh}
+use Rattle.scq_law.proofs.Aspects.CoupledRuns.{tied_run}
 use Rattle.scq_law.proofs.history.histories_are_fresh.Goals as goal
 
 pub returns : goal.returns
-returns c = λ setup opening steps told full low run. fresh setup opening told (chronicle setup opening steps told full low run)
+returns c = λ setup opening steps recorded full low run. fresh setup opening recorded (tied_run setup opening steps recorded full low run)

@@ -1,6 +1,6 @@
-use Rattle.scq_law.proofs.Ordered.{in_order}
-use Rattle.scq_law.proofs.Chronicle.{chronicle}
+use Rattle.scq_law.proofs.Aspects.InOrder.{in_order}
+use Rattle.scq_law.proofs.Aspects.CoupledRuns.{tied_run}
 use Rattle.scq_law.proofs.history.histories_are_in_order.Goals as goal
 
 pub returns : goal.returns
-returns c = λ setup opening steps told full low run. in_order setup opening full told (chronicle setup opening steps told full low run)
+returns c = λ setup opening steps recorded full low run. in_order setup opening full recorded (tied_run setup opening steps recorded full low run)

@@ -1,6 +1,6 @@
-use Rattle.scq_law.proofs.EmptyRight.{has_aspects}
-use Rattle.scq_law.proofs.Chronicle.{chronicle}
+use Rattle.scq_law.proofs.Aspects.EmptyRight.{has_aspects}
+use Rattle.scq_law.proofs.Aspects.CoupledRuns.{tied_run}
 use Rattle.scq_law.proofs.history.histories_have_aspects.Goals as goal
 
 pub returns : goal.returns
-returns c = λ setup opening steps told full low run. has_aspects setup opening full told (chronicle setup opening steps told full low run)
+returns c = λ setup opening steps recorded full low run. has_aspects setup opening full recorded (tied_run setup opening steps recorded full low run)

@@ -1,4 +1,4 @@
-use Rattle.scq_law.proofs.HandLaws.{one_hand}
+use Rattle.scq_law.proofs.Places.HandLaws.{one_hand}
 use Rattle.scq_law.proofs.laws.one_hand.Goals as goal
 
 pub returns : goal.returns

@@ -1,4 +1,4 @@
-use Rattle.scq_law.proofs.PlaceLaws.{got_below}
+use Rattle.scq_law.proofs.Places.PlaceLaws.{got_below}
 use Rattle.scq_law.proofs.laws.places_below_head_are_taken.Goals as goal
 
 pub returns : goal.returns

@@ -1,4 +1,4 @@
-use Rattle.scq_law.proofs.LaterLaws.{places_last}
+use Rattle.scq_law.proofs.Places.LaterLaws.{places_last}
 use Rattle.scq_law.proofs.laws.places_last.Goals as goal
 
 pub returns : goal.returns

@@ -1,4 +1,4 @@
-use Rattle.scq_law.proofs.PlaceLaws.{places_once}
+use Rattle.scq_law.proofs.Places.PlaceLaws.{places_once}
 use Rattle.scq_law.proofs.laws.places_once.Goals as goal
 
 pub returns : goal.returns

@@ -10,89 +10,104 @@ use Rattle.scq_law.specs.Hands.{OneHand}
 use Rattle.scq_law.specs.Places.{PlacesOnce}
 use Rattle.scq_law.specs.Standing.{EntriesMatchPlaces}
 use Rattle.scq_law.specs.Bounds.{WithinWindow, ThresholdCovers, TicketsBounded, NoneSpent}
-use Rattle.scq_law.proofs.HandLaws.{one_hand}
-use Rattle.scq_law.proofs.PlaceLaws.{places_once}
+use Rattle.scq_law.proofs.Places.HandLaws.{one_hand}
+use Rattle.scq_law.proofs.Places.PlaceLaws.{places_once}
 use Rattle.scq_law.proofs.EntryLaws.{entries_match_places}
-use Rattle.scq_law.proofs.TicketLaws.{within_window, threshold_covers, tickets_bounded}
-use Rattle.scq_law.proofs.Overruns.{none_spent}
-use Rattle.scq_law.proofs.Rising.{rises_throughout}
+use Rattle.scq_law.proofs.Tickets.TicketLaws.{within_window, threshold_covers, tickets_bounded}
+use Rattle.scq_law.proofs.Tickets.SpentTickets.{none_spent}
+use Rattle.scq_law.proofs.Replays.RisingWords.{rises_throughout}
 use Rattle.scq_law.proofs.Lasting.{places_last_throughout}
-use Rattle.scq_law.proofs.Replays.{of_state, of_history, of_fails}
+use Rattle.scq_law.proofs.Replays.ReplayLaws.{of_state, of_history, of_fails}
 use Rattle.scq_law.proofs.replaying.replay.Goals as goal
 
 pub returns-clause-one_hand : goal.returns-clause-one_hand
 returns-clause-one_hand c =
     let setup = c.args.setup in
-    of_state setup c.args.opening.items c.args.steps.now c.told.result (λ (m : Machine). OneHand setup m) (sym c.args.opening.ok.0 ∙ c.requires.opening) c.requires.seats c.told.ensures.run (one_hand setup)
+    of_state setup c.args.opening.items c.args.steps.now c.recorded.result (λ (m : Machine). OneHand setup m) (sym c.args.opening.ok.0 ∙ c.requires.opening)
+    c.requires.seats c.recorded.ensures.run (one_hand setup)
 
 pub returns-clause-places_once : goal.returns-clause-places_once
 returns-clause-places_once c =
     let setup = c.args.setup in
-    of_state setup c.args.opening.items c.args.steps.now c.told.result (λ (m : Machine). PlacesOnce setup m) (sym c.args.opening.ok.0 ∙ c.requires.opening) c.requires.seats c.told.ensures.run (places_once setup)
+    of_state setup c.args.opening.items c.args.steps.now c.recorded.result (λ (m : Machine). PlacesOnce setup m) (sym c.args.opening.ok.0 ∙ c.requires.opening)
+    c.requires.seats c.recorded.ensures.run (places_once setup)
 
 pub returns-clause-entries_match_places : goal.returns-clause-entries_match_places
 returns-clause-entries_match_places c =
     let setup = c.args.setup in
-    of_state setup c.args.opening.items c.args.steps.now c.told.result (λ (m : Machine). EntriesMatchPlaces setup m) (sym c.args.opening.ok.0 ∙ c.requires.opening) c.requires.seats c.told.ensures.run (entries_match_places setup)
+    of_state setup c.args.opening.items c.args.steps.now c.recorded.result (λ (m : Machine). EntriesMatchPlaces setup m)
+    (sym c.args.opening.ok.0 ∙ c.requires.opening) c.requires.seats c.recorded.ensures.run (entries_match_places setup)
 
 pub returns-clause-counters_bounded : goal.returns-clause-counters_bounded
 returns-clause-counters_bounded c =
     let setup = c.args.setup in
-    of_state setup c.args.opening.items c.args.steps.now c.told.result (λ (m : Machine). CountersBounded setup m) (sym c.args.opening.ok.0 ∙ c.requires.opening) c.requires.seats c.told.ensures.run (counters_bounded setup)
+    of_state setup c.args.opening.items c.args.steps.now c.recorded.result (λ (m : Machine). CountersBounded setup m)
+    (sym c.args.opening.ok.0 ∙ c.requires.opening) c.requires.seats c.recorded.ensures.run (counters_bounded setup)
 
 pub returns-clause-threshold_floor : goal.returns-clause-threshold_floor
 returns-clause-threshold_floor c =
     let setup = c.args.setup in
-    of_state setup c.args.opening.items c.args.steps.now c.told.result (λ (m : Machine). ThresholdFloor setup m) (sym c.args.opening.ok.0 ∙ c.requires.opening) c.requires.seats c.told.ensures.run (threshold_floor setup)
+    of_state setup c.args.opening.items c.args.steps.now c.recorded.result (λ (m : Machine). ThresholdFloor setup m)
+    (sym c.args.opening.ok.0 ∙ c.requires.opening) c.requires.seats c.recorded.ensures.run (threshold_floor setup)
 
 pub returns-clause-within_window : goal.returns-clause-within_window
 returns-clause-within_window c =
     let setup = c.args.setup in
-    of_state setup c.args.opening.items c.args.steps.now c.told.result (λ (m : Machine). WithinWindow setup m) (sym c.args.opening.ok.0 ∙ c.requires.opening) c.requires.seats c.told.ensures.run (within_window setup)
+    of_state setup c.args.opening.items c.args.steps.now c.recorded.result (λ (m : Machine). WithinWindow setup m)
+    (sym c.args.opening.ok.0 ∙ c.requires.opening) c.requires.seats c.recorded.ensures.run (within_window setup)
 
 pub returns-clause-threshold_covers : goal.returns-clause-threshold_covers
 returns-clause-threshold_covers c =
     let setup = c.args.setup in
-    of_state setup c.args.opening.items c.args.steps.now c.told.result (λ (m : Machine). ThresholdCovers setup m) (sym c.args.opening.ok.0 ∙ c.requires.opening) c.requires.seats c.told.ensures.run (threshold_covers setup)
+    of_state setup c.args.opening.items c.args.steps.now c.recorded.result (λ (m : Machine). ThresholdCovers setup m)
+    (sym c.args.opening.ok.0 ∙ c.requires.opening) c.requires.seats c.recorded.ensures.run (threshold_covers setup)
 
 pub returns-clause-tickets_bounded : goal.returns-clause-tickets_bounded
 returns-clause-tickets_bounded c =
     let setup = c.args.setup in
-    of_state setup c.args.opening.items c.args.steps.now c.told.result (λ (m : Machine). TicketsBounded setup m) (sym c.args.opening.ok.0 ∙ c.requires.opening) c.requires.seats c.told.ensures.run (tickets_bounded setup)
+    of_state setup c.args.opening.items c.args.steps.now c.recorded.result (λ (m : Machine). TicketsBounded setup m)
+    (sym c.args.opening.ok.0 ∙ c.requires.opening) c.requires.seats c.recorded.ensures.run (tickets_bounded setup)
 
 pub returns-clause-none_spent : goal.returns-clause-none_spent
 returns-clause-none_spent c =
     let setup = c.args.setup in
-    of_state setup c.args.opening.items c.args.steps.now c.told.result (λ (m : Machine). NoneSpent setup m) (sym c.args.opening.ok.0 ∙ c.requires.opening) c.requires.seats c.told.ensures.run (none_spent setup)
+    of_state setup c.args.opening.items c.args.steps.now c.recorded.result (λ (m : Machine). NoneSpent setup m) (sym c.args.opening.ok.0 ∙ c.requires.opening)
+    c.requires.seats c.recorded.ensures.run (none_spent setup)
 
 pub returns-clause-lawful : goal.returns-clause-lawful
 returns-clause-lawful c =
     let setup = c.args.setup in
-    of_history setup c.args.opening.items c.args.steps.now c.told.result (λ (events : List Event). IsLawful events) (sym c.args.opening.ok.0 ∙ c.requires.opening) c.requires.seats c.told.ensures.run (λ events has. has.lawful)
+    of_history setup c.args.opening.items c.args.steps.now c.recorded.result (λ (events : List Event). IsLawful events)
+    (sym c.args.opening.ok.0 ∙ c.requires.opening) c.requires.seats c.recorded.ensures.run (λ events has. has.lawful)
 
 pub returns-clause-fresh : goal.returns-clause-fresh
 returns-clause-fresh c =
     let setup = c.args.setup in
-    of_history setup c.args.opening.items c.args.steps.now c.told.result (λ (events : List Event). IsFresh c.args.opening.items events) (sym c.args.opening.ok.0 ∙ c.requires.opening) c.requires.seats c.told.ensures.run (λ events has. has.fresh)
+    of_history setup c.args.opening.items c.args.steps.now c.recorded.result (λ (events : List Event). IsFresh c.args.opening.items events)
+    (sym c.args.opening.ok.0 ∙ c.requires.opening) c.requires.seats c.recorded.ensures.run (λ events has. has.fresh)
 
 pub returns-clause-once : goal.returns-clause-once
 returns-clause-once c =
     let setup = c.args.setup in
-    of_history setup c.args.opening.items c.args.steps.now c.told.result (λ (events : List Event). IsOnce events) (sym c.args.opening.ok.0 ∙ c.requires.opening) c.requires.seats c.told.ensures.run (λ events has. has.once)
+    of_history setup c.args.opening.items c.args.steps.now c.recorded.result (λ (events : List Event). IsOnce events)
+    (sym c.args.opening.ok.0 ∙ c.requires.opening) c.requires.seats c.recorded.ensures.run (λ events has. has.once)
 
 pub returns-clause-in_order : goal.returns-clause-in_order
 returns-clause-in_order c =
     let setup = c.args.setup in
-    of_history setup c.args.opening.items c.args.steps.now c.told.result (λ (events : List Event). IsInOrder c.args.opening.items events) (sym c.args.opening.ok.0 ∙ c.requires.opening) c.requires.seats c.told.ensures.run (λ events has. has.in_order)
+    of_history setup c.args.opening.items c.args.steps.now c.recorded.result (λ (events : List Event). IsInOrder c.args.opening.items events)
+    (sym c.args.opening.ok.0 ∙ c.requires.opening) c.requires.seats c.recorded.ensures.run (λ events has. has.in_order)
 
 pub returns-clause-empty_right : goal.returns-clause-empty_right
 returns-clause-empty_right c =
     let setup = c.args.setup in
-    of_history setup c.args.opening.items c.args.steps.now c.told.result (λ (events : List Event). IsEmptyRight c.args.opening.items events) (sym c.args.opening.ok.0 ∙ c.requires.opening) c.requires.seats c.told.ensures.run (λ events has. has.empty_right)
+    of_history setup c.args.opening.items c.args.steps.now c.recorded.result (λ (events : List Event). IsEmptyRight c.args.opening.items events)
+    (sym c.args.opening.ok.0 ∙ c.requires.opening) c.requires.seats c.recorded.ensures.run (λ events has. has.empty_right)
 
 pub returns-clause-fails_bounded : goal.returns-clause-fails_bounded
 returns-clause-fails_bounded c =
-    of_fails c.args.setup c.args.opening.items c.args.steps.now c.told.result (sym c.args.opening.ok.0 ∙ c.requires.opening) c.requires.seats c.told.ensures.run
+    of_fails c.args.setup c.args.opening.items c.args.steps.now c.recorded.result (sym c.args.opening.ok.0 ∙ c.requires.opening) c.requires.seats
+    c.recorded.ensures.run
 
 pub returns-clause-rises : goal.returns-clause-rises
 returns-clause-rises c =

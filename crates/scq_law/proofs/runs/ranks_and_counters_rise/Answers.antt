@@ -1,4 +1,4 @@
-use Rattle.scq_law.proofs.RunLaws.{later_rises}
+use Rattle.scq_law.proofs.Replays.RunLaws.{later_rises}
 use Rattle.scq_law.proofs.runs.ranks_and_counters_rise.Goals as goal
 
 pub returns : goal.returns

@@ -1,4 +1,4 @@
-use Rattle.scq_law.proofs.RunLaws.{never_back}
+use Rattle.scq_law.proofs.Replays.RunLaws.{never_back}
 use Rattle.scq_law.proofs.runs.words_never_come_back.Goals as goal
 
 pub returns : goal.returns

@@ -1,7 +1,7 @@
 -- The sum is the word by its definition, and no part of it is above the whole, which fits.
 use Rattle.std.proofs.Common.{◌≡◌, ◌∙◌, Bool, true, false, refl, arith}
 use Rattle.scq_word.specs.Entries.{safe_bit}
-use Rattle.scq_word.proofs.EntryLemmas.{packed_sum, word_of_small, entry_of-word_of}
+use Rattle.scq_word.proofs.EntryLemmas.{packed_sum, word_of_small, entry_in-word_of}
 use Rattle.scq_word.proofs.words.pack.Goals as goal
 use mir.Val.{bool_byte}
 
@@ -27,4 +27,4 @@ overflow_mul-result-2 c =
     omega (arith, returns-clause-word c, word_of_small c.args.shape.order c.args.entry c.requires.cycle c.requires.index)
 
 pub returns-clause-unpacked : goal.returns-clause-unpacked
-returns-clause-unpacked c = rw (returns-clause-word c) (entry_of-word_of c.args.shape.order c.args.entry c.requires.index)
+returns-clause-unpacked c = rw (returns-clause-word c) (entry_in-word_of c.args.shape.order c.args.entry c.requires.index)

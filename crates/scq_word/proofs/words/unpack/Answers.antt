@@ -1,7 +1,7 @@
 -- What was read is the entry of the word by its definition; the rest are that entry's laws.
 use Rattle.std.proofs.Common.{◌≡◌, ◌+◌, ◌-◌, ◌∙◌, sym, ap, arith}
 use Rattle.scq_word.specs.Entries.{word_of}
-use Rattle.scq_word.proofs.EntryLemmas.{read_parts, word_of-entry_of, entry_of_own, cycle_in_fits}
+use Rattle.scq_word.proofs.EntryLemmas.{read_parts, word_of-entry_in, entry_of_own, cycle_in_fits}
 use Rattle.scq_word.specs.declared.entry.Entry.{Entry}
 use Rattle.scq_word.proofs.words.unpack.Goals as goal
 
@@ -11,12 +11,16 @@ returns-clause-entry c =
     (c.from-slots.ensures ∙ c.slots.ensures) c.unpacked_index.ensures
 
 pub returns-clause-packed : goal.returns-clause-packed
-returns-clause-packed c = ap (λ (e : Entry). word_of c.args.shape.order e) (returns-clause-entry c) ∙ word_of-entry_of c.args.shape.order c.args.word
+returns-clause-packed c = ap (λ (e : Entry). word_of c.args.shape.order e) (returns-clause-entry c) ∙ word_of-entry_in c.args.shape.order c.args.word
 
 pub returns-clause-cycle : goal.returns-clause-cycle
 returns-clause-cycle c =
     let sum : (62 - c.args.shape.order) + c.args.shape.order ≡ 62 = omega arith in
-    omega (arith, ap (λ (e : Entry). e.cycle) (returns-clause-entry c), cycle_in_fits c.args.shape.order (62 - c.args.shape.order) c.args.word sum c.ranges.word.fits)
+    omega (
+      arith,
+      ap (λ (e : Entry). e.cycle) (returns-clause-entry c),
+      cycle_in_fits c.args.shape.order (62 - c.args.shape.order) c.args.word sum c.ranges.word.fits,
+    )
 
 pub returns-clause-index : goal.returns-clause-index
 returns-clause-index c x is =

@@ -2,13 +2,14 @@
 use Rattle.std.proofs.Common.{◌≡◌, ◌<◌}
 use Rattle.std.specs.Prelude.{Some, OnOk}
 use Rattle.scq_core.specs.Table.{turn_of, step_of}
-use Rattle.scq_core.specs.Book.{Book, part_in, machine_of}
-use Rattle.scq_core.proofs.Books.{can_turn, seat_lent, applied_sound, applied_steps}
+use Rattle.scq_core.specs.StateLists.{StateLists, part_in, machine_of}
+use Rattle.scq_core.proofs.ListedTurns.{can_turn, seat_lent, applied_sound, applied_steps}
 use Rattle.scq_core.proofs.state.State.apply.Goals as goal
 
 pub advance-requires-clause-ready : goal.advance-requires-clause-ready
 advance-requires-clause-ready c turn enabled =
-    let b : Book = record { setup = c.self.inside.setup; rings = c.self.inside.rings.items; seats = c.self.inside.seats.items; opening = c.self.inside.opening.items } in
+    let b : StateLists =
+    record { setup = c.self.inside.setup; rings = c.self.inside.rings.items; seats = c.self.inside.seats.items; opening = c.self.inside.opening.items } in
     let low : c.args.seat < b.setup.seats = rw (← c.self.view_is) at c.requires in
     let is : turn_of b.setup (part_in b.seats c.args.seat) c.args.step.now ≡ Some turn =
     rw (seat_lent b c.args.seat c.index_mut.result.now c.self.invariant low c.index_mut.ensures.value) at enabled in
@@ -16,16 +17,19 @@ advance-requires-clause-ready c turn enabled =
 
 pub invariant_of-self : goal.invariant_of-self
 invariant_of-self c =
-    let b : Book = record { setup = c.self.inside.setup; rings = c.self.inside.rings.items; seats = c.self.inside.seats.items; opening = c.self.inside.opening.items } in
+    let b : StateLists =
+    record { setup = c.self.inside.setup; rings = c.self.inside.rings.items; seats = c.self.inside.seats.items; opening = c.self.inside.opening.items } in
     let low : c.args.seat < b.setup.seats = rw (← c.self.view_is) at c.requires in
     applied_sound b c.args.seat c.args.step.now c.advance.new.rings.items c.index_mut.result.now c.advance.new.seat c.advance.result c.self.invariant low
     c.index_mut.ensures.value c.advance.ensures.ok c.advance.ensures.err
 
 pub returns-clause-ok : goal.returns-clause-ok
 returns-clause-ok c =
-    let b : Book = record { setup = c.self.inside.setup; rings = c.self.inside.rings.items; seats = c.self.inside.seats.items; opening = c.self.inside.opening.items } in
+    let b : StateLists =
+    record { setup = c.self.inside.setup; rings = c.self.inside.rings.items; seats = c.self.inside.seats.items; opening = c.self.inside.opening.items } in
     let low : c.args.seat < b.setup.seats = rw (← c.self.view_is) at c.requires in
-    let steps : OnOk c.advance.result (step_of b.setup (machine_of b) c.args.seat c.args.step.now ≡ Some (machine_of (record b { rings = c.advance.new.rings.items; seats = _ }))) =
+    let steps : OnOk c.advance.result
+    (step_of b.setup (machine_of b) c.args.seat c.args.step.now ≡ Some (machine_of (record b { rings = c.advance.new.rings.items; seats = _ }))) =
     applied_steps b c.args.seat c.args.step.now c.advance.new.rings.items c.index_mut.result.now c.advance.new.seat c.advance.result c.self.invariant low
     c.index_mut.ensures.value c.advance.ensures.ok in
     rw (← c.self.view_is) steps

@@ -4,7 +4,8 @@ use Rattle.scq_core.proofs.state.State.start.Goals as goal
 
 pub invariant_of-result : goal.invariant_of-result
 invariant_of-result c =
-    started_sound c.args.setup c.args.opening.items c.in_ok-rings.rings.items c.in_ok-seats.seats.items c.in_ok-rings.ensures c.in_ok-seats.ensures (sym c.args.opening.ok.0 ∙ c.requires)
+    started_sound c.args.setup c.args.opening.items c.in_ok-rings.rings.items c.in_ok-seats.seats.items c.in_ok-rings.ensures c.in_ok-seats.ensures
+    (sym c.args.opening.ok.0 ∙ c.requires)
 
 pub returns-clause-machine : goal.returns-clause-machine
 returns-clause-machine c =

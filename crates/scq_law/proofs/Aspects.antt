@@ -1,0 +1,13 @@
+pub mod GrowingHistory
+pub mod CallsUnderWay
+pub mod PlacedPuts
+pub mod TakenGets
+pub mod SeenEmpty
+pub mod Coupling
+pub mod FinishedPuts
+pub mod EventRecording
+pub mod CoupledTurns
+pub mod CoupledRuns
+pub mod ClaimedPuts
+pub mod InOrder
+pub mod EmptyRight

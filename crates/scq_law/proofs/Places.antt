@@ -1,0 +1,10 @@
+pub mod HandLemmas
+pub mod HandLaws
+pub mod OneSpot
+pub mod SeatTickets
+pub mod ReachedTickets
+pub mod RecordsAgree
+pub mod SmallIndices
+pub mod Throughout
+pub mod PlaceLaws
+pub mod LaterLaws

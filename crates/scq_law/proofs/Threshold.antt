@@ -1,0 +1,4 @@
+pub mod FinishedPlaced
+pub mod Covering
+pub mod FailsBound
+pub mod EmptyDecisions

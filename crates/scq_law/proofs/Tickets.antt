@@ -1,0 +1,5 @@
+pub mod TicketSums
+pub mod EventCounts
+pub mod RunCounts
+pub mod TicketLaws
+pub mod SpentTickets
