@@ -129,7 +129,7 @@ passing_rises c h e later =
           ])
     ]
 
--- the limit of tickets leaves room for a few turns of a ring, and is at most 2^60
+-- the limit of tickets leaves room for a few rounds of a ring, and is at most 2^60
 pub limit_high : (c : Setup) → 4 * ring_slots c ≤ c.limit
 limit_high c = let l = c.limit_in_range in omega arith
 

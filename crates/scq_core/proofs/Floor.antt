@@ -53,7 +53,7 @@ phase_then c m p turn = (after c turn (read m (location_of c turn)) (beside m (l
 pub record Falls (level before later was now : ℕ) : Type 0 where
   pub falls : (level ≤ later) ⊎ (before + now ≤ later + was)
 
--- a word that is read in place, and a count that does not grow
+-- a word that is only read, and a count that does not grow
 same_falls : (level x was now : ℕ) → now ≤ was → Falls level x x was now
 same_falls level x was now le = record { falls = inr (omega arith) }
 

@@ -1,10 +1,10 @@
--- What a changed function gives at the place and elsewhere, and that writing what stood there changes nothing.
+-- What a changed function gives at the argument and elsewhere, and that writing what stood there changes nothing.
 use Rattle.std.proofs.Common.{◌≡◌, ℕ, ◌≢◌, ◌⊎◌, inl, inr, eq-eqb, ne_eqb, refl}
 use Rattle.std.proofs.lemmas.Bool.{cases_eq}
 use Rattle.scq_core.specs.Updated.{updated}
 use Rattle.scq_core.specs.Machine.{Cells, Location, tail_of, head_of, threshold_of, entry_of, read, beside, written, updated_entry}
 
--- at the place itself
+-- at the argument itself
 pub updated_here : {A : Type 0} → (f : ℕ → A) (i : ℕ) (x : A) → updated f i x i ≡ x
 updated_here f i x = rw (eq-eqb i i refl) refl
 
@@ -20,7 +20,7 @@ updated_cases P f i x j here elsewhere =
       | inr apart ↦ rw (ne_eqb j i apart) (elsewhere apart)
     ]
 
--- the place is told apart, with the value there
+-- by whether it is the argument, with the value there
 pub updated_or : {A : Type 0} → (f : ℕ → A) (i : ℕ) (x : A) (j : ℕ) → ((j ≡ i) × (updated f i x j ≡ x)) ⊎ ((j ≢ i) × (updated f i x j ≡ f j))
 updated_or f i x j =
     elim (cases_eq j i) [
@@ -50,7 +50,7 @@ written_same m (head_of r) = rw (updated_same m.head r) refl
 written_same m (threshold_of r) = rw (updated_same m.threshold r) refl
 written_same m (entry_of r s) = rw (updated_entry_same m.entries.word r s, updated_entry_same m.entries.content r s) refl
 
--- entries: at the place, in another slot of the ring, in another ring
+-- entries: at the slot, in another slot of the ring, in another ring
 pub updated_entry_here : {A : Type 0} → (f : ℕ → ℕ → A) (r s : ℕ) (x : A) → updated_entry f r s x r s ≡ x
 updated_entry_here f r s x = rw (eq-eqb r r refl, eq-eqb s s refl) refl
 

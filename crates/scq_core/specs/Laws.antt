@@ -33,7 +33,7 @@ pub record Offers (c : Setup) (hand : List ℕ) (r i : ℕ) : Type 0 where
   pub index : i < n_of c.order
   pub held : holds_index hand i ≡ true
 
--- a ticket that was drawn from a counter and is a turn of the ring
+-- a ticket that was drawn from a counter, at or past the first and below the limit
 pub record Drawn (c : Setup) (counter t : ℕ) : Type 0 where
   pub first : ring_slots c ≤ t
   pub below : t < counter
@@ -76,7 +76,7 @@ Busy c m hand (AtD9 r h from to) =
 Busy c m hand (AtD10 r h leaving) = (r < c.rings) × Drawn c (m.head r) h
 
 -- each seat has what its phase says, a seat that keeps a spent ticket is idle and drew it at or past the limit, and
--- each ring's counters have left the first turn behind
+-- each ring's counters have left the first round behind
 pub record IsSteady (c : Setup) (m : Machine) : Type 0 where
   pub busy : (k : ℕ) → Busy c m.cells (m.part k).hand (m.part k).phase
   pub kept : (k t : ℕ) → (m.part k).spent ≡ Some t → ((m.part k).phase ≡ Idle) × (c.limit ≤ t)

@@ -1,4 +1,4 @@
--- The table again, by places of one ring: where a turn reads and writes, and what becomes of its seat.
+-- The table again, by cells of one ring: where a turn reads and writes, and what becomes of its seat.
 use Rattle.std.specs.Prelude.{ℕ, ◌+◌, ◌^◌, ◌<◌, List, [], ◌∷◌, ◌++◌, Option, Some, None}
 use Rattle.scq_word.specs.declared.setup.Setup.{Setup}
 use Rattle.scq_word.specs.Sizes.{n_of}
@@ -41,7 +41,7 @@ abbrev pub ring_under_way : Phase → Option ℕ
 ring_under_way Idle = None
 ring_under_way phase = Some (ring_of phase)
 
--- the place of it that the turn reads
+-- the cell of it that the turn reads
 abbrev pub cell_of : Setup → Phase → Cell
 cell_of c Idle = Tail
 cell_of c (AtE1 r i w l) = Tail

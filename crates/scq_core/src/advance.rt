@@ -1,3 +1,5 @@
+//! One step of a seat, on the rings and the seat's part: the step table as running code.
+
 ghost use Rattle.std.specs.Prelude.{◌≡◌, ◌↔◌, Some, None, Err, OnOk, OnErr};
 ghost use Rattle.scq_core.specs.declared.phase.Phase.{Phase};
 ghost use Rattle.scq_core.specs.Table.{turn_of};

@@ -1,3 +1,5 @@
+//! The calls that have ended, as a seat's record keeps them.
+
 ghost use Rattle.std.specs.Prelude.{◌≡◌, IfOk};
 
 use scq_word::{Bytes, NoMemory};

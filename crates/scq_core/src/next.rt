@@ -1,3 +1,5 @@
+//! What becomes of a seat after its turn.
+
 ghost use Rattle.std.specs.Prelude.{◌≡◌, ℕ, ◌<◌, List, None, unwrap_or};
 ghost use Rattle.scq_core.specs.declared.phase.Phase.TheVariants.{AtE1, AtE2, AtD3};
 ghost use Rattle.scq_core.specs.declared.ended.Ended.TheVariants.{Done};

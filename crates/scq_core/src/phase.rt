@@ -1,3 +1,5 @@
+//! What a seat is in the middle of.
+
 ghost use Rattle.std.specs.Prelude.{◌≡◌, IfOk};
 ghost use Rattle.scq_core.specs.Turn.{IsOfGet};
 
@@ -15,13 +17,16 @@ use std::alloc::Global;
 /// so that the call ends with Nothing whatever Threshold was.
 #[derive(Debug, Drop)]
 pub enum Phase {
+    /// In the middle of no call.
     Idle,
+    /// An enqueue draws a ticket: it is the turn that begins a call, or its last ticket failed.
     AtE1 {
         ring: u32,
         index: u32,
         content: Bytes,
         least: u64,
     },
+    /// An enqueue has its ticket, and loads the entry of the ticket's slot.
     AtE2 {
         ring: u32,
         index: u32,
@@ -29,6 +34,7 @@ pub enum Phase {
         ticket: u64,
         least: u64,
     },
+    /// An enqueue found the entry unsafe, and loads Head: it may fill it where no dequeue has drawn its ticket.
     AtE3 {
         ring: u32,
         index: u32,
@@ -36,6 +42,7 @@ pub enum Phase {
         ticket: u64,
         word: u64,
     },
+    /// An enqueue exchanges the entry for its index.
     AtE4 {
         ring: u32,
         index: u32,
@@ -43,61 +50,73 @@ pub enum Phase {
         ticket: u64,
         word: u64,
     },
+    /// An enqueue has placed its index, and loads Threshold.
     AtE5 {
         ring: u32,
         index: u32,
         content: Bytes,
         ticket: u64,
     },
+    /// An enqueue has placed its index, and stores the reset value in Threshold.
     AtE6 {
         ring: u32,
         index: u32,
         content: Bytes,
         ticket: u64,
     },
-    /// No seat rests here: a dequeue begins with this step.
+    /// A dequeue begins and loads Threshold. No seat rests here.
     AtD1 {
         ring: u32,
     },
+    /// A dequeue draws a ticket, its first or its next one.
     AtD2 {
         ring: u32,
         least: u64,
     },
+    /// A dequeue has its ticket, and loads the entry of the ticket's slot.
     AtD3 {
         ring: u32,
         ticket: u64,
         least: u64,
     },
+    /// A dequeue found the entry in its ticket's cycle, and takes the index.
     AtD4 {
         ring: u32,
         ticket: u64,
     },
+    /// A dequeue found the entry in an earlier cycle, and exchanges it: for its own cycle where no index stands there,
+    /// else for the same index marked unsafe.
     AtD5 {
         ring: u32,
         ticket: u64,
         word: u64,
     },
+    /// A dequeue has given its ticket up, and loads Tail.
     AtD6 {
         ring: u32,
         ticket: u64,
     },
+    /// A dequeue saw Tail at most one past its ticket, and exchanges it to lift it there.
     AtD7 {
         ring: u32,
         ticket: u64,
         from: u64,
         to: u64,
     },
+    /// A dequeue failed to lift Tail, and loads Head.
     AtD8 {
         ring: u32,
         ticket: u64,
         from: u64,
     },
+    /// A dequeue failed to lift Tail, and loads it again.
     AtD9 {
         ring: u32,
         ticket: u64,
         from: u64,
         to: u64,
     },
+    /// A dequeue takes one off Threshold, for the ticket that it gave up.
     AtD10 {
         ring: u32,
         ticket: u64,

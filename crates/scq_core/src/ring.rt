@@ -1,3 +1,5 @@
+//! One ring: its words, and the contents beside its entries.
+
 ghost use Rattle.std.specs.Prelude.{◌≡◌, ℕ, ◌+◌, ◌<◌, IfOk, replicate, slice_set, unwrap_or, vec_len};
 ghost use Rattle.scq_word.specs.Sizes.{n_of};
 ghost use Rattle.scq_word.specs.Tickets.{slot_of};
@@ -84,6 +86,7 @@ impl Ring {
         })
     }
 
+    /// The word of a cell.
     pub fn read(&self, cell: Cell) -> u64
         requires { IsCell self.now cell }
         ensures { (past : Slot) → result ≡ word_in past self.now cell }
@@ -149,7 +152,7 @@ fn unused(alloc: Global, setup: &Setup) -> Result<Vec<Slot>, NoMemory>
     Ok(slots)
 }
 
-/// Places an index at the ticket of the first turn that has its number.
+/// Places an index at the ticket of the first round that has its number.
 fn fill(setup: &Setup, slots: &mut Vec<Slot>, index: u32, content: Bytes)
     requires many { vec_len slots.old ≡ ring_slots setup.now }
     requires own { index < n_of setup.now.order }

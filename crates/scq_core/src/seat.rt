@@ -1,3 +1,5 @@
+//! A seat's part of a state.
+
 ghost use Rattle.std.specs.Option.{option_copied};
 ghost use Rattle.std.specs.Prelude.{◌-◌, length, slice_get, ◌≡◌, ℕ, List, ◌<◌, is_some, unwrap_or, IfOk, OnOk, OnErr};
 ghost use Rattle.scq_core.specs.Table.{turn_of, after, stores, hand_without, holds_index};
@@ -32,6 +34,7 @@ impl Model for Seat {
 }
 
 impl Seat {
+    /// In the middle of nothing, with an empty hand and an empty record.
     pub fn idle(alloc: Global) -> Seat
         ensures { result ≡ idle_part }
     {
@@ -60,18 +63,21 @@ impl Seat {
         })
     }
 
+    /// What the seat is in the middle of.
     pub fn phase(&self) -> &Phase
         ensures { result.now ≡ self.now.phase }
     {
         &self.phase
     }
 
+    /// Whether the index is in its hand.
     pub fn holds(&self, index: u32) -> bool
         ensures { result ≡ holds_index self.now.hand index }
     {
         self.hand.contains(&index)
     }
 
+    /// The spent ticket that it keeps.
     pub fn spent(&self) -> Option<u64>
         ensures { result ≡ self.now.spent }
     {
@@ -194,6 +200,7 @@ impl Seat {
     }
 }
 
+/// Takes an index out of a hand.
 fn take_out(hand: &mut Vec<u32>, index: u32)
     ensures { hand.new.items ≡ hand_without index hand.old.items }
 {

@@ -1,3 +1,5 @@
+//! An entry's word with its content, and which words a ring has.
+
 ghost use Rattle.std.specs.Prelude.{◌≡◌, IfOk};
 
 use scq_word::{Bytes, NoMemory};
@@ -20,6 +22,7 @@ pub enum Cell {
 }
 
 impl Slot {
+    /// An equal slot, with a copy of its content.
     pub fn copy(&self, alloc: Global) -> Result<Slot, NoMemory>
         ensures { IfOk result (λ copy. copy ≡ self.now) }
     {

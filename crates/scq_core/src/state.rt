@@ -1,3 +1,5 @@
+//! The states of the machine that steps reach.
+
 ghost use Rattle.std.specs.Option.{option_copied};
 ghost use Rattle.std.specs.Prelude.{◌≡◌, ℕ, pos, ◌+ℤ◌, IsTrue, length, slice_get, ◌-◌, ◌^◌, ◌<◌, ◌↔◌, replicate, Some, None, Err, IfOk, OnOk, OnErr, vec_len};
 ghost use Rattle.scq_word.specs.Sizes.{n_of};
@@ -91,6 +93,7 @@ impl State {
         })
     }
 
+    /// The word of a cell of this ring.
     fn word(&self, ring: u32, cell: Cell) -> u64
         requires ring { ring < self.now.setup.rings }
         requires cell { IsCellOf self.now.setup cell }
@@ -199,6 +202,7 @@ fn start_rings(alloc: Global, setup: &Setup, opening: &Vec<Bytes>) -> Result<Vec
     Ok(rings)
 }
 
+/// As many idle seats as the setup has.
 fn idle_seats(alloc: Global, setup: &Setup) -> Result<Vec<Seat>, NoMemory>
     ensures { IfOk result (λ seats. seats.items ≡ replicate setup.now.seats idle_part) }
 {

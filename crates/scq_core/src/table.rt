@@ -1,3 +1,5 @@
+//! Where a turn reads and writes, and what it writes there.
+
 ghost use Rattle.std.specs.Prelude.{◌≡◌, ℕ, ◌<◌};
 ghost use Rattle.scq_word.specs.Sizes.{n_of};
 ghost use Rattle.scq_word.specs.Tickets.{slot_of};
@@ -64,6 +66,7 @@ pub fn cell_of(setup: &Setup, turn: &Phase) -> Cell
     }
 }
 
+/// The entry in the slot of a ticket.
 fn entry_at(setup: &Setup, ticket: u64) -> Cell
     ensures { result ≡ EntryCell (slot_of (ring_slots setup.now) ticket) }
 {

@@ -1,3 +1,5 @@
+//! The calls of a state, on setups and states that were worked out by hand.
+
 ghost use Rattle.std.specs.Prelude.{◌≡◌, ℕ, IfOk};
 
 use crate::{ApplyFault, Ended, State, Step};

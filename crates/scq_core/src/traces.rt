@@ -1,3 +1,5 @@
+//! Tables of steps, with the words of a ring and the newest call after each line.
+
 ghost use Rattle.std.specs.Prelude.{◌≡◌, ◌<◌};
 
 use crate::{Ended, State, Step};

@@ -1,3 +1,5 @@
+//! The turn of a step that begins a call, and the content that a turn copies.
+
 ghost use Rattle.std.specs.Prelude.{◌≡◌, List, IfOk};
 ghost use Rattle.scq_core.specs.Turn.{started, copied};
 

@@ -1,3 +1,5 @@
+//! Histories: the events of calls, and the names of puts.
+
 use scq_word::Bytes;
 
 /// The name of a put: of a token that stands in queue 0 before the history, or of a seat's put.

@@ -1,3 +1,5 @@
+//! Fresh: nothing is taken that was never put.
+
 ghost use Rattle.std.specs.Prelude.{◌≡◌, ◌<◌, ◌↔◌, ℕ, IsTrue, Some, length, slice_get};
 ghost use Rattle.scq_hist.specs.Calls.{IsPut};
 ghost use Rattle.scq_hist.specs.Aspects.{IsLawful, IsBegun, IsFresh};
@@ -34,6 +36,8 @@ fn is_put(events: &[Event], seat: u32, number: u64, queue: u32, content: &Bytes,
     }
 }
 
+/// Whether the put of this name is of this queue and content, and is an opening token or starts before
+/// position e.
 fn is_begun(
     opening: &[Bytes],
     events: &[Event],
@@ -50,6 +54,7 @@ fn is_begun(
     }
 }
 
+/// Whether the Got that stands at this position, if one does, names such a put.
 fn is_fresh_at(opening: &[Bytes], events: &[Event], e: usize) -> bool
     requires { e < length events.now }
     ensures { IsTrue result ↔ IsFreshAt opening.now events.now e }

@@ -22,6 +22,7 @@ pub(crate) fn got_name(event: &Event) -> Option<PutName>
     }
 }
 
+/// Whether it is an End with Got that names this put.
 fn names(event: &Event, name: PutName) -> bool
     ensures { IsTrue result ↔ (got_name event.now ≡ Some name) }
 {

@@ -1,9 +1,12 @@
+//! Lawful: the events of each seat are those of calls, one after another.
+
 ghost use Rattle.std.specs.Prelude.{◌↔◌, ◌<◌, IsTrue, length, slice_get};
 ghost use Rattle.scq_hist.specs.Aspects.{Suits, IsLawfulAt, IsLawful};
 
 use crate::calls::{call_under_way, under_way};
 use crate::events::{Call, Event, Reply};
 
+/// Whether a call of this kind may end with the reply.
 fn suits(call: &Call, reply: &Reply) -> bool
     ensures { IsTrue result ↔ Suits call.now reply.now }
 {
@@ -13,6 +16,8 @@ fn suits(call: &Call, reply: &Reply) -> bool
     }
 }
 
+/// Whether a seat that starts a call here has none under way, and one that ends a call here has one that the
+/// reply suits.
 fn is_lawful_at(events: &[Event], i: usize) -> bool
     requires { i < length events.now }
     ensures { IsTrue result ↔ IsLawfulAt events.now i (slice_get events.now i) }

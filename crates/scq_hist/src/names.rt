@@ -1,3 +1,5 @@
+//! Once: nothing is taken twice.
+
 ghost use Rattle.std.specs.Prelude.{◌<◌, ◌↔◌, IsTrue, length};
 ghost use Rattle.scq_hist.specs.Aspects.{IsLawful, IsOnce};
 ghost use Rattle.scq_hist.specs.Lookups.{NamesNew};

@@ -1,3 +1,5 @@
+//! In order: nothing is taken before what was put wholly before it.
+
 ghost use Rattle.std.specs.Prelude.{◌≡◌, ◌+◌, ◌<◌, ◌≤◌, ◌^◌, ◌↔◌, ℕ, List, IsTrue, MatchOption, length};
 ghost use Rattle.scq_hist.specs.Calls.{IsFinishedAt};
 ghost use Rattle.scq_hist.specs.Aspects.{IsLawful, IsInOrderAt, IsInOrder};

@@ -16,8 +16,8 @@ use Rattle.scq_law.specs.Run.{Recorded}
 pub record WithinWindow (c : Setup) (m : Machine) : Type 0 where
   pub within : (r : ℕ) → min (m.cells.tail r) c.limit + 1 ≤ m.cells.head r + 2 * n_of c.order
 
--- 1 for a seat whose turn is in flight on this ring: it has drawn a ticket below the limit to dequeue, and hasn't yet
--- taken what is there or counted the turn as failed
+-- 1 for a seat whose attempt is in flight on this ring: it has drawn a ticket below the limit to dequeue, and hasn't yet
+-- taken what is there or counted the attempt as failed
 abbrev pub in_flight : ℕ → Phase → ℕ
 in_flight r (AtD3 q h l) = if q == r then 1 else 0
 in_flight r (AtD4 q h) = if q == r then 1 else 0
@@ -29,7 +29,7 @@ in_flight r (AtD9 q h from to) = if q == r then 1 else 0
 in_flight r (AtD10 q h leaving) = if q == r then 1 else 0
 in_flight r phase = 0
 
--- how many turns of this ring are in flight
+-- how many attempts of this ring are in flight
 abbrev pub attempts_in_flight : Setup → Machine → ℕ → ℕ
 attempts_in_flight c m r = total (λ p. in_flight r p.phase) m.part c.seats
 
@@ -49,12 +49,12 @@ pub record IsOpening (c : Setup) (r p : ℕ) : Type 0 where
 abbrev pub IsFinished : Setup → Machine → ℕ → ℕ → Type 0
 IsFinished c m r p = IsDone m r p ⊎ IsOpening c r p
 
--- with q turns in flight, Threshold is at least (p - Head) + q + 2 for each finished place p at or past Head. Both sides
+-- with q attempts in flight, Threshold is at least (p - Head) + q + 2 for each finished place p at or past Head. Both sides
 -- are raised by Head and by what the word of 0 is
 pub record ThresholdCovers (c : Setup) (m : Machine) : Type 0 where
   pub covers : (r p : ℕ) → IsFinished c m r p → m.cells.head r ≤ p → zero_level + p + attempts_in_flight c m r + 2 ≤ m.cells.threshold r + m.cells.head r
 
--- since a put last ended with Done on a ring, or since the start, no more dequeue turns have failed there than a reset sets and there are seats
+-- since a put last ended with Done on a ring, or since the start, no more attempts to dequeue have failed there than a reset sets and there are seats
 pub record FailsBounded (c : Setup) (recorded : Recorded) : Type 0 where
   pub fails : (r : ℕ) → recorded.fails r ≤ reset_value c + c.seats
 

@@ -1,4 +1,4 @@
--- Each index is in one place: in one seat's hand, once in that list, or in one entry of one ring.
+-- Each index has one home: it is in one seat's hand, once in that list, or in one entry of one ring.
 use Rattle.std.specs.Prelude.{◌≡◌, ℕ, ◌+◌, ◌<◌, false, ◌==◌, if◌then◌else◌, List, [], ◌∷◌}
 use Rattle.scq_word.specs.declared.setup.Setup.{Setup}
 use Rattle.scq_word.specs.Sizes.{n_of}

@@ -6,7 +6,7 @@ use Rattle.scq_core.specs.StateLists.{machine_of}
 use Rattle.scq_law.specs.declared.replayed.Replayed.{Replayed}
 use Rattle.scq_law.specs.Run.{Recorded, recorded_of, IsRun}
 
--- a list of so many counts: what it has at each place, and 0 past its end
+-- a list of so many counts: what it has at each position, and 0 past its end
 pub record Counts (many : ℕ) (counts : List ℕ) (count : ℕ → ℕ) : Type 0 where
   pub size : length counts ≡ many
   pub each : (k : ℕ) → slice_index counts k ≡ count k

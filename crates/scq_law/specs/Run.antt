@@ -21,7 +21,7 @@ use Rattle.scq_hist.specs.declared.events.Reply.{Reply}
 use Rattle.scq_hist.specs.declared.events.Reply.TheVariants.{Done, Got, Nothing, Spent}
 
 -- what is recorded of a run: the state that it has led to, the events so far, how many puts each seat has begun, the put that
--- placed at each place of each ring, and for each ring how often a put has ended with Done and how many dequeue turns failed
+-- placed at each place of each ring, and for each ring how often a put has ended with Done and how many attempts to dequeue failed
 -- since the last of these, or since the start
 pub record Recorded : Type 0 where
   pub state : Machine
@@ -74,7 +74,7 @@ abbrev pub resets_after : Option ℕ → (ℕ → ℕ) → ℕ → ℕ
 resets_after None resets = resets
 resets_after (Some r) resets = updated resets r (resets r + 1)
 
--- a step D10 is one more failed turn; after a reset there is none yet
+-- a step D10 is one more failed attempt; after a reset there is none yet
 abbrev pub fails_after : Phase → Option ℕ → (ℕ → ℕ) → ℕ → ℕ
 fails_after (AtD10 r h leaving) reset fails = updated fails r (fails r + 1)
 fails_after turn None fails = fails

@@ -1,3 +1,5 @@
+//! What a turn may add to what its run records.
+
 ghost use Rattle.std.specs.Prelude.{◌≡◌, IfOk};
 ghost use Rattle.scq_law.specs.Acts.{act_of};
 
@@ -15,7 +17,7 @@ pub(crate) enum Act {
     Exchanges { ring: u32, place: u64 },
     /// A put ends with Done, if its call ends here.
     Settles { ring: u32 },
-    /// A turn of a dequeue has failed.
+    /// An attempt of a dequeue has failed.
     Fails { ring: u32 },
     /// Nothing.
     Moves,

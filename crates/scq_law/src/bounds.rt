@@ -17,8 +17,8 @@ pub fn tail_is_within_the_window()
     ensures { (c : Setup) (m : Machine) → IsReachable c m → WithinWindow c m }
 {}
 
-/// With `q` turns of a ring in flight, each finished place at or past Head has Threshold at least
-/// `(place - Head) + q + 2`. A turn is in flight from the draw of its ticket, below the limit, until
+/// With `q` attempts of a ring in flight, each finished place at or past Head has Threshold at least
+/// `(place - Head) + q + 2`. An attempt is in flight from the draw of its ticket, below the limit, until
 /// it has taken an index or lowered Threshold.
 pub fn threshold_covers_the_finished()
     ensures { (c : Setup) (m : Machine) → IsReachable c m → ThresholdCovers c m }
@@ -35,7 +35,7 @@ pub fn counters_are_bounded()
     ensures { (c : Setup) (m : Machine) → IsReachable c m → CountersBounded c m }
 {}
 
-/// After each run, no more dequeue turns of a ring have failed since a put last ended there with Done, or
+/// After each run, no more attempts to dequeue from a ring have failed since a put last ended there with Done, or
 /// since the start, than what a reset sets and the number of seats together.
 pub fn fails_are_bounded()
     ensures { (c : Setup) (opening : List (List ℕ)) (steps : List (ℕ × Step)) (recorded : Recorded) → length opening ≡ n_of c.order

@@ -1,3 +1,5 @@
+//! What a run records, kept step by step.
+
 ghost use Rattle.std.specs.Prelude.{◌≡◌, ℕ, ◌+◌, ◌^◌, ◌<◌, List, ◌++◌, Some, None, Err, length, slice_index, vec_len, unwrap_or, IfOk, OnOk};
 ghost use Rattle.std.specs.Option.{option_copied};
 ghost use Rattle.scq_word.specs.Sizes.{n_of};
@@ -94,6 +96,7 @@ impl Recording {
     }
 }
 
+/// A map for each ring, with no name in it.
 fn no_names(alloc: Global, rings: usize) -> Result<Vec<Names>, NoMemory>
     ensures many { IfOk result (λ names. vec_len names ≡ rings) }
     ensures none { IfOk result (λ names. (r p : ℕ) → name_at names.items r p ≡ None) }
@@ -133,7 +136,7 @@ fn name_place(
     Ok(())
 }
 
-/// One more reset, after which no turn has failed; or one more failed turn.
+/// One more reset, after which no attempt has failed; or one more failed attempt.
 fn count_turn(resets: &mut Vec<u64>, fails: &mut Vec<u64>, act: &Act, next: &Phase)
     requires resets { IsOnRing (vec_len resets.old) act.now }
     requires fails { IsOnRing (vec_len fails.old) act.now }
@@ -152,6 +155,7 @@ fn count_turn(resets: &mut Vec<u64>, fails: &mut Vec<u64>, act: &Act, next: &Pha
     }
 }
 
+/// The Start of the call, where the turn begins one.
 fn begin(events: &mut Vec<Event>, seat: u32, act: Act) -> Result<(), NoMemory>
     ensures { OnOk result (events.new.items ≡ events.old.items ++ starts_by seat act) }
 {
@@ -181,6 +185,7 @@ fn finish(
     Ok(())
 }
 
+/// The call that has ended, where the seat is idle.
 fn ended(state: &State, seat: u32) -> Option<&Ended>
     requires { seat < state.now.setup.seats }
     ensures { let part = (machine_of state.now).part seat in option_copied result ≡ ended_in part.phase part.calls }
@@ -191,6 +196,7 @@ fn ended(state: &State, seat: u32) -> Option<&Ended>
     }
 }
 
+/// The reply of a call that has ended.
 fn recorded_reply(
     alloc: Global,
     setup: &Setup,
@@ -224,6 +230,7 @@ fn placer(setup: &Setup, names: &[Names], ring: u32, place: u64) -> PutName
     }
 }
 
+/// The put that placed there since the start, if one did.
 fn name_at(names: &[Names], ring: u32, place: u64) -> Option<PutName>
     ensures { result ≡ name_at names.now ring place }
 {

@@ -1,3 +1,5 @@
+//! What a replay answers.
+
 ghost use Rattle.std.specs.Prelude.{◌≡◌};
 
 use scq_core::State;
@@ -6,7 +8,7 @@ use scq_word::NoMemory;
 use thiserror::Error;
 
 /// What is recorded of a run: the state that it led to, its history, and for each ring how many puts have
-/// ended with Done there, and how many dequeue turns have failed since the last of these, or since the
+/// ended with Done there, and how many attempts to dequeue have failed since the last of these, or since the
 /// start.
 #[derive(Debug, Drop)]
 pub struct Replayed {

@@ -1,3 +1,5 @@
+//! Replays a list of steps from the start.
+
 ghost use Rattle.std.specs.Prelude.{◌≡◌, ℕ, ◌+◌, ◌<◌, ◌≤◌, Err, IfOk, vec_len};
 ghost use Rattle.std.specs.List.{All};
 ghost use Rattle.scq_word.specs.Sizes.{n_of};

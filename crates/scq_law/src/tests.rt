@@ -1,3 +1,8 @@
+//! Replays of schedules that were worked out by hand. Each line of a table is a seat, its steps, and behind `=` a ring with its
+//! Head, Tail, Threshold and entries, its resets and fails, what the seat's newest call was, or `-` where it is in the middle of
+//! one, and behind `:` the events that the line adds. `E1/1/0/x` is E1 on ring 1 of index 0 with content x, and `D1/1` is D1 on
+//! ring 1. The put `1.2` is the second of seat 1, and `token 0` is the first opening put.
+
 ghost use Rattle.std.specs.Prelude.{◌≡◌, ℕ, ◌^◌, ◌<◌, ◌≤◌, IfOk, vec_len};
 ghost use Rattle.std.specs.List.{All};
 ghost use Rattle.scq_core.specs.declared.step.Step.{Step as StepOf};
@@ -11,10 +16,6 @@ use std::alloc::Global;
 use std::process::Abort;
 use std::test::Fail;
 
-/// Each line of a table is a seat, its steps, and behind `=` a ring with its Head, Tail, Threshold and
-/// entries, its resets and fails, what the seat's newest call was, or `-` where it is in the middle of one, and behind `:` the
-/// events that the line adds. `E1/1/0/x` is E1 on ring 1 of index 0 with content x, and `D1/1` is D1 on
-/// ring 1. The put `1.2` is the second of seat 1, and `token 0` is the first opening put.
 fn number(text: Option<&str>) -> Result<u32, Fail> {
     Ok(text.ok_or("a number is missing")?.parse::<u32>()?)
 }
@@ -378,7 +379,7 @@ fn tables_are_replayed(rt: HostRuntime) -> Result<(), Fail> {
     run(&rt, 16, SPENT)
 }
 
-// The place of the first step that is not enabled is answered: a step out of turn, an index that is not in
+// The position of the first step that is not enabled is answered: a step out of turn, an index that is not in
 // the hand, a ring that is not there.
 #[test]
 fn steps_out_of_turn_stop_a_replay(rt: HostRuntime) -> Result<(), Fail> {

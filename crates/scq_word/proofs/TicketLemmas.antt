@@ -42,7 +42,7 @@ same_ticket m t u slot cycle =
     let rest = same_rest m t u slot in
     sym (ticket_parts m t) ∙ rw (cycle, rest) (ticket_parts m u)
 
--- a lower cycle of the slot is a ticket that is lower by at least a whole turn
+-- a lower cycle of the slot is a ticket that is lower by at least a whole round
 pub earlier_cycle : (m t u : ℕ) → slot_of m t ≡ slot_of m u → cycle_of m t < cycle_of m u → t + m ≤ u
 earlier_cycle m t u slot less =
     let rest = same_rest m t u slot in
@@ -67,7 +67,7 @@ lower_ticket m t u some slot less =
           absurd (omega arith)
     ]
 
--- the tickets of one turn of the ring
+-- the tickets of one round of the ring
 pub cycle_of-row : (m c i : ℕ) → i < m → cycle_of m (c * m + i) ≡ c
 unfolding cycle_of
 cycle_of-row m c i small = div-mul-add c m i small

@@ -1,3 +1,5 @@
+//! Buffers: bytes that are written in place.
+
 ghost use Rattle.std.specs.Prelude.{◌≡◌, ℕ, List, length};
 ghost use Rattle.std.specs.Borrow.{sem, Lends, Array, u8 as byte};
 
@@ -11,9 +13,11 @@ pub trait Buffer: Send + Sync {
     // The buffer once these bytes were left in it.
     ghost written: { Self → List ℕ → Self };
 
+    /// Its bytes.
     fn bytes(&self) -> &[u8]
         ensures { result.now ≡ contents self.now };
 
+    /// Its bytes, lent to be written: there stay as many.
     fn bytes_mut(&mut self) -> &mut [u8]
         ensures* writes { sem 𝓛 (Lends Self.row (Array byte 0) self.entry result (written self.old)) }
         ensures bytes { result.now ≡ contents self.old };

@@ -1,10 +1,14 @@
+//! Bytes that contracts see as a list, and want of memory.
+
 ghost use Rattle.std.specs.Prelude.{◌≡◌, ℕ, List, IfOk, IsTrue, ◌↔◌};
 
 use std::alloc::{AllocError, AllocFailed, Global};
 use std::marker::Model;
+use thiserror::Error;
 
 /// Memory was wanted and not there. It is the one answer that no clause ties to a cause.
-#[derive(Clone, Copy, Debug, PartialEq, Eq)]
+#[derive(Clone, Copy, Debug, PartialEq, Eq, Error)]
+#[error("out of memory")]
 pub struct NoMemory;
 
 impl From<AllocError> for NoMemory {
@@ -41,6 +45,7 @@ impl Bytes {
         })
     }
 
+    /// The bytes themselves.
     pub fn bytes(&self) -> &[u8]
         ensures { result.now ≡ self.now }
     {

@@ -1,3 +1,5 @@
+//! A law of the words of entries. The function does nothing: it stands for its contract.
+
 ghost use Rattle.std.specs.Prelude.{◌≡◌, ℕ, ◌-◌, ◌^◌, bit_or};
 ghost use Rattle.scq_word.specs.Sizes.{slots_of};
 ghost use Rattle.scq_word.specs.Words.{packed, cycle_in, safe_in, mark_of};

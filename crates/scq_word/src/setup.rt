@@ -1,3 +1,5 @@
+//! Setups: the numbers that rings are made with.
+
 ghost use Rattle.std.specs.Prelude.{◌≡◌, ℕ, ◌*◌, ◌^◌, ◌<◌, ◌≤◌, ◌↔◌, ◌⊎◌, IsOk, IfOk, Err};
 ghost use Rattle.scq_word.specs.Sizes.{n_of};
 ghost use Rattle.scq_word.specs.Ranges.{IsWithin, IsOutside};
@@ -35,6 +37,8 @@ pub enum SetupFault {
 }
 
 impl Setup {
+    /// Tests the order, the rings, the seats and the limit, in this order, and answers the first that is out of
+    /// range.
     pub fn new(order: u32, rings: u32, seats: u32, limit: u64) -> Result<Setup, SetupFault>
         ensures ok { IsOk result ↔ (IsWithin 1 12 order × IsWithin 1 18 rings × IsWithin 1 (n_of order) seats
             × IsWithin (8 * n_of order) (2 ^ 60) limit) }
@@ -69,24 +73,28 @@ impl Setup {
         })
     }
 
+    /// The order, with the sizes that it gives.
     pub fn shape(&self) -> Shape
         ensures { result.order ≡ self.now.order }
     {
         Shape { order: self.order }
     }
 
+    /// The number of rings, 1 to 18.
     pub fn rings(&self) -> u32
         ensures { result ≡ self.now.rings }
     {
         self.rings
     }
 
+    /// The number of seats, 1 to n.
     pub fn seats(&self) -> u32
         ensures { result ≡ self.now.seats }
     {
         self.seats
     }
 
+    /// The limit of tickets, `8n` to `2^60`.
     pub fn limit(&self) -> u64
         ensures { result ≡ self.now.limit }
     {

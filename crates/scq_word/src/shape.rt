@@ -1,3 +1,5 @@
+//! The order of a ring, and the sizes that it gives.
+
 ghost use Rattle.std.specs.Prelude.{◌≡◌, ℕ, ◌≤◌, ◌<◌, ◌-◌, ◌*◌, ◌^◌, ◌↔◌, ◌⊎◌, IsSome, IfSome, IsNone};
 ghost use Rattle.scq_word.specs.Sizes.{n_of, slots_of};
 ghost use Rattle.scq_word.specs.Words.{mark_of};

@@ -1,3 +1,5 @@
+//! Words, tickets, setups and bytes, against values that were worked out by hand.
+
 ghost use Rattle.std.specs.Prelude.{◌≡◌, length, refl};
 ghost use Rattle.std.proofs.Common.{sym, ◌∙◌};
 ghost use Rattle.std.specs.Vec.{with_items};

@@ -1,3 +1,5 @@
+//! Entries as words, and the cycle and the slot of a ticket.
+
 ghost use Rattle.std.specs.Prelude.{◌≡◌, ℕ, ◌/◌, ◌<◌, ◌≤◌, ◌^◌, ◌==◌, if◌then◌else◌};
 ghost use Rattle.std.specs.Option.{ForSome};
 ghost use Rattle.scq_word.specs.Sizes.{n_of, slots_of};
@@ -22,6 +24,7 @@ pub fn pack(shape: Shape, entry: Entry) -> u64
     entry.cycle * (2 * slots) + safe * slots + index
 }
 
+/// The bits of an index, or the mark.
 fn packed_index(shape: Shape, index: Option<u32>) -> u64
     requires { ForSome index (λ index. index < n_of shape.order) }
     ensures bits { result ≡ index_bits shape.order index }
@@ -46,6 +49,7 @@ pub fn unpack(shape: Shape, word: u64) -> Entry
     }
 }
 
+/// The index that bits stand for, unless they are the mark.
 fn unpacked_index(shape: Shape, bits: u32) -> Option<u32>
     ensures { result ≡ (if bits == mark_of (slots_of shape.order) then None else Some bits) }
 {

@@ -1,5 +1,5 @@
 -- The tie between a run's history and its state, kept by each event of a turn. The diary is the proof's own: for each
--- ticket of a put the place of the Start of the call that drew it, likewise for a get's, and the place of its get's End.
+-- ticket of a put the position of the Start of the call that drew it, likewise for a get's, and the position of its get's End.
 use Rattle.std.proofs.Common.{◌≡◌, ◌≢◌, ℕ, ◌+◌, ◌<◌, ◌≤◌, inl, inr, true, false, List, [], ◌∷◌, ◌++◌, length, refl, ap, sym, ◌∙◌, subst, arith, eq-eqb, ne_eqb}
 use Rattle.std.specs.Prelude.{Some}
 use Rattle.std.proofs.lemmas.Bool.{cases_eq}

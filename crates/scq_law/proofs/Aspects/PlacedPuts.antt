@@ -62,7 +62,7 @@ pub record IsPlaced (c : Setup) (opening : List (List ℕ)) (events : List Event
   pub early : (r t : ℕ) → (origin r t ≡ 0) ⊎ (origin r t < length events)
   pub done : (e k : ℕ) → slice_get events e ≡ Some (End k Done) → Landing events placer calls puts origin e k
 
--- elsewhere a changed function of two places is as it was
+-- elsewhere a changed function of two arguments is as it was
 pub updated_entry_else : {A : Type 0} → (f : ℕ → ℕ → A) (r s : ℕ) (x : A) (q z : ℕ) → (q ≡ r → z ≡ s → ⊥) → updated_entry f r s x q z ≡ f q z
 updated_entry_else f r s x q z apart = elim (updated_entry_or f r s x q z) [ inl a ↦ absurd (apart a.0 a.1) | inr a ↦ a.1 ]
 
@@ -148,7 +148,7 @@ module _ (c : Setup) (opening : List (List ℕ)) (events : List Event) (begun : 
   apart_from r t q u empty full ring ticket = let clash : is_placed (puts r t) ≡ true = rw (← ring, ← ticket) full in cc
 
   module _ (r t : ℕ) (empty : is_placed (puts r t) ≡ false) where
-    -- a ticket at which nothing is placed becomes another such, drawn by a call that started at place o
+    -- a ticket at which nothing is placed becomes another such, drawn by a call that started at position o
     module _ (x : PutState) (o : ℕ) (still : is_placed x ≡ false) where
       abbrev puts2 : ℕ → ℕ → PutState
       puts2 = updated_entry puts r t x

@@ -105,7 +105,7 @@ module _ (events : List Event) (placer : ℕ → ℕ → PutName) (puts : ℕ �
   took_apart r h q u k j free is ring ticket = free k j (rw (← ring, ← ticket) is)
 
   module _ (r h : ℕ) (free : (k j : ℕ) → gets r h ≢ took k j) where
-    -- a ticket that nobody took becomes another such, drawn by a call that started at place o
+    -- a ticket that nobody took becomes another such, drawn by a call that started at position o
     pub taken_drawn : (x : GetState) (o : ℕ) → ((k j : ℕ) → x ≢ took k j) → ((j : ℕ) → x ≡ opened j → under_now events j ≡ Some o)
         → (o ≡ 0) ⊎ (o < length events) → ((u k j : ℕ) → gets r u ≡ took k j → h ≤ u → o ≡ since r h)
         → IsTaken events placer puts (updated_entry gets r h x) origin (updated_entry since r h o) ended

@@ -55,7 +55,7 @@ stands_at c opening r t =
           })
     ]
 
--- the opening places are of the ring's second turn
+-- the opening places are of the ring's second round
 pub second_turn : (c : Setup) (j : ℕ) → j < ring_slots c → cycle c (ring_slots c + j) ≡ 1
 second_turn c j small =
     let row : cycle c (1 * ring_slots c + j) ≡ 1 = cycle_of-row (ring_slots c) 1 j small in

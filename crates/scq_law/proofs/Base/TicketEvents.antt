@@ -89,7 +89,7 @@ event c (AtD9 r h from to) x y = calm
 event c (AtD10 r h true) x y = emptied r h
 event c (AtD10 r h false) x y = if nat_le x zero_level then emptied r h else lowered r h
 
--- what the event tells of the tickets, at this step of the run, of this seat whose record has so many calls
+-- what the event says of the tickets, at this step of the run, of this seat whose record has so many calls
 abbrev pub ghost_by : TicketEvent → ℕ → ℕ → ℕ → Ghost → Ghost
 ghost_by (drew r i w t) time k number g = with_put g r t (pending k i)
 ghost_by (fell r i w t found) time k number g = with_put g r t (failed time i found)

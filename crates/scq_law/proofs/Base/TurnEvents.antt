@@ -1,4 +1,4 @@
--- Each turn is a event_facts: what held before its event, and that the state changes as the event says.
+-- Each turn is its event: what held before its event, and that the state changes as the event says.
 use Rattle.std.proofs.Common.{◌≡◌, ℕ, ◌+◌, ◌<◌, true, false, ◌&&◌, List, [], ◌++◌, length, append-nil, refl, sym, ◌∙◌, inl, inr, arith, eq-eqb, ne_eqb, ltb-true, leb-true, eqb-true}
 use Rattle.std.specs.Prelude.{◌==◌, nat_lt, nat_le, Some}
 use Rattle.std.proofs.lemmas.Bool.{cases_Bool, cases_eq, leb-false, ltb-false}

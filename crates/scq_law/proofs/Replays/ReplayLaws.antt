@@ -46,7 +46,7 @@ of_history c opening steps result P full seats shown law =
     (law shows.recorded.events (has_aspects c opening full shows.recorded (tied_run c opening steps shows.recorded full seats shows.run))))
     shown
 
--- the failed turns of each ring
+-- the failed attempts of each ring
 few_fails : (c : Setup) (opening : List (List ℕ)) (steps : List (ℕ × Step)) (replayed : Replayed) → length opening ≡ n_of c.order
     → All (λ (x : ℕ × Step). x.0 < c.seats) steps → ShowsRun c opening steps replayed → All (λ fails. fails ≤ reset_value c + c.seats) replayed.fails.items
 few_fails c opening steps replayed full seats shows =

@@ -1,4 +1,4 @@
--- How words rise along a run. Plan: more steps of a run lead to a later state, of which `later_rises` and `never_back` tell.
+-- How words rise along a run. Plan: more steps of a run lead to a later state, of which `later_rises` and `never_back` speak.
 use Rattle.std.proofs.Common.{◌≡◌, ℕ, ◌+◌, ◌-◌, ◌<◌, ◌≤◌, List, [], ◌∷◌, ◌++◌, length, take, drop, refl, sym, ◌∙◌, ap, arith}
 use Rattle.std.specs.Prelude.{Option, Some, None}
 use Rattle.std.specs.Option.{option_and_then, option_map}

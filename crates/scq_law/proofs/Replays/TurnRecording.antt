@@ -129,7 +129,7 @@ placer_recorded c k phase step turn x y q a names puts placer (goes_on (AtE4 r i
     placed_recorded c r i t e w x y q a (Of k (puts k)) names placer (same r t refl) old
 placer_recorded c k phase step turn x y q a names puts placer (goes_on p s awake) same old = old
 
--- one more reset where a put ends, as the phase afterwards says, and no failed turn since
+-- one more reset where a put ends, as the phase afterwards says, and no failed attempt since
 five_recorded : (n r i t : ℕ) (w : List ℕ) (xs : List ℕ) (f : ℕ → ℕ) (later : Phase) → Counts n xs f → r < n
     → Counts n (resets_by (Settles r) later xs) (resets_after (is_reset (AtE5 r i w t) later) f)
 five_recorded n r i t w xs f Idle old low = counts_updated n xs f r _ _ old low (ap (λ u. u + 1) (old.each r))

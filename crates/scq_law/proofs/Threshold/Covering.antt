@@ -1,5 +1,5 @@
 -- Threshold covers what is finished at or past Head. Plan: but for a reset, no event lowers Threshold and Head together
--- by more than its seat's turn in flight; at a reset a finished place is in the window, and the seat has no turn in flight.
+-- by more than its seat's attempt in flight; at a reset a finished place is in the window, and the seat has no attempt in flight.
 use Rattle.std.proofs.Common.{◌≡◌, ◌≢◌, ℕ, ◌+◌, ◌-◌, ◌<◌, ◌≤◌, true, false, List, refl, inl, inr, ap, sym, ◌∙◌, arith, eq-eqb, ne_eqb}
 use Rattle.std.specs.Prelude.{◌==◌, if◌then◌else◌}
 use Rattle.std.proofs.lemmas.Bool.{cases_eq, cases_lt}
@@ -30,7 +30,7 @@ use Rattle.scq_law.proofs.Window.CoverThroughout.{windowed}
 use Rattle.scq_law.proofs.Base.SeatSums.{total_change, contains_none}
 use Rattle.scq_law.proofs.Threshold.FinishedPlaced.{is_finish, finished_back, finished_or, finished_placed}
 
--- 1 for a seat whose turn is in flight on this ring
+-- 1 for a seat whose attempt is in flight on this ring
 abbrev pub flying : ℕ → Stance → ℕ
 flying r (trying q h) = if q == r then 1 else 0
 flying r (missed q h) = if q == r then 1 else 0
@@ -48,7 +48,7 @@ flying_bit r (missed q h) = either_way (λ (v : ℕ). v ≤ 1) (q == r) 1 0 (ome
 flying_bit r (leaving q h) = either_way (λ (v : ℕ). v ≤ 1) (q == r) 1 0 (omega arith) (omega arith)
 flying_bit r s = omega arith
 
--- a seat's own turn in flight, on its ring and on another
+-- a seat's own attempt in flight, on its ring and on another
 abbrev pub bit : ℕ → ℕ → ℕ
 bit q r = if q == r then 1 else 0
 
@@ -58,7 +58,7 @@ here_one q r same = rw (eq-eqb q r (sym same)) refl
 pub there_none : (q r : ℕ) → r ≢ q → bit q r ≡ 0
 there_none q r other = rw (ne_eqb q r (λ e. other (sym e))) refl
 
--- a Threshold that falls by one where its seat had a turn in flight
+-- a Threshold that falls by one where its seat had an attempt in flight
 falls : (level : ℕ → ℕ) (q r head : ℕ) → level r + head ≤ updated level q (level q - 1) r + head + bit q r
 falls level q r head =
     elim (updated_or level q (level q - 1) r) [
@@ -66,7 +66,7 @@ falls level q r head =
       | inr a ↦ let new = a.1 in omega arith
     ]
 
--- Threshold and Head, with the seat's turns in flight before and after
+-- Threshold and Head, with the seat's attempts in flight before and after
 pub record Level (x y u v a b : ℕ) : Type 0 where
   pub level : x + u + b ≤ y + v + a
 
@@ -123,7 +123,7 @@ level_event c time g m k e n event_step not r =
     let d = event_step.event_facts in
     rw (d.threshold, d.head, d.stance) (record { level = omega arith })
 
--- the turns in flight move as the seat's own do
+-- the attempts in flight move as the seat's own do
 pub flights_move : (c : Setup) (time : ℕ) (g : Ghost) (m : Machine) (k : ℕ) (e : TicketEvent) (n : Machine) → EventStep c time g m k e n → (r : ℕ)
     → attempts_in_flight c n r + flying r (stance m k) ≡ attempts_in_flight c m r + flying r (stance n k)
 flights_move c time g m k e n event_step r =

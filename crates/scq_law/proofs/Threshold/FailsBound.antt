@@ -1,4 +1,4 @@
--- How often dequeue turns have failed since a reset. Plan: Threshold and the fails together are at most what a reset
+-- How many attempts have failed since a reset. Plan: Threshold and the fails together are at most what a reset
 -- sets: a fail lowers the one and raises the other, a reset sets both. So the floor of Threshold bounds the fails.
 use Rattle.std.proofs.Common.{◌≡◌, ℕ, ◌+◌, ◌-◌, ◌<◌, ◌≤◌, List, length, refl, inl, inr, sym, ap, subst, arith}
 use Rattle.std.specs.Prelude.{◌==◌, Some}

@@ -1,5 +1,5 @@
 -- What each event adds to the counts of tickets and of ended calls: placed tickets against ended and landed puts, taken
--- ones against gets that took, and Head with Threshold against what a dequeue's turn comes to.
+-- ones against gets that took, and Head with Threshold against what an attempt comes to.
 use Rattle.std.proofs.Common.{◌≡◌, ◌≢◌, ℕ, ◌+◌, ◌-◌, ◌<◌, ◌≤◌, ◌⊎◌, Bool, true, false, length, refl, inl, inr, ap, sym, ◌∙◌, arith}
 use Rattle.std.specs.Prelude.{◌==◌}
 use Rattle.std.proofs.lemmas.Bool.{cases_lt}
@@ -174,7 +174,7 @@ rises_exactly head q r h at =
       | inr a ↦ let none = there_none q r a.0 in let new = a.1 in omega arith
     ]
 
--- what Head and Threshold are with a seat's turn in flight and kept ticket, before and after
+-- what Head and Threshold are with a seat's attempt in flight and kept ticket, before and after
 abbrev spend : Machine → ℕ → ℕ → ℕ
 spend m k r = flying r (stance m k) + spent_of (m.part k).spent
 

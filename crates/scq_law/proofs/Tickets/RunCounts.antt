@@ -1,5 +1,5 @@
 -- In each state of a run: at most as many gets took as tickets were taken, at most as many tickets were placed as puts
--- ended or landed, and Head with Threshold is within what gets, turns in flight, kept tickets and resets come to.
+-- ended or landed, and Head with Threshold is within what gets, attempts in flight, kept tickets and resets come to.
 use Rattle.std.proofs.Common.{◌≡◌, ◌≢◌, ℕ, zero, suc, ◌+◌, ◌-◌, ◌*◌, ◌≤◌, ◌⊎◌, Bool, true, false, List, length, refl, inl, inr, ap, sym, ◌∙◌, arith, eq-eqb}
 use Rattle.std.specs.Prelude.{Option, Some, None}
 use Rattle.scq_word.specs.declared.setup.Setup.{Setup}
@@ -37,7 +37,7 @@ trace_reaches c time g m (trace_step {time = t} {g = h} {m = old} k s turn trace
     turn_reaches c old k s turn low enabled (trace_reaches c t h old trace)
 
 -- what a seat counts for: its gets that took; its ended puts; these and the one that has landed; its gets that took, its
--- turn in flight and its kept ticket
+-- attempt in flight and its kept ticket
 abbrev pub got_of : ℕ → Part → ℕ
 got_of r p = tally (was_got r) p.calls
 

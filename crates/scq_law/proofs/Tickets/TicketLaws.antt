@@ -1,4 +1,4 @@
--- The ticket bound. Plan: Head is within what gets that took, turns in flight, kept tickets and resets come to; the turns in
+-- The ticket bound. Plan: Head is within what gets that took, attempts in flight, kept tickets and resets come to; the attempts in
 -- flight are made up by the floor of Threshold, and the rest is within the enqueues that were begun.
 use Rattle.std.proofs.Common.{◌≡◌, ℕ, ◌+◌, ◌-◌, ◌*◌, ◌≤◌, true, false, List, [], ◌∷◌, refl, inl, inr, ap, arith}
 use Rattle.std.specs.Prelude.{min}

@@ -1,6 +1,6 @@
 -- Each event keeps the cover and the book. Plan: an index that has gone past a drawn ticket stays past it, and one that
 -- stands earlier in its slot stays there or goes to a hand; what a new failure found stands earlier in its slot, since a
--- whole turn of the ring later would be past the window.
+-- whole round of the ring later would be past the window.
 use Rattle.std.proofs.Common.{◌≡◌, ◌≢◌, ℕ, ◌+◌, ◌<◌, ◌≤◌, ◌⊎◌, true, inl, inr, ap, sym, ◌∙◌, arith}
 use Rattle.std.proofs.lemmas.Bool.{cases_lt, cases_order}
 use Rattle.scq_word.specs.declared.setup.Setup.{Setup}
@@ -14,7 +14,7 @@ use Rattle.scq_law.proofs.Base.BaseGroup.{IsBooked, IsDrawn}
 use Rattle.scq_law.proofs.Window.FailedTickets.{IsAlone, IsCovered, IsAfter, Bars, FailedTickets, IsWindow}
 use Rattle.scq_law.proofs.Window.TicketFlows.{Fails, Flows, Advances}
 
--- tickets of one slot are a turn of the ring apart
+-- tickets of one slot are a round of the ring apart
 turn_apart : (c : Setup) (t u : ℕ) → slot_of (ring_slots c) t ≡ slot_of (ring_slots c) u → t < u → t + ring_slots c ≤ u
 turn_apart c t u slot less = earlier_cycle (ring_slots c) t u slot (lower_ticket (ring_slots c) t u (some_slots c) slot less)
 
