@@ -114,7 +114,7 @@ ground c m k s t reach low enabled =
       got =
           λ r h is.
           let answer = places.answered k r h (takes_phase c (m.part k) s r h (enabled ∙ ap Some is)) in
-          (places.lawful r h _ answer.0 answer.1).1;
+          (places.below_limit r h _ answer.0 answer.1).1;
       up = counters_rise c m.cells (m.part k).hand t busy;
       stay = λ r p is. finished_stays c m (moved c m k t) r p reach (later.by_step {n' = moved c m k t} k s (later.at_once) low (ap (option_map (moved c m k)) enabled)) is;
       reach = next;

@@ -22,7 +22,7 @@ use Rattle.scq_core.specs.Table.{ring_slots, cycle, passed, location_of, writes,
 use Rattle.scq_core.specs.Laws.{Busy, word_at}
 use Rattle.scq_core.proofs.UpdatedLemmas.{written_same, updated_entry_or}
 use Rattle.scq_core.proofs.Entries.{some_slots, some_indices, below_mark, none_in-marked, none_in-filled, index_below}
-use Rattle.scq_law.specs.Hands.{times, Home, hand_of, slot_in, OneHand}
+use Rattle.scq_law.specs.Hands.{times, Home, hand_of, in_slot, OneHand}
 use Rattle.scq_law.proofs.Places.HandLemmas.{seen_times}
 use Rattle.scq_band.specs.Shown.{Has, Stored}
 use Rattle.scq_band.specs.Turns.{Carries, Fronts, Takes, SlotsAfter}
@@ -79,12 +79,12 @@ module _ {S : Type 0} (Lies : ℕ → S → List ℕ → Type 0) where
 
   hand_or_entry : (c : Setup) (m : Machine) (i k r s : ℕ) → OneHand c m → i < n_of c.order → 0 < times i (m.part k).hand → s < ring_slots c → index_in (ring_slots c) (m.cells.entries.word r s) ≡ i → ⊥
   hand_or_entry c m i k r s one small here low is =
-      let same : hand_of k ≡ slot_in r s = one.alone i (hand_of k) (slot_in r s) small here (low, is) in absurd (cc)
+      let same : hand_of k ≡ in_slot r s = one.alone i (hand_of k) (in_slot r s) small here (low, is) in absurd (cc)
 
   entries_apart : (c : Setup) (m : Machine) (i r s q z : ℕ) → OneHand c m → i < n_of c.order → s < ring_slots c → index_in (ring_slots c) (m.cells.entries.word r s) ≡ i
       → z < ring_slots c → index_in (ring_slots c) (m.cells.entries.word q z) ≡ i → (q ≡ r) × (z ≡ s)
   entries_apart c m i r s q z one small low is low' is' =
-      let same : slot_in q z ≡ slot_in r s = one.alone i (slot_in q z) (slot_in r s) small (low', is') (low, is) in (cc, cc)
+      let same : in_slot q z ≡ in_slot r s = one.alone i (in_slot q z) (in_slot r s) small (low', is') (low, is) in (cc, cc)
 
   -- a put's exchange that succeeds: the slot of its index goes home
   gives_home : (c : Setup) (m : Machine) (homes : List (maybe.Option S)) (x : ℕ × S) (xs : List (ℕ × S)) (k r i : ℕ) (w : List ℕ) (t e : ℕ) → OneHand c m → length homes ≡ n_of c.order

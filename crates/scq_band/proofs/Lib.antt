@@ -6,3 +6,5 @@ pub mod Learning
 pub mod Moves
 pub mod Grounds
 pub mod Operations
+pub mod Outcomes
+pub mod RingLemmas

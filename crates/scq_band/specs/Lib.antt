@@ -5,3 +5,5 @@ pub mod Shown
 pub mod Turns
 pub mod Buffers
 pub mod Steps
+pub mod Seats
+pub mod Rings

@@ -1,7 +1,9 @@
 //! The running rings: the machine's words in one table of atomic words, which threads step by its table.
 #![tactic(auto)]
 
+mod enqueue;
 mod numbers;
+mod ring;
 mod rule;
 mod slot;
 mod steps;

@@ -1,0 +1,69 @@
+-- For private calls: the view of one seat that stands alone, and what becomes of it.
+use Rattle.std.specs.Prelude.{◌≡◌, ℕ, List, [], ◌∷◌}
+use Rattle.scq_core.specs.declared.phase.Phase.{Phase}
+use Rattle.scq_core.specs.declared.phase.Phase.TheVariants.{Idle, AtE1, AtE2, AtE3, AtE4, AtE5, AtE6, AtD1, AtD2, AtD3, AtD4, AtD5, AtD6, AtD7, AtD8, AtD9, AtD10}
+use Rattle.scq_core.specs.Machine.{Part}
+use Rattle.scq_band.specs.declared.numbers.Numbers.{Numbers}
+use Rattle.scq_band.specs.Known.{Member, Known}
+use Rattle.scq_band.specs.Steps.{my}
+
+-- one seat stands in the view, and none of its slots was brought home
+pub record IsAlone (v : Known) : Type 0 where
+  pub seats : v.seats ≡ my v ∷ []
+  pub out : (my v).home ≡ []
+
+abbrev pub with_part : Part → Member → Member
+with_part q x = record x { part = q }
+
+-- a seat whose call goes on
+abbrev pub at_phase : Phase → Member → Member
+at_phase t x = record x { part = record x.part { phase = t } }
+
+-- the view of this seat with these numbers
+abbrev pub seated : Member → List Numbers → Known → Known
+seated x numbers v = record v { seats = x ∷ []; numbers = numbers }
+
+-- the view of a seat whose call goes on, and which has learned nothing
+abbrev pub goes_to : Phase → Known → Known
+goes_to t v = seated (at_phase t (my v)) v.numbers v
+
+-- the index of a put under way
+abbrev pub index_of : Phase → ℕ
+index_of (AtE1 r i w l) = i
+index_of (AtE2 r i w t l) = i
+index_of (AtE3 r i w t e) = i
+index_of (AtE4 r i w t e) = i
+index_of (AtE5 r i w t) = i
+index_of (AtE6 r i w t) = i
+index_of phase = 0
+
+-- the content of a put under way
+abbrev pub content_of : Phase → List ℕ
+content_of (AtE1 r i w l) = w
+content_of (AtE2 r i w t l) = w
+content_of (AtE3 r i w t e) = w
+content_of (AtE4 r i w t e) = w
+content_of (AtE5 r i w t) = w
+content_of (AtE6 r i w t) = w
+content_of phase = []
+
+-- the least number that a step is known to find
+abbrev pub least_of : Phase → ℕ
+least_of (AtE1 r i w l) = l
+least_of (AtE2 r i w t l) = l
+least_of (AtD2 r l) = l
+least_of (AtD3 r h l) = l
+least_of phase = 0
+
+-- a put is about to draw, to look at its slot, to exchange the entry that it found there, and to reset Threshold
+abbrev pub IsDrawing : ℕ → Phase → Type 0
+IsDrawing r phase = phase ≡ AtE1 r (index_of phase) (content_of phase) (least_of phase)
+
+abbrev pub IsLooking : ℕ → ℕ → Phase → Type 0
+IsLooking r t phase = phase ≡ AtE2 r (index_of phase) (content_of phase) t (least_of phase)
+
+abbrev pub IsPlacing : ℕ → ℕ → ℕ → Phase → Type 0
+IsPlacing r t e phase = phase ≡ AtE4 r (index_of phase) (content_of phase) t e
+
+abbrev pub IsEnding : ℕ → ℕ → Phase → Type 0
+IsEnding r t phase = phase ≡ AtE5 r (index_of phase) (content_of phase) t
