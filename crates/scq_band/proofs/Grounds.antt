@@ -8,8 +8,8 @@ use Rattle.scq_word.proofs.TicketLemmas.{slot_of_small}
 use Rattle.scq_core.specs.declared.phase.Phase.{Phase}
 use Rattle.scq_core.specs.declared.phase.Phase.TheVariants.{Idle, AtE1, AtE2, AtE3, AtE4, AtE5, AtE6, AtD1, AtD2, AtD3, AtD4, AtD5, AtD6, AtD7, AtD8, AtD9, AtD10}
 use Rattle.scq_core.specs.declared.step.Step.{Step}
-use Rattle.scq_core.specs.Machine.{Cells, Machine, read}
-use Rattle.scq_core.specs.Table.{ring_slots, turn_of, location_of, moved}
+use Rattle.scq_core.specs.Machine.{Cells, Machine, tail_of, head_of, threshold_of, read}
+use Rattle.scq_core.specs.Table.{ring_slots, turn_of, location_of, moved, entry_at}
 use Rattle.scq_core.specs.Turn.{ring_of}
 use Rattle.scq_core.specs.Reach.{IsReachable, by_step}
 use Rattle.scq_core.specs.Laws.{Busy, word_at}
@@ -119,3 +119,16 @@ ground c m k s t reach low enabled =
       stay = λ r p is. finished_stays c m (moved c m k t) r p reach (later.by_step {n' = moved c m k t} k s (later.at_once) low (ap (option_map (moved c m k)) enabled)) is;
       reach = next;
     }
+
+-- the locations of a ring of the setup
+pub entry_location : (c : Setup) (r t : ℕ) → r < c.rings → IsLocation c (entry_at c r t)
+entry_location c r t low = (low, slot_of_small (ring_slots c) t (some_slots c))
+
+pub head_location : (c : Setup) (r : ℕ) → r < c.rings → IsLocation c (head_of r)
+head_location c r low = (low, tt)
+
+pub tail_location : (c : Setup) (r : ℕ) → r < c.rings → IsLocation c (tail_of r)
+tail_location c r low = (low, tt)
+
+pub threshold_location : (c : Setup) (r : ℕ) → r < c.rings → IsLocation c (threshold_of r)
+threshold_location c r low = (low, tt)

@@ -8,3 +8,4 @@ pub mod Grounds
 pub mod Operations
 pub mod Outcomes
 pub mod RingLemmas
+pub mod PutOutcomes
