@@ -9,3 +9,4 @@ pub mod Operations
 pub mod Outcomes
 pub mod RingLemmas
 pub mod PutOutcomes
+pub mod Placing

@@ -3,6 +3,7 @@ use Rattle.std.specs.Prelude.{◌≡◌, ℕ, List, [], ◌∷◌}
 use Rattle.scq_core.specs.declared.phase.Phase.{Phase}
 use Rattle.scq_core.specs.declared.phase.Phase.TheVariants.{Idle, AtE1, AtE2, AtE3, AtE4, AtE5, AtE6, AtD1, AtD2, AtD3, AtD4, AtD5, AtD6, AtD7, AtD8, AtD9, AtD10}
 use Rattle.scq_core.specs.Machine.{Part}
+use Rattle.scq_core.specs.Table.{hand_without}
 use Rattle.scq_band.specs.declared.numbers.Numbers.{Numbers}
 use Rattle.scq_band.specs.Known.{Member, Known}
 use Rattle.scq_band.specs.Steps.{my}
@@ -26,6 +27,11 @@ seated x numbers v = record v { seats = x ∷ []; numbers = numbers }
 -- the view of a seat whose call goes on, and which has learned nothing
 abbrev pub goes_to : Phase → Known → Known
 goes_to t v = seated (at_phase t (my v)) v.numbers v
+
+-- the view of a seat that has placed an index: it has left the hand
+abbrev pub placed_to : ℕ → ℕ → List ℕ → ℕ → Known → Known
+placed_to r i w t v =
+    seated (with_part (record (my v).part { phase = AtE5 r i w t; hand = hand_without i (my v).part.hand }) (my v)) v.numbers v
 
 -- the index of a put under way
 abbrev pub index_of : Phase → ℕ

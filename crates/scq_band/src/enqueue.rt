@@ -1,16 +1,21 @@
 //! An enqueue of the slot that stands first, step by step.
-ghost use Rattle.std.specs.Prelude.{◌≡◌, ◌+◌, ◌<◌, IfSome, IfNone, Some};
+ghost use Rattle.std.specs.Prelude.{◌≡◌, ◌+◌, ◌<◌, ◌≤◌, if◌then◌else◌, IfSome, IfNone, IsTrue, IsFalse, Some};
+ghost use Rattle.atomic_table.specs.Table.{rest};
+ghost use Rattle.scq_band.specs.Buffers.{LiesIn};
+ghost use Rattle.scq_band.specs.Turns.{Fronts};
 ghost use Rattle.scq_core.specs.declared.phase.Phase.TheVariants.{AtE1, AtE4};
-ghost use Rattle.scq_core.specs.Table.{entry_at};
+ghost use Rattle.scq_word.specs.Sizes.{n_of};
+ghost use Rattle.scq_word.specs.Words.{rank_in};
+ghost use Rattle.scq_core.specs.Table.{ring_slots, entry_at};
 ghost use Rattle.scq_band.specs.Layout.{at, word_count};
 ghost use Rattle.scq_band.specs.Rings.{IsRing};
 ghost use Rattle.scq_band.specs.Steps.{my_phase};
-ghost use Rattle.scq_band.specs.Seats.{IsAlone, IsLooking, goes_to, index_of, content_of};
+ghost use Rattle.scq_band.specs.Seats.{IsAlone, IsLooking, goes_to, placed_to, index_of, content_of, least_of};
 
 use crate::ring::Ring;
 use crate::rule::{Token, Words};
-use crate::steps::load;
-use scq_word::{Buffer, cycle_of, unpack};
+use crate::steps::{exchange, load};
+use scq_word::{Buffer, Entry, cycle_of, pack, unpack};
 
 /// E2, and E3 where the entry is unsafe: the entry that the slot of the ticket takes an index in, if it takes one.
 fn finds_room<B: Buffer>(
@@ -26,6 +31,7 @@ fn finds_room<B: Buffer>(
     ensures own { (token.new.table_id ≡ token.old.table_id) × (token.new.id ≡ token.old.id) }
     ensures slots { token.new.me.1 ≡ token.old.me.1 }
     ensures room { IfSome result (λ found. token.new.me.0 ≡ goes_to (AtE4 ring.number (index_of (my_phase token.old.me.0)) (content_of (my_phase token.old.me.0)) ticket found) token.old.me.0) }
+    ensures least { IfSome result (λ found. least_of (my_phase token.old.me.0) ≤ rank_in (ring_slots words.now.key.setup) found) }
     ensures no_room { IfNone result (token.new.me.0 ≡ goes_to (AtE1 ring.number (index_of (my_phase token.old.me.0)) (content_of (my_phase token.old.me.0)) (ticket + 1)) token.old.me.0) }
 {
     let found = load(words, token, ring.entry(ticket));
@@ -37,4 +43,40 @@ fn finds_room<B: Buffer>(
         return None;
     }
     Some(found)
+}
+
+/// E2 to E4 until the index is placed, or the slot is found passed.
+fn is_placed<B: Buffer>(
+    words: &Words<B>,
+    token: &mut Token<B>,
+    ring: Ring,
+    ticket: u64,
+    index: u32,
+) -> bool
+    requires own { (token.old.table_id ≡ words.now.table_id) × (words.now.table_id.words ≡ word_count words.now.key.setup) }
+    requires ring { IsRing words.now.key.setup ring }
+    requires alone { IsAlone token.old.me.0 }
+    requires looks { IsLooking ring.number ticket (my_phase token.old.me.0) }
+    requires limit { ticket < ring.limit }
+    requires index { (index ≡ index_of (my_phase token.old.me.0)) × (index < n_of words.now.key.setup.order) }
+    requires front { Fronts (LiesIn B.contents B.IsSameBuffer words.now.key.given.value.items) index (content_of (my_phase token.old.me.0)) token.old.me.1 }
+    ensures own { (token.new.table_id ≡ token.old.table_id) × (token.new.id ≡ token.old.id) }
+    ensures slots { token.new.me.1 ≡ (if result then rest token.old.me.1 else token.old.me.1) }
+    ensures placed { IsTrue result → token.new.me.0 ≡ placed_to ring.number index (content_of (my_phase token.old.me.0)) ticket token.old.me.0 }
+    ensures passed { IsFalse result → token.new.me.0 ≡ goes_to (AtE1 ring.number index (content_of (my_phase token.old.me.0)) (ticket + 1)) token.old.me.0 }
+{
+    let entry = Entry {
+        cycle: cycle_of(ring.shape, ticket),
+        safe: true,
+        index: Some(index),
+    };
+    let new = pack(ring.shape, entry);
+    'tries: loop {
+        let Some(found) = finds_room(words, token, ring, ticket) else {
+            return false;
+        };
+        if exchange(words, token, ring.entry(ticket), found, new) == found {
+            return true;
+        }
+    }
 }
