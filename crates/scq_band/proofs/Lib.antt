@@ -10,3 +10,5 @@ pub mod Outcomes
 pub mod RingLemmas
 pub mod PutOutcomes
 pub mod Placing
+pub mod Ending
+pub mod Drawing

@@ -1,9 +1,11 @@
 -- For private calls: the view of one seat that stands alone, and what becomes of it.
-use Rattle.std.specs.Prelude.{◌≡◌, ℕ, List, [], ◌∷◌}
+use Rattle.std.specs.Prelude.{◌≡◌, ◌⊎◌, ℕ, Bool, List, [], ◌∷◌}
 use Rattle.scq_core.specs.declared.phase.Phase.{Phase}
 use Rattle.scq_core.specs.declared.phase.Phase.TheVariants.{Idle, AtE1, AtE2, AtE3, AtE4, AtE5, AtE6, AtD1, AtD2, AtD3, AtD4, AtD5, AtD6, AtD7, AtD8, AtD9, AtD10}
 use Rattle.scq_core.specs.Machine.{Part}
-use Rattle.scq_core.specs.Table.{hand_without}
+use Rattle.scq_core.specs.Table.{hand_without, ends, spends}
+use Rattle.scq_core.specs.declared.ended.Ended.TheVariants.{Done}
+use Rattle.scq_band.specs.Numbers.{changed, finishes}
 use Rattle.scq_band.specs.declared.numbers.Numbers.{Numbers}
 use Rattle.scq_band.specs.Known.{Member, Known}
 use Rattle.scq_band.specs.Steps.{my}
@@ -32,6 +34,19 @@ goes_to t v = seated (at_phase t (my v)) v.numbers v
 abbrev pub placed_to : ℕ → ℕ → List ℕ → ℕ → Known → Known
 placed_to r i w t v =
     seated (with_part (record (my v).part { phase = AtE5 r i w t; hand = hand_without i (my v).part.hand }) (my v)) v.numbers v
+
+-- the view of a seat whose put has ended at a place
+abbrev pub done_at : ℕ → ℕ → List ℕ → Known → Known
+done_at r p w v = seated (with_part (ends (Done r p w) (my v).part) (my v)) (changed (finishes p) r v.numbers) v
+
+-- the view of a seat that has put an index: it has left the hand, and the put stands in the record
+abbrev pub put_at : ℕ → ℕ → ℕ → List ℕ → Known → Known
+put_at r i p w v =
+    seated (with_part (ends (Done r p w) (record (my v).part { hand = hand_without i (my v).part.hand })) (my v)) (changed (finishes p) r v.numbers) v
+
+-- the view of a seat whose call drew a ticket at or past the limit
+abbrev pub spent_at : ℕ → ℕ → Bool → Known → Known
+spent_at r ticket is_put v = seated (with_part (spends r ticket is_put (my v).part) (my v)) v.numbers v
 
 -- the index of a put under way
 abbrev pub index_of : Phase → ℕ
@@ -73,3 +88,7 @@ IsPlacing r t e phase = phase ≡ AtE4 r (index_of phase) (content_of phase) t e
 
 abbrev pub IsEnding : ℕ → ℕ → Phase → Type 0
 IsEnding r t phase = phase ≡ AtE5 r (index_of phase) (content_of phase) t
+
+-- a put is about to draw its first ticket, or its next
+abbrev pub IsToDraw : ℕ → ℕ → List ℕ → Phase → Type 0
+IsToDraw r i w phase = (phase ≡ Idle) ⊎ (phase ≡ AtE1 r i w (least_of phase))

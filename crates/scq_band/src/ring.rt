@@ -8,13 +8,14 @@ ghost use Rattle.scq_band.specs.Rings.{IsRing};
 
 use scq_word::{Shape, slot_of};
 
-/// `tail` is the word of its Tail; Head, Threshold and the entries by slot follow.
+/// `tail` is the word of its Tail; Head, Threshold and the entries by slot follow. `level` is what Threshold is reset to.
 #[derive(Clone, Copy)]
 pub struct Ring {
     pub number: u32,
     pub shape: Shape,
     pub limit: u64,
     pub tail: usize,
+    pub level: u64,
 }
 
 impl Ring {
