@@ -12,3 +12,4 @@ pub mod PutOutcomes
 pub mod Placing
 pub mod Ending
 pub mod Drawing
+pub mod Seeking

@@ -1,13 +1,15 @@
 -- For private calls: the view of one seat that stands alone, and what becomes of it.
-use Rattle.std.specs.Prelude.{◌≡◌, ◌⊎◌, ℕ, Bool, List, [], ◌∷◌}
+use Rattle.std.specs.Prelude.{◌≡◌, ◌⊎◌, ℕ, Bool, List, [], ◌∷◌, ◌++◌}
 use Rattle.scq_core.specs.declared.phase.Phase.{Phase}
 use Rattle.scq_core.specs.declared.phase.Phase.TheVariants.{Idle, AtE1, AtE2, AtE3, AtE4, AtE5, AtE6, AtD1, AtD2, AtD3, AtD4, AtD5, AtD6, AtD7, AtD8, AtD9, AtD10}
 use Rattle.scq_core.specs.Machine.{Part}
 use Rattle.scq_core.specs.Table.{hand_without, ends, spends}
-use Rattle.scq_core.specs.declared.ended.Ended.TheVariants.{Done}
-use Rattle.scq_band.specs.Numbers.{changed, finishes}
+use Rattle.scq_core.specs.declared.ended.Ended.TheVariants.{Done, Got, Nothing}
+use Rattle.scq_band.specs.Numbers.{changed, finishes, sees, empties}
 use Rattle.scq_band.specs.declared.numbers.Numbers.{Numbers}
 use Rattle.scq_band.specs.Known.{Member, Known}
+use Rattle.atomic_table.specs.Table.{Me}
+use Rattle.scq_band.specs.Turns.{Takes}
 use Rattle.scq_band.specs.Steps.{my}
 
 -- one seat stands in the view, and none of its slots was brought home
@@ -43,6 +45,15 @@ done_at r p w v = seated (with_part (ends (Done r p w) (my v).part) (my v)) (cha
 abbrev pub put_at : ℕ → ℕ → ℕ → List ℕ → Known → Known
 put_at r i p w v =
     seated (with_part (ends (Done r p w) (record (my v).part { hand = hand_without i (my v).part.hand })) (my v)) (changed (finishes p) r v.numbers) v
+
+-- the view of a seat that has got an index at a place
+abbrev pub got_at : ℕ → ℕ → ℕ → List ℕ → Known → Known
+got_at r h i w v =
+    seated (with_part (ends (Got r h w) (record (my v).part { hand = (my v).part.hand ++ i ∷ [] })) (my v)) (changed (sees h) r v.numbers) v
+
+-- the view of a seat whose get has found nothing
+abbrev pub nothing_at : ℕ → Known → Known
+nothing_at r v = seated (with_part (ends (Nothing r) (my v).part) (my v)) (changed empties r v.numbers) v
 
 -- the view of a seat whose call drew a ticket at or past the limit
 abbrev pub spent_at : ℕ → ℕ → Bool → Known → Known
@@ -92,3 +103,13 @@ IsEnding r t phase = phase ≡ AtE5 r (index_of phase) (content_of phase) t
 -- a put is about to draw its first ticket, or its next
 abbrev pub IsToDraw : ℕ → ℕ → List ℕ → Phase → Type 0
 IsToDraw r i w phase = (phase ≡ Idle) ⊎ (phase ≡ AtE1 r i w (least_of phase))
+
+-- a get is about to look at its ticket's slot, or to look at Tail
+abbrev pub IsSeeking : ℕ → ℕ → Phase → Type 0
+IsSeeking r h phase = phase ≡ AtD3 r h (least_of phase)
+
+-- a seat has got the index i at the place h, and its slot
+pub record HasGot {S : Type 0} (Lies : ℕ → S → List ℕ → Type 0) (r h i : ℕ) (me later : Me S Known) : Type 0 where
+  pub content : List ℕ
+  pub view : later.0 ≡ got_at r h i content me.0
+  pub slots : Takes Lies i content me.1 later.1

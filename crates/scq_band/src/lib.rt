@@ -1,6 +1,7 @@
 //! The running rings: the machine's words in one table of atomic words, which threads step by its table.
 #![tactic(auto)]
 
+mod dequeue;
 mod enqueue;
 mod numbers;
 mod ring;

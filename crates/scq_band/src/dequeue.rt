@@ -1,0 +1,77 @@
+//! A dequeue, step by step.
+ghost use Rattle.std.specs.Prelude.{◌≡◌, ◌+◌, ◌/◌, ◌^◌, ◌<◌, ◌≤◌, IfSome, IfNone, IfOk, IfErr, IsTrue, IsFalse, Some, None, false};
+ghost use Rattle.scq_word.specs.Sizes.{n_of, slots_of};
+ghost use Rattle.scq_word.specs.Tickets.{cycle_of};
+ghost use Rattle.scq_word.specs.Entries.{IsIndexOrMark};
+ghost use Rattle.scq_word.specs.declared.setup.Setup.{Setup};
+ghost use Rattle.scq_core.specs.declared.phase.Phase.TheVariants.{Idle, AtD2, AtD6, AtD7, AtD10};
+ghost use Rattle.scq_core.specs.Table.{ring_slots, entry_at, passed, zero_level};
+ghost use Rattle.scq_band.specs.Layout.{at, word_count};
+ghost use Rattle.scq_band.specs.Rings.{IsRing};
+ghost use Rattle.scq_band.specs.Buffers.{LiesIn};
+ghost use Rattle.scq_band.specs.Steps.{my, my_phase};
+ghost use Rattle.scq_band.specs.Seats.{IsAlone, IsSeeking, HasGot, goes_to, nothing_at};
+
+use crate::ring::Ring;
+use crate::rule::{Token, Words};
+use crate::steps::{consume, count_down, draw, exchange, load};
+use scq_word::{Buffer, Entry, cycle_of, pack, unpack};
+
+// The word that stands for a Threshold of 0.
+const ZERO_LEVEL: u64 = 1 << 32;
+
+// What a dequeue leaves in an entry of an earlier cycle.
+#[inline(always)]
+fn passed_by(ring: Ring, ticket: u64, found: u64) -> u64
+    requires fits { cycle_of (slots_of ring.shape.order) ticket < 2 ^ 62 / n_of ring.shape.order }
+    requires entry { IsIndexOrMark ring.shape.order found }
+    ensures { (c : Setup) → IsRing c ring → result ≡ passed c ticket found }
+{
+    let entry = unpack(ring.shape, found);
+    let left = match entry.index {
+        None => Entry {
+            cycle: cycle_of(ring.shape, ticket),
+            ..entry
+        },
+        Some(_) => Entry {
+            safe: false,
+            ..entry
+        },
+    };
+    pack(ring.shape, left)
+}
+
+/// D3 to D5 until an index is taken, or the ticket is given up.
+fn takes<B: Buffer>(
+    words: &Words<B>,
+    token: &mut Token<B>,
+    ring: Ring,
+    ticket: u64,
+) -> Option<u32>
+    requires own { (token.old.table_id ≡ words.now.table_id) × (words.now.table_id.words ≡ word_count words.now.key.setup) }
+    requires ring { IsRing words.now.key.setup ring }
+    requires alone { IsAlone token.old.me.0 }
+    requires limit { ticket < ring.limit }
+    requires seeks { IsSeeking ring.number ticket (my_phase token.old.me.0) }
+    ensures own { (token.new.table_id ≡ token.old.table_id) × (token.new.id ≡ token.old.id) }
+    ensures got { IfSome result (λ index. HasGot (LiesIn B.contents B.IsSameBuffer words.now.key.given.value.items) ring.number ticket index token.old.me token.new.me) }
+    ensures small { IfSome result (λ index. index < n_of words.now.key.setup.order) }
+    ensures given_up { IfNone result (token.new.me.0 ≡ goes_to (AtD6 ring.number ticket) token.old.me.0) }
+    ensures slots { IfNone result (token.new.me.1 ≡ token.old.me.1) }
+{
+    let cycle = cycle_of(ring.shape, ticket);
+    'tries: loop {
+        let found = load(words, token, ring.entry(ticket));
+        let entry = unpack(ring.shape, found);
+        if entry.cycle == cycle {
+            let old = consume(words, token, ring.entry(ticket), u64::from(ring.shape.none()));
+            return unpack(ring.shape, old).index;
+        }
+        if entry.cycle > cycle {
+            return None;
+        }
+        if exchange(words, token, ring.entry(ticket), found, passed_by(ring, ticket, found)) == found {
+            return None;
+        }
+    }
+}
