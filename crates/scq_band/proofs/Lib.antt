@@ -13,3 +13,4 @@ pub mod Placing
 pub mod Ending
 pub mod Drawing
 pub mod Seeking
+pub mod Leaving

@@ -113,3 +113,7 @@ pub record HasGot {S : Type 0} (Lies : ℕ → S → List ℕ → Type 0) (r h i
   pub content : List ℕ
   pub view : later.0 ≡ got_at r h i content me.0
   pub slots : Takes Lies i content me.1 later.1
+
+-- a get that leaves is about to lift Tail
+abbrev pub IsBehind : ℕ → ℕ → ℕ → ℕ → Phase → Type 0
+IsBehind r h from to phase = phase ≡ AtD7 r h from to

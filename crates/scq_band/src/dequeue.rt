@@ -1,5 +1,5 @@
 //! A dequeue, step by step.
-ghost use Rattle.std.specs.Prelude.{◌≡◌, ◌+◌, ◌/◌, ◌^◌, ◌<◌, ◌≤◌, IfSome, IfNone, IfOk, IfErr, IsTrue, IsFalse, Some, None, false};
+ghost use Rattle.std.specs.Prelude.{◌≡◌, ◌+◌, ◌/◌, ◌^◌, ◌<◌, ◌≤◌, IfSome, IfNone, IfOk, IfErr, IsTrue, IsFalse, Some, None, true, false};
 ghost use Rattle.scq_word.specs.Sizes.{n_of, slots_of};
 ghost use Rattle.scq_word.specs.Tickets.{cycle_of};
 ghost use Rattle.scq_word.specs.Entries.{IsIndexOrMark};
@@ -10,7 +10,7 @@ ghost use Rattle.scq_band.specs.Layout.{at, word_count};
 ghost use Rattle.scq_band.specs.Rings.{IsRing};
 ghost use Rattle.scq_band.specs.Buffers.{LiesIn};
 ghost use Rattle.scq_band.specs.Steps.{my, my_phase};
-ghost use Rattle.scq_band.specs.Seats.{IsAlone, IsSeeking, HasGot, goes_to, nothing_at};
+ghost use Rattle.scq_band.specs.Seats.{IsAlone, IsSeeking, IsBehind, HasGot, goes_to, nothing_at};
 
 use crate::ring::Ring;
 use crate::rule::{Token, Words};
@@ -74,4 +74,61 @@ fn takes<B: Buffer>(
             return None;
         }
     }
+}
+
+/// D7 to D9 until Tail is caught up.
+fn catch_up<B: Buffer>(
+    words: &Words<B>,
+    token: &mut Token<B>,
+    ring: Ring,
+    ticket: u64,
+    tail: u64,
+)
+    requires own { (token.old.table_id ≡ words.now.table_id) × (words.now.table_id.words ≡ word_count words.now.key.setup) }
+    requires ring { IsRing words.now.key.setup ring }
+    requires alone { IsAlone token.old.me.0 }
+    requires behind { IsBehind ring.number ticket tail (ticket + 1) (my_phase token.old.me.0) }
+    requires room { ticket < 2 ^ 60 }
+    ensures own { (token.new.table_id ≡ token.old.table_id) × (token.new.id ≡ token.old.id) }
+    ensures slots { token.new.me.1 ≡ token.old.me.1 }
+    ensures caught_up { token.new.me.0 ≡ goes_to (AtD10 ring.number ticket true) token.old.me.0 }
+{
+    let mut from = tail;
+    let mut to = ticket + 1;
+    'tries: loop {
+        if exchange(words, token, ring.tail, from, to) == from {
+            return;
+        }
+        to = load(words, token, ring.head());
+        from = load(words, token, ring.tail);
+        if from >= to {
+            return;
+        }
+    }
+}
+
+/// D6, and what follows a ticket that was given up: whether the call ends with Nothing.
+fn is_over<B: Buffer>(
+    words: &Words<B>,
+    token: &mut Token<B>,
+    ring: Ring,
+    ticket: u64,
+) -> bool
+    requires own { (token.old.table_id ≡ words.now.table_id) × (words.now.table_id.words ≡ word_count words.now.key.setup) }
+    requires ring { IsRing words.now.key.setup ring }
+    requires alone { IsAlone token.old.me.0 }
+    requires given_up { my_phase token.old.me.0 ≡ AtD6 ring.number ticket }
+    requires limit { ticket < ring.limit }
+    ensures own { (token.new.table_id ≡ token.old.table_id) × (token.new.id ≡ token.old.id) }
+    ensures slots { token.new.me.1 ≡ token.old.me.1 }
+    ensures over { IsTrue result → token.new.me.0 ≡ nothing_at ring.number token.old.me.0 }
+    ensures on { IsFalse result → token.new.me.0 ≡ goes_to (AtD2 ring.number (ticket + 1)) token.old.me.0 }
+{
+    let tail = load(words, token, ring.tail);
+    if tail <= ticket + 1 {
+        catch_up(words, token, ring, ticket, tail);
+        count_down(words, token, ring.threshold());
+        return true;
+    }
+    count_down(words, token, ring.threshold()) <= ZERO_LEVEL
 }
