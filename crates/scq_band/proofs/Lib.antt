@@ -14,3 +14,4 @@ pub mod Ending
 pub mod Drawing
 pub mod Seeking
 pub mod Leaving
+pub mod Drawn

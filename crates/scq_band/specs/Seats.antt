@@ -1,11 +1,11 @@
 -- For private calls: the view of one seat that stands alone, and what becomes of it.
-use Rattle.std.specs.Prelude.{◌≡◌, ◌⊎◌, ℕ, Bool, List, [], ◌∷◌, ◌++◌}
+use Rattle.std.specs.Prelude.{◌≡◌, ◌⊎◌, ◌+◌, ℕ, Bool, false, List, [], ◌∷◌, ◌++◌}
 use Rattle.scq_core.specs.declared.phase.Phase.{Phase}
 use Rattle.scq_core.specs.declared.phase.Phase.TheVariants.{Idle, AtE1, AtE2, AtE3, AtE4, AtE5, AtE6, AtD1, AtD2, AtD3, AtD4, AtD5, AtD6, AtD7, AtD8, AtD9, AtD10}
 use Rattle.scq_core.specs.Machine.{Part}
 use Rattle.scq_core.specs.Table.{hand_without, ends, spends}
 use Rattle.scq_core.specs.declared.ended.Ended.TheVariants.{Done, Got, Nothing}
-use Rattle.scq_band.specs.Numbers.{changed, finishes, sees, empties}
+use Rattle.scq_band.specs.Numbers.{changed, finishes, sees, passes, empties}
 use Rattle.scq_band.specs.declared.numbers.Numbers.{Numbers}
 use Rattle.scq_band.specs.Known.{Member, Known}
 use Rattle.atomic_table.specs.Table.{Me}
@@ -117,3 +117,23 @@ pub record HasGot {S : Type 0} (Lies : ℕ → S → List ℕ → Type 0) (r h i
 -- a get that leaves is about to lift Tail
 abbrev pub IsBehind : ℕ → ℕ → ℕ → ℕ → Phase → Type 0
 IsBehind r h from to phase = phase ≡ AtD7 r h from to
+
+-- the view of a seat that has drawn a ticket from Head
+abbrev pub drew_head : ℕ → ℕ → Known → Known
+drew_head r h v = seated (my v) (changed (passes (h + 1)) r v.numbers) v
+
+-- a seat has got an index with the last ticket that it drew
+abbrev pub HasGotAfter : {S : Type 0} → (ℕ → S → List ℕ → Type 0) → ℕ → ℕ → ℕ → Me S Known → Me S Known → Type 0
+HasGotAfter Lies r h i me later = HasGot Lies r h i (drew_head r h me.0, me.1) later
+
+-- a get has found nothing, at once or with the last ticket that it drew
+abbrev pub HasNothing : ℕ → Known → Known → Type 0
+HasNothing r v later = (later ≡ nothing_at r v) ⊎ ((h : ℕ) × (later ≡ nothing_at r (drew_head r h v)))
+
+-- the view of a seat whose get drew a ticket at or past the limit
+abbrev pub drawn_spent : ℕ → ℕ → Known → Known
+drawn_spent r ticket v = spent_at r ticket false (drew_head r ticket v)
+
+-- the view of a get that is to draw: it has drawn the tickets below a number
+abbrev pub to_draw : ℕ → ℕ → Known → Known
+to_draw r l v = seated (at_phase (AtD2 r l) (my v)) (changed (passes l) r v.numbers) v

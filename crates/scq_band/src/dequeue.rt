@@ -1,16 +1,17 @@
 //! A dequeue, step by step.
-ghost use Rattle.std.specs.Prelude.{◌≡◌, ◌+◌, ◌/◌, ◌^◌, ◌<◌, ◌≤◌, IfSome, IfNone, IfOk, IfErr, IsTrue, IsFalse, Some, None, true, false};
+ghost use Rattle.std.specs.Prelude.{◌≡◌, ℕ, ◌+◌, ◌/◌, ◌^◌, ◌<◌, ◌≤◌, IfSome, IfNone, IfOk, IfErr, IsTrue, IsFalse, Some, None, Err, slice_get, true, false};
 ghost use Rattle.scq_word.specs.Sizes.{n_of, slots_of};
 ghost use Rattle.scq_word.specs.Tickets.{cycle_of};
 ghost use Rattle.scq_word.specs.Entries.{IsIndexOrMark};
 ghost use Rattle.scq_word.specs.declared.setup.Setup.{Setup};
 ghost use Rattle.scq_core.specs.declared.phase.Phase.TheVariants.{Idle, AtD2, AtD6, AtD7, AtD10};
 ghost use Rattle.scq_core.specs.Table.{ring_slots, entry_at, passed, zero_level};
+ghost use Rattle.scq_band.specs.declared.numbers.Numbers.{Numbers};
 ghost use Rattle.scq_band.specs.Layout.{at, word_count};
 ghost use Rattle.scq_band.specs.Rings.{IsRing};
 ghost use Rattle.scq_band.specs.Buffers.{LiesIn};
 ghost use Rattle.scq_band.specs.Steps.{my, my_phase};
-ghost use Rattle.scq_band.specs.Seats.{IsAlone, IsSeeking, IsBehind, HasGot, goes_to, nothing_at};
+ghost use Rattle.scq_band.specs.Seats.{IsAlone, IsSeeking, IsBehind, HasGot, HasGotAfter, HasNothing, drawn_spent, goes_to, nothing_at};
 
 use crate::ring::Ring;
 use crate::rule::{Token, Words};
@@ -131,4 +132,45 @@ fn is_over<B: Buffer>(
         return true;
     }
     count_down(words, token, ring.threshold()) <= ZERO_LEVEL
+}
+
+/// How a dequeue ends without an index: with nothing, or with the ticket that it drew at or past the limit.
+pub enum Without {
+    Nothing,
+    Spent(u64),
+}
+
+/// A dequeue: the place and the index, whose slot now stands first.
+pub fn dequeue<B: Buffer>(
+    words: &Words<B>,
+    token: &mut Token<B>,
+    ring: Ring,
+) -> Result<(u64, u32), Without>
+    requires own { (token.old.table_id ≡ words.now.table_id) × (words.now.table_id.words ≡ word_count words.now.key.setup) }
+    requires ring { IsRing words.now.key.setup ring }
+    requires alone { IsAlone token.old.me.0 }
+    requires idle { (my_phase token.old.me.0 ≡ Idle) × ((my token.old.me.0).part.spent ≡ None) }
+    ensures own { (token.new.table_id ≡ token.old.table_id) × (token.new.id ≡ token.old.id) }
+    ensures got { IfOk result (λ r. HasGotAfter (LiesIn B.contents B.IsSameBuffer words.now.key.given.value.items) ring.number r.0 r.1 token.old.me token.new.me) }
+    ensures small { IfOk result (λ r. (r.0 < words.now.key.setup.limit) × (r.1 < n_of words.now.key.setup.order)) }
+    ensures above { IfOk result (λ r. (known : Numbers) → slice_get token.old.me.0.numbers ring.number ≡ Some known → known.head ≤ r.0) }
+    ensures nothing { result ≡ Err Without.Nothing → HasNothing ring.number token.old.me.0 token.new.me.0 }
+    ensures spent { (ticket : ℕ) → result ≡ Err (Without.Spent ticket) → (token.new.me.0 ≡ drawn_spent ring.number ticket token.old.me.0) × (words.now.key.setup.limit ≤ ticket) }
+    ensures kept { IfErr result (λ e. token.new.me.1 ≡ token.old.me.1) }
+{
+    if load(words, token, ring.threshold()) < ZERO_LEVEL {
+        return Err(Without::Nothing);
+    }
+    'draws: loop {
+        let ticket = draw(words, token, ring.head());
+        if ticket >= ring.limit {
+            return Err(Without::Spent(ticket));
+        }
+        if let Some(index) = takes(words, token, ring, ticket) {
+            return Ok((ticket, index));
+        }
+        if is_over(words, token, ring, ticket) {
+            return Err(Without::Nothing);
+        }
+    }
 }
