@@ -8,10 +8,10 @@ use Rattle.scq_core.specs.declared.step.Step.{Step}
 use Rattle.scq_core.specs.declared.slot.Cell.{Cell}
 use Rattle.scq_core.specs.declared.slot.Slot.{Slot}
 use Rattle.scq_core.specs.Machine.{Part}
-use Rattle.scq_core.specs.Table.{writes, stores, after, turn_of}
+use Rattle.scq_core.specs.Table.{writes, stores, after, turn_of, ring_of, cell_of}
 use Rattle.scq_core.specs.Rings.{RingLists, IsCell, word_in, content_in, ring_with}
 use Rattle.scq_core.specs.StateLists.{ring_in, no_slot, no_ring, HasRings}
-use Rattle.scq_core.specs.Turn.{ring_of, cell_of, copied, started}
+use Rattle.scq_core.specs.Turn.{copied, started}
 use Rattle.scq_core.specs.Advance.{found_by, beside_by, Advances}
 use Rattle.scq_core.proofs.TurnCells.{enabled_turn, is_cell}
 

@@ -6,9 +6,11 @@ use Rattle.scq_word.specs.Sizes.{n_of}
 use Rattle.scq_word.specs.Words.{packed, mark_of, index_in, safe_in, cycle_in, is_none_in, rank_in}
 use Rattle.scq_word.proofs.WordLemmas.{index_in-packed, safe_in-packed, cycle_in-packed, safe_in_bit, index_in_small, rank_in-empty, rank_in-safe, rank_in-unsafe, rank_in_range, packed-parts}
 use Rattle.scq_word.proofs.TicketLemmas.{ticket_parts}
+use Rattle.scq_word.proofs.BoundLemmas as bounds
 use Rattle.std.proofs.Math.Nat.{mul-le-mul_right}
-use Rattle.scq_core.specs.Table.{ring_slots, cycle, passed, zero_level, reset_value}
+use Rattle.scq_core.specs.Table.{ring_slots, cycle, passed, zero_level}
 use Rattle.scq_core.specs.Laws.{IsAbove}
+use Rattle.scq_word.specs.Bounds.{reset_value}
 
 -- there are at least two indices
 pub some_indices : (c : Setup) → 2 ≤ n_of c.order
@@ -149,17 +151,14 @@ unfolding zero_level
 zero_level_is = refl
 
 -- what they use of the number that a reset sets: it reaches over the window and every other seat, and is small
-pub reset_covers : (c : Setup) → n_of c.order + 1 ≤ reset_value c
-unfolding reset_value
-reset_covers c = let some = some_indices c in omega arith
+pub reset_covers : (c : Setup) → n_of c.order + 1 ≤ reset_value c.order c.seats
+reset_covers c = bounds.reset_covers c.order c.seats c.order_in_range.0
 
-pub reset_reaches : (c : Setup) → ring_slots c + c.seats ≤ reset_value c + 1
-unfolding reset_value
-reset_reaches c = let some = some_indices c in let s = c.seats_in_range in omega arith
+pub reset_reaches : (c : Setup) → ring_slots c + c.seats ≤ reset_value c.order c.seats + 1
+reset_reaches c = bounds.reset_reaches c.order c.seats c.seats_in_range.1
 
-pub reset_small : (c : Setup) → reset_value c < 2 ^ 16
-unfolding reset_value
-reset_small c = let few = few_indices c in omega arith
+pub reset_small : (c : Setup) → reset_value c.order c.seats < 2 ^ 16
+reset_small c = bounds.reset_small c.order c.seats c.order_in_range.1
 
 -- the cycle of a ticket below the limit, times the slots, is below the limit
 pub cycle_below_limit : (c : Setup) (t : ℕ) → t < c.limit → cycle c t * ring_slots c < c.limit

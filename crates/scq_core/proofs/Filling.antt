@@ -5,26 +5,24 @@ use Rattle.std.proofs.lemmas.List.{length-set, get_or-set_same, get_or-set_other
 use Rattle.std.proofs.lemmas.Bool.{cases_eq}
 use Rattle.scq_word.specs.declared.setup.Setup.{Setup}
 use Rattle.scq_word.specs.Sizes.{n_of}
-use Rattle.scq_word.specs.Tickets.{slot_of}
 use Rattle.scq_word.specs.Words.{packed}
 use Rattle.scq_word.proofs.TicketLemmas.{slot_of_small}
 use Rattle.scq_core.specs.declared.slot.Slot.{Slot}
 use Rattle.scq_core.specs.Machine.{Part, Machine}
-use Rattle.scq_core.specs.Table.{ring_slots, zero_level, reset_level}
+use Rattle.scq_core.specs.Table.{ring_slots, zero_level, reset_level, slot}
 use Rattle.scq_core.specs.Start.{unused, filled, filled_contents, start_cells, idle_part, start_of}
 use Rattle.scq_core.specs.Rings.{RingLists}
 use Rattle.scq_core.specs.StateLists.{no_slot, no_ring, ring_in, cells_of, part_in, machine_of, HasRings, IsState}
 use Rattle.scq_core.specs.Fresh.{empty_ring, IsFilled, IsFullRing, IsStart}
 use Rattle.scq_core.specs.Reach.{IsReachable, at_start}
-use Rattle.scq_core.proofs.Entries.{some_slots}
 use Rattle.scq_core.proofs.ListedTurns.{same_cells, same_entries, same_machine}
 
 more_word : (c : Setup) (count : ℕ) (slots : List Slot) (new : Slot) → length slots ≡ ring_slots c → new.word ≡ packed (ring_slots c) 1 1 count
-    → ((s : ℕ) → (slice_index_or slots s (no_slot c)).word ≡ filled (ring_slots c) count s) → (s : ℕ)
-    → (slice_index_or (slice_set slots (slot_of (ring_slots c) (ring_slots c + count)) new) s (no_slot c)).word ≡ filled (ring_slots c) (suc count) s
+    → ((s : ℕ) → (slice_index_or slots s (no_slot c)).word ≡ filled c count s) → (s : ℕ)
+    → (slice_index_or (slice_set slots (slot c (ring_slots c + count)) new) s (no_slot c)).word ≡ filled c (suc count) s
 more_word c count slots new many is old s =
-    let at = slot_of (ring_slots c) (ring_slots c + count) in
-    let low : at < length slots = rw many (slot_of_small (ring_slots c) (ring_slots c + count) (some_slots c)) in
+    let at = slot c (ring_slots c + count) in
+    let low : at < length slots = rw many (slot_of_small c.order (ring_slots c + count)) in
     elim (cases_eq s at) [
       | inl same ↦ rw (same, get_or-set_same slots at new (no_slot c) low, eq-eqb at at refl) is
       | inr apart ↦ rw (get_or-set_other slots at s new (no_slot c) apart, ne_eqb s at apart) (old s)
@@ -32,12 +30,11 @@ more_word c count slots new many is old s =
 
 more_content : (c : Setup) (opening : List (List ℕ)) (count : ℕ) (slots : List Slot) (new : Slot) → length slots ≡ ring_slots c
     → new.content ≡ slice_index_or opening count []
-    → ((s : ℕ) → (slice_index_or slots s (no_slot c)).content ≡ filled_contents (ring_slots c) opening count s) → (s : ℕ)
-    → (slice_index_or (slice_set slots (slot_of (ring_slots c) (ring_slots c + count)) new) s (no_slot c)).content
-    ≡ filled_contents (ring_slots c) opening (suc count) s
+    → ((s : ℕ) → (slice_index_or slots s (no_slot c)).content ≡ filled_contents c opening count s) → (s : ℕ)
+    → (slice_index_or (slice_set slots (slot c (ring_slots c + count)) new) s (no_slot c)).content ≡ filled_contents c opening (suc count) s
 more_content c opening count slots new many is old s =
-    let at = slot_of (ring_slots c) (ring_slots c + count) in
-    let low : at < length slots = rw many (slot_of_small (ring_slots c) (ring_slots c + count) (some_slots c)) in
+    let at = slot c (ring_slots c + count) in
+    let low : at < length slots = rw many (slot_of_small c.order (ring_slots c + count)) in
     elim (cases_eq s at) [
       | inl same ↦ rw (same, get_or-set_same slots at new (no_slot c) low, eq-eqb at at refl) is
       | inr apart ↦ rw (get_or-set_other slots at s new (no_slot c) apart, ne_eqb s at apart) (old s)
@@ -46,13 +43,13 @@ more_content c opening count slots new many is old s =
 -- one more index was placed
 pub filled_more : (c : Setup) (opening : List (List ℕ)) (count : ℕ) (slots later : List Slot) (copy item : List ℕ) → IsFilled c opening count slots
     → count < length opening → copy ≡ item → item ≡ slice_index_or opening count item
-    → later ≡ slice_set slots (slot_of (ring_slots c) (ring_slots c + count)) (record { word = packed (ring_slots c) 1 1 count; content = copy })
+    → later ≡ slice_set slots (slot c (ring_slots c + count)) (record { word = packed (ring_slots c) 1 1 count; content = copy })
     → IsFilled c opening (count + 1) later
 filled_more c opening count slots later copy item was low copied is changed =
     let content : copy ≡ slice_index_or opening count [] = copied ∙ is ∙ get_or_default opening count item [] low in
     let new : Slot = record { word = packed (ring_slots c) 1 1 count; content = copy } in
     rw (add-one, changed) (record {
-      many = length-set slots (slot_of (ring_slots c) (ring_slots c + count)) new ∙ was.many;
+      many = length-set slots (slot c (ring_slots c + count)) new ∙ was.many;
       words = more_word c count slots new was.many refl was.words;
       contents = more_content c opening count slots new was.many content was.contents;
     })
@@ -82,17 +79,17 @@ first_or c f full more a b first other past (suc r) =
 
 words_or : (c : Setup) (opening : List (List ℕ)) (full : RingLists) (more : ℕ) → IsFullRing c opening full → (r s : ℕ)
     → (slice_index_or (ring_in c (full ∷ replicate more (empty_ring c)) r).slots s (no_slot c)).word
-    ≡ (if r == 0 then filled (ring_slots c) (n_of c.order) s else unused (ring_slots c))
+    ≡ (if r == 0 then filled c (n_of c.order) s else unused (ring_slots c))
 words_or c opening full more is r s =
-    first_or c (λ (ring : RingLists). (slice_index_or ring.slots s (no_slot c)).word) full more (filled (ring_slots c) (n_of c.order) s)
-    (unused (ring_slots c)) (is.slots.words s)
+    first_or c (λ (ring : RingLists). (slice_index_or ring.slots s (no_slot c)).word) full more (filled c (n_of c.order) s) (unused (ring_slots c))
+    (is.slots.words s)
     (replicate_read (λ (slot : Slot). slot.word ≡ unused (ring_slots c)) (ring_slots c) (no_slot c) (no_slot c) refl refl s) refl r
 
 contents_or : (c : Setup) (opening : List (List ℕ)) (full : RingLists) (more : ℕ) → IsFullRing c opening full → (r s : ℕ)
     → (slice_index_or (ring_in c (full ∷ replicate more (empty_ring c)) r).slots s (no_slot c)).content
-    ≡ (if r == 0 then filled_contents (ring_slots c) opening (n_of c.order) s else [])
+    ≡ (if r == 0 then filled_contents c opening (n_of c.order) s else [])
 contents_or c opening full more is r s =
-    first_or c (λ (ring : RingLists). (slice_index_or ring.slots s (no_slot c)).content) full more (filled_contents (ring_slots c) opening (n_of c.order) s) []
+    first_or c (λ (ring : RingLists). (slice_index_or ring.slots s (no_slot c)).content) full more (filled_contents c opening (n_of c.order) s) []
     (is.slots.contents s)
     (replicate_read (λ (slot : Slot). slot.content ≡ []) (ring_slots c) (no_slot c) (no_slot c) refl refl s) refl r
 

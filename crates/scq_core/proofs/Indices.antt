@@ -81,9 +81,9 @@ indices_start c opening =
           either_way
           (λ (v : ℕ). IsIndexOrMark c.order v)
           (r == 0)
-          (filled (ring_slots c) (n_of c.order) s)
+          (filled c (n_of c.order) s)
           (unused (ring_slots c))
-          (filled_cases (λ (v : ℕ). IsIndexOrMark c.order v) (ring_slots c) (n_of c.order) s (marked c 0 1) (λ j low. placed c 1 1 j low))
+          (filled_cases (λ (v : ℕ). IsIndexOrMark c.order v) c (n_of c.order) s (marked c 0 1) (λ j low. placed c 1 1 j low))
           (marked c 0 1);
     }
 

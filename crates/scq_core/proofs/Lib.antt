@@ -14,6 +14,7 @@ pub mod Indices
 pub mod Readiness
 pub mod TurnCells
 pub mod ListedTurns
+pub mod Memory
 pub mod Advancing
 pub mod Filling
 pub mod Looks

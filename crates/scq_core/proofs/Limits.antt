@@ -5,7 +5,6 @@ use Rattle.std.specs.Prelude.{◌==◌, nat_le, Option, Some, None}
 use Rattle.std.proofs.lemmas.Bool.{cases_Bool, cases_eq, leb-false}
 use Rattle.scq_word.specs.declared.setup.Setup.{Setup}
 use Rattle.scq_word.specs.Sizes.{n_of}
-use Rattle.scq_word.specs.Tickets.{slot_of}
 use Rattle.scq_word.specs.Words.{packed, mark_of, index_in, safe_in, cycle_in, is_none_in}
 use Rattle.scq_word.proofs.WordLemmas.{cycle_in-packed, safe_in_bit, index_in_small}
 use Rattle.scq_core.specs.declared.phase.Phase.{Phase}
@@ -13,7 +12,7 @@ use Rattle.scq_core.specs.declared.phase.Phase.TheVariants.{Idle, AtE1, AtE2, At
 use Rattle.scq_core.specs.declared.step.Step.{Step}
 use Rattle.scq_core.specs.Machine.{Cells, Part, Machine, read, beside, written, entry_of}
 use Rattle.scq_core.specs.Updated.{updated}
-use Rattle.scq_core.specs.Table.{ring_slots, cycle, passed, turn_of, location_of, after, cells_after, moved}
+use Rattle.scq_core.specs.Table.{ring_slots, cycle, slot, passed, turn_of, location_of, after, cells_after, moved}
 use Rattle.scq_core.specs.Start.{start_of, filled, unused}
 use Rattle.scq_core.specs.Reach.{IsReachable, at_start, by_step}
 use Rattle.scq_core.specs.Laws.{word_at, Busy, IsSteady, spent_of, spent_seats, CountersBounded, CyclesBounded}
@@ -170,7 +169,7 @@ passed_below_limit c h e low was =
 
 -- each turn keeps the cycles of entries lawful
 cycles_turn : (c : Setup) (m : Cells) (hand : List ℕ) (turn : Phase) → Busy c m hand turn → CyclesBounded c m → CyclesBounded c (cells_after c turn m)
-cycles_turn c m hand (AtE2 r i w t l) busy was = entry_below_limit c m r (slot_of (ring_slots c) t) _ _ was (was.cycles r _)
+cycles_turn c m hand (AtE2 r i w t l) busy was = entry_below_limit c m r (slot c t) _ _ was (was.cycles r _)
 cycles_turn c m hand (AtE4 r i w t e) busy was =
     let low = below_mark c i busy.0.index in
     let drawn = busy.1 in
@@ -178,7 +177,7 @@ cycles_turn c m hand (AtE4 r i w t e) busy was =
     c
     m
     r
-    (slot_of (ring_slots c) t)
+    (slot c t)
     _
     _
     was
@@ -189,7 +188,7 @@ cycles_turn c m hand (AtE4 r i w t e) busy was =
     _
     (rw (cycle_in-packed (ring_slots c) (cycle c t) 1 i (omega arith) (omega arith)) (cycle_below_limit c t drawn.below_limit))
     (was.cycles r _))
-cycles_turn c m hand (AtD3 r h l) busy was = entry_below_limit c m r (slot_of (ring_slots c) h) _ _ was (was.cycles r _)
+cycles_turn c m hand (AtD3 r h l) busy was = entry_below_limit c m r (slot c h) _ _ was (was.cycles r _)
 cycles_turn c m hand (AtD4 r h) busy was =
     let some = some_slots c in
     let x = word_at c m r h in
@@ -197,7 +196,7 @@ cycles_turn c m hand (AtD4 r h) busy was =
     c
     m
     r
-    (slot_of (ring_slots c) h)
+    (slot c h)
     _
     _
     was
@@ -208,29 +207,30 @@ cycles_turn c m hand (AtD5 r h e) busy was =
     c
     m
     r
-    (slot_of (ring_slots c) h)
+    (slot c h)
     _
     _
     was
     (elim (cases_eq (word_at c m r h) e) [
       | inl same ↦
           rw (eq-eqb (word_at c m r h) e same)
-          (passed_below_limit c h e busy.1.below_limit (rw same at (was.cycles r (slot_of (ring_slots c) h))))
+          (passed_below_limit c h e busy.1.below_limit (rw same at (was.cycles r (slot c h))))
       | inr apart ↦ rw (ne_eqb (word_at c m r h) e apart) (was.cycles r _)
     ])
 cycles_turn c m hand turn busy was = record { cycles = was.cycles }
 
 -- the words of a full ring: unused, or index j at the first cycle
-pub filled_cases : (P : ℕ → Type 0) (m n : ℕ) (slot : ℕ) → P (unused m) → ((j : ℕ) → j < n → P (packed m 1 1 j)) → P (filled m n slot)
-filled_cases P m zero slot none some = none
-filled_cases P m (suc n) slot none some =
+pub filled_cases : (P : ℕ → Type 0) (c : Setup) (n : ℕ) (s : ℕ) → P (unused (ring_slots c)) → ((j : ℕ) → j < n → P (packed (ring_slots c) 1 1 j))
+    → P (filled c n s)
+filled_cases P c zero s none some = none
+filled_cases P c (suc n) s none some =
     either_way
     P
-    (slot == slot_of m (m + n))
+    (s == slot c (ring_slots c + n))
     _
     _
     (some n (omega arith))
-    (filled_cases P m n slot none (λ j low. some j (omega arith)))
+    (filled_cases P c n s none (λ j low. some j (omega arith)))
 
 cycles_start : (c : Setup) (opening : List (List ℕ)) → CyclesBounded c (start_of c opening).cells
 cycles_start c opening =
@@ -249,7 +249,7 @@ cycles_start c opening =
           _
           (filled_cases
           (λ (v : ℕ). cycle_in (ring_slots c) v * ring_slots c < c.limit)
-          (ring_slots c)
+          c
           (n_of c.order)
           s
           empty

@@ -14,17 +14,16 @@ use Rattle.scq_core.specs.declared.slot.Cell.{Cell}
 use Rattle.scq_core.specs.declared.slot.Cell.TheVariants as cell
 use Rattle.scq_core.specs.declared.slot.Slot.{Slot}
 use Rattle.scq_core.specs.Updated.{updated}
-use Rattle.scq_core.specs.Machine.{Cells, Entries, Part, Machine, Location, read, beside, written}
-use Rattle.scq_core.specs.Table.{turn_of, location_of, writes, stores, after, cells_after, moved, step_of}
+use Rattle.scq_core.specs.Machine.{Cells, Entries, Part, Machine, location_at, read, beside, written}
+use Rattle.scq_core.specs.Table.{turn_of, location_of, writes, stores, after, cells_after, moved, step_of, ring_of, cell_of}
 use Rattle.scq_core.specs.Start.{idle_part}
 use Rattle.scq_core.specs.Reach.{by_step}
 use Rattle.scq_core.specs.Rings.{RingLists, IsCell, ring_with}
 use Rattle.scq_core.specs.StateLists.{StateLists, no_slot, no_ring, ring_in, cells_of, part_in, machine_of, HasRings, IsState}
-use Rattle.scq_core.specs.Turn.{ring_of, cell_of}
 use Rattle.scq_core.specs.Advance.{found_by, beside_by, CanTurn, rings_after, Advances}
 use Rattle.scq_core.proofs.UpdatedLemmas.{updated_same}
 use Rattle.scq_core.proofs.Readiness.{enabled_ready}
-use Rattle.scq_core.proofs.TurnCells.{location_at, location_of-cell, read-cell, beside-cell, is_cell}
+use Rattle.scq_core.proofs.TurnCells.{read-cell, beside-cell, is_cell}
 
 set_at : {A : Type 0} → (xs : List A) (i : ℕ) (x d : A) → i < length xs → (j : ℕ)
     → slice_index_or (slice_set xs i x) j d ≡ updated (λ k. slice_index_or xs k d) i x j
@@ -109,10 +108,10 @@ write_cells c rings r (cell.Entry slot) x y low at =
     (field c (contents_in c) rings r new low ∙ ap (λ (f : ℕ → List ℕ). updated (λ q. contents_in c (ring_in c rings q)) r f) content))
 
 found_is : (c : Setup) (rings : List RingLists) (turn : Phase) → read (cells_of c rings) (location_of c turn) ≡ found_by c rings turn
-found_is c rings turn = rw (location_of-cell c turn) (read-cell c rings (ring_of turn) (cell_of c turn))
+found_is c rings turn = read-cell c rings (ring_of turn) (cell_of c turn)
 
 beside_is : (c : Setup) (rings : List RingLists) (turn : Phase) → beside (cells_of c rings) (location_of c turn) ≡ beside_by c rings turn
-beside_is c rings turn = rw (location_of-cell c turn) (beside-cell c rings (ring_of turn) (cell_of c turn))
+beside_is c rings turn = beside-cell c rings (ring_of turn) (cell_of c turn)
 
 -- the cells after a turn
 cells_turn : (c : Setup) (rings : List RingLists) (turn : Phase) → HasRings c rings → ring_of turn < c.rings
@@ -123,8 +122,7 @@ cells_turn c rings turn has low =
     let x = found_by c rings turn in
     let y = beside_by c rings turn in
     let wrote : cells_of c (rings_after c rings turn) ≡ written (cells_of c rings) (location_of c turn) (writes c turn x) (stores turn x y) =
-    write_cells c rings (ring_of turn) (cell_of c turn) (writes c turn x) (stores turn x y) within at
-    ∙ ap (λ (location : Location). written (cells_of c rings) location (writes c turn x) (stores turn x y)) (sym (location_of-cell c turn)) in
+    write_cells c rings (ring_of turn) (cell_of c turn) (writes c turn x) (stores turn x y) within at in
     wrote ∙ rw (found_is c rings turn, beside_is c rings turn) refl
 
 pub same_machine : (m n : Cells) (p q : ℕ → Part) (o : List (List ℕ)) → m ≡ n → p ≡ q

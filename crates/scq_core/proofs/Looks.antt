@@ -1,21 +1,20 @@
 -- What the reading calls of a state stand on.
 use Rattle.std.proofs.Common.{◌≡◌, ℕ, ◌<◌, ◌^◌, subst, length, arith}
 use Rattle.std.specs.Prelude.{slice_index_or}
-use Rattle.scq_core.specs.Table.{zero_level, reset_value}
 use Rattle.scq_core.specs.declared.slot.Cell.{Cell}
 use Rattle.scq_core.specs.declared.slot.Cell.TheVariants.{Tail, Head, Threshold, Entry}
 use Rattle.scq_core.specs.Rings.{RingLists, IsCell}
 use Rattle.scq_core.specs.StateLists.{StateLists, IsState, IsCellOf, ring_in, machine_of}
-use Rattle.scq_core.proofs.Entries.{few_indices}
+use Rattle.scq_core.proofs.Entries.{zero_level_is, reset_small}
 use Rattle.scq_core.proofs.Floor.{threshold_floor}
 use Rattle.scq_core.proofs.Advancing.{ring_read}
 
 -- Threshold is small enough for a signed number
 pub threshold_small : (b : StateLists) → IsState b → (r : ℕ) → (machine_of b).cells.threshold r < 2 ^ 62
-unfolding zero_level reset_value
 threshold_small b sound r =
     let high = (threshold_floor b.setup (machine_of b) sound.reachable).ceiling r in
-    let few = few_indices b.setup in
+    let low = reset_small b.setup in
+    let level = zero_level_is in
     omega arith
 
 -- the ring that was indexed is the state's

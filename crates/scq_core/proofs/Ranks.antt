@@ -3,11 +3,10 @@ use Rattle.std.proofs.Common.{◌≡◌, ℕ, ◌≤◌, List, inl, inr, arith, 
 use Rattle.std.proofs.lemmas.Bool.{cases_eq}
 use Rattle.std.specs.Prelude.{if◌then◌else◌, ◌==◌, []}
 use Rattle.scq_word.specs.declared.setup.Setup.{Setup}
-use Rattle.scq_word.specs.Tickets.{slot_of}
 use Rattle.scq_core.specs.declared.phase.Phase.{Phase}
 use Rattle.scq_core.specs.declared.phase.Phase.TheVariants.{Idle, AtE1, AtE2, AtE3, AtE4, AtD2, AtD3, AtD4, AtD5, AtD6, AtD7, AtD8, AtD9}
 use Rattle.scq_core.specs.Machine.{Cells, tail_of, head_of, entry_of, written}
-use Rattle.scq_core.specs.Table.{ring_slots, cycle, cells_after}
+use Rattle.scq_core.specs.Table.{ring_slots, cycle, slot, cells_after}
 use Rattle.scq_core.specs.Laws.{IsAbove, RankRises, CountersRise, Busy, word_at}
 use Rattle.scq_core.proofs.UpdatedLemmas.{updated_cases, updated_entry_cases}
 use Rattle.scq_core.proofs.Entries.{above_same, above_trans, placing_rises, taking_rises, passing_rises, below_mark, some_slots}
@@ -42,28 +41,28 @@ tested_rises c m r s e x hit =
 
 -- an entry's rank after each turn
 pub rank_rises : (c : Setup) (m : Cells) (hand : List ℕ) (turn : Phase) → Busy c m hand turn → RankRises c m (cells_after c turn m)
-rank_rises c m hand (AtE2 r i w t l) has = entry_rises c m r (slot_of (ring_slots c) t) _ _ (above_same (ring_slots c) _)
+rank_rises c m hand (AtE2 r i w t l) has = entry_rises c m r (slot c t) _ _ (above_same (ring_slots c) _)
 rank_rises c m hand (AtE4 r i w t e) has =
     entry_rises
     c
     m
     r
-    (slot_of (ring_slots c) t)
+    (slot c t)
     _
     _
-    (tested_rises c m r (slot_of (ring_slots c) t) e _ (λ same. placing_rises (ring_slots c) e (cycle c t) i has.2.earlier (below_mark c i has.0.index)))
-rank_rises c m hand (AtD3 r h l) has = entry_rises c m r (slot_of (ring_slots c) h) _ _ (above_same (ring_slots c) _)
+    (tested_rises c m r (slot c t) e _ (λ same. placing_rises (ring_slots c) e (cycle c t) i has.2.earlier (below_mark c i has.0.index)))
+rank_rises c m hand (AtD3 r h l) has = entry_rises c m r (slot c h) _ _ (above_same (ring_slots c) _)
 rank_rises c m hand (AtD4 r h) has =
-    entry_rises c m r (slot_of (ring_slots c) h) _ _ (taking_rises (ring_slots c) (word_at c m r h) (some_slots c))
+    entry_rises c m r (slot c h) _ _ (taking_rises (ring_slots c) (word_at c m r h) (some_slots c))
 rank_rises c m hand (AtD5 r h e) has =
     entry_rises
     c
     m
     r
-    (slot_of (ring_slots c) h)
+    (slot c h)
     _
     _
-    (tested_rises c m r (slot_of (ring_slots c) h) e _ (λ same. passing_rises c h e has.2.earlier))
+    (tested_rises c m r (slot c h) e _ (λ same. passing_rises c h e has.2.earlier))
 rank_rises c m hand turn has = record { rises = λ r s. above_same (ring_slots c) (m.entries.word r s) }
 
 -- Tail written no lower than it was

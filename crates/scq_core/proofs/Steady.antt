@@ -5,14 +5,13 @@ use Rattle.std.specs.Prelude.{◌==◌, if◌then◌else◌, nat_lt, nat_le, Opt
 use Rattle.std.proofs.lemmas.Bool.{cases_Bool, cases_eq, and_parts, leb-false}
 use Rattle.scq_word.specs.declared.setup.Setup.{Setup}
 use Rattle.scq_word.specs.Sizes.{n_of}
-use Rattle.scq_word.specs.Tickets.{slot_of}
 use Rattle.scq_word.specs.Words.{safe_in, cycle_in, is_none_in, rank_in}
 use Rattle.scq_word.proofs.WordLemmas.{safe_in_bit}
 use Rattle.scq_core.specs.declared.phase.Phase.{Phase}
 use Rattle.scq_core.specs.declared.phase.Phase.TheVariants.{Idle, AtE1, AtE2, AtE3, AtE4, AtE5, AtE6, AtD1, AtD2, AtD3, AtD4, AtD5, AtD6, AtD7, AtD8, AtD9, AtD10}
 use Rattle.scq_core.specs.declared.step.Step.{Step}
 use Rattle.scq_core.specs.Machine.{Cells, Part, Machine, read, beside}
-use Rattle.scq_core.specs.Table.{ring_slots, cycle, zero_level, reset_level, turn_of, location_of, after, cells_after, moved}
+use Rattle.scq_core.specs.Table.{ring_slots, cycle, slot, zero_level, reset_level, turn_of, location_of, after, cells_after, moved}
 use Rattle.scq_core.specs.Start.{start_of}
 use Rattle.scq_core.specs.Reach.{IsReachable, at_start, by_step}
 use Rattle.scq_core.specs.Laws.{IsAbove, RankRises, CountersRise, word_at, Drawn, Lags, Busy, IsSteady}
@@ -49,20 +48,20 @@ pub lasts : (c : Setup) (m n : Cells) (hand : List ℕ) (phase : Phase) → Rank
 lasts c m n hand Idle ranks up busy = tt
 lasts c m n hand (AtE1 r i w l) ranks up busy = let le = up.tail r in (busy.0, omega arith)
 lasts c m n hand (AtE2 r i w t l) ranks up busy =
-    (busy.0, drawn_lasts c _ _ t (up.tail r) busy.1, least_lasts c l _ _ (ranks.rises r (slot_of (ring_slots c) t)) busy.2)
+    (busy.0, drawn_lasts c _ _ t (up.tail r) busy.1, least_lasts c l _ _ (ranks.rises r (slot c t)) busy.2)
 lasts c m n hand (AtE3 r i w t e) ranks up busy =
-    (busy.0, drawn_lasts c _ _ t (up.tail r) busy.1, lags_lasts c t e _ _ (ranks.rises r (slot_of (ring_slots c) t)) busy.2, busy.3, busy.4)
+    (busy.0, drawn_lasts c _ _ t (up.tail r) busy.1, lags_lasts c t e _ _ (ranks.rises r (slot c t)) busy.2, busy.3, busy.4)
 lasts c m n hand (AtE4 r i w t e) ranks up busy =
-    (busy.0, drawn_lasts c _ _ t (up.tail r) busy.1, lags_lasts c t e _ _ (ranks.rises r (slot_of (ring_slots c) t)) busy.2, busy.3)
+    (busy.0, drawn_lasts c _ _ t (up.tail r) busy.1, lags_lasts c t e _ _ (ranks.rises r (slot c t)) busy.2, busy.3)
 lasts c m n hand (AtE5 r i w t) ranks up busy = (busy.0, drawn_lasts c _ _ t (up.tail r) busy.1, busy.2)
 lasts c m n hand (AtE6 r i w t) ranks up busy = (busy.0, drawn_lasts c _ _ t (up.tail r) busy.1, busy.2)
 lasts c m n hand (AtD1 r) ranks up busy = busy
 lasts c m n hand (AtD2 r l) ranks up busy = let le = up.head r in (busy.0, omega arith)
 lasts c m n hand (AtD3 r h l) ranks up busy =
-    (busy.0, drawn_lasts c _ _ h (up.head r) busy.1, least_lasts c l _ _ (ranks.rises r (slot_of (ring_slots c) h)) busy.2)
+    (busy.0, drawn_lasts c _ _ h (up.head r) busy.1, least_lasts c l _ _ (ranks.rises r (slot c h)) busy.2)
 lasts c m n hand (AtD4 r h) ranks up busy = (busy.0, drawn_lasts c _ _ h (up.head r) busy.1)
 lasts c m n hand (AtD5 r h e) ranks up busy =
-    (busy.0, drawn_lasts c _ _ h (up.head r) busy.1, lags_lasts c h e _ _ (ranks.rises r (slot_of (ring_slots c) h)) busy.2)
+    (busy.0, drawn_lasts c _ _ h (up.head r) busy.1, lags_lasts c h e _ _ (ranks.rises r (slot c h)) busy.2)
 lasts c m n hand (AtD6 r h) ranks up busy = (busy.0, drawn_lasts c _ _ h (up.head r) busy.1)
 lasts c m n hand (AtD7 r h from to) ranks up busy =
     let tail = up.tail r in
@@ -109,7 +108,7 @@ own c m n p (AtE2 r i w t l) awake tails heads ranks up drew was now =
       | inl fits ↦
           let both = and_parts (nat_lt (cycle_in (ring_slots c) x) (cycle c t)) (is_none_in (ring_slots c) x) fits in
           let lags : Lags c t x (word_at c n r t) =
-          record { earlier = ltb-true _ _ both.0; above = ranks.rises r (slot_of (ring_slots c) t) } in
+          record { earlier = ltb-true _ _ both.0; above = ranks.rises r (slot c t) } in
           elim (cases_eq (safe_in (ring_slots c) x) 1) [
             | inl safe ↦ rw (fits, eq-eqb (safe_in (ring_slots c) x) 1 safe) (now.0, now.1, lags, both.1)
             | inr unsafe ↦
@@ -127,7 +126,7 @@ own c m n p (AtE3 r i w t e) awake tails heads ranks up drew was now =
 own c m n p (AtE4 r i w t e) awake tails heads ranks up drew was now =
     elim (cases_Bool (word_at c m r t == e)) [
       | inl hit ↦ rw hit (now.0.ring, now.1, now.0.index)
-      | inr miss ↦ rw miss (now.0, now.1, above_rank _ _ _ (ranks.rises r (slot_of (ring_slots c) t)))
+      | inr miss ↦ rw miss (now.0, now.1, above_rank _ _ _ (ranks.rises r (slot c t)))
     ]
 own c m n p (AtE5 r i w t) awake tails heads ranks up drew was now =
     elim (cases_Bool (m.threshold r == reset_level c)) [ inl high ↦ rw high tt | inr low ↦ rw low now ]
@@ -149,7 +148,7 @@ own c m n p (AtD3 r h l) awake tails heads ranks up drew was now =
           elim (cases_Bool (nat_lt (cycle_in (ring_slots c) x) (cycle c h))) [
             | inl lower ↦
                 rw (other, lower)
-                (now.0, now.1, record { earlier = ltb-true _ _ lower; above = ranks.rises r (slot_of (ring_slots c) h) })
+                (now.0, now.1, record { earlier = ltb-true _ _ lower; above = ranks.rises r (slot c h) })
             | inr higher ↦ rw (other, higher) (now.0, now.1)
           ]
     ]
@@ -157,7 +156,7 @@ own c m n p (AtD4 r h) awake tails heads ranks up drew was now = tt
 own c m n p (AtD5 r h e) awake tails heads ranks up drew was now =
     elim (cases_Bool (word_at c m r h == e)) [
       | inl hit ↦ rw hit (now.0, now.1)
-      | inr miss ↦ rw miss (now.0, now.1, above_rank _ _ _ (ranks.rises r (slot_of (ring_slots c) h)))
+      | inr miss ↦ rw miss (now.0, now.1, above_rank _ _ _ (ranks.rises r (slot c h)))
     ]
 own c m n p (AtD6 r h) awake tails heads ranks up drew was now =
     let tail = up.tail r in

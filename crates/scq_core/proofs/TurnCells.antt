@@ -9,12 +9,11 @@ use Rattle.scq_core.specs.declared.step.Step.{Step}
 use Rattle.scq_core.specs.declared.step.Step.TheVariants.{E1, E1Again, E2, E3, E4, E5, E6, D1, D2, D3, D4, D5, D6, D7, D8, D9, D10}
 use Rattle.scq_core.specs.declared.slot.Cell.{Cell}
 use Rattle.scq_core.specs.declared.slot.Cell.TheVariants as cell
-use Rattle.scq_core.specs.Machine.{Location, tail_of, head_of, threshold_of, entry_of, read, beside}
-use Rattle.scq_core.specs.Table.{ring_slots, turn_at, location_of}
+use Rattle.scq_core.specs.Machine.{location_at, read, beside}
+use Rattle.scq_core.specs.Table.{turn_at, ring_of, cell_of}
 use Rattle.scq_core.specs.Rings.{RingLists, IsCell, word_in, content_in}
 use Rattle.scq_core.specs.StateLists.{cells_of, ring_in, no_slot, HasRings}
-use Rattle.scq_core.specs.Turn.{ring_of, cell_of, started}
-use Rattle.scq_core.proofs.Entries.{some_slots}
+use Rattle.scq_core.specs.Turn.{started}
 
 some_if : {A : Type 0} → (b : Bool) (x : A) → is_some (if b then Some x else None) ≡ true → (if b then Some x else None) ≡ Some x
 some_if true x is = refl
@@ -44,32 +43,6 @@ enabled_turn c hand spent (AtD9 r h from to) D9 is = refl
 enabled_turn c hand spent (AtD10 r h leaving) D10 is = refl
 enabled_turn c hand spent phase step is = absurd cc
 
--- the location in the machine that a cell of a ring is
-abbrev pub location_at : ℕ → Cell → Location
-location_at r cell.Tail = tail_of r
-location_at r cell.Head = head_of r
-location_at r cell.Threshold = threshold_of r
-location_at r (cell.Entry slot) = entry_of r slot
-
-pub location_of-cell : (c : Setup) (turn : Phase) → location_of c turn ≡ location_at (ring_of turn) (cell_of c turn)
-location_of-cell c Idle = refl
-location_of-cell c (AtE1 r i w l) = refl
-location_of-cell c (AtE2 r i w t l) = refl
-location_of-cell c (AtE3 r i w t e) = refl
-location_of-cell c (AtE4 r i w t e) = refl
-location_of-cell c (AtE5 r i w t) = refl
-location_of-cell c (AtE6 r i w t) = refl
-location_of-cell c (AtD1 r) = refl
-location_of-cell c (AtD2 r l) = refl
-location_of-cell c (AtD3 r h l) = refl
-location_of-cell c (AtD4 r h) = refl
-location_of-cell c (AtD5 r h e) = refl
-location_of-cell c (AtD6 r h) = refl
-location_of-cell c (AtD7 r h from to) = refl
-location_of-cell c (AtD8 r h from) = refl
-location_of-cell c (AtD9 r h from to) = refl
-location_of-cell c (AtD10 r h leaving) = refl
-
 pub read-cell : (c : Setup) (rings : List RingLists) (r : ℕ) (p : Cell) → read (cells_of c rings) (location_at r p) ≡ word_in (no_slot c) (ring_in c rings r) p
 read-cell c rings r cell.Tail = refl
 read-cell c rings r cell.Head = refl
@@ -88,16 +61,16 @@ pub is_cell : (c : Setup) (rings : List RingLists) (turn : Phase) → HasRings c
     → IsCell (ring_in c rings (ring_of turn)) (cell_of c turn)
 is_cell c rings Idle has low = tt
 is_cell c rings (AtE1 r i w l) has low = tt
-is_cell c rings (AtE2 r i w t l) has low = rw (has.1 r low) (slot_of_small (ring_slots c) t (some_slots c))
+is_cell c rings (AtE2 r i w t l) has low = rw (has.1 r low) (slot_of_small c.order t)
 is_cell c rings (AtE3 r i w t e) has low = tt
-is_cell c rings (AtE4 r i w t e) has low = rw (has.1 r low) (slot_of_small (ring_slots c) t (some_slots c))
+is_cell c rings (AtE4 r i w t e) has low = rw (has.1 r low) (slot_of_small c.order t)
 is_cell c rings (AtE5 r i w t) has low = tt
 is_cell c rings (AtE6 r i w t) has low = tt
 is_cell c rings (AtD1 r) has low = tt
 is_cell c rings (AtD2 r l) has low = tt
-is_cell c rings (AtD3 r h l) has low = rw (has.1 r low) (slot_of_small (ring_slots c) h (some_slots c))
-is_cell c rings (AtD4 r h) has low = rw (has.1 r low) (slot_of_small (ring_slots c) h (some_slots c))
-is_cell c rings (AtD5 r h e) has low = rw (has.1 r low) (slot_of_small (ring_slots c) h (some_slots c))
+is_cell c rings (AtD3 r h l) has low = rw (has.1 r low) (slot_of_small c.order h)
+is_cell c rings (AtD4 r h) has low = rw (has.1 r low) (slot_of_small c.order h)
+is_cell c rings (AtD5 r h e) has low = rw (has.1 r low) (slot_of_small c.order h)
 is_cell c rings (AtD6 r h) has low = tt
 is_cell c rings (AtD7 r h from to) has low = tt
 is_cell c rings (AtD8 r h from) has low = tt

@@ -16,8 +16,8 @@ empty_ring c =
 -- the indices below a count stand in these slots, each with its opening content
 pub record IsFilled (c : Setup) (opening : List (List ℕ)) (count : ℕ) (slots : List Slot) : Type 0 where
   pub many : length slots ≡ ring_slots c
-  pub words : (s : ℕ) → (slice_index_or slots s (no_slot c)).word ≡ filled (ring_slots c) count s
-  pub contents : (s : ℕ) → (slice_index_or slots s (no_slot c)).content ≡ filled_contents (ring_slots c) opening count s
+  pub words : (s : ℕ) → (slice_index_or slots s (no_slot c)).word ≡ filled c count s
+  pub contents : (s : ℕ) → (slice_index_or slots s (no_slot c)).content ≡ filled_contents c opening count s
 
 -- the ring in which each index stands, as after as many puts
 pub record IsFullRing (c : Setup) (opening : List (List ℕ)) (ring : RingLists) : Type 0 where

@@ -1,14 +1,14 @@
 -- The laws of the machine that its own arithmetic stands on, for every reachable state and every enabled step.
-use Rattle.std.specs.Prelude.{ℕ, zero, suc, ◌≡◌, ◌≢◌, ◌+◌, ◌*◌, ◌^◌, ◌<◌, ◌≤◌, ◌⊎◌, true, ◌==◌, if◌then◌else◌, List, ◌++◌, Option, Some, None}
+use Rattle.std.specs.Prelude.{ℕ, zero, suc, ◌≡◌, ◌≢◌, ◌+◌, ◌*◌, ◌^◌, ◌<◌, ◌≤◌, ◌⊎◌, true, ◌==◌, if◌then◌else◌, List, [], ◌++◌, slice_index_or, Option, Some, None}
 use Rattle.scq_word.specs.declared.setup.Setup.{Setup}
 use Rattle.scq_word.specs.Sizes.{n_of}
-use Rattle.scq_word.specs.Tickets.{slot_of}
-use Rattle.scq_word.specs.Words.{safe_in, cycle_in, is_none_in, rank_in}
+use Rattle.scq_word.specs.Words.{packed, safe_in, cycle_in, is_none_in, rank_in}
 use Rattle.scq_core.specs.declared.ended.Ended.{Ended}
 use Rattle.scq_core.specs.declared.phase.Phase.{Phase}
 use Rattle.scq_core.specs.declared.phase.Phase.TheVariants.{Idle, AtE1, AtE2, AtE3, AtE4, AtE5, AtE6, AtD1, AtD2, AtD3, AtD4, AtD5, AtD6, AtD7, AtD8, AtD9, AtD10}
 use Rattle.scq_core.specs.Machine.{Cells, Part, Machine, Location, written}
-use Rattle.scq_core.specs.Table.{ring_slots, cycle, zero_level, reset_level, holds_index}
+use Rattle.scq_core.specs.Table.{ring_slots, cycle, slot, zero_level, reset_level, holds_index}
+use Rattle.scq_core.specs.Start.{unused}
 
 -- an entry's word is as it was, or of a higher rank: so a word that has changed never comes back
 pub record IsAbove (m e now : ℕ) : Type 0 where
@@ -25,7 +25,7 @@ pub record CountersRise (before later : Cells) : Type 0 where
 
 -- the word of the entry of a ticket's slot
 abbrev pub word_at : Setup → Cells → ℕ → ℕ → ℕ
-word_at c m r t = m.entries.word r (slot_of (ring_slots c) t)
+word_at c m r t = m.entries.word r (slot c t)
 
 -- an enqueue that still has its index: ring and index are in range, and the index is in the seat's hand
 pub record Offers (c : Setup) (hand : List ℕ) (r i : ℕ) : Type 0 where
@@ -128,6 +128,13 @@ pub record ThresholdFloor (c : Setup) (m : Machine) : Type 0 where
 -- the cycle of each entry is that of a ticket below the limit
 pub record CyclesBounded (c : Setup) (m : Cells) : Type 0 where
   pub cycles : (r s : ℕ) → cycle_in (ring_slots c) (m.entries.word r s) * ring_slots c < c.limit
+
+-- the entries of the start, told by ticket: in ring 0 the slot of the ticket 2n + j holds the index j, for each j below
+-- n, and beside it the opening content j; each other entry was never used
+pub record StartsFull (c : Setup) (opening : List (List ℕ)) (m : Cells) : Type 0 where
+  pub words : (j : ℕ) → j < n_of c.order → m.entries.word 0 (slot c (ring_slots c + j)) ≡ packed (ring_slots c) 1 1 j
+  pub contents : (j : ℕ) → j < n_of c.order → m.entries.content 0 (slot c (ring_slots c + j)) ≡ slice_index_or opening j []
+  pub others : (r s : ℕ) → ((j : ℕ) → j < n_of c.order → r ≡ 0 → s ≢ slot c (ring_slots c + j)) → m.entries.word r s ≡ unused (ring_slots c)
 
 -- every word is one of 64 bits, with room for a step
 pub record WordsFit (c : Setup) (m : Cells) : Type 0 where

@@ -3,6 +3,8 @@
 use Rattle.std.specs.Prelude.{ℕ, List, [], Option}
 use Rattle.scq_core.specs.declared.ended.Ended.{Ended}
 use Rattle.scq_core.specs.declared.phase.Phase.{Phase}
+use Rattle.scq_core.specs.declared.slot.Cell.{Cell}
+use Rattle.scq_core.specs.declared.slot.Cell.TheVariants.{Tail, Head, Threshold, Entry}
 use Rattle.scq_core.specs.Updated.{updated}
 
 -- the entries by ring and slot: the word, and the content that its put placed with it. A put's exchange writes both; a
@@ -36,6 +38,13 @@ pub data Location : Type 0 where
   head_of : (ring : ℕ) → Location
   threshold_of : (ring : ℕ) → Location
   entry_of : (ring slot : ℕ) → Location
+
+-- the location that a place of a ring is
+abbrev pub location_at : ℕ → Cell → Location
+location_at r Tail = tail_of r
+location_at r Head = head_of r
+location_at r Threshold = threshold_of r
+location_at r (Entry slot) = entry_of r slot
 
 -- what stands at a location
 abbrev pub read : Cells → Location → ℕ

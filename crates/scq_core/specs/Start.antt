@@ -2,26 +2,25 @@
 use Rattle.std.specs.Prelude.{ℕ, ◌+◌, ◌-◌, ◌==◌, if◌then◌else◌, List, [], None, slice_index_or, zero, suc}
 use Rattle.scq_word.specs.declared.setup.Setup.{Setup}
 use Rattle.scq_word.specs.Sizes.{n_of}
-use Rattle.scq_word.specs.Tickets.{slot_of}
 use Rattle.scq_word.specs.Words.{mark_of, packed}
 use Rattle.scq_core.specs.declared.phase.Phase.TheVariants.{Idle}
 use Rattle.scq_core.specs.Machine.{Cells, Part, Machine}
-use Rattle.scq_core.specs.Table.{zero_level, reset_level, ring_slots}
+use Rattle.scq_core.specs.Table.{zero_level, reset_level, ring_slots, slot}
 
 -- the word of an entry that was never used
 abbrev pub unused : ℕ → ℕ
 unused m = packed m 0 1 (mark_of m)
 
--- the entries of a ring of m slots in which the indices below a count stand, index j at the ticket m + j
-abbrev pub filled : ℕ → ℕ → ℕ → ℕ
-filled m zero slot = unused m
-filled m (suc j) slot = if slot == slot_of m (m + j) then packed m 1 1 j else filled m j slot
+-- the words by slot of a ring in which the indices below a count stand: index j in the slot of the ticket 2n + j
+abbrev pub filled : Setup → ℕ → ℕ → ℕ
+filled c zero s = unused (ring_slots c)
+filled c (suc j) s = if s == slot c (ring_slots c + j) then packed (ring_slots c) 1 1 j else filled c j s
 
 -- the contents beside them: that of index j is the opening content j
-abbrev pub filled_contents : ℕ → List (List ℕ) → ℕ → ℕ → List ℕ
-filled_contents m opening zero slot = []
-filled_contents m opening (suc j) slot =
-    if slot == slot_of m (m + j) then slice_index_or opening j [] else filled_contents m opening j slot
+abbrev pub filled_contents : Setup → List (List ℕ) → ℕ → ℕ → List ℕ
+filled_contents c opening zero s = []
+filled_contents c opening (suc j) s =
+    if s == slot c (ring_slots c + j) then slice_index_or opening j [] else filled_contents c opening j s
 
 abbrev pub start_cells : Setup → List (List ℕ) → Cells
 start_cells c opening =
@@ -31,8 +30,8 @@ start_cells c opening =
       threshold = λ r. if r == 0 then reset_level c else zero_level - 1;
       entries =
           record {
-            word = λ r s. if r == 0 then filled (ring_slots c) (n_of c.order) s else unused (ring_slots c);
-            content = λ r s. if r == 0 then filled_contents (ring_slots c) opening (n_of c.order) s else [];
+            word = λ r s. if r == 0 then filled c (n_of c.order) s else unused (ring_slots c);
+            content = λ r s. if r == 0 then filled_contents c opening (n_of c.order) s else [];
           };
     }
 

@@ -3,45 +3,43 @@
 -- The letters: c setup; m cells, or the whole state; p a seat's part; r ring; i index; w content of a put; t ticket of an
 -- enqueue; h ticket of a dequeue; e word of the entry that was loaded; l least number that the step will find, at an
 -- entry its rank; x word that the turn finds; y content beside it.
-use Rattle.std.specs.Prelude.{ℕ, ◌+◌, ◌-◌, ◌*◌, ◌^◌, Bool, true, false, ◌==◌, ◌&&◌, not, nat_lt, nat_le, if◌then◌else◌, List, [], ◌∷◌, ◌++◌, filter, Option, Some, None, is_none}
+use Rattle.std.specs.Prelude.{ℕ, ◌+◌, ◌-◌, ◌^◌, Bool, true, false, ◌==◌, ◌&&◌, not, nat_lt, nat_le, if◌then◌else◌, List, [], ◌∷◌, ◌++◌, filter, Option, Some, None, is_none}
 use Rattle.std.specs.List.{list_any}
 use Rattle.std.specs.Option.{option_map}
 use Rattle.scq_word.specs.declared.setup.Setup.{Setup}
 use Rattle.scq_word.specs.Sizes.{n_of, slots_of}
 use Rattle.scq_word.specs.Tickets.{cycle_of, slot_of}
+use Rattle.scq_word.specs.Bounds.{reset_value}
 use Rattle.scq_word.specs.Words.{mark_of, packed, index_in, safe_in, cycle_in, is_none_in, rank_in}
 use Rattle.scq_core.specs.declared.ended.Ended.{Ended}
 use Rattle.scq_core.specs.declared.ended.Ended.TheVariants.{Done, Got, Nothing, Spent}
 use Rattle.scq_core.specs.declared.phase.Phase.{Phase}
 use Rattle.scq_core.specs.declared.phase.Phase.TheVariants.{Idle, AtE1, AtE2, AtE3, AtE4, AtE5, AtE6, AtD1, AtD2, AtD3, AtD4, AtD5, AtD6, AtD7, AtD8, AtD9, AtD10}
+use Rattle.scq_core.specs.declared.slot.Cell.{Cell}
+use Rattle.scq_core.specs.declared.slot.Cell.TheVariants.{Tail, Head, Threshold, Entry}
 use Rattle.scq_core.specs.declared.step.Step.{Step}
 use Rattle.scq_core.specs.declared.step.Step.TheVariants.{E1, E1Again, E2, E3, E4, E5, E6, D1, D2, D3, D4, D5, D6, D7, D8, D9, D10}
 use Rattle.scq_core.specs.Updated.{updated}
-use Rattle.scq_core.specs.Machine.{Cells, Part, Machine, Location, tail_of, head_of, threshold_of, entry_of, read, beside, written}
+use Rattle.scq_core.specs.Machine.{Cells, Part, Machine, Location, location_at, read, beside, written}
 
 -- the word that stands for a Threshold of 0
 unfoldable pub zero_level : ℕ
 zero_level = 2 ^ 32
 
--- what Threshold is reset to after a put
-unfoldable pub reset_value : Setup → ℕ
-reset_value c = 3 * n_of c.order - 1
-
--- the word of that
+-- the word of what Threshold is reset to once an index was placed
 abbrev pub reset_level : Setup → ℕ
-reset_level c = zero_level + reset_value c
+reset_level c = zero_level + reset_value c.order c.seats
 
 -- how many slots a ring has: 2n
 abbrev pub ring_slots : Setup → ℕ
 ring_slots c = slots_of c.order
 
--- the cycle of a ticket
+-- the cycle of a ticket, and its slot
 abbrev pub cycle : Setup → ℕ → ℕ
 cycle c ticket = cycle_of (ring_slots c) ticket
 
--- where the entry in a ticket's slot stands
-abbrev pub entry_at : Setup → ℕ → ℕ → Location
-entry_at c ring ticket = entry_of ring (slot_of (ring_slots c) ticket)
+abbrev pub slot : Setup → ℕ → ℕ
+slot c ticket = slot_of c.order ticket
 
 -- a hand with this index taken out
 abbrev pub hand_without : ℕ → List ℕ → List ℕ
@@ -95,25 +93,49 @@ next_step (AtD9 r h from to) = Some D9
 next_step (AtD10 r h leaving) = Some D10
 next_step phase = None
 
--- the location that a turn reads. Idle is no turn: its line is never used
+-- the ring of a turn. Idle is no turn: its line is never used
+abbrev pub ring_of : Phase → ℕ
+ring_of Idle = 0
+ring_of (AtE1 r i w l) = r
+ring_of (AtE2 r i w t l) = r
+ring_of (AtE3 r i w t e) = r
+ring_of (AtE4 r i w t e) = r
+ring_of (AtE5 r i w t) = r
+ring_of (AtE6 r i w t) = r
+ring_of (AtD1 r) = r
+ring_of (AtD2 r l) = r
+ring_of (AtD3 r h l) = r
+ring_of (AtD4 r h) = r
+ring_of (AtD5 r h e) = r
+ring_of (AtD6 r h) = r
+ring_of (AtD7 r h from to) = r
+ring_of (AtD8 r h from) = r
+ring_of (AtD9 r h from to) = r
+ring_of (AtD10 r h leaving) = r
+
+-- the place of that ring that the turn reads and writes
+abbrev pub cell_of : Setup → Phase → Cell
+cell_of c Idle = Tail
+cell_of c (AtE1 r i w l) = Tail
+cell_of c (AtE2 r i w t l) = Entry (slot c t)
+cell_of c (AtE3 r i w t e) = Head
+cell_of c (AtE4 r i w t e) = Entry (slot c t)
+cell_of c (AtE5 r i w t) = Threshold
+cell_of c (AtE6 r i w t) = Threshold
+cell_of c (AtD1 r) = Threshold
+cell_of c (AtD2 r l) = Head
+cell_of c (AtD3 r h l) = Entry (slot c h)
+cell_of c (AtD4 r h) = Entry (slot c h)
+cell_of c (AtD5 r h e) = Entry (slot c h)
+cell_of c (AtD6 r h) = Tail
+cell_of c (AtD7 r h from to) = Tail
+cell_of c (AtD8 r h from) = Head
+cell_of c (AtD9 r h from to) = Tail
+cell_of c (AtD10 r h leaving) = Threshold
+
+-- the location that a turn reads and writes
 abbrev pub location_of : Setup → Phase → Location
-location_of c Idle = tail_of 0
-location_of c (AtE1 r i w l) = tail_of r
-location_of c (AtE2 r i w t l) = entry_at c r t
-location_of c (AtE3 r i w t e) = head_of r
-location_of c (AtE4 r i w t e) = entry_at c r t
-location_of c (AtE5 r i w t) = threshold_of r
-location_of c (AtE6 r i w t) = threshold_of r
-location_of c (AtD1 r) = threshold_of r
-location_of c (AtD2 r l) = head_of r
-location_of c (AtD3 r h l) = entry_at c r h
-location_of c (AtD4 r h) = entry_at c r h
-location_of c (AtD5 r h e) = entry_at c r h
-location_of c (AtD6 r h) = tail_of r
-location_of c (AtD7 r h from to) = tail_of r
-location_of c (AtD8 r h from) = head_of r
-location_of c (AtD9 r h from to) = tail_of r
-location_of c (AtD10 r h leaving) = threshold_of r
+location_of c turn = location_at (ring_of turn) (cell_of c turn)
 
 -- an entry that a dequeue with a later ticket found: moved to that ticket's cycle where it has no index, else marked unsafe
 abbrev pub passed : Setup → ℕ → ℕ → ℕ

@@ -1,65 +1,22 @@
--- The table again, by cells of one ring: where a turn reads and writes, and what becomes of its seat.
-use Rattle.std.specs.Prelude.{ℕ, ◌+◌, ◌^◌, ◌<◌, List, [], ◌∷◌, ◌++◌, Option, Some, None}
+-- What the parts of a turn do, and what its arithmetic stands on.
+use Rattle.std.specs.Prelude.{ℕ, ◌≡◌, ◌⊎◌, ◌+◌, ◌^◌, ◌<◌, ◌==◌, Bool, true, false, nat_lt, nat_le, List, [], ◌∷◌, ◌++◌, Option, Some, None}
 use Rattle.scq_word.specs.declared.setup.Setup.{Setup}
 use Rattle.scq_word.specs.Sizes.{n_of}
-use Rattle.scq_word.specs.Tickets.{slot_of}
 use Rattle.scq_word.specs.Entries.{IsIndexOrMark}
 use Rattle.scq_core.specs.declared.ended.Ended.TheVariants.{Got}
 use Rattle.scq_core.specs.declared.phase.Phase.{Phase}
 use Rattle.scq_core.specs.declared.phase.Phase.TheVariants.{Idle, AtE1, AtE2, AtE3, AtE4, AtE5, AtE6, AtD1, AtD2, AtD3, AtD4, AtD5, AtD6, AtD7, AtD8, AtD9, AtD10}
 use Rattle.scq_core.specs.declared.step.Step.{Step}
-use Rattle.scq_core.specs.declared.step.Step.TheVariants.{E1, D1}
-use Rattle.scq_core.specs.declared.slot.Cell.{Cell}
-use Rattle.scq_core.specs.declared.slot.Cell.TheVariants.{Tail, Head, Threshold, Entry}
+use Rattle.scq_core.specs.declared.step.Step.TheVariants.{E1, E4, D1, D4}
 use Rattle.scq_core.specs.declared.next.Next.{Next}
 use Rattle.scq_core.specs.declared.next.Next.TheVariants.{Goes, Ends, Spends, Places, Takes}
-use Rattle.scq_core.specs.Machine.{Part}
-use Rattle.scq_core.specs.Table.{ring_slots, goes_on, ends, spends, hand_without}
-
--- the ring of a turn
-abbrev pub ring_of : Phase → ℕ
-ring_of Idle = 0
-ring_of (AtE1 r i w l) = r
-ring_of (AtE2 r i w t l) = r
-ring_of (AtE3 r i w t e) = r
-ring_of (AtE4 r i w t e) = r
-ring_of (AtE5 r i w t) = r
-ring_of (AtE6 r i w t) = r
-ring_of (AtD1 r) = r
-ring_of (AtD2 r l) = r
-ring_of (AtD3 r h l) = r
-ring_of (AtD4 r h) = r
-ring_of (AtD5 r h e) = r
-ring_of (AtD6 r h) = r
-ring_of (AtD7 r h from to) = r
-ring_of (AtD8 r h from) = r
-ring_of (AtD9 r h from to) = r
-ring_of (AtD10 r h leaving) = r
+use Rattle.scq_core.specs.Machine.{Part, Machine}
+use Rattle.scq_core.specs.Table.{step_of, zero_level, reset_level, ring_of, goes_on, ends, spends, hand_without}
 
 -- the ring of the call that a seat is in the middle of
 abbrev pub ring_under_way : Phase → Option ℕ
 ring_under_way Idle = None
 ring_under_way phase = Some (ring_of phase)
-
--- the cell of it that the turn reads
-abbrev pub cell_of : Setup → Phase → Cell
-cell_of c Idle = Tail
-cell_of c (AtE1 r i w l) = Tail
-cell_of c (AtE2 r i w t l) = Entry (slot_of (ring_slots c) t)
-cell_of c (AtE3 r i w t e) = Head
-cell_of c (AtE4 r i w t e) = Entry (slot_of (ring_slots c) t)
-cell_of c (AtE5 r i w t) = Threshold
-cell_of c (AtE6 r i w t) = Threshold
-cell_of c (AtD1 r) = Threshold
-cell_of c (AtD2 r l) = Head
-cell_of c (AtD3 r h l) = Entry (slot_of (ring_slots c) h)
-cell_of c (AtD4 r h) = Entry (slot_of (ring_slots c) h)
-cell_of c (AtD5 r h e) = Entry (slot_of (ring_slots c) h)
-cell_of c (AtD6 r h) = Tail
-cell_of c (AtD7 r h from to) = Tail
-cell_of c (AtD8 r h from) = Head
-cell_of c (AtD9 r h from to) = Tail
-cell_of c (AtD10 r h leaving) = Threshold
 
 -- the turn of a step that begins a call
 abbrev pub started : Step → Option Phase
@@ -72,6 +29,44 @@ abbrev pub copied : Phase → List ℕ → List ℕ
 copied (AtE4 r i w t e) beside = w
 copied (AtD4 r h) beside = beside
 copied turn beside = []
+
+-- a turn that needs such a copy
+abbrev pub needs_copy : Phase → Bool
+needs_copy (AtE4 r i w t e) = true
+needs_copy (AtD4 r h) = true
+needs_copy turn = false
+
+-- a step that copies a content: the one that begins a put, its exchange, and the one that takes an index
+abbrev pub copies_content : Step → Bool
+copies_content (E1 r i w) = true
+copies_content E4 = true
+copies_content D4 = true
+copies_content step = false
+
+-- a step takes memory only where it copies a content, or where its seat is idle afterwards, since its call has ended
+abbrev pub TakesMemory : Setup → Machine → ℕ → Step → Type 0
+TakesMemory c m seat step =
+    (copies_content step ≡ true) ⊎ ((later : Machine) → step_of c m seat step ≡ Some later → (later.part seat).phase ≡ Idle)
+
+-- whether a turn ends its call where it found the word x
+abbrev pub ends_call : Setup → Phase → ℕ → Bool
+ends_call c (AtE1 r i w l) x = nat_le c.limit x
+ends_call c (AtE5 r i w t) x = x == reset_level c
+ends_call c (AtE6 r i w t) x = true
+ends_call c (AtD1 r) x = nat_lt x zero_level
+ends_call c (AtD2 r l) x = nat_le c.limit x
+ends_call c (AtD4 r h) x = true
+ends_call c (AtD10 r h true) x = true
+ends_call c (AtD10 r h false) x = nat_le x zero_level
+ends_call c turn x = false
+
+-- whether the call has ended
+abbrev pub has_ended : Next → Bool
+has_ended (Goes phase) = false
+has_ended (Ends ended) = true
+has_ended (Spends r t is_put) = true
+has_ended (Places r i w t laid) = false
+has_ended (Takes r h i w) = true
 
 -- a seat's part afterwards
 abbrev pub part_after : Next → Part → Part

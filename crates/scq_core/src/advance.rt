@@ -4,7 +4,7 @@ ghost use Rattle.std.specs.Prelude.{◌≡◌, ◌↔◌, Some, None, Err, OnOk,
 ghost use Rattle.scq_core.specs.declared.phase.Phase.{Phase};
 ghost use Rattle.scq_core.specs.Table.{turn_of};
 ghost use Rattle.scq_core.specs.StateLists.{HasRings};
-ghost use Rattle.scq_core.specs.Advance.{CanTurn, Advances};
+ghost use Rattle.scq_core.specs.Advance.{CanTurn, WantsMemory, Advances};
 
 use crate::ring::Ring;
 use crate::seat::Seat;
@@ -45,6 +45,7 @@ pub fn advance(
     requires ready { (turn : Phase) → turn_of setup.now seat.old step.now ≡ Some turn → CanTurn setup.now rings.old.items turn }
     ensures ok { OnOk result (Advances setup.now step.now rings.old.items seat.old rings.new.items seat.new) }
     ensures not_enabled { (result ≡ Err ApplyFault.NotEnabled) ↔ (turn_of setup.now seat.old step.now ≡ None) }
+    ensures no_memory { (result ≡ Err ApplyFault.NoMemory) → WantsMemory setup.now seat.old step.now rings.old.items }
     ensures err { OnErr result ((rings.new.items ≡ rings.old.items) × (seat.new ≡ seat.old)) }
 {
     if !seat.allows(setup, step) {

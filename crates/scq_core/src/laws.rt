@@ -8,15 +8,21 @@ ghost use Rattle.scq_core.specs.declared.phase.Phase.{Phase};
 ghost use Rattle.scq_core.specs.declared.phase.Phase.TheVariants.{Idle};
 ghost use Rattle.scq_core.specs.declared.step.Step.{Step};
 ghost use Rattle.scq_core.specs.Machine.{Machine, read};
-ghost use Rattle.scq_core.specs.Table.{turn_of, next_step, location_of, step_of};
-ghost use Rattle.scq_core.specs.Turn.{ring_of, IsReady};
+ghost use Rattle.scq_core.specs.Table.{turn_of, next_step, location_of, step_of, ring_of};
+ghost use Rattle.scq_core.specs.Turn.{IsReady};
 ghost use Rattle.scq_core.specs.Start.{start_of};
 ghost use Rattle.scq_core.specs.Reach.{IsReachable};
-ghost use Rattle.scq_core.specs.Laws.{ChangesOne, RankRises, CountersRise, IsSteady, CatchUpLags, CountersBounded, ThresholdFloor, CyclesBounded, WordsFit, RecordsGrow};
+ghost use Rattle.scq_core.specs.Laws.{ChangesOne, RankRises, CountersRise, IsSteady, CatchUpLags, CountersBounded, ThresholdFloor, CyclesBounded, WordsFit, RecordsGrow, StartsFull};
 
 /// The start is reachable, with an opening content for each index.
 pub fn start_is_reachable()
     ensures { (c : Setup) (opening : List (List ℕ)) → length opening ≡ n_of c.order → IsReachable c (start_of c opening) }
+{}
+
+/// The entries of the start by ticket: in ring 0 the slot of the ticket `2n + j` holds the index j, safe, with cycle 1, and
+/// beside it the opening content j; each other entry was never used.
+pub fn start_is_full_by_ticket()
+    ensures { (c : Setup) (opening : List (List ℕ)) → StartsFull c opening (start_of c opening).cells }
 {}
 
 /// An enabled step of a seat leads from a reachable state to a reachable state.

@@ -22,6 +22,7 @@ pub use ended::Ended;
 pub use phase::Phase;
 pub use state::State;
 pub use step::Step;
+pub use table::{ZERO_LEVEL, filled, passed, reset_level};
 
 #[cfg(test)]
 mod tests;

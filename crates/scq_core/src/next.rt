@@ -1,13 +1,13 @@
 //! What becomes of a seat after its turn.
 
-ghost use Rattle.std.specs.Prelude.{◌≡◌, ℕ, ◌<◌, List, None, unwrap_or};
+ghost use Rattle.std.specs.Prelude.{◌≡◌, ℕ, ◌<◌, false, nat_le, List, None, unwrap_or};
 ghost use Rattle.scq_core.specs.declared.phase.Phase.TheVariants.{AtE1, AtE2, AtD3};
 ghost use Rattle.scq_core.specs.declared.ended.Ended.TheVariants.{Done};
 ghost use Rattle.scq_word.specs.Words.{rank_in};
 ghost use Rattle.scq_word.specs.Entries.{IsIndexOrMark};
 ghost use Rattle.scq_core.specs.Machine.{Part};
 ghost use Rattle.scq_core.specs.Table.{ring_slots, after, stores};
-ghost use Rattle.scq_core.specs.Turn.{copied, part_after, laid_by, IsOfGet, IsReady};
+ghost use Rattle.scq_core.specs.Turn.{copied, ends_call, has_ended, part_after, laid_by, IsOfGet, IsReady};
 
 use crate::ended::Ended;
 use crate::phase::Phase;
@@ -41,6 +41,23 @@ pub enum Next {
     },
 }
 
+/// Whether a turn ends its call where it found this word.
+#[tactic(auto, unfolding(crate::specs::Table::zero_level))]
+pub fn ends_call(setup: &Setup, turn: &Phase, found: u64) -> bool
+    ensures { result ≡ ends_call setup.now turn.now found }
+{
+    match turn {
+        Phase::AtE1 { .. } => setup.limit() <= found,
+        Phase::AtE5 { .. } => found == reset_level(setup),
+        Phase::AtE6 { .. } => true,
+        Phase::AtD1 { .. } => found < ZERO_LEVEL,
+        Phase::AtD2 { .. } => setup.limit() <= found,
+        Phase::AtD4 { .. } => true,
+        Phase::AtD10 { leaving, .. } => *leaving || found <= ZERO_LEVEL,
+        _ => false,
+    }
+}
+
 /// What becomes of a seat after its turn, which found this word. `copy` is a copy of the content that
 /// the turn may need twice: a put's own where it may place it, and the one beside the entry where it
 /// is taken.
@@ -50,6 +67,7 @@ pub fn next_of(setup: &Setup, turn: Phase, found: u64, copy: Bytes) -> Next
         → (p : Part) → after setup.now turn found beside p ≡ part_after result p }
     ensures laid { (beside : List ℕ) → copied turn beside ≡ copy
         → unwrap_or (laid_by result) beside ≡ stores turn found beside }
+    ensures ends { has_ended result ≡ ends_call setup.now turn found }
 {
     match turn {
         Phase::AtE1 {
@@ -141,6 +159,7 @@ pub fn next_of(setup: &Setup, turn: Phase, found: u64, copy: Bytes) -> Next
 fn drawn_by_put(setup: &Setup, ring: u32, index: u32, content: Bytes, found: u64) -> Next
     ensures part { (least : ℕ) (beside : List ℕ) (p : Part) → after setup.now (AtE1 ring index content least) found beside p ≡ part_after result p }
     ensures laid { laid_by result ≡ None }
+    ensures ends { has_ended result ≡ nat_le setup.now.limit found }
 {
     if found >= setup.limit() {
         Next::Spends {
@@ -206,6 +225,7 @@ fn seen_by_put(
     requires entry { IsIndexOrMark setup.now.order found }
     ensures part { (least : ℕ) (beside : List ℕ) (p : Part) → after setup.now (AtE2 ring index content ticket least) found beside p ≡ part_after result p }
     ensures laid { laid_by result ≡ None }
+    ensures ends { has_ended result ≡ false }
 {
     let shape = setup.shape();
     let entry = unpack(shape, found);
@@ -244,6 +264,7 @@ fn next_of_get(setup: &Setup, turn: Phase, found: u64, copy: Bytes) -> Next
         → (p : Part) → after setup.now turn found beside p ≡ part_after result p }
     ensures laid { (beside : List ℕ) → copied turn beside ≡ copy
         → unwrap_or (laid_by result) beside ≡ stores turn found beside }
+    ensures ends { has_ended result ≡ ends_call setup.now turn found }
 {
     match turn {
         Phase::AtD1 { ring } => {
@@ -377,6 +398,7 @@ fn seen_by_get(setup: &Setup, ring: u32, ticket: u64, found: u64) -> Next
     requires { IsIndexOrMark setup.now.order found }
     ensures part { (least : ℕ) (beside : List ℕ) (p : Part) → after setup.now (AtD3 ring ticket least) found beside p ≡ part_after result p }
     ensures laid { laid_by result ≡ None }
+    ensures ends { has_ended result ≡ false }
 {
     let shape = setup.shape();
     let cycle = unpack(shape, found).cycle;

@@ -1,8 +1,10 @@
 //! What a seat is in the middle of.
 
 ghost use Rattle.std.specs.Prelude.{◌≡◌, IfOk};
+ghost use Rattle.scq_core.specs.Table.{next_step};
 ghost use Rattle.scq_core.specs.Turn.{IsOfGet};
 
+use crate::step::Step;
 use scq_word::{Bytes, NoMemory};
 use std::alloc::Global;
 
@@ -125,6 +127,30 @@ pub enum Phase {
 }
 
 impl Phase {
+    /// The one step that a seat in the middle of a call makes next.
+    pub fn next_step(&self) -> Option<Step>
+        ensures { result ≡ next_step self.now }
+    {
+        match self {
+            Phase::AtE1 { .. } => Some(Step::E1Again),
+            Phase::AtE2 { .. } => Some(Step::E2),
+            Phase::AtE3 { .. } => Some(Step::E3),
+            Phase::AtE4 { .. } => Some(Step::E4),
+            Phase::AtE5 { .. } => Some(Step::E5),
+            Phase::AtE6 { .. } => Some(Step::E6),
+            Phase::AtD2 { .. } => Some(Step::D2),
+            Phase::AtD3 { .. } => Some(Step::D3),
+            Phase::AtD4 { .. } => Some(Step::D4),
+            Phase::AtD5 { .. } => Some(Step::D5),
+            Phase::AtD6 { .. } => Some(Step::D6),
+            Phase::AtD7 { .. } => Some(Step::D7),
+            Phase::AtD8 { .. } => Some(Step::D8),
+            Phase::AtD9 { .. } => Some(Step::D9),
+            Phase::AtD10 { .. } => Some(Step::D10),
+            _ => None,
+        }
+    }
+
     /// An equal phase, with a copy of its content.
     pub fn copy(&self, alloc: Global) -> Result<Phase, NoMemory>
         ensures { IfOk result (λ copy. copy ≡ self.now) }

@@ -2,9 +2,8 @@
 
 ghost use Rattle.std.specs.Prelude.{◌≡◌, ℕ, ◌+◌, ◌<◌, IfOk, replicate, slice_set, unwrap_or, vec_len};
 ghost use Rattle.scq_word.specs.Sizes.{n_of};
-ghost use Rattle.scq_word.specs.Tickets.{slot_of};
 ghost use Rattle.scq_word.specs.Words.{packed};
-ghost use Rattle.scq_core.specs.Table.{ring_slots};
+ghost use Rattle.scq_core.specs.Table.{ring_slots, slot};
 ghost use Rattle.scq_core.specs.StateLists.{no_slot};
 ghost use Rattle.scq_core.specs.Fresh.{empty_ring, IsFullRing};
 ghost use Rattle.scq_core.specs.Rings.{IsCell, word_in, content_in, ring_with};
@@ -156,7 +155,7 @@ fn unused(alloc: Global, setup: &Setup) -> Result<Vec<Slot>, NoMemory>
 fn fill(setup: &Setup, slots: &mut Vec<Slot>, index: u32, content: Bytes)
     requires many { vec_len slots.old ≡ ring_slots setup.now }
     requires own { index < n_of setup.now.order }
-    ensures { slots.new.items ≡ slice_set slots.old.items (slot_of (ring_slots setup.now) (ring_slots setup.now + index))
+    ensures { slots.new.items ≡ slice_set slots.old.items (slot setup.now (ring_slots setup.now + index))
         (record { word = packed (ring_slots setup.now) 1 1 index; content = content }) }
 {
     let shape = setup.shape();

@@ -1,13 +1,13 @@
 //! A seat's part of a state.
 
 ghost use Rattle.std.specs.Option.{option_copied};
-ghost use Rattle.std.specs.Prelude.{◌-◌, length, slice_get, ◌≡◌, ℕ, List, ◌<◌, is_some, unwrap_or, IfOk, OnOk, OnErr};
+ghost use Rattle.std.specs.Prelude.{◌-◌, length, slice_get, ◌≡◌, ℕ, List, ◌<◌, true, vec_len, vec_capacity, is_some, unwrap_or, IfOk, OnOk, OnErr};
 ghost use Rattle.scq_core.specs.Table.{turn_of, after, stores, hand_without, holds_index};
 ghost use Rattle.scq_core.specs.Start.{idle_part};
-ghost use Rattle.scq_core.specs.Turn.{copied, IsReady};
+ghost use Rattle.scq_core.specs.Turn.{copied, ends_call, IsReady};
 
 use crate::ended::Ended;
-use crate::next::{Next, next_of};
+use crate::next::{Next, ends_call, next_of};
 use crate::phase::Phase;
 use crate::step::Step;
 use scq_word::{Bytes, NoMemory, Setup};
@@ -146,10 +146,10 @@ impl Seat {
             → self.new ≡ after setup.now (unwrap_or started self.old.phase) found beside self.old) }
         ensures laid { IfOk result (λ laid. (beside : List ℕ) → copied (unwrap_or started self.old.phase) beside ≡ copy
             → unwrap_or laid beside ≡ stores (unwrap_or started self.old.phase) found beside) }
-        ensures err { OnErr result (self.new ≡ self.old) }
+        ensures err { OnErr result ((self.new ≡ self.old) × (ends_call setup.now (unwrap_or started self.old.phase) found ≡ true)) }
     {
-        self.hand.reserve(1)?;
-        self.calls.reserve(1)?;
+        let ending = ends_call(setup, self.turn(&started), found);
+        make_room(&mut self.hand, &mut self.calls, ending)?;
         let resting = mem::replace(&mut self.phase, Phase::Idle);
         let turn = started.unwrap_or(resting);
         match next_of(setup, turn, found, copy) {
@@ -198,6 +198,20 @@ impl Seat {
             }
         }
     }
+}
+
+/// Room for what a call that ends puts into the hand and into the record.
+fn make_room(hand: &mut Vec<u32>, calls: &mut Vec<Ended>, ending: bool) -> Result<(), NoMemory>
+    ensures hand { hand.new.items ≡ hand.old.items }
+    ensures calls { calls.new.items ≡ calls.old.items }
+    ensures room { OnOk result (ending ≡ true → (vec_len hand.new < vec_capacity hand.new) × (vec_len calls.new < vec_capacity calls.new)) }
+    ensures err { OnErr result (ending ≡ true) }
+{
+    if ending {
+        hand.reserve(1)?;
+        calls.reserve(1)?;
+    }
+    Ok(())
 }
 
 /// Takes an index out of a hand.

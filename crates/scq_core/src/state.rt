@@ -39,8 +39,10 @@ impl Model for State {
 
 impl State {
     ghost use Rattle.scq_core.specs.declared.phase.Phase.TheVariants.{Idle};
-    ghost use Rattle.scq_core.specs.Table.{step_of, ring_slots, zero_level, holds_index};
-    ghost use Rattle.scq_core.specs.Turn.{ring_under_way};
+    ghost use Rattle.scq_core.specs.declared.slot.Cell.TheVariants.{Entry as EntryCell};
+    ghost use Rattle.scq_word.specs.Entries.{IsIndexOrMark};
+    ghost use Rattle.scq_core.specs.Table.{step_of, next_step, ring_slots, zero_level, holds_index};
+    ghost use Rattle.scq_core.specs.Turn.{ring_under_way, TakesMemory};
     ghost use Rattle.scq_core.specs.Start.{start_of};
     ghost use Rattle.scq_core.specs.Reach.{IsReachable};
     ghost use Rattle.scq_core.specs.StateLists.{machine_of, ring_in, no_slot, IsCellOf};
@@ -63,12 +65,14 @@ impl State {
         })
     }
 
-    /// One step of a seat. After an `Err` the state is unchanged.
+    /// One step of a seat. After an `Err` the state is unchanged. Memory is taken only by a step that copies a content
+    /// or ends its call.
     pub fn apply(&mut self, seat: u32, step: &Step) -> Result<(), ApplyFault>
         requires { seat < self.old.setup.seats }
         ensures ok { OnOk result (step_of self.old.setup (machine_of self.old) seat step.now ≡ Some (machine_of self.new)) }
         ensures setup { self.new.setup ≡ self.old.setup }
         ensures not_enabled { (result ≡ Err ApplyFault.NotEnabled) ↔ (step_of self.old.setup (machine_of self.old) seat step.now ≡ None) }
+        ensures no_memory { (result ≡ Err ApplyFault.NoMemory) → TakesMemory self.old.setup (machine_of self.old) seat step.now }
         ensures err { OnErr result (self.new ≡ self.old) }
         ensures reachable { IsReachable self.new.setup (machine_of self.new) }
     {
@@ -99,10 +103,26 @@ impl State {
         requires cell { IsCellOf self.now.setup cell }
         ensures word { result ≡ word_in (no_slot self.now.setup) (ring_in self.now.setup self.now.rings ring) cell }
         ensures fits { (machine_of self.now).cells.threshold ring < 2 ^ 62 }
+        ensures index { (slot : ℕ) → cell ≡ EntryCell slot → IsIndexOrMark self.now.setup.order result }
     {
         self.rings[ring as usize].read(cell)
     }
 
+    /// The numbers that the state was started with.
+    pub fn setup(&self) -> Setup
+        ensures { result ≡ self.now.setup }
+    {
+        self.setup
+    }
+
+    /// The opening contents, in order of their index.
+    pub fn opening(&self) -> &[Bytes]
+        ensures { result.now ≡ self.now.opening }
+    {
+        self.opening.as_slice()
+    }
+
+    /// The ticket that the next dequeue of the ring draws.
     pub fn head(&self, ring: u32) -> u64
         requires { ring < self.now.setup.rings }
         ensures { result ≡ (machine_of self.now).cells.head ring }
@@ -110,6 +130,7 @@ impl State {
         self.word(ring, Cell::Head)
     }
 
+    /// The ticket that the next enqueue of the ring draws.
     pub fn tail(&self, ring: u32) -> u64
         requires { ring < self.now.setup.rings }
         ensures { result ≡ (machine_of self.now).cells.tail ring }
@@ -126,15 +147,17 @@ impl State {
         self.word(ring, Cell::Threshold) as i64 - ZERO_LEVEL as i64
     }
 
-    /// The word of an entry.
+    /// The word of an entry, which `unpack` takes.
     pub fn entry(&self, ring: u32, slot: u32) -> u64
         requires ring { ring < self.now.setup.rings }
         requires slot { slot < ring_slots self.now.setup }
-        ensures { result ≡ (machine_of self.now).cells.entries.word ring slot }
+        ensures word { result ≡ (machine_of self.now).cells.entries.word ring slot }
+        ensures index { IsIndexOrMark self.now.setup.order result }
     {
         self.word(ring, Cell::Entry { slot })
     }
 
+    /// Whether the seat has taken the index and not placed it since.
     pub fn in_hand(&self, seat: u32, index: u32) -> bool
         requires seat { seat < self.now.setup.seats }
         requires index { index < n_of self.now.setup.order }
@@ -157,6 +180,14 @@ impl State {
         ensures { result.now ≡ ((machine_of self.now).part seat).phase }
     {
         self.seats[seat as usize].phase()
+    }
+
+    /// The one step that the seat makes next, where it is in the middle of a call.
+    pub fn next_step(&self, seat: u32) -> Option<Step>
+        requires { seat < self.now.setup.seats }
+        ensures { result ≡ next_step ((machine_of self.now).part seat).phase }
+    {
+        self.phase(seat).next_step()
     }
 
     /// The spent ticket that the seat keeps.

@@ -1,6 +1,9 @@
 //! The steps of the table, by name.
 
-use scq_word::Bytes;
+ghost use Rattle.std.specs.Prelude.{◌≡◌, IfOk};
+
+use scq_word::{Bytes, NoMemory};
+use std::alloc::Global;
 
 /// One atomic step of one seat, by its line in the step table. `E1` begins an enqueue and `E1Again`
 /// draws its next ticket; both are the step E1. `D1` begins a dequeue. A content is what a put carries.
@@ -47,4 +50,39 @@ pub enum Step {
     D9,
     /// A dequeue takes one off Threshold, for the ticket that it gave up.
     D10,
+}
+
+impl Step {
+    /// An equal step, with a copy of its content.
+    pub fn copy(&self, alloc: Global) -> Result<Step, NoMemory>
+        ensures { IfOk result (λ copy. copy ≡ self.now) }
+    {
+        match self {
+            Step::E1 {
+                ring,
+                index,
+                content,
+            } => Ok(Step::E1 {
+                ring: *ring,
+                index: *index,
+                content: Bytes::copy_of(alloc, content.bytes())?,
+            }),
+            Step::E1Again => Ok(Step::E1Again),
+            Step::E2 => Ok(Step::E2),
+            Step::E3 => Ok(Step::E3),
+            Step::E4 => Ok(Step::E4),
+            Step::E5 => Ok(Step::E5),
+            Step::E6 => Ok(Step::E6),
+            Step::D1 { ring } => Ok(Step::D1 { ring: *ring }),
+            Step::D2 => Ok(Step::D2),
+            Step::D3 => Ok(Step::D3),
+            Step::D4 => Ok(Step::D4),
+            Step::D5 => Ok(Step::D5),
+            Step::D6 => Ok(Step::D6),
+            Step::D7 => Ok(Step::D7),
+            Step::D8 => Ok(Step::D8),
+            Step::D9 => Ok(Step::D9),
+            Step::D10 => Ok(Step::D10),
+        }
+    }
 }

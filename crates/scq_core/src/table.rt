@@ -2,12 +2,11 @@
 
 ghost use Rattle.std.specs.Prelude.{◌≡◌, ℕ, ◌<◌};
 ghost use Rattle.scq_word.specs.Sizes.{n_of};
-ghost use Rattle.scq_word.specs.Tickets.{slot_of};
 ghost use Rattle.scq_word.specs.Words.{mark_of, packed, safe_in, cycle_in};
 ghost use Rattle.scq_word.specs.Entries.{IsIndexOrMark};
 ghost use Rattle.scq_core.specs.declared.slot.Cell.TheVariants.{Entry as EntryCell};
-ghost use Rattle.scq_core.specs.Table.{ring_slots, cycle, reset_level, passed, writes};
-ghost use Rattle.scq_core.specs.Turn.{ring_of, cell_of, IsReady};
+ghost use Rattle.scq_core.specs.Table.{ring_slots, cycle, slot, reset_level, passed, writes, ring_of, cell_of};
+ghost use Rattle.scq_core.specs.Turn.{IsReady};
 
 use crate::phase::Phase;
 use crate::slot::Cell;
@@ -68,7 +67,7 @@ pub fn cell_of(setup: &Setup, turn: &Phase) -> Cell
 
 /// The entry in the slot of a ticket.
 fn entry_at(setup: &Setup, ticket: u64) -> Cell
-    ensures { result ≡ EntryCell (slot_of (ring_slots setup.now) ticket) }
+    ensures { result ≡ EntryCell (slot setup.now ticket) }
 {
     Cell::Entry {
         slot: slot_of(setup.shape(), ticket),
@@ -99,7 +98,7 @@ pub fn written(setup: &Setup, turn: &Phase, found: u64) -> u64
 }
 
 /// The word of an index at its ticket.
-fn filled(setup: &Setup, ticket: u64, index: u32) -> u64
+pub fn filled(setup: &Setup, ticket: u64, index: u32) -> u64
     requires below_limit { ticket < setup.now.limit }
     requires own { index < n_of setup.now.order }
     ensures { result ≡ packed (ring_slots setup.now) (cycle setup.now ticket) 1 index }
@@ -113,11 +112,11 @@ fn filled(setup: &Setup, ticket: u64, index: u32) -> u64
     pack(shape, entry)
 }
 
-/// What Threshold is reset to once an index was placed: 3n - 1.
+/// The word of what Threshold is reset to once an index was placed.
 pub fn reset_level(setup: &Setup) -> u64
     ensures { result ≡ reset_level setup.now }
 {
-    ZERO_LEVEL + 3 * u64::from(setup.shape().n()) - 1
+    ZERO_LEVEL + setup.reset_value()
 }
 
 /// A fetch_or of the mark takes the index out, and leaves the cycle and the safe bit.
@@ -130,7 +129,7 @@ fn consumed(setup: &Setup, found: u64) -> u64
 
 /// What a dequeue leaves in an entry of an earlier cycle: without an index it is moved to the cycle of
 /// the dequeue's ticket, so that no enqueue with an earlier one fills it; an index is marked unsafe.
-fn passed(setup: &Setup, ticket: u64, found: u64) -> u64
+pub fn passed(setup: &Setup, ticket: u64, found: u64) -> u64
     requires below_limit { ticket < setup.now.limit }
     requires entry { IsIndexOrMark setup.now.order found }
     ensures { result ≡ passed setup.now ticket found }

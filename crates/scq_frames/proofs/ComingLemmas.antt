@@ -94,9 +94,9 @@ Quiet-fetched first old new mid after bytes q fetched clear going within few sam
 }
 
 -- the message of a line that is too long
-begins-long : (size place at count : ℕ) (line : List ℕ) (rest : List Framed) → IsTooLong size place line at count → BeginsWithLong at count (message_in place line ++ rest)
-begins-long size place at count [] rest long = absurd (omega (arith, long.above, long.count))
-begins-long size place at count (b ∷ bs) rest long = (sym long.number, sym long.count)
+begins-long : (size number at count : ℕ) (line : List ℕ) (rest : List Framed) → IsTooLong size number line at count → BeginsWithLong at count (message_in number line ++ rest)
+begins-long size number at count [] rest long = absurd (omega (arith, long.above, long.count))
+begins-long size number at count (b ∷ bs) rest long = (sym long.number, sym long.count)
 
 -- the first line is too long, whatever follows
 Comes-long : (first old new : Framing) (len at count : ℕ) (bytes : List ℕ) (q : Quiet first old bytes) → EndsAt old.held len → old.read ≤ old.most → (IsTrue old.ended → IsTrue new.ended)

@@ -12,7 +12,7 @@ use Rattle.scq_frames.proofs.FindingLemmas.{Gave, trouble-line, trouble-fetched,
 use Rattle.scq_frames.proofs.ComingLemmas.{Quiet, Quiet-start, Quiet-line, Quiet-fetched, Comes-none}
 use Rattle.scq_frames.specs.Coming.{Found}
 use Rattle.scq_frames.specs.Text.{payload_of}
-use Rattle.scq_frames.specs.Framing.{Fetched, bytes_ahead, Framing, NothingLeft, told_ahead, told_size, weight_of}
+use Rattle.scq_frames.specs.Framing.{Fetched, bytes_ahead, Framing, NothingLeft, visible_ahead, visible_size, weight_of}
 use Rattle.scq_frames.specs.declared.message.Message.{Message}
 
 module _ (number : List ℕ → ℕ) where
@@ -22,8 +22,8 @@ module _ (number : List ℕ → ℕ) where
     pub payload : now.size ≡ first.size
     pub most : now.most ≡ first.most
     pub failing : now.failed ≡ true
-    pub ahead : told_ahead number first (left source) ≡ told_ahead number now (left after)
-    pub size : told_size now (left after) ≡ told_size first (left source)
+    pub ahead : visible_ahead number first (left source) ≡ visible_ahead number now (left after)
+    pub size : visible_size now (left after) ≡ visible_size first (left source)
     pub end : (IsTrue first.ended → NothingLeft (left source)) → IsTrue now.ended → NothingLeft (left after)
     pub ended : IsTrue first.ended → (after ≡ source) × IsTrue now.ended
     pub line : first.line ≤ now.line
@@ -63,33 +63,33 @@ module _ (number : List ℕ → ℕ) where
   })
 
   -- passing a line takes its message off those ahead
-  pub told_ahead-line : (old : Framing) (len weight : ℕ) (left : Option (List ℕ)) → EndsAt old.held len
-      → told_ahead number old left ≡ option_map (λ rest. map (numbered old.file number) (message_in (old.line + 1) (take len old.held)) ++ rest)
-      (told_ahead number (record old { line = old.line + 1; held = drop (len + 1) old.held; weight = weight }) left)
-  told_ahead-line old len weight None ends = refl
-  told_ahead-line old len weight (Some left) ends =
+  pub visible_ahead-line : (old : Framing) (len weight : ℕ) (left : Option (List ℕ)) → EndsAt old.held len
+      → visible_ahead number old left ≡ option_map (λ rest. map (numbered old.file number) (message_in (old.line + 1) (take len old.held)) ++ rest)
+      (visible_ahead number (record old { line = old.line + 1; held = drop (len + 1) old.held; weight = weight }) left)
+  visible_ahead-line old len weight None ends = refl
+  visible_ahead-line old len weight (Some left) ends =
       let behind = if old.ended then [] else left in
       ap (λ ms. Some (map (numbered old.file number) ms)) (messages_after-ended old.line old.held behind len ends)
       ∙ ap Some (map-append (numbered old.file number) (message_in (old.line + 1) (take len old.held)) (messages_after (old.line + 1) (drop (len + 1) old.held ++ behind)))
 
   -- the last line is all that is ahead at the end
-  pub told_ahead-last : (old : Framing) (left : Option (List ℕ)) → IsTrue old.ended → HasNoLineFeed old.held 0 (length old.held)
-      → told_ahead number old left ≡ option_map (λ _. map (numbered old.file number) (message_in (old.line + 1) old.held)) left
-  told_ahead-last old None ended clear = refl
-  told_ahead-last old (Some left) ended clear =
+  pub visible_ahead-last : (old : Framing) (left : Option (List ℕ)) → IsTrue old.ended → HasNoLineFeed old.held 0 (length old.held)
+      → visible_ahead number old left ≡ option_map (λ _. map (numbered old.file number) (message_in (old.line + 1) old.held)) left
+  visible_ahead-last old None ended clear = refl
+  visible_ahead-last old (Some left) ended clear =
       let none : bytes_ahead old left ≡ old.held = ap (λ (e : Bool). old.held ++ (if e then [] else left)) ended ∙ append-nil old.held in
       ap (λ bytes. Some (map (numbered old.file number) (messages_after old.line bytes))) none
       ∙ ap (λ ms. Some (map (numbered old.file number) ms)) (messages_after-last old.line old.held clear)
 
   -- nothing is ahead behind it
-  pub told_ahead-over : (f : Framing) (left : Option (List ℕ)) → IsTrue f.ended → f.held ≡ [] → told_ahead number f left ≡ option_map (λ _. []) left
-  told_ahead-over f None ended none = refl
-  told_ahead-over f (Some left) ended none =
+  pub visible_ahead-over : (f : Framing) (left : Option (List ℕ)) → IsTrue f.ended → f.held ≡ [] → visible_ahead number f left ≡ option_map (λ _. []) left
+  visible_ahead-over f None ended none = refl
+  visible_ahead-over f (Some left) ended none =
       ap (λ (e : Bool). Some (map (numbered f.file number) (messages_after f.line (f.held ++ (if e then [] else left))))) ended
       ∙ ap (λ (held : List ℕ). Some (map (numbered f.file number) (messages_after f.line (held ++ [])))) none
       ∙ ap (λ ms. Some (map (numbered f.file number) ms)) (messages_after-nil f.line)
 
-  option_map-nothing : (told : Option (List Message)) → option_map (λ rest. [] ++ rest) told ≡ told
+  option_map-nothing : (visible : Option (List Message)) → option_map (λ rest. [] ++ rest) visible ≡ visible
   option_map-nothing None = refl
   option_map-nothing (Some ms) = refl
 
@@ -102,17 +102,17 @@ module _ (number : List ℕ → ℕ) where
 
   -- what was ahead is what the line gave, and what is ahead behind it
   pub gives-line : (first old new : Framing) (before after : Option (List ℕ)) (len : ℕ) (given : Option Message)
-      → told_ahead number first before ≡ told_ahead number old after → Passed old new len given
-      → told_ahead number first before ≡ option_map (λ rest. option_to_list given ++ rest) (told_ahead number new after)
+      → visible_ahead number first before ≡ visible_ahead number old after → Passed old new len given
+      → visible_ahead number first before ≡ option_map (λ rest. option_to_list given ++ rest) (visible_ahead number new after)
   gives-line first old new before after len given ahead passed =
-      ahead ∙ told_ahead-line old len (old.weight + sum_by weight_of (option_to_list given)) after passed.ends
-      ∙ ap (λ (ms : List Message). option_map (λ rest. ms ++ rest) (told_ahead number (record old { line = old.line + 1; held = drop (len + 1) old.held; weight = old.weight + sum_by weight_of (option_to_list given) }) after)) (sym passed.gave)
-      ∙ ap (λ (f : Framing). option_map (λ rest. option_to_list given ++ rest) (told_ahead number f after)) (sym passed.after)
+      ahead ∙ visible_ahead-line old len (old.weight + sum_by weight_of (option_to_list given)) after passed.ends
+      ∙ ap (λ (ms : List Message). option_map (λ rest. ms ++ rest) (visible_ahead number (record old { line = old.line + 1; held = drop (len + 1) old.held; weight = old.weight + sum_by weight_of (option_to_list given) }) after)) (sym passed.gave)
+      ∙ ap (λ (f : Framing). option_map (λ rest. option_to_list given ++ rest) (visible_ahead number f after)) (sym passed.after)
 
   -- a line without a message is empty
-  pub no_line : (place file : ℕ) (line : List ℕ) → [] ≡ map (numbered file number) (message_in place line) → line ≡ []
-  no_line place file [] e = refl
-  no_line place file (b ∷ bs) e = cc
+  pub no_line : (at file : ℕ) (line : List ℕ) → [] ≡ map (numbered file number) (message_in at line) → line ≡ []
+  no_line at file [] e = refl
+  no_line at file (b ∷ bs) e = cc
 
   -- an empty line was passed, and the search goes on
   pub Searches-line : {S : Type 0} (left : S → Option (List ℕ)) (faults : S → ℕ) (first old new : Framing) (source after : S) (len : ℕ) (given : Option Message)
@@ -120,15 +120,15 @@ module _ (number : List ℕ → ℕ) where
   Searches-line left faults first old new source after len given s passed none =
       let nothing : option_to_list given ≡ [] = ap option_to_list none in
       let f = record old { line = old.line + 1; held = drop (len + 1) old.held; weight = old.weight + sum_by weight_of (option_to_list given) } in
-      let same : (told : Option (List Message)) → option_map (λ rest. option_to_list given ++ rest) told ≡ told =
-      λ told. ap (λ (ms : List Message). option_map (λ rest. ms ++ rest) told) nothing ∙ option_map-nothing told in
+      let same : (visible : Option (List Message)) → option_map (λ rest. option_to_list given ++ rest) visible ≡ visible =
+      λ visible. ap (λ (ms : List Message). option_map (λ rest. ms ++ rest) visible) nothing ∙ option_map-nothing visible in
       let blank : message_in (old.line + 1) (take len old.held) ≡ [] = ap (message_in (old.line + 1)) (no_line (old.line + 1) old.file (take len old.held) (sym nothing ∙ passed.gave)) in
       subst (λ (f : Framing). Searches left faults first f source after) (sym passed.after) (record {
         file = s.file;
         payload = s.payload;
         most = s.most;
         failing = s.failing;
-        ahead = gives-line first old new (left source) (left after) len given s.ahead passed ∙ same _ ∙ ap (λ (f : Framing). told_ahead number f (left after)) passed.after;
+        ahead = gives-line first old new (left source) (left after) len given s.ahead passed ∙ same _ ∙ ap (λ (f : Framing). visible_ahead number f (left after)) passed.after;
         size = s.size;
         end = s.end;
         ended = s.ended;
@@ -156,22 +156,22 @@ module _ (number : List ℕ → ℕ) where
     pub none : IfNone given (new ≡ old)
     pub some : IfSome given (λ m. new ≡ record old { line = old.line + 1; held = []; weight = old.weight + weight_of m })
 
-  nothing_behind : (old new : Framing) (given : Option Message) (after : Option (List ℕ)) → PassedLast old new given → told_ahead number new after ≡ option_map (λ _. []) after
+  nothing_behind : (old new : Framing) (given : Option Message) (after : Option (List ℕ)) → PassedLast old new given → visible_ahead number new after ≡ option_map (λ _. []) after
   nothing_behind old new None after p =
-      ap (λ (f : Framing). told_ahead number f after) p.none ∙ told_ahead-over old after p.ended (no_line (old.line + 1) old.file old.held p.gave)
+      ap (λ (f : Framing). visible_ahead number f after) p.none ∙ visible_ahead-over old after p.ended (no_line (old.line + 1) old.file old.held p.gave)
   nothing_behind old new (Some m) after p =
-      ap (λ (f : Framing). told_ahead number f after) p.some
-      ∙ told_ahead-over (record old { line = old.line + 1; held = []; weight = old.weight + weight_of m }) after p.ended refl
+      ap (λ (f : Framing). visible_ahead number f after) p.some
+      ∙ visible_ahead-over (record old { line = old.line + 1; held = []; weight = old.weight + weight_of m }) after p.ended refl
 
   last-only : (first old : Framing) (before after : Option (List ℕ)) (given : Option Message) (new : Framing)
-      → told_ahead number first before ≡ told_ahead number old after → PassedLast old new given
-      → told_ahead number first before ≡ option_map (λ _. option_to_list given) after
+      → visible_ahead number first before ≡ visible_ahead number old after → PassedLast old new given
+      → visible_ahead number first before ≡ option_map (λ _. option_to_list given) after
   last-only first old before after given new ahead p =
-      ahead ∙ told_ahead-last old after p.ended p.clear ∙ ap (λ (ms : List Message). option_map (λ _. ms) after) (sym p.gave)
+      ahead ∙ visible_ahead-last old after p.ended p.clear ∙ ap (λ (ms : List Message). option_map (λ _. ms) after) (sym p.gave)
 
   pub gives-last : (first old new : Framing) (before after : Option (List ℕ)) (given : Option Message)
-      → told_ahead number first before ≡ told_ahead number old after → PassedLast old new given
-      → told_ahead number first before ≡ option_map (λ rest. option_to_list given ++ rest) (told_ahead number new after)
+      → visible_ahead number first before ≡ visible_ahead number old after → PassedLast old new given
+      → visible_ahead number first before ≡ option_map (λ rest. option_to_list given ++ rest) (visible_ahead number new after)
   gives-last first old new before after given ahead p =
       last-only first old before after given new ahead p ∙ joined after ∙ ap (option_map (λ rest. option_to_list given ++ rest)) (sym (nothing_behind old new given after p))
     where
@@ -181,28 +181,28 @@ module _ (number : List ℕ → ℕ) where
 
   -- where the end gave nothing, nothing was ahead
   pub none-last : (first old new : Framing) (before after : Option (List ℕ)) (given : Option Message)
-      → told_ahead number first before ≡ told_ahead number old after → PassedLast old new given
-      → IfNone given (told_ahead number first before ≡ option_map (λ _. []) before)
+      → visible_ahead number first before ≡ visible_ahead number old after → PassedLast old new given
+      → IfNone given (visible_ahead number first before ≡ option_map (λ _. []) before)
   none-last first old new before after (Some m) ahead p = tt
   none-last first old new before after None ahead p = empty before after (last-only first old before after None new ahead p)
     where
-      empty : (before after : Option (List ℕ)) → told_ahead number first before ≡ option_map (λ _. []) after → told_ahead number first before ≡ option_map (λ _. []) before
+      empty : (before after : Option (List ℕ)) → visible_ahead number first before ≡ option_map (λ _. []) after → visible_ahead number first before ≡ option_map (λ _. []) before
       empty None after e = refl
       empty (Some left) None e = cc
       empty (Some left) (Some rest) e = e
 
   -- the same, under other names of what was given and of the framer
-  pub gives-again : (told : Option (List Message)) (after : Option (List ℕ)) (new new' : Framing) (given given' : Option Message) → new' ≡ new → given' ≡ given
-      → told ≡ option_map (λ rest. option_to_list given ++ rest) (told_ahead number new after)
-      → told ≡ option_map (λ rest. option_to_list given' ++ rest) (told_ahead number new' after)
-  gives-again told after new new' given given' framer message gives =
-      gives ∙ ap (λ (f : Framing). option_map (λ rest. option_to_list given ++ rest) (told_ahead number f after)) (sym framer)
-      ∙ ap (λ (o : Option Message). option_map (λ rest. option_to_list o ++ rest) (told_ahead number new' after)) (sym message)
+  pub gives-again : (visible : Option (List Message)) (after : Option (List ℕ)) (new new' : Framing) (given given' : Option Message) → new' ≡ new → given' ≡ given
+      → visible ≡ option_map (λ rest. option_to_list given ++ rest) (visible_ahead number new after)
+      → visible ≡ option_map (λ rest. option_to_list given' ++ rest) (visible_ahead number new' after)
+  gives-again visible after new new' given given' framer message gives =
+      gives ∙ ap (λ (f : Framing). option_map (λ rest. option_to_list given ++ rest) (visible_ahead number f after)) (sym framer)
+      ∙ ap (λ (o : Option Message). option_map (λ rest. option_to_list o ++ rest) (visible_ahead number new' after)) (sym message)
 
   -- something was read, and the search goes on
   pub Searches-read : {S : Type 0} (left : S → Option (List ℕ)) (faults : S → ℕ) (first old new : Framing) (source mid after : S)
       → Searches left faults first old source mid → old.ended ≡ false → new ≡ record old { held = new.held; read = new.read; ended = new.ended }
-      → told_ahead number old (left mid) ≡ told_ahead number new (left after) → told_size new (left after) ≡ told_size old (left mid)
+      → visible_ahead number old (left mid) ≡ visible_ahead number new (left after) → visible_size new (left after) ≡ visible_size old (left mid)
       → (IsTrue new.ended → NothingLeft (left after)) → new.read ≤ new.most → faults after ≡ faults mid → Fetched old new (left mid) (left after)
       → HasNoLineFeed old.held 0 (length old.held) → new.read ≤ old.read + 4096 → Searches left faults first new source after
   Searches-read left faults first old new source mid after s going same ahead size end within kept fetched clear few = record {

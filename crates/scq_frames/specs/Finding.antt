@@ -34,7 +34,7 @@ Finds old new bytes (Err (TooLarge count)) = trouble_ahead old false bytes ≡ S
 Finds old new bytes (Err NoMemory) = Unit {0}
 
 -- the line of this number has these bytes, and a payload of so many, which are too many
-pub record IsTooLong (size place : ℕ) (bytes : List ℕ) (line len : ℕ) : Type 0 where
-  pub number : line ≡ place
+pub record IsTooLong (size at : ℕ) (bytes : List ℕ) (line len : ℕ) : Type 0 where
+  pub number : line ≡ at
   pub count : len ≡ length (payload_of bytes)
   pub above : size < len

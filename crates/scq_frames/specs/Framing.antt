@@ -31,15 +31,15 @@ bytes_ahead f left = f.held ++ (if f.ended then [] else left)
 abbrev pub messages_ahead : (List ℕ → ℕ) → Framing → List ℕ → List Message
 messages_ahead number f left = map (numbered f.file number) (messages_after f.line (bytes_ahead f left))
 
--- the messages ahead, where the source tells what it has left
-abbrev pub told_ahead : (List ℕ → ℕ) → Framing → Option (List ℕ) → Option (List Message)
-told_ahead number f left = option_map (messages_ahead number f) left
+-- the messages ahead, where what the source has left is visible
+abbrev pub visible_ahead : (List ℕ → ℕ) → Framing → Option (List ℕ) → Option (List Message)
+visible_ahead number f left = option_map (messages_ahead number f) left
 
--- how many bytes there are in all, read and left, where the source tells
-abbrev pub told_size : Framing → Option (List ℕ) → Option ℕ
-told_size f left = option_map (λ bytes. f.read + length bytes) left
+-- how many bytes there are in all, read and left, where those left are visible
+abbrev pub visible_size : Framing → Option (List ℕ) → Option ℕ
+visible_size f left = option_map (λ bytes. f.read + length bytes) left
 
--- nothing is left, where the source tells
+-- nothing is left, where that is visible
 abbrev pub NothingLeft : Option (List ℕ) → Type 0
 NothingLeft left = IfSome left (λ bytes. bytes ≡ [])
 

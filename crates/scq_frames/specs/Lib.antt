@@ -2,10 +2,10 @@ pub mod Text
 pub mod Trouble
 pub mod Lines
 pub mod Numbered
-pub mod Place
+pub mod Bounds
 pub mod Framing
 pub mod Finding
 pub mod Coming
-pub mod Sound
+pub mod FramerState
 pub mod Encoded
-pub mod Shown
+pub mod Views

@@ -1,7 +1,7 @@
 -- Where the first line of some bytes ends.
 use Rattle.std.specs.Prelude.{◌≡◌, ◌≢◌, ℕ, ◌<◌, ◌≤◌, List, length, slice_index}
 
--- no byte from one place up to another is LF
+-- no byte from one position up to another is LF
 abbrev pub HasNoLineFeed : List ℕ → ℕ → ℕ → Type 0
 HasNoLineFeed bytes from to = (k : ℕ) → from ≤ k → k < to → slice_index bytes k ≢ 10
 

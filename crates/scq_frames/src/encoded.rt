@@ -3,7 +3,7 @@ ghost use Rattle.std.specs.Option.{option_map};
 ghost use Rattle.byteorder.specs.Endian.{big_bytes};
 ghost use Rattle.scq_frames.specs.declared.message.Message.{Message as TheMessage};
 ghost use Rattle.scq_frames.specs.Encoded.{message_bytes, IsEncodable, BeginsWith, number_at, message_at};
-ghost use Rattle.scq_frames.specs.Shown.{shown};
+ghost use Rattle.scq_frames.specs.Views.{message_of_view};
 
 use crate::Message;
 use byteorder::{BigEndian, ByteOrder};
@@ -32,7 +32,7 @@ pub fn encode(message: &Message, into: &mut [u8])
     write_bytes(into, 16, payload);
 }
 
-/// Writes a number in four bytes to a place.
+/// Writes a number in four bytes at a position.
 fn write_number(into: &mut [u8], at: usize, number: u32)
     requires { at + 4 ≤ length into.old }
     ensures written { into.new ≡ take at into.old ++ big_bytes 4 number ++ drop (at + 4) into.old }
@@ -41,7 +41,7 @@ fn write_number(into: &mut [u8], at: usize, number: u32)
     BigEndian::write_u32(&mut into[at..at + 4], number);
 }
 
-/// Writes bytes to a place.
+/// Writes bytes at a position.
 fn write_bytes(into: &mut [u8], at: usize, bytes: &[u8])
     requires { at + length bytes.now ≤ length into.old }
     ensures { into.new ≡ take at into.old ++ bytes.now ++ drop (at + length bytes.now) into.old }
@@ -51,8 +51,8 @@ fn write_bytes(into: &mut [u8], at: usize, bytes: &[u8])
 
 /// The message whose bytes come first, or `None` exactly where no message's bytes do.
 pub fn decode(bytes: &[u8]) -> Option<View<'_>>
-    ensures found { IfSome result (λ view. BeginsWith bytes.now (shown view)) }
-    ensures only { (m : TheMessage) → IsEncodable m → BeginsWith bytes.now m → option_map shown result ≡ Some m }
+    ensures found { IfSome result (λ view. BeginsWith bytes.now (message_of_view view)) }
+    ensures only { (m : TheMessage) → IsEncodable m → BeginsWith bytes.now m → option_map message_of_view result ≡ Some m }
 {
     read_message(bytes)
 }
@@ -60,7 +60,7 @@ pub fn decode(bytes: &[u8]) -> Option<View<'_>>
 /// The message whose bytes come first.
 #[tactic(auto, unfolding(crate::specs::Encoded::message_at))]
 fn read_message(bytes: &[u8]) -> Option<View<'_>>
-    ensures { option_map shown result ≡ message_at bytes.now }
+    ensures { option_map message_of_view result ≡ message_at bytes.now }
 {
     let (file, rest) = read_number(bytes)?;
     let (line, rest) = read_number(rest)?;

@@ -1,16 +1,21 @@
 use scq_outside::Failed;
 use scq_word::NoMemory;
+use thiserror::Error;
 
 /// Why a framer gives no further message.
-#[derive(Clone, Copy, Debug, PartialEq, Eq)]
+#[derive(Clone, Copy, Debug, PartialEq, Eq, Error)]
 pub enum FrameFault {
     /// A read failed: the source's count of faults rose.
+    #[error("a read failed")]
     ReadFault,
     /// A line's payload has so many bytes, more than the framer allows. Lines are numbered from 1.
+    #[error("line {line}: payload of {len} bytes is too long")]
     TooLong { line: u32, len: u64 },
     /// So many bytes were read, one more than the framer's limit.
+    #[error("more bytes than the limit: {bytes} were read")]
     TooLarge { bytes: u64 },
     /// Memory was wanted and not there.
+    #[error("out of memory")]
     NoMemory,
 }
 

@@ -7,7 +7,7 @@ ghost use Rattle.scq_frames.specs.Text.{message_in, payload_of};
 ghost use Rattle.scq_frames.specs.Finding.{IsTooLong};
 ghost use Rattle.scq_frames.specs.Coming.{Found};
 ghost use Rattle.scq_frames.specs.Lines.{EndsAt, HasNoLineFeed};
-ghost use Rattle.scq_frames.specs.Framing.{Fetched, IsNext, NothingLeft, fresh, given_by, told_ahead, told_size, weight_of, work_left};
+ghost use Rattle.scq_frames.specs.Framing.{Fetched, IsNext, NothingLeft, fresh, given_by, visible_ahead, visible_size, weight_of, work_left};
 
 use crate::cut::message_of_line;
 use crate::window::{READ, Window};
@@ -38,11 +38,11 @@ impl Model for Framer {
 
     ghost Value = { Framing };
 
-    ghost use Rattle.scq_frames.specs.Sound.{IsSound, framing};
+    ghost use Rattle.scq_frames.specs.FramerState.{IsFramerState, framing};
 
     ghost view = { framing };
 
-    ghost invariant = { λ f. IsSound (framing f) };
+    ghost invariant = { λ f. IsFramerState (framing f) };
 }
 
 impl Framer {
@@ -80,11 +80,11 @@ impl Framer {
     ) -> Result<Option<Message>, FrameFault>
         requires { self.old.failed ≡ false }
 
-        // Where the source tells what it has left, the message is the first of those ahead, and
+        // Where what the source has left is visible, the message is the first of those ahead, and
         // those that are ahead now are the rest. Of these answers None comes exactly where none is ahead.
-        ensures gives { IfOk result (λ given. told_ahead (topic_of topics.now) self.old (S.left source.old)
-            ≡ option_map (λ rest. option_to_list given ++ rest) (told_ahead (topic_of topics.now) self.new (S.left source.new))) }
-        ensures none { IfOk result (λ given. IfNone given (told_ahead (topic_of topics.now) self.old (S.left source.old)
+        ensures gives { IfOk result (λ given. visible_ahead (topic_of topics.now) self.old (S.left source.old)
+            ≡ option_map (λ rest. option_to_list given ++ rest) (visible_ahead (topic_of topics.now) self.new (S.left source.new))) }
+        ensures none { IfOk result (λ given. IfNone given (visible_ahead (topic_of topics.now) self.old (S.left source.old)
             ≡ option_map (λ _. []) (S.left source.old))) }
 
         // None says, for every source, that the end was read. Later calls leave the source as it is, and
@@ -94,7 +94,7 @@ impl Framer {
         ensures ended { IsTrue self.old.ended → (source.new ≡ source.old) × IsTrue self.new.ended }
         ensures again { IsTrue self.old.ended → self.old.held ≡ [] → result ≡ Ok None }
 
-        // Of every source, also one that tells nothing, the messages are of the framer's file, their
+        // Of every source, also where nothing is visible, the messages are of the framer's file, their
         // lines rise, and their weights are at most one more than the limit. No other answer adds any.
         ensures next { IfOk result (λ given. IfSome given (IsNext self.old self.new)) }
         ensures topic { IfOk result (λ given. IfSome given (λ m. m.topic ≤ length topics.now)) }
@@ -103,11 +103,11 @@ impl Framer {
         ensures rises { self.old.line ≤ self.new.line }
         ensures bounded { self.new.weight ≤ self.new.most + 1 }
         ensures limits { (self.new.file ≡ self.old.file) × (self.new.size ≡ self.old.size) × (self.new.most ≡ self.old.most) }
-        ensures size { told_size self.new (S.left source.new) ≡ told_size self.old (S.left source.old) }
+        ensures size { visible_size self.new (S.left source.new) ≡ visible_size self.old (S.left source.old) }
         ensures read { OnOk result (self.new.read ≤ self.new.most) }
 
         // A fault is the trouble of what the source gave, and without one there is none so far. A long
-        // payload is told only once its line has ended, and each fault behind the messages in front of
+        // payload is found only once its line has ended, and each fault behind the messages in front of
         // it. No byte is read too early.
         ensures found { Found self.old self.new (S.left source.old) (S.left source.new) result }
         ensures read_fault { IsErrOf result FrameFault.ReadFault → Rose (S.faults source.old) (S.faults source.new) }
@@ -220,8 +220,8 @@ impl Framer {
         ensures few { self.new.read ≤ self.old.read + 4096 }
         ensures fetched { Fetched self.old self.new (S.left source.old) (S.left source.new) }
         ensures ahead { (number : List ℕ → ℕ) →
-            OnOk result (told_ahead number self.old (S.left source.old) ≡ told_ahead number self.new (S.left source.new)) }
-        ensures size { told_size self.new (S.left source.new) ≡ told_size self.old (S.left source.old) }
+            OnOk result (visible_ahead number self.old (S.left source.old) ≡ visible_ahead number self.new (S.left source.new)) }
+        ensures size { visible_size self.new (S.left source.new) ≡ visible_size self.old (S.left source.old) }
         ensures end { IsTrue self.new.ended → NothingLeft (S.left source.new) }
         ensures within { OnOk result (self.new.read ≤ self.new.most) }
         ensures falls { OnOk result (work_left self.new < work_left self.old) }

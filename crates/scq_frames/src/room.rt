@@ -1,4 +1,4 @@
-// The room in which a window's bytes stand: how more of it is made, and how it is read into.
+//! The room in which a window's bytes stand: how more of it is made, and how it is read into.
 ghost use Rattle.std.specs.Prelude.{◌≡◌, ℕ, ◌+◌, ◌-◌, ◌<◌, ◌≤◌, ◌++◌, take, slice_range, vec_len, IfOk, IfSome, OnOk, OnErr, []};
 ghost use Rattle.std.specs.Option.{option_map};
 ghost use Rattle.scq_outside.specs.Faults.{Rose};
@@ -34,7 +34,7 @@ pub fn make_room(
     Ok(start)
 }
 
-/// Reads at most so many bytes to a place of the room.
+/// Reads at most so many bytes to a position of the room.
 pub fn read_at<S: Source>(
     source: &mut S,
     room: &mut Vec<u8>,

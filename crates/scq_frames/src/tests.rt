@@ -1,5 +1,5 @@
-// The messages of texts in pieces of several sizes, of lines longer than the room, at the limits and
-// before reads that fail, and a message's bytes.
+//! The messages of texts in pieces of several sizes, of lines longer than the room, at the limits and
+//! before reads that fail, and a message's bytes.
 ghost use Rattle.std.specs.Prelude.{◌^◌, ◌≤◌, None};
 
 use crate::{Framer, Message, decode, encode};
@@ -9,7 +9,7 @@ use scq_word::Bytes;
 use std::alloc::{AllocError, Global};
 use std::test::Fail;
 
-/// Gives its bytes in pieces of at most one size, and tells nothing. After so many reads one fails.
+/// Gives its bytes in pieces of at most one size; none are visible. After so many reads one fails.
 #[derive(Drop)]
 struct Pieces<'a> {
     rest: &'a [u8],
@@ -46,7 +46,7 @@ struct Limits {
 }
 
 /// Each message with its file, its line, its topic and its payload, and then how the framer ended.
-fn told(
+fn listed(
     alloc: Global,
     topics: &Topics,
     limits: &Limits,
@@ -116,7 +116,7 @@ fn gives_the_same_messages_however_reads_are_cut(rt: HostRuntime) -> Result<(), 
                 most: most.min(99),
             };
             assert_eq!(rt;
-                told(rt.alloc(), &topics, &limits, source)?.as_str(),
+                listed(rt.alloc(), &topics, &limits, source)?.as_str(),
                 wanted
             );
         }
@@ -141,7 +141,7 @@ fn finds_what_ends_before_a_failed_read(rt: HostRuntime) -> Result<(), Fail> {
         };
         let limits = Limits { size: 3, most: 99 };
         assert_eq!(rt;
-            told(rt.alloc(), &Topics::none(), &limits, source)?.as_str(),
+            listed(rt.alloc(), &Topics::none(), &limits, source)?.as_str(),
             wanted
         );
     }
@@ -190,7 +190,10 @@ fn gives_lines_longer_than_the_room(rt: HostRuntime) -> Result<(), Fail> {
             size: 65_536,
             most: 999_999,
         };
-        assert_eq!(rt; told(rt.alloc(), &Topics::none(), &limits, source)?, wanted);
+        assert_eq!(rt;
+            listed(rt.alloc(), &Topics::none(), &limits, source)?,
+            wanted
+        );
     }
     Ok(())
 }

@@ -35,9 +35,9 @@ impl Model for Window {
 
     ghost view = { λ w. slice_range w.room.items w.start w.end };
 
-    ghost use Rattle.scq_frames.specs.Place.{IsPlace};
+    ghost use Rattle.scq_frames.specs.Bounds.{HasBounds};
 
-    ghost invariant = { IsPlace };
+    ghost invariant = { HasBounds };
 }
 
 impl Window {

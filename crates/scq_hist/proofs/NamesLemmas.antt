@@ -4,8 +4,8 @@ use Rattle.std.specs.Option.{option_eq}
 use Rattle.std.proofs.lemmas.Bool.Decides.{nat_tests}
 use Rattle.std.proofs.lemmas.Option.{slice_get_read}
 use Rattle.scq_hist.specs.Calls.{under_way, Names, IsGot, IsGetOf}
-use Rattle.scq_hist.specs.Aspects.{IsLawful, IsLawfulAt, IsAnswer, Suits}
-use Rattle.scq_hist.specs.Lookups.{got_name, call_start, IsFirstNamed, NamesNew, EndsNoGet}
+use Rattle.scq_hist.specs.Aspects.{IsLawful, IsLawfulAt, IsOnceAt, IsAnswer, Suits}
+use Rattle.scq_hist.specs.Lookups.{got_name, call_start, IsFirstNamed, EndsNoGet}
 use Rattle.scq_hist.specs.declared.events.Call.{Call}
 use Rattle.scq_hist.specs.declared.events.Call.TheVariants.{Put, Get}
 use Rattle.scq_hist.specs.declared.events.Event.{Event}
@@ -38,16 +38,14 @@ same_name events e a b n m = let x = n.ends in let y = m.ends in cc
 
 -- where the first End that names the put is at f, the one at e names it newly exactly where f is e
 pub first_is_new : (events : List Event) (e : ℕ) (name : PutName) (r : Option ℕ) → Names events e name
-    → MatchOption r (¬ IsGot events name) (IsFirstNamed events name) → IsTrue (option_eq eqb r (Some e)) ↔ NamesNew events e
+    → MatchOption r (¬ IsGot events name) (IsFirstNamed events name) → IsTrue (option_eq eqb r (Some e)) ↔ IsOnceAt events e
 first_is_new events e name None n h = absurd (h (e, n))
 first_is_new events e name (Some f) n h = (
-  λ t. record {
-    new = λ m d at lt before.
-        let here : f ≡ e = grind (arith, nat_tests) in
-        let same : m ≡ name = same_name events e m name at n in
-        h.first d (omega arith) (subst (λ x. Names events d x) same before);
-  },
-  λ w. let past : (f < e → ⊥) = λ lt. w.new name f n lt h.names in
+  λ t m d at lt before.
+      let here : f ≡ e = grind (arith, nat_tests) in
+      let same : m ≡ name = same_name events e m name at n in
+      h.first d (omega arith) (subst (λ x. Names events d x) same before),
+  λ w. let past : (f < e → ⊥) = λ lt. w name f n lt h.names in
       let none : (e < f → ⊥) = λ lt. h.first e lt n in
       let here : f ≡ e = omega arith in grind (arith, nat_tests),
 )
@@ -84,12 +82,12 @@ pub no_get : (events : List Event) (e : ℕ) (name : PutName) (r : Option ℕ) �
 no_get events e name r n h other = record {
   none = λ m s get.
       let there : Names events e m = record { seat = get.seat; content = get.content; ends = get.call.ends } in
-      let new : NamesNew events e =
-      record { new = λ z d at lt before. get.first d lt (subst (λ x. Names events d x) (same_name events e z m at there) before) } in
+      let new : IsOnceAt events e =
+      λ z d at lt before. get.first d lt (subst (λ x. Names events d x) (same_name events e z m at there) before) in
       let same = (first_is_new events e name r n h).1 new in absurd cc;
 }
 
 pub first_here : (events : List Event) (e : ℕ) (name : PutName) (r : Option ℕ) → Names events e name
     → MatchOption r (¬ IsGot events name) (IsFirstNamed events name) → option_eq eqb r (Some e) ≡ true → IsFirstNamed events name e
 first_here events e name r n h same =
-    record { names = n; first = λ d lt. (λ before. (((first_is_new events e name r n h).0 same).new name d n lt before)) }
+    record { names = n; first = λ d lt. (λ before. ((first_is_new events e name r n h).0 same name d n lt before)) }

@@ -45,14 +45,22 @@ abbrev pub IsBegun : List (List ℕ) → List Event → PutName → ℕ → List
 IsBegun opening events (Opening number) queue content e = (queue ≡ 0) × (slice_get opening number ≡ Some content)
 IsBegun opening events (Of seat number) queue content e = (s : ℕ) × (s < e) × IsPut events seat number queue content s
 
--- fresh: each Got names a put of the same queue and content that is an opening token or started before
-abbrev pub IsFresh : List (List ℕ) → List Event → Type 0
-IsFresh opening events = (s e seat queue : ℕ) (name : PutName) (content : List ℕ)
+-- fresh, for the Got at position e: it names a put of its own queue and content that is an opening token or started before
+abbrev pub IsFreshAt : List (List ℕ) → List Event → ℕ → Type 0
+IsFreshAt opening events e = (s seat queue : ℕ) (name : PutName) (content : List ℕ)
     → IsCall events seat (Get queue) s e (Got name content) → IsBegun opening events name queue content e
 
--- once: no two Gots name the same put
+-- fresh: each Got
+abbrev pub IsFresh : List (List ℕ) → List Event → Type 0
+IsFresh opening events = (e : ℕ) → IsFreshAt opening events e
+
+-- once, for the Got at position e: no Got before it names the same put
+abbrev pub IsOnceAt : List Event → ℕ → Type 0
+IsOnceAt events e = (name : PutName) (d : ℕ) → Names events e name → d < e → ¬ Names events d name
+
+-- once: each Got, so no two name the same put
 abbrev pub IsOnce : List Event → Type 0
-IsOnce events = (d e : ℕ) (name : PutName) → Names events d name → Names events e name → d ≡ e
+IsOnce events = (e : ℕ) → IsOnceAt events e
 
 -- the put is claimed at moment m: it is got by a call that started before, or it isn't got in the list at all
 abbrev pub IsClaimed : List Event → ℕ → PutName → Type 0
@@ -84,9 +92,13 @@ IsInOrder opening events = (e : ℕ) → IsInOrderAt opening events e
 abbrev pub IsRightWithin : List (List ℕ) → List Event → ℕ → ℕ → ℕ → Type 0
 IsRightWithin opening events queue s e = (m : ℕ) × (s < m) × (m ≤ e) × AllClaimed events queue m (IsFinishedAt opening events queue m)
 
--- empty is right: each End with Nothing
+-- empty is right, for the Nothing at position e
+abbrev pub IsEmptyRightAt : List (List ℕ) → List Event → ℕ → Type 0
+IsEmptyRightAt opening events e = (s seat queue : ℕ) → IsCall events seat (Get queue) s e Nothing → IsRightWithin opening events queue s e
+
+-- empty is right: each Nothing
 abbrev pub IsEmptyRight : List (List ℕ) → List Event → Type 0
-IsEmptyRight opening events = (s e seat queue : ℕ) → IsCall events seat (Get queue) s e Nothing → IsRightWithin opening events queue s e
+IsEmptyRight opening events = (e : ℕ) → IsEmptyRightAt opening events e
 
 -- the history has the four aspects
 pub record HasAspects (opening : List (List ℕ)) (events : List Event) : Type 0 where

@@ -1,9 +1,7 @@
 -- What the look-ups of `src/calls.rt` answer
 use Rattle.std.specs.Prelude.{◌≡◌, ℕ, ◌<◌, List, Option, Some, None, slice_get}
-use Rattle.scq_hist.specs.Calls.{under_way, IsCall, IsPut, IsDoneAt, Names, IsGetOf}
-use Rattle.scq_hist.specs.Aspects.{IsBegun}
+use Rattle.scq_hist.specs.Calls.{under_way, IsPut, IsDoneAt, Names, IsGetOf}
 use Rattle.scq_hist.specs.declared.events.Call.{Call}
-use Rattle.scq_hist.specs.declared.events.Call.TheVariants.{Get}
 use Rattle.scq_hist.specs.declared.events.Event.{Event}
 use Rattle.scq_hist.specs.declared.events.Event.TheVariants.{Start, End}
 use Rattle.scq_hist.specs.declared.events.PutName.{PutName}
@@ -25,18 +23,9 @@ pub record IsFirstNamed (events : List Event) (name : PutName) (e : ℕ) : Type 
   pub names : Names events e name
   pub first : (d : ℕ) → d < e → ¬ Names events d name
 
--- no End before position e names the put that the one at e names
-pub record NamesNew (events : List Event) (e : ℕ) : Type 0 where
-  pub new : (name : PutName) (d : ℕ) → Names events e name → d < e → ¬ Names events d name
-
 -- the seat's put of this number doesn't start before position i
 pub record NoPutBefore (events : List Event) (seat number i : ℕ) : Type 0 where
   pub none : (s queue : ℕ) (content : List ℕ) → s < i → ¬ IsPut events seat number queue content s
-
--- if a Got stands at position e, it is fresh
-pub record IsFreshAt (opening : List (List ℕ)) (events : List Event) (e : ℕ) : Type 0 where
-  pub begun : (s seat queue : ℕ) (name : PutName) (content : List ℕ)
-      → IsCall events seat (Get queue) s e (Got name content) → IsBegun opening events name queue content e
 
 -- the Start of the call that ends at position e, where this event stands
 abbrev pub call_start : List Event → ℕ → Option Event → Option ℕ

@@ -1,7 +1,7 @@
 -- Of some puts: how many no End has got, and from which moment on the others are claimed
 use Rattle.std.specs.Prelude.{◌≡◌, ℕ, ◌+◌, ◌<◌, ◌≤◌, ◌⊎◌, max, List, length}
 use Rattle.scq_hist.specs.Calls.{IsCall, IsPut, IsFinishedAt, IsGot, IsGetOf}
-use Rattle.scq_hist.specs.Aspects.{AllClaimed, IsRightWithin}
+use Rattle.scq_hist.specs.Aspects.{AllClaimed}
 use Rattle.scq_hist.specs.declared.events.Call.TheVariants.{Get}
 use Rattle.scq_hist.specs.declared.events.Reply.TheVariants.{Nothing}
 use Rattle.scq_hist.specs.Counts.{IsCount}
@@ -82,10 +82,6 @@ pub record IsEmptyAt (events : List Event) (e queue s : ℕ) : Type 0 where
 
 pub record NoEmptyAt (events : List Event) (e : ℕ) : Type 0 where
   pub none : (s seat queue : ℕ) → ¬ IsCall events seat (Get queue) s e Nothing
-
--- if an Empty ends at position e, it is right
-pub record IsRightAt (opening : List (List ℕ)) (events : List Event) (e : ℕ) : Type 0 where
-  pub right : (s seat queue : ℕ) → IsCall events seat (Get queue) s e Nothing → IsRightWithin opening events queue s e
 
 -- at no moment after position s and up to i are all finished puts of the queue claimed
 pub record NotRightTill (opening : List (List ℕ)) (events : List Event) (queue s i : ℕ) : Type 0 where

@@ -2,8 +2,8 @@
 
 ghost use Rattle.std.specs.Prelude.{◌≡◌, ◌+◌, ◌<◌, ◌≤◌, ◌^◌, ◌↔◌, ℕ, List, IsTrue, MatchOption, length};
 ghost use Rattle.scq_hist.specs.Calls.{IsFinishedAt};
-ghost use Rattle.scq_hist.specs.Aspects.{IsLawful, IsRightWithin, IsEmptyRight};
-ghost use Rattle.scq_hist.specs.Tallies.{IsTally, IsEmptyAt, NoEmptyAt, IsRightAt};
+ghost use Rattle.scq_hist.specs.Aspects.{IsLawful, IsRightWithin, IsEmptyRightAt, IsEmptyRight};
+ghost use Rattle.scq_hist.specs.Tallies.{IsTally, IsEmptyAt, NoEmptyAt};
 
 use crate::calls::call_under_way;
 use crate::events::{Call, Event, Reply};
@@ -51,13 +51,13 @@ fn empty_at(events: &[Event], e: usize) -> Option<(usize, u32)>
 }
 
 /// Whether an Empty that ends at this position, if one does, is right.
-fn is_right_at(tokens: Tally, events: &[Event], e: usize) -> bool
+fn is_empty_right_at(tokens: Tally, events: &[Event], e: usize) -> bool
     requires lawful { IsLawful events.now }
     requires within { e < length events.now }
     requires room { tokens.ungot + length events.now < 2 ^ 64 }
     ensures { (opening : List (List ℕ))
         → IsTally events.now (IsFinishedAt opening events.now 0 0) tokens.ungot tokens.claimed_from
-        → (IsTrue result ↔ IsRightAt opening events.now e) }
+        → (IsTrue result ↔ IsEmptyRightAt opening events.now e) }
 {
     match empty_at(events, e) {
         None => true,
@@ -74,7 +74,7 @@ pub fn empty_right(opening: &[Bytes], events: &[Event]) -> bool
 {
     let tokens = opening_tally(opening, events);
     for e in 0..events.len() {
-        if !is_right_at(tokens, events, e) {
+        if !is_empty_right_at(tokens, events, e) {
             return false;
         }
     }

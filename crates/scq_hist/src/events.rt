@@ -1,6 +1,9 @@
 //! Histories: the events of calls, and the names of puts.
 
-use scq_word::Bytes;
+ghost use Rattle.std.specs.Prelude.{◌≡◌, IfOk};
+
+use scq_word::{Bytes, NoMemory};
+use std::alloc::Global;
 
 /// The name of a put: of a token that stands in queue 0 before the history, or of a seat's put.
 #[derive(Clone, Copy, Debug, PartialEq, Eq)]
@@ -32,4 +35,54 @@ pub enum Reply {
 pub enum Event {
     Start { seat: u32, call: Call },
     End { seat: u32, reply: Reply },
+}
+
+impl Call {
+    /// An equal call, with a copy of its content.
+    pub fn copy(&self, alloc: Global) -> Result<Call, NoMemory>
+        ensures { IfOk result (λ copy. copy ≡ self.now) }
+    {
+        match self {
+            Call::Put { queue, content } => Ok(Call::Put {
+                queue: *queue,
+                content: Bytes::copy_of(alloc, content.bytes())?,
+            }),
+            Call::Get { queue } => Ok(Call::Get { queue: *queue }),
+        }
+    }
+}
+
+impl Reply {
+    /// An equal reply, with a copy of its content.
+    pub fn copy(&self, alloc: Global) -> Result<Reply, NoMemory>
+        ensures { IfOk result (λ copy. copy ≡ self.now) }
+    {
+        match self {
+            Reply::Done => Ok(Reply::Done),
+            Reply::Got { name, content } => Ok(Reply::Got {
+                name: *name,
+                content: Bytes::copy_of(alloc, content.bytes())?,
+            }),
+            Reply::Nothing => Ok(Reply::Nothing),
+            Reply::Spent => Ok(Reply::Spent),
+        }
+    }
+}
+
+impl Event {
+    /// An equal event, with a copy of its content.
+    pub fn copy(&self, alloc: Global) -> Result<Event, NoMemory>
+        ensures { IfOk result (λ copy. copy ≡ self.now) }
+    {
+        match self {
+            Event::Start { seat, call } => Ok(Event::Start {
+                seat: *seat,
+                call: call.copy(alloc)?,
+            }),
+            Event::End { seat, reply } => Ok(Event::End {
+                seat: *seat,
+                reply: reply.copy(alloc)?,
+            }),
+        }
+    }
 }

@@ -2,8 +2,7 @@
 
 ghost use Rattle.std.specs.Prelude.{◌≡◌, ◌<◌, ◌↔◌, ℕ, IsTrue, Some, length, slice_get};
 ghost use Rattle.scq_hist.specs.Calls.{IsPut};
-ghost use Rattle.scq_hist.specs.Aspects.{IsLawful, IsBegun, IsFresh};
-ghost use Rattle.scq_hist.specs.Lookups.{IsFreshAt};
+ghost use Rattle.scq_hist.specs.Aspects.{IsLawful, IsBegun, IsFreshAt, IsFresh};
 
 use crate::calls::{call_under_way, put_named};
 use crate::events::{Call, Event, PutName, Reply};

@@ -1,16 +1,15 @@
 //! Once: nothing is taken twice.
 
 ghost use Rattle.std.specs.Prelude.{◌<◌, ◌↔◌, IsTrue, length};
-ghost use Rattle.scq_hist.specs.Aspects.{IsLawful, IsOnce};
-ghost use Rattle.scq_hist.specs.Lookups.{NamesNew};
+ghost use Rattle.scq_hist.specs.Aspects.{IsLawful, IsOnceAt, IsOnce};
 
 use crate::events::Event;
 use crate::gets::{first_named, got_name};
 
-/// Whether no End before this one names the put that it names, if it names one.
-fn names_new(events: &[Event], e: usize) -> bool
+/// Whether no Got before this one names the same put, if one stands at this position.
+fn is_once_at(events: &[Event], e: usize) -> bool
     requires { e < length events.now }
-    ensures { IsTrue result ↔ NamesNew events.now e }
+    ensures { IsTrue result ↔ IsOnceAt events.now e }
 {
     match got_name(&events[e]) {
         Some(name) => first_named(events, name) == Some(e),
@@ -24,7 +23,7 @@ pub fn once(events: &[Event]) -> bool
     ensures { IsTrue result ↔ IsOnce events.now }
 {
     for e in 0..events.len() {
-        if !names_new(events, e) {
+        if !is_once_at(events, e) {
             return false;
         }
     }

@@ -1,9 +1,9 @@
 pub mod Window
 pub mod Base
-pub mod EntryLaws
-pub mod Lasting
 pub mod Replays
 pub mod Places
 pub mod Threshold
 pub mod Tickets
 pub mod Aspects
+pub mod Balance
+pub mod Retries

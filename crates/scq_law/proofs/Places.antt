@@ -7,4 +7,5 @@ pub mod RecordsAgree
 pub mod SmallIndices
 pub mod Throughout
 pub mod PlaceLaws
+pub mod EntryLaws
 pub mod LaterLaws

@@ -4,4 +4,5 @@ pub mod StepsRecorded
 pub mod LongerRuns
 pub mod RunLaws
 pub mod RisingWords
+pub mod LastingPlaces
 pub mod ReplayLaws

@@ -1,4 +1,4 @@
--- How far Tail, Head and Threshold of a ring are apart, and how many tickets a number of enqueues can use up.
+-- How far Tail, Head and Threshold of a ring are apart, and how many tickets the enqueues that were begun can use up.
 use Rattle.std.specs.Prelude.{◌≡◌, ℕ, ◌+◌, ◌*◌, ◌<◌, ◌≤◌, ◌⊎◌, min, Bool, true, false, ◌==◌, if◌then◌else◌, List, [], ◌∷◌}
 use Rattle.std.specs.List.{Contains}
 use Rattle.scq_word.specs.declared.setup.Setup.{Setup}
@@ -8,9 +8,10 @@ use Rattle.scq_core.specs.declared.ended.Ended.TheVariants.{Done, Got, Nothing, 
 use Rattle.scq_core.specs.declared.phase.Phase.{Phase}
 use Rattle.scq_core.specs.declared.phase.Phase.TheVariants.{AtE1, AtE2, AtE3, AtE4, AtE5, AtE6, AtD3, AtD4, AtD5, AtD6, AtD7, AtD8, AtD9, AtD10}
 use Rattle.scq_core.specs.Machine.{Machine}
-use Rattle.scq_core.specs.Table.{ring_slots, zero_level, reset_value}
+use Rattle.scq_core.specs.Table.{ring_slots, zero_level}
 use Rattle.scq_core.specs.Laws.{total}
 use Rattle.scq_law.specs.Run.{Recorded}
+use Rattle.scq_word.specs.Bounds.{reset_value, ticket_bound}
 
 -- no ring's Tail, as far as it is below the limit, is more than twice the number of indices, less one, past its Head
 pub record WithinWindow (c : Setup) (m : Machine) : Type 0 where
@@ -56,7 +57,7 @@ pub record ThresholdCovers (c : Setup) (m : Machine) : Type 0 where
 
 -- since a put last ended with Done on a ring, or since the start, no more attempts to dequeue have failed there than a reset sets and there are seats
 pub record FailsBounded (c : Setup) (recorded : Recorded) : Type 0 where
-  pub fails : (r : ℕ) → recorded.fails r ≤ reset_value c + c.seats
+  pub fails : (r : ℕ) → recorded.fails r ≤ reset_value c.order c.seats + c.seats
 
 -- the sum of a number over the calls that have ended
 abbrev pub tally : (Ended → ℕ) → List Ended → ℕ
@@ -89,16 +90,11 @@ openings c r = if r == 0 then n_of c.order else 0
 abbrev pub enqueues : Setup → Machine → ℕ → ℕ
 enqueues c m r = total (λ p. tally (was_put r) p.calls + is_putting r p.phase) m.part c.seats + openings c r
 
--- a bound on the tickets of a ring where so many enqueues were begun, whatever the dequeues do
-abbrev pub ticket_bound : Setup → ℕ → ℕ
-ticket_bound c begun = 4 * n_of c.order + (begun + 1) * (reset_value c + 1 + c.seats) + c.seats
-
 -- Head, and Tail as far as it is below the limit, stay below the bound for the enqueues that were begun on their ring
 pub record TicketsBounded (c : Setup) (m : Machine) : Type 0 where
-  pub head : (r : ℕ) → m.cells.head r + 2 * n_of c.order ≤ ticket_bound c (enqueues c m r)
-  pub tail : (r : ℕ) → min (m.cells.tail r) c.limit + 1 ≤ ticket_bound c (enqueues c m r)
+  pub head : (r : ℕ) → m.cells.head r + 2 * n_of c.order ≤ ticket_bound c.order c.seats (enqueues c m r)
+  pub tail : (r : ℕ) → min (m.cells.tail r) c.limit + 1 ≤ ticket_bound c.order c.seats (enqueues c m r)
 
--- where the bound is within the limit on each ring, no call has ended for want of tickets
+-- where the bound of a ring is within the limit, no call on that ring has ended for want of tickets
 pub record NoneSpent (c : Setup) (m : Machine) : Type 0 where
-  pub none : ((r : ℕ) → r < c.rings → ticket_bound c (enqueues c m r) ≤ c.limit) → (k r t : ℕ) (is_put : Bool) → Contains (m.part k).calls (Spent r t is_put)
-      → ⊥
+  pub none : (r : ℕ) → ticket_bound c.order c.seats (enqueues c m r) ≤ c.limit → (k t : ℕ) (is_put : Bool) → Contains (m.part k).calls (Spent r t is_put) → ⊥

@@ -3,12 +3,16 @@ use Rattle.std.specs.Prelude.{ℕ, ◌≤◌, List}
 use Rattle.scq_word.specs.declared.setup.Setup.{Setup}
 use Rattle.scq_core.specs.declared.step.Step.{Step}
 use Rattle.scq_core.specs.Machine.{Machine}
+use Rattle.scq_core.specs.Laws.{RecordsGrow}
 use Rattle.scq_law.specs.Run.{Recorded}
 use Rattle.scq_law.specs.Moments.{IsMoment}
 use Rattle.scq_law.specs.Places.{Maker, GaveUp, IsPlacedBy, IsTakenBy}
 use Rattle.scq_law.specs.Bounds.{IsFinished}
 
+-- what a later state still has
 pub record PlacesLast (c : Setup) (m later : Machine) : Type 0 where
+  -- what stands in a seat's record stays there
+  pub records : RecordsGrow m later
   -- what was placed stays so, with its content and the call that placed it
   pub placed : (r p : ℕ) (w : List ℕ) (a : Maker) → IsPlacedBy c m r p w a → IsPlacedBy c later r p w a
   -- what was taken stays so, with its content and the call that took it

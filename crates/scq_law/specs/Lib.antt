@@ -11,4 +11,10 @@ pub mod Replay
 pub mod Recording
 pub mod History
 pub mod Moments
+pub mod Sums
+pub mod Kept
+pub mod Spent
+pub mod Begun
+pub mod Retries
+pub mod CallSteps
 pub mod Lasting

@@ -3,13 +3,12 @@
 use Rattle.std.specs.Prelude.{◌≡◌, ℕ, ◌+◌, ◌-◌, ◌<◌, ◌≤◌, ◌⊎◌, false, List, [], length, Some, slice_get, slice_index_or}
 use Rattle.scq_word.specs.declared.setup.Setup.{Setup}
 use Rattle.scq_word.specs.Sizes.{n_of}
-use Rattle.scq_word.specs.Tickets.{slot_of}
 use Rattle.scq_word.specs.Words.{is_none_in}
 use Rattle.scq_core.specs.declared.ended.Ended.TheVariants.{Done, Got}
 use Rattle.scq_core.specs.declared.phase.Phase.{Phase}
 use Rattle.scq_core.specs.declared.phase.Phase.TheVariants.{Idle, AtE5, AtE6, AtD3, AtD4, AtD5, AtD6, AtD7, AtD8, AtD9, AtD10}
 use Rattle.scq_core.specs.Machine.{Machine}
-use Rattle.scq_core.specs.Table.{ring_slots}
+use Rattle.scq_core.specs.Table.{ring_slots, slot}
 use Rattle.scq_core.specs.Laws.{word_at}
 
 -- who placed: an opening put, or a seat's call by its number in the record, from 0
@@ -89,4 +88,4 @@ pub record PlacesOnce (c : Setup) (m : Machine) : Type 0 where
   -- where a dequeue is about to take, an index stands
   pub stands : (k r h : ℕ) → (m.part k).phase ≡ AtD4 r h → is_none_in (ring_slots c) (word_at c m.cells r h) ≡ false
   -- what a dequeue is about to answer is what was placed at its ticket
-  pub answered : (k r h : ℕ) → (m.part k).phase ≡ AtD4 r h → (a : Maker) × IsPlacedBy c m r h (m.cells.entries.content r (slot_of (ring_slots c) h)) a
+  pub answered : (k r h : ℕ) → (m.part k).phase ≡ AtD4 r h → (a : Maker) × IsPlacedBy c m r h (m.cells.entries.content r (slot c h)) a

@@ -1,5 +1,6 @@
 -- What a run is, and what is recorded of it: the state that it leads to, its history, and the counts of each ring.
-use Rattle.std.specs.Prelude.{◌≡◌, ℕ, ◌+◌, ◌-◌, ◌==◌, ◌&&◌, nat_le, nat_lt, if◌then◌else◌, List, [], ◌∷◌, ◌++◌, length, Option, Some, None, slice_get}
+use Rattle.std.specs.Prelude.{◌≡◌, ℕ, ◌+◌, ◌-◌, ◌==◌, ◌&&◌, ◌<◌, nat_le, nat_lt, if◌then◌else◌, List, [], ◌∷◌, ◌++◌, length, Option, Some, None, slice_get}
+use Rattle.std.specs.List.{All}
 use Rattle.std.specs.Option.{option_and_then, option_map}
 use Rattle.scq_word.specs.declared.setup.Setup.{Setup}
 use Rattle.scq_word.specs.Sizes.{n_of}
@@ -130,7 +131,9 @@ recorded_along c recorded (x ∷ xs) = option_and_then (λ next. recorded_along 
 abbrev pub recorded_of : Setup → List (List ℕ) → List (ℕ × Step) → Option Recorded
 recorded_of c opening steps = recorded_along c (recorded_first c opening) steps
 
--- these steps are a run, and this is recorded of it. That there is an opening content for each index, and that the seats of
--- the steps are the setup's, is asked beside it where a law speaks of every run
+-- these steps are a run, and this is recorded of it: there is an opening content for each index, the seats are the setup's, and
+-- each step is enabled in its turn
 pub record IsRun (c : Setup) (opening : List (List ℕ)) (steps : List (ℕ × Step)) (recorded : Recorded) : Type 0 where
+  pub full : length opening ≡ n_of c.order
+  pub seats : All (λ (x : ℕ × Step). x.0 < c.seats) steps
   pub recorded_is : recorded_of c opening steps ≡ Some recorded

@@ -1,16 +1,15 @@
 //! How far a ring's counters are apart, and how many tickets a number of enqueues can use up. The
 //! functions do nothing: each stands for its contract.
 
-ghost use Rattle.std.specs.Prelude.{◌≡◌, ℕ, ◌<◌, List, length};
-ghost use Rattle.std.specs.List.{All};
+ghost use Rattle.std.specs.Prelude.{ℕ, List};
 ghost use Rattle.scq_word.specs.declared.setup.Setup.{Setup};
-ghost use Rattle.scq_word.specs.Sizes.{n_of};
 ghost use Rattle.scq_core.specs.declared.step.Step.{Step};
 ghost use Rattle.scq_core.specs.Machine.{Machine};
 ghost use Rattle.scq_core.specs.Reach.{IsReachable};
 ghost use Rattle.scq_core.specs.Laws.{CountersBounded, ThresholdFloor};
 ghost use Rattle.scq_law.specs.Run.{Recorded, IsRun};
 ghost use Rattle.scq_law.specs.Bounds.{WithinWindow, ThresholdCovers, FailsBounded, TicketsBounded, NoneSpent};
+ghost use Rattle.scq_law.specs.Spent.{SpentKept};
 
 /// Tail, as far as it is below the limit, is at most `2n - 1` past Head on each ring of `n` indices.
 pub fn tail_is_within_the_window()
@@ -38,8 +37,8 @@ pub fn counters_are_bounded()
 /// After each run, no more attempts to dequeue from a ring have failed since a put last ended there with Done, or
 /// since the start, than what a reset sets and the number of seats together.
 pub fn fails_are_bounded()
-    ensures { (c : Setup) (opening : List (List ℕ)) (steps : List (ℕ × Step)) (recorded : Recorded) → length opening ≡ n_of c.order
-        → All (λ (x : ℕ × Step). x.0 < c.seats) steps → IsRun c opening steps recorded → FailsBounded c recorded }
+    ensures { (c : Setup) (opening : List (List ℕ)) (steps : List (ℕ × Step)) (recorded : Recorded)
+        → IsRun c opening steps recorded → FailsBounded c recorded }
 {}
 
 /// Head is at most `bound(E) - 2n`, and Tail, as far as it is below the limit, at most `bound(E) - 1`,
@@ -49,8 +48,14 @@ pub fn tickets_are_bounded()
     ensures { (c : Setup) (m : Machine) → IsReachable c m → TicketsBounded c m }
 {}
 
-/// While the bound for the enqueues begun is within the limit on each ring, no call has ended with
-/// Spent.
+/// While a ring's bound for the enqueues begun is within the limit, no call on that ring has ended with
+/// Spent, whatever became of the other rings.
 pub fn none_is_spent_within_the_bound()
     ensures { (c : Setup) (m : Machine) → IsReachable c m → NoneSpent c m }
+{}
+
+/// A seat that keeps a spent ticket ended its last call with it, on a ring whose bound for the enqueues
+/// begun is past the limit; and a call that ended with Spent is its seat's last, whose ticket it keeps.
+pub fn spent_tickets_are_kept()
+    ensures { (c : Setup) (m : Machine) → IsReachable c m → SpentKept c m }
 {}

@@ -1,10 +1,8 @@
 //! Laws of the history of every run, of any number of steps, where seats may stop for ever in the middle
 //! of a call. The functions do nothing: each stands for its contract.
 
-ghost use Rattle.std.specs.Prelude.{◌≡◌, ℕ, ◌<◌, List, length};
-ghost use Rattle.std.specs.List.{All};
+ghost use Rattle.std.specs.Prelude.{ℕ, List};
 ghost use Rattle.scq_word.specs.declared.setup.Setup.{Setup};
-ghost use Rattle.scq_word.specs.Sizes.{n_of};
 ghost use Rattle.scq_core.specs.declared.step.Step.{Step};
 ghost use Rattle.scq_hist.specs.Aspects.{IsLawful, IsFresh, IsOnce, IsInOrder, IsEmptyRight};
 ghost use Rattle.scq_law.specs.Run.{Recorded, IsRun};
@@ -12,39 +10,39 @@ ghost use Rattle.scq_law.specs.History.{HistoryHasAspects};
 
 /// The events of each seat alternate, beginning with a Start, and each reply suits its call.
 pub fn histories_are_lawful()
-    ensures { (c : Setup) (opening : List (List ℕ)) (steps : List (ℕ × Step)) (recorded : Recorded) → length opening ≡ n_of c.order
-        → All (λ (x : ℕ × Step). x.0 < c.seats) steps → IsRun c opening steps recorded → IsLawful recorded.events }
+    ensures { (c : Setup) (opening : List (List ℕ)) (steps : List (ℕ × Step)) (recorded : Recorded)
+        → IsRun c opening steps recorded → IsLawful recorded.events }
 {}
 
 /// Each Got names a put of the same queue and content that is an opening token or started before.
 pub fn histories_are_fresh()
-    ensures { (c : Setup) (opening : List (List ℕ)) (steps : List (ℕ × Step)) (recorded : Recorded) → length opening ≡ n_of c.order
-        → All (λ (x : ℕ × Step). x.0 < c.seats) steps → IsRun c opening steps recorded → IsFresh opening recorded.events }
+    ensures { (c : Setup) (opening : List (List ℕ)) (steps : List (ℕ × Step)) (recorded : Recorded)
+        → IsRun c opening steps recorded → IsFresh opening recorded.events }
 {}
 
 /// No two Gots name the same put.
 pub fn histories_are_once()
-    ensures { (c : Setup) (opening : List (List ℕ)) (steps : List (ℕ × Step)) (recorded : Recorded) → length opening ≡ n_of c.order
-        → All (λ (x : ℕ × Step). x.0 < c.seats) steps → IsRun c opening steps recorded → IsOnce recorded.events }
+    ensures { (c : Setup) (opening : List (List ℕ)) (steps : List (ℕ × Step)) (recorded : Recorded)
+        → IsRun c opening steps recorded → IsOnce recorded.events }
 {}
 
 /// No put is got before one that was put wholly before it, unless a get that is still under way may
 /// have that one.
 pub fn histories_are_in_order()
-    ensures { (c : Setup) (opening : List (List ℕ)) (steps : List (ℕ × Step)) (recorded : Recorded) → length opening ≡ n_of c.order
-        → All (λ (x : ℕ × Step). x.0 < c.seats) steps → IsRun c opening steps recorded → IsInOrder opening recorded.events }
+    ensures { (c : Setup) (opening : List (List ℕ)) (steps : List (ℕ × Step)) (recorded : Recorded)
+        → IsRun c opening steps recorded → IsInOrder opening recorded.events }
 {}
 
 /// Each Nothing is right: at a moment inside its call each finished put of the queue had been got by a get
 /// that had started, or isn't got at all, and those are matched one to one by other gets of the queue that
 /// had started and are still under way.
 pub fn empties_are_right()
-    ensures { (c : Setup) (opening : List (List ℕ)) (steps : List (ℕ × Step)) (recorded : Recorded) → length opening ≡ n_of c.order
-        → All (λ (x : ℕ × Step). x.0 < c.seats) steps → IsRun c opening steps recorded → IsEmptyRight opening recorded.events }
+    ensures { (c : Setup) (opening : List (List ℕ)) (steps : List (ℕ × Step)) (recorded : Recorded)
+        → IsRun c opening steps recorded → IsEmptyRight opening recorded.events }
 {}
 
 /// The history of every run has the four aspects.
 pub fn histories_have_aspects()
-    ensures { (c : Setup) (opening : List (List ℕ)) (steps : List (ℕ × Step)) (recorded : Recorded) → length opening ≡ n_of c.order
-        → All (λ (x : ℕ × Step). x.0 < c.seats) steps → IsRun c opening steps recorded → HistoryHasAspects opening recorded }
+    ensures { (c : Setup) (opening : List (List ℕ)) (steps : List (ℕ × Step)) (recorded : Recorded)
+        → IsRun c opening steps recorded → HistoryHasAspects opening recorded }
 {}

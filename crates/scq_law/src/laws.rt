@@ -35,8 +35,8 @@ pub fn entries_match_places()
     ensures { (c : Setup) (m : Machine) → IsReachable c m → EntriesMatchPlaces c m }
 {}
 
-/// From a state to a later one what was placed or taken stays so, with its content and call, a place whose put has ended
-/// stays one, and at a ticket that a dequeue gave up nothing is ever placed.
+/// From a state to a later one what stands in a seat's record stays there, what was placed or taken stays so, with its
+/// content and call, a place whose put has ended stays one, and at a ticket that a dequeue gave up nothing is ever placed.
 pub fn places_last()
     ensures { (c : Setup) (m n : Machine) → IsReachable c m → IsLater c m n → PlacesLast c m n }
 {}

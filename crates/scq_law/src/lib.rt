@@ -1,11 +1,13 @@
 //! The laws of the machine over every run and on every reachable state. It stands on `scq_core` for the machine and on
 //! `scq_hist` for histories. What a run is, and what is recorded of it, stands in `specs/Run.antt`; the laws on states stand
-//! in the other files of `specs/`, and the layers above cite them as the contracts of the modules `laws`, `bounds` and
-//! `runs`. That the history of every run has the four aspects is a contract of the module `history`.
+//! in the other files of `specs/`, and the layers above cite them as the contracts of the modules `laws`, `bounds`,
+//! `counts`, `calls` and `runs`. That the history of every run has the four aspects is a contract of the module `history`.
 #![tactic(auto)]
 
 mod act;
 pub mod bounds;
+pub mod calls;
+pub mod counts;
 pub mod history;
 pub mod laws;
 mod recording;

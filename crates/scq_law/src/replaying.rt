@@ -4,7 +4,6 @@ ghost use Rattle.std.specs.Prelude.{◌≡◌, ℕ, ◌+◌, ◌<◌, ◌≤◌,
 ghost use Rattle.std.specs.List.{All};
 ghost use Rattle.scq_word.specs.Sizes.{n_of};
 ghost use Rattle.scq_core.specs.declared.step.Step.{Step as StepOf};
-ghost use Rattle.scq_core.specs.Table.{reset_value};
 ghost use Rattle.scq_core.specs.StateLists.{machine_of};
 ghost use Rattle.scq_core.specs.Laws.{CountersBounded, ThresholdFloor};
 ghost use Rattle.scq_hist.specs.Aspects.{IsLawful, IsFresh, IsOnce, IsInOrder, IsEmptyRight};
@@ -13,8 +12,14 @@ ghost use Rattle.scq_law.specs.Lasting.{PlacesLastThroughout};
 ghost use Rattle.scq_law.specs.Places.{PlacesOnce};
 ghost use Rattle.scq_law.specs.Standing.{EntriesMatchPlaces};
 ghost use Rattle.scq_law.specs.Bounds.{WithinWindow, ThresholdCovers, TicketsBounded, NoneSpent};
+ghost use Rattle.scq_law.specs.Spent.{SpentKept};
+ghost use Rattle.scq_law.specs.Kept.{Balanced, AllKept};
+ghost use Rattle.scq_law.specs.Retries.{RetriesRise};
+ghost use Rattle.scq_law.specs.CallSteps.{CallsEnd, FewSteps};
+ghost use Rattle.scq_law.specs.Begun.{EnqueuesBegun};
 ghost use Rattle.scq_law.specs.Moments.{RisesThroughout};
 ghost use Rattle.scq_law.specs.Replay.{ShowsRun, StopsAt};
+ghost use Rattle.scq_word.specs.Bounds.{reset_value};
 
 use crate::recording::Recording;
 use crate::replayed::{ReplayFault, Replayed};
@@ -46,6 +51,11 @@ pub fn replay(
     ensures threshold_covers { IfOk result (λ replayed. ThresholdCovers setup (machine_of replayed.state)) }
     ensures tickets_bounded { IfOk result (λ replayed. TicketsBounded setup (machine_of replayed.state)) }
     ensures none_spent { IfOk result (λ replayed. NoneSpent setup (machine_of replayed.state)) }
+    ensures spent_kept { IfOk result (λ replayed. SpentKept setup (machine_of replayed.state)) }
+    ensures balanced { IfOk result (λ replayed. Balanced setup (machine_of replayed.state)) }
+    ensures all_kept { IfOk result (λ replayed. AllKept setup (machine_of replayed.state)) }
+    ensures retries_rise { IfOk result (λ replayed. RetriesRise setup (machine_of replayed.state)) }
+    ensures calls_end { IfOk result (λ replayed. CallsEnd setup (machine_of replayed.state)) }
 
     // Its history and counts.
     ensures lawful { IfOk result (λ replayed. IsLawful replayed.events.items) }
@@ -53,7 +63,9 @@ pub fn replay(
     ensures once { IfOk result (λ replayed. IsOnce replayed.events.items) }
     ensures in_order { IfOk result (λ replayed. IsInOrder opening.items replayed.events.items) }
     ensures empty_right { IfOk result (λ replayed. IsEmptyRight opening.items replayed.events.items) }
-    ensures fails_bounded { IfOk result (λ replayed. All (λ fails. fails ≤ reset_value setup + setup.seats) replayed.fails.items) }
+    ensures fails_bounded { IfOk result (λ replayed. All (λ fails. fails ≤ reset_value setup.order setup.seats + setup.seats) replayed.fails.items) }
+    ensures begun { IfOk result (λ replayed. EnqueuesBegun setup (machine_of replayed.state) replayed.events.items) }
+    ensures few_steps { IfOk result (λ replayed. FewSteps setup steps.now (machine_of replayed.state)) }
 
     // All along it.
     ensures rises { RisesThroughout setup opening.items steps.now }

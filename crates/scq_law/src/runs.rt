@@ -1,10 +1,8 @@
 //! Runs and the states that they lead to, and what holds along them. The functions do nothing: each
 //! stands for its contract.
 
-ghost use Rattle.std.specs.Prelude.{◌≡◌, ℕ, ◌<◌, List, length};
-ghost use Rattle.std.specs.List.{All};
+ghost use Rattle.std.specs.Prelude.{◌≡◌, ℕ, List};
 ghost use Rattle.scq_word.specs.declared.setup.Setup.{Setup};
-ghost use Rattle.scq_word.specs.Sizes.{n_of};
 ghost use Rattle.scq_core.specs.declared.step.Step.{Step};
 ghost use Rattle.scq_core.specs.Machine.{Machine};
 ghost use Rattle.scq_core.specs.Reach.{IsReachable};
@@ -15,8 +13,8 @@ ghost use Rattle.scq_law.specs.Runs.{EndsRun};
 
 /// The reachable states are those in which a run of the setup's seats ends.
 pub fn runs_end_in_the_reachable_states()
-    ensures reached { (c : Setup) (opening : List (List ℕ)) (steps : List (ℕ × Step)) (recorded : Recorded) → length opening ≡ n_of c.order
-        → All (λ (x : ℕ × Step). x.0 < c.seats) steps → IsRun c opening steps recorded → IsReachable c recorded.state }
+    ensures reached { (c : Setup) (opening : List (List ℕ)) (steps : List (ℕ × Step)) (recorded : Recorded)
+        → IsRun c opening steps recorded → IsReachable c recorded.state }
     ensures no_others { (c : Setup) (m : Machine) → IsReachable c m → EndsRun c m }
 {}
 

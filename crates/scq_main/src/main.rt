@@ -1,10 +1,10 @@
-// The program `scq`: it makes the real files, standard output and standard error, calls `serve` of
-// `scq_service`, whose contract says what is written and why, and ends with its status. It has no
-// contract of its own: what a real file or stream holds, no clause can say.
+//! The program `scq`: it makes the real files, standard output and standard error, calls `serve` of
+//! `scq_service`, whose contract says what is written and why, and ends with its status. It has no
+//! contract of its own: what a real file or stream holds, no clause can say.
 #![tactic(auto)]
 
 use scq_outside::{DiskFiles, StdSink};
-use scq_service::{Fault, serve, tell};
+use scq_service::{Fault, report, serve};
 use std::alloc::{AllocError, Global};
 use std::env::Env;
 use std::process::ExitCode;
@@ -18,7 +18,7 @@ fn main(rt: HostRuntime) -> ExitCode {
     let status = match words(&rt, alloc) {
         Ok(words) => serve(alloc, &words, &mut files, &mut out, &mut err).status,
         Err(AllocError) => {
-            let _ = tell(&mut err, &Fault::NoMemory);
+            let _ = report(&mut err, &Fault::NoMemory);
             Fault::NoMemory.status()
         }
     };

@@ -7,5 +7,5 @@ abbrev pub Table : Type 0
 Table = List ℕ → Option (List ℕ)
 
 -- the table without this name
-abbrev pub without : List ℕ → Table → Table
-without name table other = if bytes_eq name other then None else table other
+abbrev pub without_name : List ℕ → Table → Table
+without_name name table other = if bytes_eq name other then None else table other

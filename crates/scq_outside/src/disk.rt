@@ -5,7 +5,7 @@ use std::fs::File;
 use std::io::Read;
 use std::rt;
 
-/// Files of the system, opened to be read. What they hold isn't told.
+/// Files of the system, opened to be read. What they hold isn't visible.
 #[derive(Drop)]
 pub struct DiskFiles<R: rt::Files + Drop> {
     system: R,

@@ -1,7 +1,7 @@
 ghost use Rattle.std.specs.Prelude.{◌≡◌, ℕ, ◌≤◌, Option, IsSome, IfOk, OnOk, OnErr, IfSome};
 ghost use Rattle.std.specs.Option.{option_map};
 ghost use Rattle.scq_outside.specs.Faults.{Rose, last_count};
-ghost use Rattle.scq_outside.specs.Table.{Table, without};
+ghost use Rattle.scq_outside.specs.Table.{Table, without_name};
 
 use crate::{Failed, Source};
 
@@ -12,15 +12,15 @@ pub trait Files {
     /// How often a source was not got. The count stands still at the last value of a u64.
     ghost faults: { Self → ℕ };
 
-    /// For each name that is there its content, where the table is told.
+    /// For each name that is there its content, where the table is visible.
     ghost table: { Self → Option Table };
 
-    /// The source of this name. Where the table is told, it comes exactly where the name is in it,
+    /// The source of this name. Where the table is visible, it comes exactly where the name is in it,
     /// has the name's content left, and the name leaves the table.
     fn source(&mut self, name: &str) -> Result<Self::Src, Failed>
         ensures fresh { IfOk result (λ source. Self.Src.faults source ≡ 0) }
         ensures content { IfOk result (λ source. IfSome (table self.old) (λ files. IsSome (files name.now) × (Self.Src.left source ≡ files name.now))) }
-        ensures given { OnOk result (table self.new ≡ option_map (without name.now) (table self.old)) }
+        ensures given { OnOk result (table self.new ≡ option_map (without_name name.now) (table self.old)) }
         ensures kept { OnOk result (faults self.new ≡ faults self.old) }
 
         // After a fault the table is what it was.

@@ -9,7 +9,7 @@ use scq_word::NoMemory;
 use std::alloc::Global;
 use std::marker::Model;
 
-/// A sink in memory, with room for so many bytes, whose writes go as they are told to: write number
+/// A sink in memory, with room for so many bytes, whose writes go as the caller says: write number
 /// k, from 1, fails where k is in `fails`, and else takes at most `pieces[k - 1]` bytes of its
 /// piece, or all where that is missing, as far as there is room. Where there is none, it fails.
 #[derive(Drop)]

@@ -7,7 +7,7 @@ use crate::script::Script;
 use crate::{Failed, PlainSource, Source};
 use std::marker::Model;
 
-/// A source in memory whose reads go as they are told to: read number k, from 1, fails where k is
+/// A source in memory whose reads go as the caller says: read number k, from 1, fails where k is
 /// in `fails`, and else gives at most `pieces[k - 1]` bytes, or as many as it is asked for where
 /// that is missing.
 #[derive(Drop)]

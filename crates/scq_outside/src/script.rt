@@ -1,4 +1,4 @@
-// How the calls of an object in memory go: which of them fail, and how many bytes the others move.
+//! How the calls of an object in memory go: which of them fail, and how many bytes the others move.
 ghost use Rattle.std.specs.Prelude.{◌≡◌, ◌==◌, ◌<◌, IsTrue, IfSome, IsNone, ◌↔◌};
 ghost use Rattle.std.specs.List.{list_any};
 ghost use Rattle.scq_outside.specs.Calls.{Calls, are_pieces, first_call, next_call, fails_next, granted};

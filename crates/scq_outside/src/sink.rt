@@ -9,7 +9,7 @@ pub trait Sink {
     /// How often a write has failed. The count stands still at the last value of a u64.
     ghost faults: { Self → ℕ };
 
-    /// The bytes that were written, where the sink tells them.
+    /// The bytes that were written, where they are visible.
     ghost written: { Self → Option (List ℕ) };
 
     /// Writes some of the piece, from its front, and answers how many bytes: at least 1. A device

@@ -2,8 +2,11 @@ ghost use Rattle.std.specs.Prelude.{◌≡◌, ℕ, ◌<◌, ◌≤◌, ◌++◌
 ghost use Rattle.std.specs.Option.{option_map};
 ghost use Rattle.scq_outside.specs.Faults.{Rose, last_count};
 
+use thiserror::Error;
+
 /// Reading, writing or opening failed. It comes only where the count of faults of the object rose.
-#[derive(Clone, Copy, Debug, PartialEq, Eq)]
+#[derive(Clone, Copy, Debug, PartialEq, Eq, Error)]
+#[error("reading, writing or opening failed")]
 pub struct Failed;
 
 /// What bytes are read from, piece by piece.
@@ -11,7 +14,7 @@ pub trait Source: Send + Drop {
     /// How often a read has failed. The count stands still at the last value of a u64.
     ghost faults: { Self → ℕ };
 
-    /// The bytes that are left, where the source tells them.
+    /// The bytes that are left, where they are visible.
     ghost left: { Self → Option (List ℕ) };
 
     /// Reads at most as many bytes as `into` has, to its front, and answers how many. Of no bytes

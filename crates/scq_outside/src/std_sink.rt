@@ -9,7 +9,7 @@ enum Stream {
     Errors(Stderr),
 }
 
-/// Standard output or standard error, without a buffer. What they took isn't told.
+/// Standard output or standard error, without a buffer. What they took isn't visible.
 #[derive(Drop)]
 pub struct StdSink {
     stream: Stream,

@@ -8,7 +8,7 @@ use Rattle.std.proofs.lemmas.List.Sums.{sum_by-append, sum_by-cons}
 use Rattle.scq_frames.specs.declared.message.Message.{Message}
 use Rattle.scq_frames.specs.Text.{Framed, messages_of}
 use Rattle.scq_frames.specs.Numbered.{numbered}
-use Rattle.scq_frames.specs.Framing.{told_ahead, fresh, weight_of}
+use Rattle.scq_frames.specs.Framing.{visible_ahead, fresh, weight_of}
 use Rattle.scq_service.specs.Output.{reply_line, reply_lines, total_line, total_lines, is_named}
 use Rattle.scq_service.specs.Answers.{line_of, total_of}
 
@@ -19,7 +19,7 @@ payload_length m = length m.payload
 -- some messages were given of those that were ahead before, and what is written of them
 pub record Answered (before ahead : Option (List Message)) (output : List ℕ) (count bytes weight : ℕ) : Type 0 where
   pub given : List Message
-  pub told : before ≡ option_map (λ rest. given ++ rest) ahead
+  pub visible : before ≡ option_map (λ rest. given ++ rest) ahead
   pub written : output ≡ flat_map line_of given
   pub count_is : count ≡ length given
   pub bytes_are : bytes ≡ sum_by payload_length given
@@ -27,7 +27,7 @@ pub record Answered (before ahead : Option (List Message)) (output : List ℕ) (
 
 -- nothing was given yet
 pub answered-none : (before : Option (List Message)) → Answered before before [] 0 0 0
-answered-none before = record { given = []; told = same before; written = refl; count_is = refl; bytes_are = refl; fits = omega arith } where
+answered-none before = record { given = []; visible = same before; written = refl; count_is = refl; bytes_are = refl; fits = omega arith } where
   same : (o : Option (List Message)) → o ≡ option_map (λ rest. [] ++ rest) o
   same None = refl
   same (Some ms) = refl
@@ -45,7 +45,7 @@ pub answered-next : (before ahead after : Option (List Message)) (output output'
     → Answered before after output' (count + 1) (bytes + payload_length m) weight'
 answered-next before ahead after output output' count bytes weight weight' m a next line more = record {
   given = a.given ++ m ∷ [];
-  told = a.told ∙ ap (option_map (λ rest. a.given ++ rest)) next ∙ fronts a.given m after;
+  visible = a.visible ∙ ap (option_map (λ rest. a.given ++ rest)) next ∙ fronts a.given m after;
   written = line ∙ ap (λ (front : List ℕ). front ++ line_of m) a.written ∙ last a.given;
   count_is = ap (λ n. n + 1) a.count_is ∙ sym (length-append a.given (m ∷ []));
   bytes_are = ap (λ n. n + payload_length m) a.bytes_are ∙ alone (sum_by payload_length a.given) ∙ sym (sum_by-append payload_length a.given (m ∷ []));
@@ -91,12 +91,12 @@ total-same number file ms =
 
 -- what is written once none is ahead
 pub answered-all : (number : List ℕ → ℕ) (file : ℕ) (content left : Option (List ℕ)) (ahead : Option (List Message)) (output output' : List ℕ) (count bytes weight : ℕ)
-    → Answered (told_ahead number (fresh file 65536 (2 ^ 30)) content) ahead output count bytes weight
+    → Answered (visible_ahead number (fresh file 65536 (2 ^ 30)) content) ahead output count bytes weight
     → ahead ≡ option_map (λ _. []) left → output' ≡ output ++ total_of count bytes
     → IfSome content (λ content. output' ≡ reply_lines [] file (content ∷ []) ++ total_lines [] (flat_map messages_of (content ∷ [])))
 answered-all number file None left ahead output output' count bytes weight a none total = tt
 answered-all number file (Some content) left ahead output output' count bytes weight a none total =
-    total ∙ whole (all left (a.told ∙ ap (option_map (λ rest. a.given ++ rest)) none)) where
+    total ∙ whole (all left (a.visible ∙ ap (option_map (λ rest. a.given ++ rest)) none)) where
       ms : List Framed
       ms = messages_of content
 

@@ -6,29 +6,29 @@ use Rattle.std.specs.Option.{option_map}
 use Rattle.std.proofs.lemmas.Bool.{lt-ltb}
 use Rattle.std.proofs.lemmas.Iterator.Adapters.{option_map_id}
 use Rattle.scq_outside.specs.Faults.{Rose}
-use Rattle.scq_outside.specs.Table.{Table, without}
+use Rattle.scq_outside.specs.Table.{Table, without_name}
 use Rattle.scq_frames.specs.Framing.{NothingLeft}
 use Rattle.scq_frames.specs.Trouble.{Trouble, LongPayload, ManyBytes}
 use Rattle.scq_frames.specs.declared.fault.FrameFault.{FrameFault}
 use Rattle.scq_frames.specs.declared.fault.FrameFault.TheVariants as frame
 use Rattle.scq_service.specs.Causes.{file_trouble, first_file_fault, IsCause, IsOfWhole, HaveRest}
-use Rattle.scq_service.specs.Contents.{IfTold, IsMissing}
+use Rattle.scq_service.specs.Contents.{IfVisible, IsMissing}
 use Rattle.scq_service.specs.Ends.{Ends, Change, IsReadOf, output_of}
 use Rattle.scq_service.specs.Faults.{status_of_fault, fault_of_file, bytes_of_large}
 use Rattle.scq_service.specs.Judged.{Judged, Judges}
-use Rattle.scq_service.specs.Writing.{told_with, WrotePart}
+use Rattle.scq_service.specs.Writing.{written_with, WrotePart}
 use Rattle.scq_service.specs.declared.fault.Fault.TheVariants.{OpenFault, ReadFault, TooLong, TooLarge, WriteFault, NoMemory}
-use Rattle.scq_service.proofs.Contents.{told-one}
-use Rattle.scq_service.proofs.Seen.{all-none, all-one, split-told, rest-one, ending-one}
+use Rattle.scq_service.proofs.Contents.{visible-one}
+use Rattle.scq_service.proofs.Seen.{all-none, all-one, split-visible, rest-one, ending-one}
 
 -- there is no trouble, and there is some
 clash : (o : Option Trouble) (t : Trouble) → o ≡ Some t → o ≡ None → ⊥
 clash o t some none = absurd (cc)
 
 -- what is said of no contents
-nothing-told : (table : Option Table) (P : List (List ℕ) → Type 0) → P [] → IfTold table [] P
-nothing-told None P p = tt
-nothing-told (Some files) P p = p
+nothing-visible : (table : Option Table) (P : List (List ℕ) → Type 0) → P [] → IfVisible table [] P
+nothing-visible None P p = tt
+nothing-visible (Some files) P p = p
 
 -- no name left the table
 table_same : (table : Change (Option Table)) → table.new ≡ table.old → table.new ≡ option_map (λ files. files) table.old
@@ -55,12 +55,12 @@ ended-early faults left name table files_faults out_faults written same_table fi
   read_fault = λ file e. absurd (cc);
   too_long = λ file line len e. absurd (cc);
   too_large = λ file e. absurd (cc);
-  too_large_told = λ file e. absurd (cc);
+  too_large_visible = λ file e. absurd (cc);
   unread = λ e. refl;
-  rest = nothing-told table.old (λ contents. HaveRest left contents []) tt;
-  cause = nothing-told table.old (λ contents. IsCause (Some NoMemory) (first_file_fault faults left 1 contents [])) tt;
-  whole = nothing-told table.old (λ contents. IsOfWhole (Some NoMemory) contents) tt;
-  complete = λ _ _ _ _. nothing-told table.old (λ contents. All (λ content. file_trouble false content ≡ None) contents → (◌≡◌ {A = ℕ} 5 0) ⊎ (◌≡◌ {A = ℕ} 5 5)) (λ sound. inr refl);
+  rest = nothing-visible table.old (λ contents. HaveRest left contents []) tt;
+  cause = nothing-visible table.old (λ contents. IsCause (Some NoMemory) (first_file_fault faults left 1 contents [])) tt;
+  whole = nothing-visible table.old (λ contents. IsOfWhole (Some NoMemory) contents) tt;
+  complete = λ _ _ _ _. nothing-visible table.old (λ contents. All (λ content. file_trouble false content ≡ None) contents → (◌≡◌ {A = ℕ} 5 0) ⊎ (◌≡◌ {A = ℕ} 5 5)) (λ sound. inr refl);
 }
 
 -- the source wasn't got
@@ -85,15 +85,15 @@ ended-open faults left name table files_faults out_faults written same_table ros
   read_fault = λ file e. absurd (cc);
   too_long = λ file line len e. absurd (cc);
   too_large = λ file e. absurd (cc);
-  too_large_told = λ file e. absurd (cc);
+  too_large_visible = λ file e. absurd (cc);
   unread = λ e. refl;
-  rest = nothing-told table.old (λ contents. HaveRest left contents []) tt;
-  cause = nothing-told table.old (λ contents. IsCause (Some (OpenFault 1)) (first_file_fault faults left 1 contents [])) refl;
-  whole = nothing-told table.old (λ contents. IsOfWhole (Some (OpenFault 1)) contents) tt;
+  rest = nothing-visible table.old (λ contents. HaveRest left contents []) tt;
+  cause = nothing-visible table.old (λ contents. IsCause (Some (OpenFault 1)) (first_file_fault faults left 1 contents [])) refl;
+  whole = nothing-visible table.old (λ contents. IsOfWhole (Some (OpenFault 1)) contents) tt;
   complete = λ _ calm _ _. absurd (calm rose);
 }
   where
-    missing : (told : Option Table) (file : ℕ) → 1 ≡ file → IfSome told (λ files. files name ≡ None) → IfSome told (λ files. IsMissing files (name ∷ []) file)
+    missing : (table : Option Table) (file : ℕ) → 1 ≡ file → IfSome table (λ files. files name ≡ None) → IfSome table (λ files. IsMissing files (name ∷ []) file)
     missing None file is gone = tt
     missing (Some files) file is gone = let P : ℕ → Type 0 = λ n. IsMissing files (name ∷ []) n in subst P is (inl gone)
 
@@ -103,16 +103,16 @@ pub record IsGot {S : Type 0} (faults : S → ℕ) (left : S → Option (List �
     (source : S) (content : Option (List ℕ)) (fault : Option FrameFault) : Type 0 where
   pub there : IfSome table.old (λ files. IsSome (files name) × (content ≡ files name))
   pub judged : Judged content (left source) fault
-  pub table_left : table.new ≡ option_map (without name) table.old
+  pub table_left : table.new ≡ option_map (without_name name) table.old
   pub files_kept : files_faults.new ≡ files_faults.old
 
--- what holds of a told content, of the bytes that were given and of the rest
-told-parts : {S : Type 0} (faults : S → ℕ) (left : S → Option (List ℕ)) (name : List ℕ) (table : Change (Option Table)) (files_faults : Change ℕ)
+-- what holds of a visible content, of the bytes that were given and of the rest
+visible-parts : {S : Type 0} (faults : S → ℕ) (left : S → Option (List ℕ)) (name : List ℕ) (table : Change (Option Table)) (files_faults : Change ℕ)
     (source : S) (content : Option (List ℕ)) (fault : Option FrameFault) (P : List (List ℕ) → Type 0) → IsGot faults left name table files_faults source content fault
-    → ((c bytes rest : List ℕ) → left source ≡ Some rest → c ≡ bytes ++ rest → Judges bytes rest fault → P (c ∷ [])) → IfTold table.old (name ∷ []) P
-told-parts faults left name table files_faults source content fault P got here = told-one table.old name content P got.there
+    → ((c bytes rest : List ℕ) → left source ≡ Some rest → c ≡ bytes ++ rest → Judges bytes rest fault → P (c ∷ [])) → IfVisible table.old (name ∷ []) P
+visible-parts faults left name table files_faults source content fault P got here = visible-one table.old name content P got.there
     (λ c is.
-    let split = split-told c got.judged.bytes (left source) (sym is ∙ got.judged.moved) in
+    let split = split-visible c got.judged.bytes (left source) (sym is ∙ got.judged.moved) in
     let J : Option (List ℕ) → Type 0 = λ o. IfSome o (λ rest. Judges got.judged.bytes rest fault) in
     here c got.judged.bytes split.0 split.1 split.2 (subst J split.1 got.judged.judges))
 
@@ -123,7 +123,7 @@ no_failure faults source none = ap (λ n. nat_lt 0 n) none
 pub ended-whole : {S : Type 0} (faults : S → ℕ) (left : S → Option (List ℕ)) (name : List ℕ) (table : Change (Option Table)) (files_faults out_faults : Change ℕ)
     (written : Change (Option (List ℕ))) (source : S) (content : Option (List ℕ))
     → IsGot faults left name table files_faults source content None → faults source ≡ 0 → NothingLeft (left source)
-    → IfTold table.old (name ∷ []) (λ contents. written.new ≡ told_with written.old (output_of contents)) → out_faults.new ≡ out_faults.old
+    → IfVisible table.old (name ∷ []) (λ contents. written.new ≡ written_with written.old (output_of contents)) → out_faults.new ≡ out_faults.old
     → Ends faults left (name ∷ []) table files_faults out_faults written 0 None (source ∷ []) 0
 ended-whole faults left name table files_faults out_faults written source content got calm ended whole kept = record {
   status_is = refl;
@@ -142,19 +142,19 @@ ended-whole faults left name table files_faults out_faults written source conten
   read_fault = λ file e. absurd (cc);
   too_long = λ file line len e. absurd (cc);
   too_large = λ file e. absurd (cc);
-  too_large_told = λ file e. absurd (cc);
+  too_large_visible = λ file e. absurd (cc);
   unread = λ e. refl;
-  rest = told-parts faults left name table files_faults source content None (λ contents. HaveRest left contents (source ∷ [])) got (λ c bytes rest is e judged. rest-one left source c bytes rest is e);
-  cause = told-parts faults left name table files_faults source content None (λ contents. IsCause None (first_file_fault faults left 1 contents (source ∷ []))) got (λ c bytes rest is e judged. sym (ending-one faults left source c bytes rest false None (no_failure faults source calm) is e judged));
-  whole = told-parts faults left name table files_faults source content None (λ contents. IsOfWhole None contents) got (λ c bytes rest is e judged. tt);
-  complete = λ _ _ unwritten quiet. told-parts faults left name table files_faults source content None (λ contents. All (λ content. file_trouble false content ≡ None) contents → (◌≡◌ {A = ℕ} 0 0) ⊎ (◌≡◌ {A = ℕ} 0 5)) got (λ c bytes rest is e judged. λ sound. inl refl);
+  rest = visible-parts faults left name table files_faults source content None (λ contents. HaveRest left contents (source ∷ [])) got (λ c bytes rest is e judged. rest-one left source c bytes rest is e);
+  cause = visible-parts faults left name table files_faults source content None (λ contents. IsCause None (first_file_fault faults left 1 contents (source ∷ []))) got (λ c bytes rest is e judged. sym (ending-one faults left source c bytes rest false None (no_failure faults source calm) is e judged));
+  whole = visible-parts faults left name table files_faults source content None (λ contents. IsOfWhole None contents) got (λ c bytes rest is e judged. tt);
+  complete = λ _ _ unwritten quiet. visible-parts faults left name table files_faults source content None (λ contents. All (λ content. file_trouble false content ≡ None) contents → (◌≡◌ {A = ℕ} 0 0) ⊎ (◌≡◌ {A = ℕ} 0 5)) got (λ c bytes rest is e judged. λ sound. inl refl);
 }
 
 -- a write failed
 pub ended-write : {S : Type 0} (faults : S → ℕ) (left : S → Option (List ℕ)) (name : List ℕ) (table : Change (Option Table)) (files_faults out_faults : Change ℕ)
     (written : Change (Option (List ℕ))) (source : S) (content : Option (List ℕ))
     → IsGot faults left name table files_faults source content None → faults source ≡ 0 → NothingLeft (left source)
-    → IfTold table.old (name ∷ []) (λ contents. WrotePart written.old written.new (output_of contents)) → Rose out_faults.old out_faults.new
+    → IfVisible table.old (name ∷ []) (λ contents. WrotePart written.old written.new (output_of contents)) → Rose out_faults.old out_faults.new
     → Ends faults left (name ∷ []) table files_faults out_faults written 4 (Some WriteFault) (source ∷ []) 0
 ended-write faults left name table files_faults out_faults written source content got calm ended part rose = record {
   status_is = refl;
@@ -173,12 +173,12 @@ ended-write faults left name table files_faults out_faults written source conten
   read_fault = λ file e. absurd (cc);
   too_long = λ file line len e. absurd (cc);
   too_large = λ file e. absurd (cc);
-  too_large_told = λ file e. absurd (cc);
+  too_large_visible = λ file e. absurd (cc);
   unread = λ e. refl;
-  rest = told-parts faults left name table files_faults source content None (λ contents. HaveRest left contents (source ∷ [])) got (λ c bytes rest is e judged. rest-one left source c bytes rest is e);
-  cause = told-parts faults left name table files_faults source content None (λ contents. IsCause (Some WriteFault) (first_file_fault faults left 1 contents (source ∷ []))) got (λ c bytes rest is e judged. ending-one faults left source c bytes rest false None (no_failure faults source calm) is e judged);
-  whole = told-parts faults left name table files_faults source content None (λ contents. IsOfWhole (Some WriteFault) contents) got (λ c bytes rest is e judged. tt);
-  complete = λ _ _ unwritten quiet. told-parts faults left name table files_faults source content None (λ contents. All (λ content. file_trouble false content ≡ None) contents → (◌≡◌ {A = ℕ} 4 0) ⊎ (◌≡◌ {A = ℕ} 4 5)) got (λ c bytes rest is e judged. λ sound. absurd (unwritten rose));
+  rest = visible-parts faults left name table files_faults source content None (λ contents. HaveRest left contents (source ∷ [])) got (λ c bytes rest is e judged. rest-one left source c bytes rest is e);
+  cause = visible-parts faults left name table files_faults source content None (λ contents. IsCause (Some WriteFault) (first_file_fault faults left 1 contents (source ∷ []))) got (λ c bytes rest is e judged. ending-one faults left source c bytes rest false None (no_failure faults source calm) is e judged);
+  whole = visible-parts faults left name table files_faults source content None (λ contents. IsOfWhole (Some WriteFault) contents) got (λ c bytes rest is e judged. tt);
+  complete = λ _ _ unwritten quiet. visible-parts faults left name table files_faults source content None (λ contents. All (λ content. file_trouble false content ≡ None) contents → (◌≡◌ {A = ℕ} 4 0) ⊎ (◌≡◌ {A = ℕ} 4 5)) got (λ c bytes rest is e judged. λ sound. absurd (unwritten rose));
 }
 
 -- the file was refused
@@ -208,12 +208,12 @@ refused faults left name table files_faults out_faults written source content fr
   read_fault = λ file e. let P : ℕ → Type 0 = λ n. (0 < n) × IsSomeAnd (slice_get (source ∷ []) (n - 1)) (λ s. 0 < faults s) in let is : 1 ≡ file = cc in subst P is (omega arith, failed refl);
   too_long = λ file line len e. absurd (cc);
   too_large = λ file e. absurd (cc);
-  too_large_told = λ file e. absurd (cc);
+  too_large_visible = λ file e. absurd (cc);
   unread = λ e. refl;
-  rest = told-parts faults left name table files_faults source content (Some frame.ReadFault) (λ contents. HaveRest left contents (source ∷ [])) got (λ c bytes rest is e judged. rest-one left source c bytes rest is e);
-  cause = told-parts faults left name table files_faults source content (Some frame.ReadFault) (λ contents. IsCause (Some (ReadFault 1)) (first_file_fault faults left 1 contents (source ∷ []))) got (λ c bytes rest is e judged. sym (ending-one faults left source c bytes rest true None (lt-ltb 0 (faults source) (failed refl)) is e judged));
-  whole = told-parts faults left name table files_faults source content (Some frame.ReadFault) (λ contents. IsOfWhole (Some (ReadFault 1)) contents) got (λ c bytes rest is e judged. tt);
-  complete = λ _ _ unwritten quiet. told-parts faults left name table files_faults source content (Some frame.ReadFault) (λ contents. All (λ content. file_trouble false content ≡ None) contents → (◌≡◌ {A = ℕ} 3 0) ⊎ (◌≡◌ {A = ℕ} 3 5)) got (λ c bytes rest is e judged. λ sound. absurd (omega (arith, failed refl, quiet 0 source (omega arith))));
+  rest = visible-parts faults left name table files_faults source content (Some frame.ReadFault) (λ contents. HaveRest left contents (source ∷ [])) got (λ c bytes rest is e judged. rest-one left source c bytes rest is e);
+  cause = visible-parts faults left name table files_faults source content (Some frame.ReadFault) (λ contents. IsCause (Some (ReadFault 1)) (first_file_fault faults left 1 contents (source ∷ []))) got (λ c bytes rest is e judged. sym (ending-one faults left source c bytes rest true None (lt-ltb 0 (faults source) (failed refl)) is e judged));
+  whole = visible-parts faults left name table files_faults source content (Some frame.ReadFault) (λ contents. IsOfWhole (Some (ReadFault 1)) contents) got (λ c bytes rest is e judged. tt);
+  complete = λ _ _ unwritten quiet. visible-parts faults left name table files_faults source content (Some frame.ReadFault) (λ contents. All (λ content. file_trouble false content ≡ None) contents → (◌≡◌ {A = ℕ} 3 0) ⊎ (◌≡◌ {A = ℕ} 3 5)) got (λ c bytes rest is e judged. λ sound. absurd (omega (arith, failed refl, quiet 0 source (omega arith))));
 }
   where
     not-said : (◌≡◌ {A = ℕ} 3 0) ⊎ (◌≡◌ {A = ℕ} 3 4) → ⊥
@@ -236,12 +236,12 @@ refused faults left name table files_faults out_faults written source content (f
   read_fault = λ file e. absurd (cc);
   too_long = λ file at count e. let P : ℕ → Type 0 = λ n. (0 < n) × (n ≤ 1) × (0 < at) × (65536 < count) in let is : 1 ≡ file = cc in let line_is : line ≡ at = cc in let len_is : len ≡ count = cc in subst P is (omega arith, omega arith, omega (arith, (long line len refl).0), omega (arith, (long line len refl).1));
   too_large = λ file e. absurd (cc);
-  too_large_told = λ file e. absurd (cc);
+  too_large_visible = λ file e. absurd (cc);
   unread = λ e. refl;
-  rest = told-parts faults left name table files_faults source content (Some (frame.TooLong line len)) (λ contents. HaveRest left contents (source ∷ [])) got (λ c bytes rest is e judged. rest-one left source c bytes rest is e);
-  cause = told-parts faults left name table files_faults source content (Some (frame.TooLong line len)) (λ contents. IsCause (Some (TooLong 1 line len)) (first_file_fault faults left 1 contents (source ∷ []))) got (λ c bytes rest is e judged. sym (ending-one faults left source c bytes rest false (Some (LongPayload line len)) (no_failure faults source (calm (λ e. absurd (cc)))) is e judged.0));
-  whole = told-parts faults left name table files_faults source content (Some (frame.TooLong line len)) (λ contents. IsOfWhole (Some (TooLong 1 line len)) contents) got (λ c bytes rest is e judged. ap (file_trouble false) e ∙ judged.1);
-  complete = λ _ _ unwritten quiet. told-parts faults left name table files_faults source content (Some (frame.TooLong line len)) (λ contents. All (λ content. file_trouble false content ≡ None) contents → (◌≡◌ {A = ℕ} 1 0) ⊎ (◌≡◌ {A = ℕ} 1 5)) got (λ c bytes rest is e judged. λ sound. absurd (clash _ _ (ap (file_trouble false) e ∙ judged.1) (sound 0 c (omega arith))));
+  rest = visible-parts faults left name table files_faults source content (Some (frame.TooLong line len)) (λ contents. HaveRest left contents (source ∷ [])) got (λ c bytes rest is e judged. rest-one left source c bytes rest is e);
+  cause = visible-parts faults left name table files_faults source content (Some (frame.TooLong line len)) (λ contents. IsCause (Some (TooLong 1 line len)) (first_file_fault faults left 1 contents (source ∷ []))) got (λ c bytes rest is e judged. sym (ending-one faults left source c bytes rest false (Some (LongPayload line len)) (no_failure faults source (calm (λ e. absurd (cc)))) is e judged.0));
+  whole = visible-parts faults left name table files_faults source content (Some (frame.TooLong line len)) (λ contents. IsOfWhole (Some (TooLong 1 line len)) contents) got (λ c bytes rest is e judged. ap (file_trouble false) e ∙ judged.1);
+  complete = λ _ _ unwritten quiet. visible-parts faults left name table files_faults source content (Some (frame.TooLong line len)) (λ contents. All (λ content. file_trouble false content ≡ None) contents → (◌≡◌ {A = ℕ} 1 0) ⊎ (◌≡◌ {A = ℕ} 1 5)) got (λ c bytes rest is e judged. λ sound. absurd (clash _ _ (ap (file_trouble false) e ∙ judged.1) (sound 0 c (omega arith))));
 }
   where
     not-said : (◌≡◌ {A = ℕ} 1 0) ⊎ (◌≡◌ {A = ℕ} 1 4) → ⊥
@@ -264,16 +264,16 @@ refused faults left name table files_faults out_faults written source content (f
   read_fault = λ file e. absurd (cc);
   too_long = λ file line len e. absurd (cc);
   too_large = λ file e. let P : ℕ → Type 0 = λ n. (0 < n) × (n ≤ 1) × (2 ^ 30 < bytes) in let is : 1 ≡ file = cc in subst P is (omega arith, omega arith, (large bytes refl).0);
-  too_large_told = λ file e.
-      let P : ℕ → Type 0 = λ n. IfTold table.old (name ∷ []) (λ contents. IsReadOf left bytes contents (source ∷ []) n) in
+  too_large_visible = λ file e.
+      let P : ℕ → Type 0 = λ n. IfVisible table.old (name ∷ []) (λ contents. IsReadOf left bytes contents (source ∷ []) n) in
       let is : 1 ≡ file = cc in
-      subst P is (told-one table.old name content (λ contents. IsReadOf left bytes contents (source ∷ []) 1) got.there
-      (λ c told. ap (option_map length) (sym told) ∙ (large bytes refl).1));
+      subst P is (visible-one table.old name content (λ contents. IsReadOf left bytes contents (source ∷ []) 1) got.there
+      (λ c is. ap (option_map length) (sym is) ∙ (large bytes refl).1));
   unread = λ e. absurd (e refl);
-  rest = told-parts faults left name table files_faults source content (Some (frame.TooLarge bytes)) (λ contents. HaveRest left contents (source ∷ [])) got (λ c bytes rest is e judged. rest-one left source c bytes rest is e);
-  cause = told-parts faults left name table files_faults source content (Some (frame.TooLarge bytes)) (λ contents. IsCause (Some (TooLarge 1)) (first_file_fault faults left 1 contents (source ∷ []))) got (λ c bytes rest is e judged. sym (ending-one faults left source c bytes rest false (Some ManyBytes) (no_failure faults source (calm (λ e. absurd (cc)))) is e judged.0));
-  whole = told-parts faults left name table files_faults source content (Some (frame.TooLarge bytes)) (λ contents. IsOfWhole (Some (TooLarge 1)) contents) got (λ c bytes rest is e judged. ap (file_trouble false) e ∙ judged.1);
-  complete = λ _ _ unwritten quiet. told-parts faults left name table files_faults source content (Some (frame.TooLarge bytes)) (λ contents. All (λ content. file_trouble false content ≡ None) contents → (◌≡◌ {A = ℕ} 6 0) ⊎ (◌≡◌ {A = ℕ} 6 5)) got (λ c bytes rest is e judged. λ sound. absurd (clash _ _ (ap (file_trouble false) e ∙ judged.1) (sound 0 c (omega arith))));
+  rest = visible-parts faults left name table files_faults source content (Some (frame.TooLarge bytes)) (λ contents. HaveRest left contents (source ∷ [])) got (λ c bytes rest is e judged. rest-one left source c bytes rest is e);
+  cause = visible-parts faults left name table files_faults source content (Some (frame.TooLarge bytes)) (λ contents. IsCause (Some (TooLarge 1)) (first_file_fault faults left 1 contents (source ∷ []))) got (λ c bytes rest is e judged. sym (ending-one faults left source c bytes rest false (Some ManyBytes) (no_failure faults source (calm (λ e. absurd (cc)))) is e judged.0));
+  whole = visible-parts faults left name table files_faults source content (Some (frame.TooLarge bytes)) (λ contents. IsOfWhole (Some (TooLarge 1)) contents) got (λ c bytes rest is e judged. ap (file_trouble false) e ∙ judged.1);
+  complete = λ _ _ unwritten quiet. visible-parts faults left name table files_faults source content (Some (frame.TooLarge bytes)) (λ contents. All (λ content. file_trouble false content ≡ None) contents → (◌≡◌ {A = ℕ} 6 0) ⊎ (◌≡◌ {A = ℕ} 6 5)) got (λ c bytes rest is e judged. λ sound. absurd (clash _ _ (ap (file_trouble false) e ∙ judged.1) (sound 0 c (omega arith))));
 }
   where
     not-said : (◌≡◌ {A = ℕ} 6 0) ⊎ (◌≡◌ {A = ℕ} 6 4) → ⊥
@@ -296,12 +296,12 @@ refused faults left name table files_faults out_faults written source content fr
   read_fault = λ file e. absurd (cc);
   too_long = λ file line len e. absurd (cc);
   too_large = λ file e. absurd (cc);
-  too_large_told = λ file e. absurd (cc);
+  too_large_visible = λ file e. absurd (cc);
   unread = λ e. refl;
-  rest = told-parts faults left name table files_faults source content (Some frame.NoMemory) (λ contents. HaveRest left contents (source ∷ [])) got (λ c bytes rest is e judged. rest-one left source c bytes rest is e);
-  cause = told-parts faults left name table files_faults source content (Some frame.NoMemory) (λ contents. IsCause (Some NoMemory) (first_file_fault faults left 1 contents (source ∷ []))) got (λ c bytes rest is e judged. tt);
-  whole = told-parts faults left name table files_faults source content (Some frame.NoMemory) (λ contents. IsOfWhole (Some NoMemory) contents) got (λ c bytes rest is e judged. tt);
-  complete = λ _ _ unwritten quiet. told-parts faults left name table files_faults source content (Some frame.NoMemory) (λ contents. All (λ content. file_trouble false content ≡ None) contents → (◌≡◌ {A = ℕ} 5 0) ⊎ (◌≡◌ {A = ℕ} 5 5)) got (λ c bytes rest is e judged. λ sound. inr refl);
+  rest = visible-parts faults left name table files_faults source content (Some frame.NoMemory) (λ contents. HaveRest left contents (source ∷ [])) got (λ c bytes rest is e judged. rest-one left source c bytes rest is e);
+  cause = visible-parts faults left name table files_faults source content (Some frame.NoMemory) (λ contents. IsCause (Some NoMemory) (first_file_fault faults left 1 contents (source ∷ []))) got (λ c bytes rest is e judged. tt);
+  whole = visible-parts faults left name table files_faults source content (Some frame.NoMemory) (λ contents. IsOfWhole (Some NoMemory) contents) got (λ c bytes rest is e judged. tt);
+  complete = λ _ _ unwritten quiet. visible-parts faults left name table files_faults source content (Some frame.NoMemory) (λ contents. All (λ content. file_trouble false content ≡ None) contents → (◌≡◌ {A = ℕ} 5 0) ⊎ (◌≡◌ {A = ℕ} 5 5)) got (λ c bytes rest is e judged. λ sound. inr refl);
 }
   where
     not-said : (◌≡◌ {A = ℕ} 5 0) ⊎ (◌≡◌ {A = ℕ} 5 4) → ⊥

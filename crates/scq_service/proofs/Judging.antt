@@ -31,17 +31,17 @@ trouble-more size most failed passed text more many =
     ap (λ (c : List ℕ). option_or (first_too_long size (messages_after passed c)) (if nat_lt most (length (text ++ more)) then Some ManyBytes else None)) (counted-more most failed text more many)
     ∙ ap (λ (b : Bool). option_or (first_too_long size (messages_after passed (whole_lines (take most text)))) (if b then Some ManyBytes else None)) (lt-ltb most (length (text ++ more)) (omega (arith, length-append text more)))
 
--- where something is told, what holds of it
-pub if-told : {A : Type 0} (o : Option A) (P : A → Type 0) → ((x : A) → o ≡ Some x → P x) → IfSome o P
-if-told None P here = tt
-if-told (Some x) P here = here x refl
+-- where something is visible, what holds of it
+pub if-visible : {A : Type 0} (o : Option A) (P : A → Type 0) → ((x : A) → o ≡ Some x → P x) → IfSome o P
+if-visible None P here = tt
+if-visible (Some x) P here = here x refl
 
 -- whatever came, want of memory says nothing of it
 pub judged-memory : (first new : Framing) (before after : Option (List ℕ)) (result : Result (Option Message) FrameFault) → FoundSince first new before after result → Judged before after (Some NoMemory)
 judged-memory first new before after result found = record {
   bytes = found.bytes;
   moved = found.moved;
-  judges = if-told after _ (λ rest e. tt);
+  judges = if-visible after _ (λ rest e. tt);
 }
 
 -- all was read, and nothing is wrong with it
@@ -49,7 +49,7 @@ pub judged-end : (file : ℕ) (new : Framing) (before after : Option (List ℕ))
 judged-end file new before after found = record {
   bytes = found.bytes;
   moved = found.moved;
-  judges = if-told after _ (λ rest e. found.finds);
+  judges = if-visible after _ (λ rest e. found.finds);
 }
 
 -- how many bytes were read and are left
@@ -87,7 +87,7 @@ pub judged-long : (file : ℕ) (old new : Framing) (before mid after : Option (L
 judged-long file old new before mid after line len gave found above stays end = record {
   bytes = gave.bytes ++ found.bytes;
   moved = moved-moved gave.bytes found.bytes before mid after gave.moved found.moved;
-  judges = if-told after _ (λ rest e. (ap (file_trouble false) (sym (append-nil (gave.bytes ++ found.bytes))) ∙ trouble [] (λ h. refl), trouble rest (λ h. nothing rest e h)));
+  judges = if-visible after _ (λ rest e. (ap (file_trouble false) (sym (append-nil (gave.bytes ++ found.bytes))) ∙ trouble [] (λ h. refl), trouble rest (λ h. nothing rest e h)));
 } where
   nothing : (rest : List ℕ) → after ≡ Some rest → IsTrue new.ended → rest ≡ []
   nothing rest e h = let P : Option (List ℕ) → Type 0 = NothingLeft in subst P e (end h)
@@ -106,13 +106,13 @@ pub judged-fault : (file : ℕ) (new : Framing) (before after : Option (List ℕ
 judged-fault file new before after ReadFault found many long = record {
   bytes = found.bytes;
   moved = found.moved;
-  judges = if-told after _ (λ rest e. found.finds);
+  judges = if-visible after _ (λ rest e. found.finds);
 }
 judged-fault file new before after (TooLong line len) found many long = long line len refl
 judged-fault file new before after (TooLarge n) found many long = record {
   bytes = found.bytes;
   moved = found.moved;
-  judges = if-told after _ (λ rest e. (found.finds, large found.bytes rest n (many n refl).0 (size rest e) found.finds));
+  judges = if-visible after _ (λ rest e. (found.finds, large found.bytes rest n (many n refl).0 (size rest e) found.finds));
 } where
   size : (rest : List ℕ) → after ≡ Some rest → length (found.bytes ++ rest) ≡ n + length rest
   size rest e =

@@ -6,4 +6,4 @@ pub mod Endings
 pub mod Pieces
 pub mod Seen
 mod Rows
-pub mod Told
+pub mod Writings

@@ -1,4 +1,4 @@
--- What is told of one file whose source was got.
+-- What is visible of one file whose source was got.
 use Rattle.std.proofs.Common.{◌≡◌, ◌∙◌, refl, sym, ap, subst, suc, zero, inl, inr, arith, ◌-◌, ℕ, ◌<◌, ◌++◌, Bool, List, [], ◌∷◌, Option, Some, None, length, take, length-append}
 use Rattle.std.specs.Prelude.{IsSomeAnd, nat_lt, unwrap_or}
 use Rattle.std.specs.List.{All}
@@ -22,11 +22,11 @@ pub all-one : {X : Type 0} (P : X → Type 0) (x : X) → P x → All P (x ∷ [
 all-one P x p zero d h = p
 all-one P x p (suc k) d h = absurd (omega arith)
 
--- what was told before a source gave these bytes is they and what is left
-pub split-told : (content bytes : List ℕ) (after : Option (List ℕ)) → Some content ≡ option_map (λ rest. bytes ++ rest) after
+-- what was visible before a source gave these bytes is they and what is left
+pub split-visible : (content bytes : List ℕ) (after : Option (List ℕ)) → Some content ≡ option_map (λ rest. bytes ++ rest) after
     → (rest : List ℕ) × (after ≡ Some rest) × (content ≡ bytes ++ rest)
-split-told content bytes None e = absurd (cc)
-split-told content bytes (Some rest) e = (rest, refl, cc)
+split-visible content bytes None e = absurd (cc)
+split-visible content bytes (Some rest) e = (rest, refl, cc)
 
 pub given-is : (content bytes rest : List ℕ) → content ≡ bytes ++ rest → given_of content rest ≡ bytes
 given-is content bytes rest e =

@@ -1,5 +1,5 @@
 -- What is wrong with files, and what is said of it. A file's bytes are those that its source gave: the
--- ones that are told of it, without those that the source has left.
+-- ones that are visible of it, without those that the source has left.
 use Rattle.std.specs.Prelude.{◌≡◌, ℕ, ◌+◌, ◌-◌, ◌^◌, ◌++◌, Bool, false, nat_lt, List, [], ◌∷◌, length, take, Option, Some, None, IsSomeAnd, unwrap_or, slice_get, if◌then◌else◌}
 use Rattle.std.specs.Option.{option_or}
 use Rattle.scq_frames.specs.Trouble.{Trouble, LongPayload, ManyBytes, trouble_of}
@@ -21,7 +21,7 @@ file_fault file failed (Some ManyBytes) = Some (TooLarge file)
 file_fault file failed None = if failed then Some (ReadFault file) else None
 
 -- the first fault of files with these contents, of which the first has this number. Sources have a count
--- of faults and may tell what is left.
+-- of faults, and what they have left may be visible.
 abbrev pub first_file_fault : {S : Type 0} → (S → ℕ) → (S → Option (List ℕ)) → ℕ → List (List ℕ) → List S → Option Fault
 first_file_fault faults left file (content ∷ contents) (source ∷ sources) =
     let failed = nat_lt 0 (faults source) in

@@ -1,9 +1,9 @@
--- What files hold, where their table is told.
+-- What files hold, where their table is visible.
 use Rattle.std.specs.Prelude.{◌≡◌, ◌⊎◌, ℕ, ◌-◌, List, [], ◌∷◌, take, slice_get, Option, Some, None, IsTrue, IfSome, IsSomeAnd, option_and_then}
 use Rattle.std.specs.List.{list_any}
 use Rattle.std.specs.Str.{bytes_eq}
 use Rattle.std.specs.Option.{option_map}
-use Rattle.scq_outside.specs.Table.{Table, without}
+use Rattle.scq_outside.specs.Table.{Table, without_name}
 
 -- the contents that a table has for these names, in their order, where each is there
 abbrev pub contents_of : Table → List (List ℕ) → Option (List (List ℕ))
@@ -11,14 +11,14 @@ contents_of table [] = Some []
 contents_of table (name ∷ names) =
     option_and_then (λ content. option_map (λ more. content ∷ more) (contents_of table names)) (table name)
 
--- where the table is told, each name is there and the contents meet P
-abbrev pub IfTold : Option Table → List (List ℕ) → (List (List ℕ) → Type 0) → Type 0
-IfTold table names P = IfSome table (λ files. IsSomeAnd (contents_of files names) P)
+-- where the table is visible, each name is there and the contents meet P
+abbrev pub IfVisible : Option Table → List (List ℕ) → (List (List ℕ) → Type 0) → Type 0
+IfVisible table names P = IfSome table (λ files. IsSomeAnd (contents_of files names) P)
 
 -- the table without these names
-abbrev pub without_all : List (List ℕ) → Table → Table
-without_all [] table = table
-without_all (name ∷ names) table = without_all names (without name table)
+abbrev pub without_names : List (List ℕ) → Table → Table
+without_names [] table = table
+without_names (name ∷ names) table = without_names names (without_name name table)
 
 -- the name of this file isn't in the table, or an earlier file has the same name
 abbrev pub IsMissing : Table → List (List ℕ) → ℕ → Type 0

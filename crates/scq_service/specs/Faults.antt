@@ -37,10 +37,10 @@ fault_line (TooLarge file) = codes "file " ++ decimal file ++ codes ": more than
 fault_line WriteFault = codes "write fault\n"
 fault_line NoMemory = codes "out of memory\n"
 
--- what is told of the end: the fault's line, or nothing
-abbrev pub end_line : Option Fault → List ℕ
-end_line None = []
-end_line (Some fault) = fault_line fault
+-- what is reported of the end: the fault's line, or nothing
+abbrev pub report_of : Option Fault → List ℕ
+report_of None = []
+report_of (Some fault) = fault_line fault
 
 -- a framer's fault as one of the file that it read
 abbrev pub fault_of_file : ℕ → FrameFault → Fault

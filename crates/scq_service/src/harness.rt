@@ -1,4 +1,4 @@
-// What tests run: the service over memory in pieces of one size, and over lines that never end.
+//! What tests run: the service over memory in pieces of one size, and over lines that never end.
 ghost use Rattle.std.specs.Prelude.{◌≡◌, ◌<◌, IsTrue, IfOk, None};
 ghost use Rattle.scq_outside.specs.Calls.{are_pieces};
 

@@ -11,7 +11,7 @@ use crate::{Fault, Outcome, WordsFault};
 use scq_outside::{Failed, Files, Sink};
 use std::alloc::Global;
 
-/// Runs what the words ask for, and tells nothing of a fault yet.
+/// Runs what the words ask for, and reports no fault yet.
 pub fn run<F: Files, K: Sink>(
     alloc: Global,
     words: &[String],

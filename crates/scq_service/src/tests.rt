@@ -1,5 +1,5 @@
-// Runs over memory, as tables: faulty words, missing files, long payloads, and reads and writes in
-// pieces of which one fails.
+//! Runs over memory, as tables: faulty words, missing files, long payloads, and reads and writes in
+//! pieces of which one fails.
 use crate::harness::{Cut, EndlessFiles, run_in_memory, run_over};
 use scq_word::NoMemory;
 use std::alloc::Global;
@@ -30,12 +30,12 @@ fn rows_over_memory(rt: HostRuntime) -> Result<(), Fail> {
         (&["walk", "f"], None, None, 2, "", not_understood),
         (&[], None, None, 2, "", not_understood),
     ];
-    for (row, (words, content, fails, status, output, told)) in rows.iter().enumerate() {
+    for (row, (words, content, fails, status, output, reported)) in rows.iter().enumerate() {
         let content = content.map(str::as_bytes);
         let ran = run_in_memory(alloc, words, content, (4096, None), (5, *fails), (3, None))?;
         assert_eq!(rt; ran.status, *status, "row {row}");
         assert_eq!(rt; ran.out.bytes(), output.as_bytes(), "row {row}");
-        assert_eq!(rt; ran.err.bytes(), told.as_bytes(), "row {row}");
+        assert_eq!(rt; ran.err.bytes(), reported.as_bytes(), "row {row}");
     }
     Ok(())
 }
@@ -47,7 +47,7 @@ fn each_read_fails_in_turn(rt: HostRuntime) -> Result<(), Fail> {
     // One read a byte, and one that finds the end.
     let reads = SPACED.len() as u32 + 1;
     for fails in 1..reads + 2 {
-        let (status, output, told) = if fails <= reads {
+        let (status, output, reported) = if fails <= reads {
             (3, "", "file 1: read fault\n")
         } else {
             (0, SPACED_OUTPUT, "")
@@ -55,7 +55,7 @@ fn each_read_fails_in_turn(rt: HostRuntime) -> Result<(), Fail> {
         let ran = run_in_memory(alloc, RUN_F, content, (1, Some(fails)), WHOLE, WHOLE)?;
         assert_eq!(rt; ran.status, status, "read {fails}");
         assert_eq!(rt; ran.out.bytes(), output.as_bytes(), "read {fails}");
-        assert_eq!(rt; ran.err.bytes(), told.as_bytes(), "read {fails}");
+        assert_eq!(rt; ran.err.bytes(), reported.as_bytes(), "read {fails}");
     }
     Ok(())
 }
@@ -91,7 +91,7 @@ fn each_write_of_the_line_fails_in_turn(rt: HostRuntime) -> Result<(), Fail> {
 }
 
 #[test]
-fn long_payloads_are_told_at_the_end_of_their_lines(rt: HostRuntime) -> Result<(), Fail> {
+fn long_payloads_are_reported_at_the_end_of_their_lines(rt: HostRuntime) -> Result<(), Fail> {
     let alloc = rt.alloc();
     let longest = "1:1 - 65536\ntotal - 1 65536\n";
     let first = "file 1 line 1: payload of 65537 bytes, limit 65536\n";
@@ -107,12 +107,12 @@ fn long_payloads_are_told_at_the_end_of_their_lines(rt: HostRuntime) -> Result<(
         ("", 65537, "", Some(18), 3, "", failed),
         ("a 1\n\n", 65538, "\nb 2", None, 1, "", third),
     ];
-    for (row, (before, len, end, fails, status, output, told)) in rows.iter().enumerate() {
+    for (row, (before, len, end, fails, status, output, reported)) in rows.iter().enumerate() {
         let content = spread(alloc, before, *len, end)?;
         let ran = run_in_memory(alloc, RUN_F, Some(&content), (4096, *fails), WHOLE, WHOLE)?;
         assert_eq!(rt; ran.status, *status, "row {row}");
         assert_eq!(rt; ran.out.bytes(), output.as_bytes(), "row {row}");
-        assert_eq!(rt; ran.err.bytes(), told.as_bytes(), "row {row}");
+        assert_eq!(rt; ran.err.bytes(), reported.as_bytes(), "row {row}");
     }
     Ok(())
 }
@@ -133,28 +133,28 @@ fn the_cutting_of_reads_changes_nothing(rt: HostRuntime) -> Result<(), Fail> {
 #[test]
 fn a_source_without_end_is_too_large(rt: HostRuntime) -> Result<(), Fail> {
     let ran = run_over(rt.alloc(), RUN_F, &mut EndlessFiles, WHOLE, (1, None))?;
-    let told = b"file 1: more than 1073741824 bytes\n".as_slice();
+    let reported = b"file 1: more than 1073741824 bytes\n".as_slice();
     assert_eq!(rt; ran.status, 6);
     assert_eq!(rt; ran.read, 1073741825);
     assert_eq!(rt; ran.out.bytes(), b"".as_slice());
-    assert_eq!(rt; ran.err.bytes(), told);
+    assert_eq!(rt; ran.err.bytes(), reported);
     Ok(())
 }
 
 /// For runs in which some allocation fails: the answer is want of memory, or the row's.
 #[test]
-fn want_of_memory_is_told(rt: HostRuntime) -> Result<(), Fail> {
+fn want_of_memory_is_reported(rt: HostRuntime) -> Result<(), Fail> {
     let content = Some(SPACED.as_bytes());
     let Ok(ran) = run_in_memory(rt.alloc(), RUN_F, content, (5, None), (7, None), (7, None)) else {
         return Ok(());
     };
-    let (output, told) = if ran.status == 5 {
+    let (output, reported) = if ran.status == 5 {
         ("", "out of memory\n")
     } else {
         (SPACED_OUTPUT, "")
     };
     assert_eq!(rt; ran.out.bytes(), output.as_bytes());
-    assert_eq!(rt; ran.err.bytes(), told.as_bytes());
+    assert_eq!(rt; ran.err.bytes(), reported.as_bytes());
     Ok(())
 }
 

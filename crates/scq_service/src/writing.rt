@@ -1,12 +1,12 @@
 ghost use Rattle.std.specs.Prelude.{◌≡◌, OnOk, OnErr};
 ghost use Rattle.scq_outside.specs.Faults.{Rose};
-ghost use Rattle.scq_service.specs.Writing.{told_with, WrotePart};
+ghost use Rattle.scq_service.specs.Writing.{written_with, WrotePart};
 
 use scq_outside::{Failed, Sink};
 
 /// Writes all of the bytes, piece by piece. No bytes make no write.
 pub fn write_all<K: Sink>(sink: &mut K, bytes: &[u8]) -> Result<(), Failed>
-    ensures whole { OnOk result (K.written sink.new ≡ told_with (K.written sink.old) bytes.now) }
+    ensures whole { OnOk result (K.written sink.new ≡ written_with (K.written sink.old) bytes.now) }
     ensures kept { OnOk result (K.faults sink.new ≡ K.faults sink.old) }
 
     // After a fault the sink has a front of the bytes.

@@ -13,7 +13,7 @@ use Rattle.std.specs.Char.{is_ascii_digit, digit_value}
 use Rattle.std.specs.Str.{all_ascii_digits}
 use Rattle.std.specs.Str.Parse.{digits_value, digits_value_after}
 use Rattle.scq_topics.specs.Runs.{runs, is_space, has_bytes}
-use Rattle.scq_topics.specs.Sum.{sum_of, total_of, is_number}
+use Rattle.scq_topics.specs.Sum.{sum_of, value_sum, is_number}
 
 -- the number, where it fits 64 bits
 abbrev pub fitting : ℕ → Option ℕ
@@ -239,4 +239,4 @@ pub run-runs : (bytes : List ℕ) → run 0 0 0 bytes ≡ sum_of (runs is_space 
 run-runs bytes =
     run-is bytes 0 [] nothing_begun
     ∙ ap (plus_numbers 0) (filter-onto_nothing (slice_split is_space bytes))
-    ∙ from_zero (total_of (runs is_space bytes)) (list_all is_number (runs is_space bytes))
+    ∙ from_zero (value_sum (runs is_space bytes)) (list_all is_number (runs is_space bytes))

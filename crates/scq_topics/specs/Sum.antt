@@ -10,10 +10,10 @@ is_number token =
     nat_le (length token) 20 && all_ascii_digits token && nat_lt (digits_value 10 token) (2 ^ 64)
 
 -- the values of the tokens, added up
-abbrev pub total_of : List (List ℕ) → ℕ
-total_of tokens = sum_by (digits_value 10) tokens
+abbrev pub value_sum : List (List ℕ) → ℕ
+value_sum tokens = sum_by (digits_value 10) tokens
 
 -- the sum of the tokens, where each is a number and the sum fits 64 bits
 abbrev pub sum_of : List (List ℕ) → Option ℕ
 sum_of tokens =
-    if list_all is_number tokens && nat_lt (total_of tokens) (2 ^ 64) then Some (total_of tokens) else None
+    if list_all is_number tokens && nat_lt (value_sum tokens) (2 ^ 64) then Some (value_sum tokens) else None

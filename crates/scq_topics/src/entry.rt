@@ -2,10 +2,10 @@ ghost use Rattle.std.specs.Prelude.{◌≡◌, ◌==◌, IfSome, is_some};
 ghost use Rattle.std.specs.List.{list_any, after_first};
 ghost use Rattle.scq_topics.specs.Topics.{entry_name, is_name, is_name_byte};
 
-// The most bytes of a name.
+/// The most bytes of a name.
 pub const MOST_NAME: usize = 32;
 
-// The name of an entry, and what stands after its first `=`, if it has one.
+/// The name of an entry, and what stands after its first `=`, if it has one.
 pub fn split_entry(entry: &[u8]) -> (&[u8], Option<&[u8]>)
     ensures name { result.0.now ≡ entry_name entry.now }
     ensures word { IfSome result.1 (λ word. word.now ≡ after_first (λ byte. byte == 61) entry.now) }
@@ -17,7 +17,7 @@ pub fn split_entry(entry: &[u8]) -> (&[u8], Option<&[u8]>)
     }
 }
 
-// Whether this is a name: 1 to 32 bytes, each an ASCII letter or digit, `_` or `.`.
+/// Whether this is a name: 1 to 32 bytes, each an ASCII letter or digit, `_` or `.`.
 pub fn is_name(name: &[u8]) -> bool
     ensures { result ≡ is_name name.now }
 {

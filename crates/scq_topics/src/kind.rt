@@ -20,7 +20,7 @@ pub enum Kind {
 impl Kind {
     ghost use Rattle.scq_topics.specs.Kind.{kind_named};
 
-    // The kind that a word names: `len`, `words`, `sum`, `sha256` or `echo`.
+    /// The kind that a word names: `len`, `words`, `sum`, `sha256` or `echo`.
     pub(crate) fn named(word: &[u8]) -> Option<Kind>
         ensures { result ≡ kind_named word.now }
     {

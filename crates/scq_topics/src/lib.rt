@@ -1,8 +1,8 @@
-// The declared topics of a command line, and what a message on a topic is answered with. It stands
-// on `scq_word` for the bytes of a reply, on `arrayvec` for a table that takes no memory, on `sha2`
-// and `hex` for digests, and on `itoa` for numbers. The layers above use these contracts: a reply
-// is `reply_of` its kind and payload; `Topics` is seen as the list of the names and kinds, in the
-// order of declaration, and `find` is the number of a name in it.
+//! The declared topics of a command line, and what a message on a topic is answered with. It stands
+//! on `scq_word` for the bytes of a reply, on `arrayvec` for a table that takes no memory, on `sha2`
+//! and `hex` for digests, and on `itoa` for numbers. The layers above use these contracts: a reply
+//! is `reply_of` its kind and payload; `Topics` is seen as the list of the names and kinds, in the
+//! order of declaration, and `find` is the number of a name in it.
 #![tactic(auto)]
 
 mod entry;

@@ -26,7 +26,7 @@ pub fn reply(alloc: Global, kind: Kind, payload: &[u8]) -> Result<Bytes, NoMemor
     }
 }
 
-// Three kinds call it, and as a call of its own it took a fifth of the time of a short reply.
+/// Three kinds call it, and as a call of its own it took a fifth of the time of a short reply.
 #[inline(always)]
 fn number(alloc: Global, n: u64) -> Result<Bytes, NoMemory>
     ensures { IfOk result (λ bytes. bytes ≡ decimal n) }

@@ -2,13 +2,13 @@ ghost use Rattle.std.specs.Prelude.{◌≡◌, ◌+◌, ◌*◌, ◌^◌, ◌<�
 ghost use Rattle.scq_topics.specs.Runs.{runs, is_space};
 ghost use Rattle.scq_topics.specs.Sum.{sum_of};
 
-// As many digits as the largest `u64` has. A longer token is no number, whatever its value.
+/// As many digits as the largest `u64` has. A longer token is no number, whatever its value.
 const MOST_DIGITS: usize = 20;
 
-// Any digit may follow a value below this one.
+/// Any digit may follow a value below this one.
 const TENTH: u64 = u64::MAX / 10;
 
-// The sum of the tokens, where each is a number and the sum fits.
+/// The sum of the tokens, where each is a number and the sum fits.
 pub fn token_sum(payload: &[u8]) -> Option<u64>
     ensures { result ≡ sum_of (runs is_space payload.now) }
 {
@@ -32,7 +32,7 @@ pub fn token_sum(payload: &[u8]) -> Option<u64>
     sum.checked_add(value)
 }
 
-// The value with one more digit, where it fits. Few tokens come to where that has to be looked at.
+/// The value with one more digit, where it fits. Few tokens come to where that has to be looked at.
 #[inline]
 fn with_digit(value: u64, digit: u8) -> Option<u64>
     requires { digit < 10 }

@@ -1,7 +1,7 @@
 use super::*;
 use std::test::Fail;
 
-// Expected replies are worked by hand, digests come from `sha256sum`.
+/// Expected replies are worked by hand, digests come from `sha256sum`.
 #[test]
 fn replies_are_the_worked_ones(rt: HostRuntime) -> Result<(), Fail> {
     let rows: [(Kind, &[u8], &[u8]); 43] = [
@@ -88,7 +88,7 @@ fn replies_are_the_worked_ones(rt: HostRuntime) -> Result<(), Fail> {
     Ok(())
 }
 
-// A row's text, and the fault or the topics that it gives.
+/// A row's text, and the fault or the topics that it gives.
 #[test]
 fn topics_are_read_or_refused(rt: HostRuntime) -> Result<(), Fail> {
     let refused = [

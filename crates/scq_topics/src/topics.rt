@@ -7,7 +7,7 @@ use arrayvec::ArrayVec;
 use std::marker::Model;
 use thiserror::Error;
 
-// The most topics that are declared.
+/// The most topics that are declared.
 const MOST_TOPICS: usize = 16;
 
 /// Why a text declares no topics. `at` is the number of the faulty entry, from 1.
@@ -27,7 +27,7 @@ pub enum TopicFault {
     Twice { at: u32 },
 }
 
-// A declared topic. Contracts see the bytes of its name, and its kind.
+/// A declared topic. Contracts see the bytes of its name, and its kind.
 #[derive(Debug, Default, Drop)]
 struct Topic {
     name: ArrayVec<u8, MOST_NAME>,
@@ -103,7 +103,7 @@ impl Topics {
         Ok(topics)
     }
 
-    // Appends the topic that an entry declares, or says what is wrong with the entry.
+    /// Appends the topic that an entry declares, or says what is wrong with the entry.
     fn declare(&mut self, entry: &[u8]) -> Result<(), TopicFault>
         ensures refused { result_err result ≡ entry_fault self.old entry.now }
         ensures declared { OnOk result (self.new ≡ self.old ++ declared_by entry.now ∷ []) }

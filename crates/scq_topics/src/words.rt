@@ -1,8 +1,8 @@
 ghost use Rattle.std.specs.Prelude.{◌≡◌, length};
 ghost use Rattle.scq_topics.specs.Runs.{runs, is_blank};
 
-// How many maximal runs of bytes other than space and tab there are. Each begins at such a byte
-// that follows none, so one pass counts them.
+/// How many maximal runs of bytes other than space and tab there are. Each begins at such a byte
+/// that follows none, so one pass counts them.
 pub fn word_count(payload: &[u8]) -> usize
     ensures { result ≡ length (runs is_blank payload.now) }
 {

@@ -1,3 +1,6 @@
 pub mod WordLemmas
+pub mod Counting
 pub mod TicketLemmas
+pub mod BoundLemmas
 pub mod EntryLemmas
+pub mod ColumnLemmas

@@ -1,6 +1,7 @@
 pub mod Sizes
 pub mod Words
 pub mod Tickets
+pub mod Bounds
 pub mod Entries
 pub mod Ranges
 pub mod Written

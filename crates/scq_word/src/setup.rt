@@ -2,6 +2,7 @@
 
 ghost use Rattle.std.specs.Prelude.{◌≡◌, ℕ, ◌*◌, ◌^◌, ◌<◌, ◌≤◌, ◌↔◌, ◌⊎◌, IsOk, IfOk, Err};
 ghost use Rattle.scq_word.specs.Sizes.{n_of};
+ghost use Rattle.scq_word.specs.Bounds.{reset_value};
 ghost use Rattle.scq_word.specs.Ranges.{IsWithin, IsOutside};
 
 use crate::shape::Shape;
@@ -92,6 +93,14 @@ impl Setup {
         ensures { result ≡ self.now.seats }
     {
         self.seats
+    }
+
+    /// What Threshold is reset to once an index was placed.
+    #[tactic(auto, unfolding(crate::specs::Bounds::reset_value))]
+    pub fn reset_value(&self) -> u64
+        ensures { result ≡ reset_value self.now.order self.now.seats }
+    {
+        3 * u64::from(self.shape().n()) - 1
     }
 
     /// The limit of tickets, `8n` to `2^60`.

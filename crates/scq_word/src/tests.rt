@@ -100,8 +100,56 @@ fn shapes_and_tickets(rt: HostRuntime) -> Result<(), Fail> {
     for (ticket, cycle) in [(3, 0), (4, 1), (7, 1), (12, 3)] {
         assert_eq!(rt; cycle_of(small, ticket), cycle, "ticket {ticket}");
     }
-    for (ticket, slot) in [(3, 3), (4, 0), (9, 1), (12, 0)] {
-        assert_eq!(rt; slot_of(small, ticket), slot, "ticket {ticket}");
+    Ok(())
+}
+
+// Orders 1 and 2 have no columns; from order 3 on tickets that follow one another are eight slots apart.
+#[test]
+fn slots_of_tickets(rt: HostRuntime) -> Result<(), Fail> {
+    let table = [
+        (1, 3, 3),
+        (1, 4, 0),
+        (1, 9, 1),
+        (1, 12, 0),
+        (2, 0, 0),
+        (2, 1, 1),
+        (2, 2, 2),
+        (2, 3, 3),
+        (2, 4, 4),
+        (2, 5, 5),
+        (2, 6, 6),
+        (2, 7, 7),
+        (3, 0, 0),
+        (3, 1, 8),
+        (3, 2, 1),
+        (3, 3, 9),
+        (3, 15, 15),
+        (3, 17, 8),
+        (12, 1, 8),
+        (12, 1024, 1),
+    ];
+    for (order, ticket, slot) in table {
+        let shape = Shape::new(order).ok_or("order")?;
+        assert_eq!(rt;
+            slot_of(shape, ticket),
+            slot,
+            "order {order} ticket {ticket}"
+        );
+    }
+    Ok(())
+}
+
+// All slots of one round of the largest ring differ, and so each is met.
+#[test]
+fn a_round_meets_each_slot(rt: HostRuntime) -> Result<(), Fail> {
+    let shape = Shape::new(12).ok_or("order")?;
+    let mut met = vec![in rt.alloc(); false; 8192]?;
+    for ticket in 8192..16384 {
+        let here = met
+            .get_mut(slot_of(shape, ticket) as usize)
+            .ok_or("no such slot")?;
+        assert!(rt; !*here, "ticket {ticket}");
+        *here = true;
     }
     Ok(())
 }

@@ -1,10 +1,10 @@
 //! Entries as words, and the cycle and the slot of a ticket.
 
-ghost use Rattle.std.specs.Prelude.{◌≡◌, ℕ, ◌/◌, ◌<◌, ◌≤◌, ◌^◌, ◌==◌, if◌then◌else◌};
+ghost use Rattle.std.specs.Prelude.{◌≡◌, ℕ, ◌*◌, ◌/◌, ◌<◌, ◌≤◌, ◌^◌, ◌==◌, if◌then◌else◌};
 ghost use Rattle.std.specs.Option.{ForSome};
 ghost use Rattle.scq_word.specs.Sizes.{n_of, slots_of};
 ghost use Rattle.scq_word.specs.Words.{mark_of, rank_in};
-ghost use Rattle.scq_word.specs.Tickets.{cycle_of, slot_of};
+ghost use Rattle.scq_word.specs.Tickets.{cycle_of, slot_of, in_columns};
 ghost use Rattle.scq_word.specs.Entries.{word_of, entry_in, index_bits, HasOwnIndex, IsIndexOrMark, rank_of};
 
 use crate::entry::Entry;
@@ -84,10 +84,28 @@ pub fn cycle_of(shape: Shape, ticket: u64) -> u64
     ticket / u64::from(shape.slots())
 }
 
-/// The slot of a ticket, below the number of slots.
+/// The slot of a ticket, below the number of slots. Two tickets have one slot exactly where they agree modulo that
+/// number. In a ring of at least 16 slots, tickets that follow one another have slots that are eight apart, so that they
+/// don't meet in one cache line.
 pub fn slot_of(shape: Shape, ticket: u64) -> u32
-    ensures slot { result ≡ slot_of (slots_of shape.order) ticket }
+    ensures slot { result ≡ slot_of shape.order ticket }
     ensures small { result < slots_of shape.order }
 {
-    (ticket % u64::from(shape.slots())) as u32
+    let slots = shape.slots();
+    let rest = (ticket % u64::from(slots)) as u32;
+    if shape.order + 1 > 3 {
+        in_columns(slots / 8, rest)
+    } else {
+        rest
+    }
+}
+
+/// The numbers below `8 * width` laid out in eight columns.
+fn in_columns(width: u32, rest: u32) -> u32
+    requires some { 0 < width }
+    requires fits { 8 * width < 2 ^ 32 }
+    requires small { rest < 8 * width }
+    ensures { result ≡ in_columns width rest }
+{
+    rest % width * 8 + rest / width
 }

@@ -91,7 +91,7 @@ module _ (c : Setup) (opening : List (List ℕ)) (recorded : Recorded) (tied_run
   begun_from (Of k n) r w o e is less = (o, less, is)
 
   pub fresh : IsFresh opening events
-  fresh s e seat queue name content call =
+  fresh e s seat queue name content call =
       let t = taken_at e seat name content call.ends in
       let named : IsNamed opening events name t.r content (tied.origin t.r t.h) =
       subst (λ z. IsNamed opening events z t.r content (tied.origin t.r t.h)) t.named (tied.placed.named t.r t.h t.index content t.maker t.is) in
@@ -103,13 +103,17 @@ module _ (c : Setup) (opening : List (List ℕ)) (recorded : Recorded) (tied_run
       let queue_is : t.r ≡ queue = cc in
       subst (λ z. IsBegun opening events name z content e) queue_is (begun_from name t.r content (tied.origin t.r t.h) e named t.begun)
 
-  pub once : IsOnce events
-  once d e name a b =
+  -- one End names a put
+  one_end : (d e : ℕ) (name : PutName) → Names events d name → Names events e name → d ≡ e
+  one_end d e name a b =
       let t = taken_at d a.seat name a.content a.ends in
       let z = taken_at e b.seat name b.content b.ends in
       let one = tied.placed.one t.r t.h z.r z.h (ap is_placed t.is) (ap is_placed z.is) (t.named ∙ sym z.named) in
       let same : tied.ended z.r z.h ≡ d = subst (λ q. tied.ended q z.h ≡ d) one.0 (subst (λ u. tied.ended t.r u ≡ d) one.1 t.at) in
       sym same ∙ z.at
+
+  pub once : IsOnce events
+  once e name d there less before = let same = one_end d e name before there in absurd (omega arith)
 
   -- the put has its place in the queue's ring below Head, and the call that drew this place started before moment m
   pub record Ahead (queue m : ℕ) (name : PutName) : Type 0 where
@@ -151,7 +155,7 @@ module _ (c : Setup) (opening : List (List ℕ)) (recorded : Recorded) (tied_run
         first =
             λ d less names.
             let here : Names events (tied.ended r p) name = record { seat = j; content = t.content; ends = call.ends } in
-            let same = once d (tied.ended r p) name names here in
+            let same = one_end d (tied.ended r p) name names here in
             omega arith;
       }
 

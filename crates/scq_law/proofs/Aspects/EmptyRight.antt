@@ -14,7 +14,7 @@ use Rattle.scq_law.proofs.Aspects.InOrder.{in_order}
 
 module _ (c : Setup) (opening : List (List ℕ)) (full : length opening ≡ n_of c.order) (recorded : Recorded) (tied_run : IsTiedRun c opening recorded) where
   pub empty_right : IsEmptyRight opening recorded.events
-  empty_right s e seat queue call =
+  empty_right e s seat queue call =
       let z = tied_run.tied.emptied.ends e seat call.ends in
       let till = call.under_way_till in
       let under = z.under in

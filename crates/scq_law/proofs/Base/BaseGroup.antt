@@ -2,12 +2,11 @@
 use Rattle.std.specs.Prelude.{◌≡◌, ◌≢◌, ℕ, ◌<◌, ◌≤◌, ◌⊎◌, true, false, List}
 use Rattle.scq_word.specs.declared.setup.Setup.{Setup}
 use Rattle.scq_word.specs.Sizes.{n_of}
-use Rattle.scq_word.specs.Tickets.{slot_of}
 use Rattle.scq_word.specs.Words.{index_in, safe_in, cycle_in, is_none_in}
 use Rattle.scq_core.specs.declared.phase.Phase.{Phase}
 use Rattle.scq_core.specs.declared.phase.Phase.TheVariants.{AtE4, AtD4}
 use Rattle.scq_core.specs.Machine.{Entries}
-use Rattle.scq_core.specs.Table.{ring_slots, cycle}
+use Rattle.scq_core.specs.Table.{ring_slots, cycle, slot}
 use Rattle.scq_core.specs.Laws.{Lags}
 use Rattle.scq_law.specs.Places.{Maker, call_of}
 use Rattle.scq_law.proofs.Base.Ghosts.{Ghost, GetState, fresh, pending, placed, unopened, opened, dead, took, is_placed, waiting}
@@ -15,7 +14,7 @@ use Rattle.scq_law.proofs.Base.TicketEvents.{Stance, putting, landed, trying, mi
 
 -- the word of a ticket's entry
 abbrev pub at_ticket : Setup → (ℕ → ℕ → ℕ) → ℕ → ℕ → ℕ
-at_ticket c word r t = word r (slot_of (ring_slots c) t)
+at_ticket c word r t = word r (slot c t)
 
 -- an index stands at this place
 pub record Holds (c : Setup) (word : ℕ → ℕ → ℕ) (r t : ℕ) : Type 0 where
@@ -26,7 +25,7 @@ pub record Holds (c : Setup) (word : ℕ → ℕ → ℕ) (r t : ℕ) : Type 0 w
 pub record Stands (c : Setup) (e : Entries) (r t i : ℕ) (w : List ℕ) : Type 0 where
   pub holds : Holds c e.word r t
   pub index : index_in (ring_slots c) (at_ticket c e.word r t) ≡ i
-  pub content : e.content r (slot_of (ring_slots c) t) ≡ w
+  pub content : e.content r (slot c t) ≡ w
   pub small : i < n_of c.order
 
 -- an entry whose cycle is at or past a cycle, or that is unsafe: no index comes to that cycle's place
@@ -67,7 +66,7 @@ Claims g k number _ = Unit {0}
 
 -- where the word that an enqueue loaded is unsafe and still there, each ticket of this slot that was given up is lower
 pub record Passed (c : Setup) (word : ℕ → ℕ → ℕ) (gets : ℕ → ℕ → GetState) (r t v : ℕ) : Type 0 where
-  pub passed : at_ticket c word r t ≡ v → safe_in (ring_slots c) v ≡ 0 → (h : ℕ) → slot_of (ring_slots c) h ≡ slot_of (ring_slots c) t → gets r h ≡ dead → h < t
+  pub passed : at_ticket c word r t ≡ v → safe_in (ring_slots c) v ≡ 0 → (h : ℕ) → slot c h ≡ slot c t → gets r h ≡ dead → h < t
 
 -- what a seat knows beyond its stance, where its next step may change an entry
 abbrev pub Knows : Setup → (ℕ → ℕ → ℕ) → (ℕ → ℕ → GetState) → Phase → Type 0

@@ -2,9 +2,8 @@
 use Rattle.std.specs.Prelude.{◌≡◌, ◌≢◌, ℕ, ◌+◌, ◌<◌, ◌≤◌, ◌⊎◌, true, false, List, ◌++◌, length, None}
 use Rattle.scq_word.specs.declared.setup.Setup.{Setup}
 use Rattle.scq_word.specs.Sizes.{n_of}
-use Rattle.scq_word.specs.Tickets.{slot_of}
 use Rattle.scq_core.specs.Machine.{Machine}
-use Rattle.scq_core.specs.Table.{zero_level, ring_slots, holds_index}
+use Rattle.scq_core.specs.Table.{zero_level, holds_index, slot}
 use Rattle.scq_law.specs.Places.{Maker, call_of}
 use Rattle.scq_law.proofs.Base.Ghosts.{Ghost, fresh, pending, placed, unopened, opened, dead, is_placed, waiting}
 use Rattle.scq_law.proofs.Base.TicketEvents.{Stance, resting, drawing, putting, landed, seeking, trying, missed, leaving, stance_of, TicketEvent, calm, drew, fell, laid, finished, entered, refused, began, died, saw_end, lifted, taken, lowered, emptied, overran, stance_by, hand_by, ended_by, kept_by, tail_by, head_by, threshold_by}
@@ -22,7 +21,7 @@ pub record Live (g : Ghost) (r p i : ℕ) : Type 0 where
 -- a live place of a ticket's slot, other than the ticket itself, holds the index that its drawer found there
 pub record Blocks (c : Setup) (g : Ghost) (r t i : ℕ) : Type 0 where
   pub place : ℕ
-  pub slot : slot_of (ring_slots c) place ≡ slot_of (ring_slots c) t
+  pub slot : slot c place ≡ slot c t
   pub other : place ≢ t
   pub live : Live g r place i
 

@@ -2,10 +2,9 @@
 -- Plan: what such a write does to a word is one record; from it each fact of the books by where its place is.
 use Rattle.std.proofs.Common.{◌≡◌, ◌≢◌, ℕ, List, ◌<◌, ◌≤◌, ◌⊎◌, inl, inr, true, false, ap, sym, ◌∙◌, refl, arith}
 use Rattle.scq_word.specs.declared.setup.Setup.{Setup}
-use Rattle.scq_word.specs.Tickets.{slot_of}
 use Rattle.scq_word.specs.Words.{index_in, safe_in, cycle_in, is_none_in}
 use Rattle.scq_core.specs.Machine.{Entries, updated_entry}
-use Rattle.scq_core.specs.Table.{ring_slots, cycle}
+use Rattle.scq_core.specs.Table.{ring_slots, cycle, slot}
 use Rattle.scq_core.specs.Laws.{IsAbove}
 use Rattle.scq_core.proofs.UpdatedLemmas.{updated_entry_cases}
 use Rattle.scq_law.specs.Places.{Maker}
@@ -27,7 +26,7 @@ pub record Closes (s e z d : ℕ) : Type 0 where
 
 -- the entries with the word of a ticket's slot changed
 abbrev pub reworded : Setup → Entries → ℕ → ℕ → ℕ → Entries
-reworded c e r t z = record { word = updated_entry e.word r (slot_of (ring_slots c) t) z; content = e.content }
+reworded c e r t z = record { word = updated_entry e.word r (slot c t) z; content = e.content }
 
 module _ (c : Setup) (e : Entries) (g : Ghost) (k r h z : ℕ) (mine : g.gets r h ≡ opened k)
     (closes : Closes (ring_slots c) (at_ticket c e.word r h) z (cycle c h)) (booked : IsBooked c e g) where
@@ -46,15 +45,14 @@ module _ (c : Setup) (e : Entries) (g : Ghost) (k r h z : ℕ) (mine : g.gets r 
       go (placed i w b) is = absurd (not_there (booked.stands r h i w b is (ap waiting mine)).holds)
 
   -- an index that stands at another ticket of the slot stands there before and after
-  was_beside : (p : ℕ) → slot_of (ring_slots c) p ≡ slot_of (ring_slots c) h → cycle c p ≢ cycle c h → cycle_in (ring_slots c) z ≡ cycle c p
-      → is_none_in (ring_slots c) z ≡ false → Holds c e.word r p
+  was_beside : (p : ℕ) → slot c p ≡ slot c h → cycle c p ≢ cycle c h → cycle_in (ring_slots c) z ≡ cycle c p → is_none_in (ring_slots c) z ≡ false
+      → Holds c e.word r p
   was_beside p slot turn at has =
       let old : is_none_in (ring_slots c) (at_ticket c e.word r h) ≡ false = sym closes.none ∙ has in
       let same = (closes.full old).0 in
       record { cycle = rw slot (sym same ∙ at); index = rw slot old }
 
-  is_beside : (p : ℕ) → slot_of (ring_slots c) p ≡ slot_of (ring_slots c) h → Holds c e.word r p
-      → (cycle_in (ring_slots c) z ≡ cycle c p) × (is_none_in (ring_slots c) z ≡ false)
+  is_beside : (p : ℕ) → slot c p ≡ slot c h → Holds c e.word r p → (cycle_in (ring_slots c) z ≡ cycle c p) × (is_none_in (ring_slots c) z ≡ false)
   is_beside p slot has =
       let old : is_none_in (ring_slots c) (at_ticket c e.word r h) ≡ false = rw slot at has.index in
       let at : cycle_in (ring_slots c) (at_ticket c e.word r h) ≡ cycle c p = rw slot at has.cycle in
@@ -167,7 +165,7 @@ module _ (c : Setup) (e : Entries) (g : Ghost) (k r h z : ℕ) (mine : g.gets r 
       let same : opened j ≡ opened k = sym is ∙ rw (ring, ticket) mine in cc
 
   -- a loaded word that stands in the entry now stood there before
-  stood_there : (q t v : ℕ) → Loaded c e.word q t v → q ≡ r → slot_of (ring_slots c) h ≡ slot_of (ring_slots c) t → z ≡ v → at_ticket c e.word r h ≡ v
+  stood_there : (q t v : ℕ) → Loaded c e.word q t v → q ≡ r → slot c h ≡ slot c t → z ≡ v → at_ticket c e.word r h ≡ v
   stood_there q t v loaded ring slots is =
       let above : IsAbove (ring_slots c) v (at_ticket c e.word r h) = rw (ring, ← slots) at loaded.lags.above in
       came_back (ring_slots c) v (at_ticket c e.word r h) z is above closes.above
@@ -177,11 +175,11 @@ module _ (c : Setup) (e : Entries) (g : Ghost) (k r h z : ℕ) (mine : g.gets r 
   died_passes q t v loaded old =
       record {
         passed =
-            λ there unsafe p slot gone.
+            λ there unsafe p met gone.
             elim (place q p) [
               | inl a ↦
-                  let slots : slot_of (ring_slots c) h ≡ slot_of (ring_slots c) t = rw (← a.ticket) slot in
-                  let is : z ≡ v = sym a.word_is ∙ rw (← slot) at there in
+                  let slots : slot c h ≡ slot c t = rw (← a.ticket) met in
+                  let is : z ≡ v = sym a.word_is ∙ rw (← met) at there in
                   let stood : at_ticket c e.word r h ≡ v = stood_there q t v loaded a.ring slots is in
                   let none : is_none_in (ring_slots c) z ≡ true = rw is loaded.empty in
                   let later : cycle c h < cycle_in (ring_slots c) (at_ticket c e.word r h) = closes.later none (is ∙ sym stood) in
@@ -189,12 +187,12 @@ module _ (c : Setup) (e : Entries) (g : Ghost) (k r h z : ℕ) (mine : g.gets r 
                   let cycles : cycle_in (ring_slots c) (at_ticket c e.word r h) ≡ cycle_in (ring_slots c) v = ap (cycle_in (ring_slots c)) stood in
                   rw a.ticket (below_cycle c h t (omega arith))
               | inr (inl a) ↦
-                  let slots : slot_of (ring_slots c) h ≡ slot_of (ring_slots c) t = sym a.slot ∙ slot in
-                  let is : z ≡ v = sym a.word_is ∙ rw (← slot) at there in
+                  let slots : slot c h ≡ slot c t = sym a.slot ∙ met in
+                  let is : z ≡ v = sym a.word_is ∙ rw (← met) at there in
                   let stood : at_ticket c e.word r h ≡ v = stood_there q t v loaded a.ring slots is in
-                  old.passed (rw (a.ring, ← slots) stood) unsafe p slot (sym a.state_is ∙ gone)
+                  old.passed (rw (a.ring, ← slots) stood) unsafe p met (sym a.state_is ∙ gone)
               | inr (inr a) ↦
-                  old.passed (rw (← slot) (sym a.word_is) ∙ there) unsafe p slot (sym a.state_is ∙ gone)
+                  old.passed (rw (← met) (sym a.word_is) ∙ there) unsafe p met (sym a.state_is ∙ gone)
             ];
       }
 

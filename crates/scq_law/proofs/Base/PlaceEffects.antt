@@ -3,13 +3,11 @@
 use Rattle.std.proofs.Common.{◌≡◌, ℕ, List, ◌<◌, ◌⊎◌, inl, inr, true, false, ap, sym, ◌∙◌, refl, arith}
 use Rattle.scq_word.specs.declared.setup.Setup.{Setup}
 use Rattle.scq_word.specs.Sizes.{n_of}
-use Rattle.scq_word.specs.Tickets.{slot_of}
 use Rattle.scq_word.specs.Words.{index_in, cycle_in, is_none_in}
 use Rattle.scq_word.proofs.TicketLemmas.{lower_ticket}
 use Rattle.scq_core.specs.Machine.{Entries, updated_entry}
-use Rattle.scq_core.specs.Table.{ring_slots, cycle}
+use Rattle.scq_core.specs.Table.{ring_slots, cycle, slot}
 use Rattle.scq_core.proofs.UpdatedLemmas.{updated_entry_cases, updated_entry_here, updated_entry_or}
-use Rattle.scq_core.proofs.Entries.{some_slots}
 use Rattle.scq_law.specs.Places.{Maker}
 use Rattle.scq_law.proofs.Base.Ghosts.{Ghost, PutState, GetState, unopened, opened, dead, took, placed, pending, is_placed, waiting, with_put}
 use Rattle.scq_law.proofs.Base.BaseGroup.{IsBooked, Holds, Stands, Passed, Moves, Effect, at_ticket}
@@ -26,17 +24,17 @@ pub record Fills (s e z d i : ℕ) : Type 0 where
 -- the entries with the word and the content of a ticket's slot changed
 abbrev pub refilled : Setup → Entries → ℕ → ℕ → ℕ → List ℕ → Entries
 refilled c e r t z w =
-    record { word = updated_entry e.word r (slot_of (ring_slots c) t) z; content = updated_entry e.content r (slot_of (ring_slots c) t) w }
+    record { word = updated_entry e.word r (slot c t) z; content = updated_entry e.content r (slot c t) w }
 
 module _ (c : Setup) (e : Entries) (g : Ghost) (k r t i z : ℕ) (w : List ℕ) (b : Maker) (mine : g.puts r t ≡ pending k i) (small : i < n_of c.order)
     (fills : Fills (ring_slots c) (at_ticket c e.word r t) z (cycle c t) i) (passed : Passed c e.word g.gets r t (at_ticket c e.word r t))
     (booked : IsBooked c e g) where
   -- a ticket of the slot that was given up is lower
-  gone_lower : (p : ℕ) → slot_of (ring_slots c) p ≡ slot_of (ring_slots c) t → g.gets r p ≡ dead → cycle c p < cycle c t
+  gone_lower : (p : ℕ) → slot c p ≡ slot c t → g.gets r p ≡ dead → cycle c p < cycle c t
   gone_lower p slot gone =
       elim (rw slot at (booked.shut r p gone)) [
         | inl at ↦ let earlier = fills.earlier in omega arith
-        | inr unsafe ↦ lower_ticket (ring_slots c) p t (some_slots c) slot (passed.passed refl unsafe p slot gone)
+        | inr unsafe ↦ lower_ticket c.order p t slot (passed.passed refl unsafe p slot gone)
       ]
 
   -- what is placed there may be taken
@@ -81,7 +79,7 @@ module _ (c : Setup) (e : Entries) (g : Ghost) (k r t i z : ℕ) (w : List ℕ) 
             record {
               holds = record { cycle = rw (a.word_is, a.ticket) fills.cycle; index = rw a.word_is fills.some };
               index = rw a.word_is (fills.index ∙ index);
-              content = rw (a.ring, a.ticket) (updated_entry_here e.content r (slot_of (ring_slots c) t) w ∙ content);
+              content = rw (a.ring, a.ticket) (updated_entry_here e.content r (slot c t) w ∙ content);
               small = rw (← index) small;
             }
         | inr (inl a) ↦
@@ -95,7 +93,7 @@ module _ (c : Setup) (e : Entries) (g : Ghost) (k r t i z : ℕ) (w : List ℕ) 
               holds = record { cycle = rw a.word_is old.holds.cycle; index = rw a.word_is old.holds.index };
               index = rw a.word_is old.index;
               content =
-                  elim (updated_entry_or e.content r (slot_of (ring_slots c) t) w q (slot_of (ring_slots c) p)) [
+                  elim (updated_entry_or e.content r (slot c t) w q (slot c p)) [
                     | inl x ↦ absurd (a.apart x.0 x.1)
                     | inr x ↦ x.1 ∙ old.content
                   ];

@@ -1,17 +1,16 @@
 -- The start, with ring 0 full, has all of the base group.
 -- Plan: what stands in a slot is given by `fills`; then each ticket by where it is.
-use Rattle.std.proofs.Common.{◌≡◌, ℕ, ◌+◌, ◌-◌, ◌*◌, ◌<◌, ◌≤◌, true, false, ◌&&◌, List, [], refl, ap, sym, ◌∙◌, ◌⊎◌, inl, inr, arith, eq-eqb, ne_eqb, eqb-true, leb-true, ltb-true, lt-ltb, le-leb}
+use Rattle.std.proofs.Common.{◌≡◌, ℕ, ◌+◌, ◌-◌, ◌<◌, ◌≤◌, true, false, ◌&&◌, List, [], refl, ap, sym, ◌∙◌, ◌⊎◌, inl, inr, arith, eq-eqb, ne_eqb, eqb-true, leb-true, ltb-true, lt-ltb, le-leb}
 use Rattle.std.specs.Prelude.{◌==◌, nat_lt, nat_le, slice_index_or}
 use Rattle.std.proofs.lemmas.Bool.{cases_Bool, cases_eq, and_parts, and_from}
 use Rattle.scq_word.specs.declared.setup.Setup.{Setup}
 use Rattle.scq_word.specs.Sizes.{n_of}
-use Rattle.scq_word.specs.Tickets.{slot_of}
 use Rattle.scq_word.specs.Words.{mark_of, packed, cycle_in, is_none_in}
-use Rattle.scq_word.proofs.TicketLemmas.{same_ticket, cycle_of-row, cycle_of_mono}
+use Rattle.scq_word.proofs.TicketLemmas.{same_ticket, cycle_of_mono}
 use Rattle.scq_word.proofs.WordLemmas.{index_in-packed, cycle_in-packed}
-use Rattle.scq_core.specs.Table.{ring_slots, cycle}
+use Rattle.scq_core.specs.Table.{ring_slots, cycle, slot}
 use Rattle.scq_core.specs.Start.{unused, filled, start_cells}
-use Rattle.scq_core.proofs.Starts.{Filled, fills}
+use Rattle.scq_core.proofs.Starts.{opening_cycle, Filled, fills}
 use Rattle.scq_core.proofs.Entries.{some_slots, some_indices, below_mark, none_in-marked, none_in-filled}
 use Rattle.scq_law.specs.Places.{Maker, opening_put}
 use Rattle.scq_law.proofs.Base.Ghosts.{fresh, placed, is_placed, stood, start_ghost}
@@ -55,22 +54,15 @@ stands_at c opening r t =
           })
     ]
 
--- the opening places are of the ring's second round
-pub second_turn : (c : Setup) (j : ℕ) → j < ring_slots c → cycle c (ring_slots c + j) ≡ 1
-second_turn c j small =
-    let row : cycle c (1 * ring_slots c + j) ≡ 1 = cycle_of-row (ring_slots c) 1 j small in
-    let same : 1 * ring_slots c + j ≡ ring_slots c + j = omega arith in
-    rw same at row
-
 -- an opening place of this slot is this ticket
-one_place : (c : Setup) (t j : ℕ) → ring_slots c ≤ t → t < ring_slots c + n_of c.order → j < n_of c.order
-    → slot_of (ring_slots c) t ≡ slot_of (ring_slots c) (ring_slots c + j) → t ≡ ring_slots c + j
+pub one_place : (c : Setup) (t j : ℕ) → ring_slots c ≤ t → t < ring_slots c + n_of c.order → j < n_of c.order → slot c t ≡ slot c (ring_slots c + j)
+    → t ≡ ring_slots c + j
 one_place c t j first last low slot =
     let small : t - ring_slots c < ring_slots c = omega arith in
     let same : ring_slots c + (t - ring_slots c) ≡ t = omega arith in
-    let turn : cycle c t ≡ 1 = rw same at (second_turn c (t - ring_slots c) small) in
-    let turn_j : cycle c (ring_slots c + j) ≡ 1 = second_turn c j (omega arith) in
-    same_ticket (ring_slots c) t (ring_slots c + j) slot (turn ∙ sym turn_j)
+    let turn : cycle c t ≡ 1 = rw same at (opening_cycle c (t - ring_slots c) small) in
+    let turn_j : cycle c (ring_slots c + j) ≡ 1 = opening_cycle c j (omega arith) in
+    same_ticket c.order t (ring_slots c + j) slot (turn ∙ sym turn_j)
 
 module _ (c : Setup) (opening : List (List ℕ)) where
   -- the words of an unused entry and of a filled one
@@ -91,13 +83,12 @@ module _ (c : Setup) (opening : List (List ℕ)) where
   word = (start_cells c opening).entries.word
 
   -- where an index stands, ring and slot are those of an opening place
-  holds_filled : (r p : ℕ) → is_none_in (ring_slots c) (at_ticket c word r p) ≡ false
-      → (r ≡ 0) × Filled (ring_slots c) opening (n_of c.order) (slot_of (ring_slots c) p)
+  holds_filled : (r p : ℕ) → is_none_in (ring_slots c) (at_ticket c word r p) ≡ false → (r ≡ 0) × Filled c opening (n_of c.order) (slot c p)
   holds_filled r p some =
       elim (cases_eq r 0) [
         | inl ring ↦
-            let here : is_none_in (ring_slots c) (filled (ring_slots c) (n_of c.order) (slot_of (ring_slots c) p)) ≡ false = rw (eq-eqb r 0 ring) at some in
-            elim (fills (ring_slots c) opening (n_of c.order) (slot_of (ring_slots c) p)) [
+            let here : is_none_in (ring_slots c) (filled c (n_of c.order) (slot c p)) ≡ false = rw (eq-eqb r 0 ring) at some in
+            elim (fills c opening (n_of c.order) (slot c p)) [
               | inl f ↦ (ring, f)
               | inr f ↦ let not : is_none_in (ring_slots c) (unused (ring_slots c)) ≡ false = rw f.word at here in let none = none_unused in absurd (cc)
             ]
@@ -112,10 +103,10 @@ module _ (c : Setup) (opening : List (List ℕ)) where
       let at = holds_filled r p has.index in
       let f = at.1 in
       let low = f.low in
-      let turn : cycle_in (ring_slots c) (filled (ring_slots c) (n_of c.order) (slot_of (ring_slots c) p)) ≡ cycle c p = rw (eq-eqb r 0 at.0) at has.cycle in
+      let turn : cycle_in (ring_slots c) (filled c (n_of c.order) (slot c p)) ≡ cycle c p = rw (eq-eqb r 0 at.0) at has.cycle in
       let one : 1 ≡ cycle c p = sym (cycle_filled f.index low) ∙ sym (ap (cycle_in (ring_slots c)) f.word) ∙ turn in
-      let turn_j : cycle c (ring_slots c + f.index) ≡ 1 = second_turn c f.index (omega arith) in
-      let same : p ≡ ring_slots c + f.index = same_ticket (ring_slots c) p (ring_slots c + f.index) f.slot (sym one ∙ sym turn_j) in
+      let turn_j : cycle c (ring_slots c + f.index) ≡ 1 = opening_cycle c f.index (omega arith) in
+      let same : p ≡ ring_slots c + f.index = same_ticket c.order p (ring_slots c + f.index) f.slot (sym one ∙ sym turn_j) in
       elim (stands_at c opening r p) [
         | inl s ↦ rw s.is refl
         | inr s ↦ absurd (s.out at.0 (omega arith) (omega arith))
@@ -132,14 +123,14 @@ module _ (c : Setup) (opening : List (List ℕ)) where
             let index : p - ring_slots c ≡ i = cc in
             let content : slice_index_or opening (p - ring_slots c) [] ≡ w = cc in
             let back : ring_slots c + (p - ring_slots c) ≡ p = omega arith in
-            elim (fills (ring_slots c) opening (n_of c.order) (slot_of (ring_slots c) p)) [
+            elim (fills c opening (n_of c.order) (slot c p)) [
               | inr f ↦ absurd (f.other (p - ring_slots c) (omega arith) (rw back refl))
               | inl f ↦
                   let low = f.low in
                   let place : p ≡ ring_slots c + f.index = one_place c p f.index first last low f.slot in
                   let j : f.index ≡ i = omega arith in
                   let ring = eq-eqb r 0 s.ring in
-                  let turn : cycle c (ring_slots c + f.index) ≡ 1 = second_turn c f.index (omega arith) in
+                  let turn : cycle c (ring_slots c + f.index) ≡ 1 = opening_cycle c f.index (omega arith) in
                   record {
                     holds =
                         record {
@@ -157,12 +148,12 @@ module _ (c : Setup) (opening : List (List ℕ)) where
       → is_none_in (ring_slots c) (at_ticket c word r p) ≡ true → ⊥
   start_over r p first at none =
       let high : 1 ≤ cycle c p =
-      (let row : cycle c (ring_slots c + 0) ≡ 1 = second_turn c 0 (some_slots c) in
+      (let row : cycle c (ring_slots c + 0) ≡ 1 = opening_cycle c 0 (some_slots c) in
       let mono : cycle c (ring_slots c + 0) ≤ cycle c p = cycle_of_mono (ring_slots c) (ring_slots c + 0) p (some_slots c) (omega arith) in omega arith) in
       let zero_turn = cycle_unused in
       elim (cases_eq r 0) [
         | inl ring ↦
-            elim (fills (ring_slots c) opening (n_of c.order) (slot_of (ring_slots c) p)) [
+            elim (fills c opening (n_of c.order) (slot c p)) [
               | inl f ↦
                   let not : is_none_in (ring_slots c) (packed (ring_slots c) 1 1 f.index) ≡ true = rw (eq-eqb r 0 ring, f.word) at none in
                   let some = some_filled f.index f.low in

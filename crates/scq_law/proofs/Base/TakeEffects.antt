@@ -1,10 +1,9 @@
 -- A dequeue takes the index that stands at its ticket, and the entry keeps its cycle and safe bit.
 use Rattle.std.proofs.Common.{◌≡◌, ℕ, List, ◌⊎◌, inl, inr, true, false, sym, ◌∙◌, refl}
 use Rattle.scq_word.specs.declared.setup.Setup.{Setup}
-use Rattle.scq_word.specs.Tickets.{slot_of}
 use Rattle.scq_word.specs.Words.{safe_in, cycle_in, is_none_in}
 use Rattle.scq_core.specs.Machine.{Entries}
-use Rattle.scq_core.specs.Table.{ring_slots, cycle}
+use Rattle.scq_core.specs.Table.{ring_slots, cycle, slot}
 use Rattle.scq_core.specs.Laws.{IsAbove}
 use Rattle.scq_core.proofs.UpdatedLemmas.{updated_entry_cases}
 use Rattle.scq_law.specs.Places.{Maker}
@@ -111,19 +110,19 @@ module _ (c : Setup) (e : Entries) (g : Ghost) (k r h z number : ℕ) (mine : g.
   took_passes q t v loaded old =
       record {
         passed =
-            λ stands unsafe p slot gone.
+            λ stands unsafe p met gone.
             elim (place q p) [
               | inl a ↦ absurd (cc)
               | inr (inl a) ↦
-                  let slots : slot_of (ring_slots c) h ≡ slot_of (ring_slots c) t = sym a.slot ∙ slot in
-                  let is : z ≡ v = sym a.word_is ∙ rw (← slot) at stands in
+                  let slots : slot c h ≡ slot c t = sym a.slot ∙ met in
+                  let is : z ≡ v = sym a.word_is ∙ rw (← met) at stands in
                   let above : IsAbove (ring_slots c) v (at_ticket c e.word r h) = rw (a.ring, ← slots) at loaded.lags.above in
                   let stood : at_ticket c e.word r h ≡ v = came_back (ring_slots c) v (at_ticket c e.word r h) z is above empties.above in
                   let none : is_none_in (ring_slots c) (at_ticket c e.word r h) ≡ true = rw stood loaded.empty in
                   let some = there.index in
                   absurd (cc)
               | inr (inr a) ↦
-                  old.passed (rw (← slot) (sym a.word_is) ∙ stands) unsafe p slot (sym a.state_is ∙ gone)
+                  old.passed (rw (← met) (sym a.word_is) ∙ stands) unsafe p met (sym a.state_is ∙ gone)
             ];
       }
 

@@ -5,7 +5,7 @@ use Rattle.scq_word.specs.declared.setup.Setup.{Setup}
 use Rattle.scq_core.specs.declared.phase.Phase.{Phase}
 use Rattle.scq_core.specs.declared.phase.Phase.TheVariants.{Idle, AtE1, AtE2, AtE3, AtE4, AtE5, AtE6, AtD1, AtD2, AtD3, AtD4, AtD5, AtD6, AtD7, AtD8, AtD9, AtD10}
 use Rattle.scq_core.specs.declared.step.Step.{Step}
-use Rattle.scq_core.specs.declared.step.Step.TheVariants.{E1, E1Again, E2, E3, E4, E5, E6, D1, D2, D3, D4, D5, D6, D7, D8, D9, D10}
+use Rattle.scq_core.specs.declared.step.Step.TheVariants.{E1Again, E2, E3, E4, E5, E6, D2, D3, D4, D5, D6, D7, D8, D9, D10}
 use Rattle.scq_core.specs.Machine.{Part}
 use Rattle.scq_core.specs.Table.{turn_at, turn_of}
 use Rattle.scq_core.proofs.Turns.{Begins, begins_put, begins_get, begins}

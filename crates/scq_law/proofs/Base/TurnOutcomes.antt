@@ -4,13 +4,12 @@ use Rattle.std.proofs.Common.{◌≡◌, ℕ, ◌+◌, ◌<◌, true, false, ◌
 use Rattle.std.specs.Prelude.{[], ◌==◌, nat_lt, nat_le}
 use Rattle.std.proofs.lemmas.Bool.{cases_Bool, cases_eq, cases_lt, leb-false, ltb-false}
 use Rattle.scq_word.specs.declared.setup.Setup.{Setup}
-use Rattle.scq_word.specs.Tickets.{slot_of}
 use Rattle.scq_word.specs.Words.{packed, safe_in, cycle_in, is_none_in}
 use Rattle.scq_core.specs.declared.phase.Phase.{Phase}
 use Rattle.scq_core.specs.declared.phase.Phase.TheVariants.{Idle, AtE1, AtE2, AtE3, AtE4, AtE5, AtE6, AtD1, AtD2, AtD3, AtD4, AtD5, AtD6, AtD7, AtD8, AtD9, AtD10}
 use Rattle.scq_core.specs.Updated.{updated}
 use Rattle.scq_core.specs.Machine.{Cells, Entries, Part, tail_of, head_of, entry_of, read, beside, written}
-use Rattle.scq_core.specs.Table.{ring_slots, cycle, zero_level, reset_level, location_of, after, cells_after, passed, goes_on}
+use Rattle.scq_core.specs.Table.{ring_slots, cycle, slot, zero_level, reset_level, location_of, after, cells_after, passed, goes_on}
 use Rattle.scq_core.specs.Laws.{Drawn, Busy, word_at}
 use Rattle.scq_core.proofs.UpdatedLemmas.{updated_here, updated_same, updated_entry_here, updated_entry_same}
 use Rattle.scq_core.proofs.Ranks.{counters_rise}
@@ -99,15 +98,15 @@ module _ (c : Setup) (m : Cells) (g : Ghost) (time k : ℕ) (p : Part) (booked :
             elim (cases_eq (safe_in (ring_slots c) x) 1) [
               | inl safe ↦
                   rw (fits, eq-eqb (safe_in (ring_slots c) x) 1 safe)
-                  (read_entry r (slot_of (ring_slots c) t) _ _
+                  (read_entry r (slot c t) _ _
                   (record { effect = quiet; drawn = drawn; claims = mine; knows = record { passed = λ there unsafe h slot gone. absurd (omega arith) } }))
               | inr unsafe ↦
                   rw (fits, ne_eqb (safe_in (ring_slots c) x) 1 unsafe)
-                  (read_entry r (slot_of (ring_slots c) t) _ _ (record { effect = quiet; drawn = drawn; claims = mine; knows = tt }))
+                  (read_entry r (slot c t) _ _ (record { effect = quiet; drawn = drawn; claims = mine; knows = tt }))
             ]
         | inr fails ↦
             rw fails
-            (read_entry r (slot_of (ring_slots c) t) _ _
+            (read_entry r (slot c t) _ _
             (record { effect = gave_up r i t _ mine; drawn = drawn_put c m.tail m.head g r t _ busy.1 drawn; claims = tt; knows = tt }))
       ]
 
@@ -160,7 +159,7 @@ module _ (c : Setup) (m : Cells) (g : Ghost) (time k : ℕ) (p : Part) (booked :
             })
         | inr miss ↦
             rw (ne_eqb x e miss)
-            (read_entry r (slot_of (ring_slots c) t) _ _ (record { effect = quiet; drawn = drawn; claims = mine; knows = tt }))
+            (read_entry r (slot c t) _ _ (record { effect = quiet; drawn = drawn; claims = mine; knows = tt }))
       ]
 
   outcome_E5 : (r i : ℕ) (w : List ℕ) (t : ℕ) → g.puts r t ≡ placed i w (call_of k (length p.calls)) → OutcomeOf c m g time k p (AtE5 r i w t)
@@ -201,10 +200,9 @@ module _ (c : Setup) (m : Cells) (g : Ghost) (time k : ℕ) (p : Part) (booked :
 
   -- a ticket that is given up while the entry's word becomes z
   gives_up : (r h z : ℕ) (q : Part) → g.gets r h ≡ opened k → Drawn c (m.head r) h → Closes (ring_slots c) (word_at c m r h) z (cycle c h)
-      → Outcome c m.entries g k (written m (entry_of r (slot_of (ring_slots c) h)) z (m.entries.content r (slot_of (ring_slots c) h))) (with_get g r h dead)
-      (goes_on (AtD6 r h) q)
+      → Outcome c m.entries g k (written m (entry_of r (slot c h)) z (m.entries.content r (slot c h))) (with_get g r h dead) (goes_on (AtD6 r h) q)
   gives_up r h z q mine low closes =
-      rw (updated_entry_same m.entries.content r (slot_of (ring_slots c) h))
+      rw (updated_entry_same m.entries.content r (slot c h))
       (record {
         effect = died_effect c m.entries g k r h z mine closes booked;
         drawn = drawn_get c m.tail m.head g r h dead low drawn;
@@ -227,13 +225,13 @@ module _ (c : Setup) (m : Cells) (g : Ghost) (time k : ℕ) (p : Part) (booked :
               | inr has ↦ has
             ] in
             rw (eq-eqb (cycle_in (ring_slots c) x) (cycle c h) same)
-            (read_entry r (slot_of (ring_slots c) h) _ _
+            (read_entry r (slot c h) _ _
             (record { effect = quiet; drawn = drawn; claims = mine; knows = record { cycle = same; index = some } }))
         | inr other ↦
             elim (cases_Bool (nat_lt (cycle_in (ring_slots c) x) (cycle c h))) [
               | inl lower ↦
                   rw (ne_eqb (cycle_in (ring_slots c) x) (cycle c h) other, lower)
-                  (read_entry r (slot_of (ring_slots c) h) _ _ (record { effect = quiet; drawn = drawn; claims = mine; knows = tt }))
+                  (read_entry r (slot c h) _ _ (record { effect = quiet; drawn = drawn; claims = mine; knows = tt }))
               | inr higher ↦
                   let high = ltb-false (cycle_in (ring_slots c) x) (cycle c h) higher in
                   let later : cycle c h < cycle_in (ring_slots c) x = omega arith in
@@ -245,7 +243,7 @@ module _ (c : Setup) (m : Cells) (g : Ghost) (time k : ℕ) (p : Part) (booked :
   outcome_D4 : (r h : ℕ) → Busy c m p.hand (AtD4 r h) → g.gets r h ≡ opened k → Holds c m.entries.word r h → OutcomeOf c m g time k p (AtD4 r h)
   outcome_D4 r h busy mine there =
       let x = word_at c m r h in
-      rw (updated_entry_same m.entries.content r (slot_of (ring_slots c) h))
+      rw (updated_entry_same m.entries.content r (slot c h))
       (record {
         effect = took_effect c m.entries g k r h _ (length p.calls) mine there (empties_marked c x) booked;
         drawn = drawn_get c m.tail m.head g r h _ busy.1 drawn;
@@ -264,7 +262,7 @@ module _ (c : Setup) (m : Cells) (g : Ghost) (time k : ℕ) (p : Part) (booked :
             rw (eq-eqb x e hit) (gives_up r h (passed c h e) p mine busy.1 closes)
         | inr miss ↦
             rw (ne_eqb x e miss)
-            (read_entry r (slot_of (ring_slots c) h) _ _ (record { effect = quiet; drawn = drawn; claims = mine; knows = tt }))
+            (read_entry r (slot c h) _ _ (record { effect = quiet; drawn = drawn; claims = mine; knows = tt }))
       ]
 
   outcome_D6 : (r h : ℕ) → g.gets r h ≡ dead → OutcomeOf c m g time k p (AtD6 r h)

@@ -3,11 +3,10 @@ use Rattle.std.proofs.Common.{◌≡◌, ℕ, ◌<◌, false, refl, ap, sym, ◌
 use Rattle.std.proofs.lemmas.Bool.{cases_lt}
 use Rattle.scq_word.specs.declared.setup.Setup.{Setup}
 use Rattle.scq_word.specs.Sizes.{n_of}
-use Rattle.scq_word.specs.Tickets.{slot_of}
 use Rattle.scq_word.specs.Words.{index_in, cycle_in, is_none_in}
 use Rattle.scq_word.proofs.TicketLemmas.{ticket_in, slot_of_small, slot_of-onto, slot_of-ticket_in, cycle_of-ticket_in}
 use Rattle.scq_core.specs.Machine.{Part, Machine}
-use Rattle.scq_core.specs.Table.{ring_slots, cycle, holds_index}
+use Rattle.scq_core.specs.Table.{ring_slots, cycle, slot, holds_index}
 use Rattle.scq_core.specs.Reach.{IsReachable}
 use Rattle.scq_core.proofs.Entries.{some_slots, below_mark}
 use Rattle.scq_law.specs.Hands.{Home, hand_of, in_slot, IsHome, IsSeen, OneHand}
@@ -25,7 +24,7 @@ use Rattle.scq_law.proofs.Places.Throughout.{once, reached, small}
 -- the home that a spot is
 abbrev home_of : Setup → Spot → Home
 home_of c (in_hand k) = hand_of k
-home_of c (at_place r t) = in_slot r (slot_of (ring_slots c) t)
+home_of c (at_place r t) = in_slot r (slot c t)
 
 -- a spot of this home, where the index is
 record Spotted (c : Setup) (g : Ghost) (m : Machine) (i : ℕ) (h : Home) : Type 0 where
@@ -37,17 +36,17 @@ record Spotted (c : Setup) (g : Ghost) (m : Machine) (i : ℕ) (h : Home) : Type
 pub record PlaceIn (c : Setup) (g : Ghost) (m : Machine) (r s : ℕ) : Type 0 where
   pub place : ℕ
   pub live : Live g r place (index_in (ring_slots c) (m.cells.entries.word r s))
-  pub slot : slot_of (ring_slots c) place ≡ s
+  pub slot : slot c place ≡ s
   pub cycle : cycle c place ≡ cycle_in (ring_slots c) (m.cells.entries.word r s)
 
 module _ (c : Setup) (g : Ghost) (m : Machine) (base : IsBased c g m) where
   pub stood_at : (r s : ℕ) → s < ring_slots c → is_none_in (ring_slots c) (m.cells.entries.word r s) ≡ false → PlaceIn c g m r s
   stood_at r s low some =
       let word = m.cells.entries.word in
-      let at = slot_of-onto (ring_slots c) s low in
+      let at = slot_of-onto c.order s low in
       let x = word r s in
       let q = ticket_in (ring_slots c) at.0 (cycle_in (ring_slots c) x) in
-      let slot : slot_of (ring_slots c) q ≡ s = slot_of-ticket_in (ring_slots c) at.0 (cycle_in (ring_slots c) x) (some_slots c) ∙ at.1 in
+      let slot : slot c q ≡ s = slot_of-ticket_in c.order at.0 (cycle_in (ring_slots c) x) ∙ at.1 in
       let turn : cycle c q ≡ cycle_in (ring_slots c) x = cycle_of-ticket_in (ring_slots c) at.0 (cycle_in (ring_slots c) x) (some_slots c) in
       let is_x : at_ticket c word r q ≡ x = ap (word r) slot in
       let has : Holds c word r q = record { cycle = rw is_x (sym turn); index = rw is_x some } in
@@ -89,7 +88,7 @@ module _ (c : Setup) (g : Ghost) (m : Machine) (base : IsBased c g m) where
             | inl low ↦ low
             | inr high ↦ let fresh_there = reach.rings r t high in let is = at.is in absurd (cc)
           ] in
-          (in_slot r (slot_of (ring_slots c) t), (ring, slot_of_small (ring_slots c) t (some_slots c), stands.index))
+          (in_slot r (slot c t), (ring, slot_of_small c.order t, stands.index))
 
 -- the law, of every reachable state
 pub one_hand : (c : Setup) (m : Machine) → IsReachable c m → OneHand c m

@@ -130,7 +130,7 @@ module _ (c : Setup) (time : ℕ) (g : Ghost) (m : Machine) (k : ℕ) (e : Ticke
       ]
 
   -- a call stays
-  pub stays : (j x : ℕ) (y : Ended) → slice_get (m.part j).calls x ≡ Some y → slice_get (n.part j).calls x ≡ Some y
+  stays : (j x : ℕ) (y : Ended) → slice_get (m.part j).calls x ≡ Some y → slice_get (n.part j).calls x ≡ Some y
   stays j x y is =
       elim (cases_eq j k) [
         | inl own ↦

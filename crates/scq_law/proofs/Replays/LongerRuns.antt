@@ -1,7 +1,9 @@
 -- A run with one step more at its end: what is recorded of it is what is recorded after that step.
-use Rattle.std.proofs.Common.{◌≡◌, ℕ, List, [], ◌∷◌, ◌++◌, refl, ◌∙◌}
+use Rattle.std.proofs.Common.{◌≡◌, ℕ, ◌<◌, List, [], ◌∷◌, ◌++◌, length, refl, ◌∙◌, arith}
 use Rattle.std.specs.Prelude.{Option, Some, None}
 use Rattle.std.specs.Option.{option_and_then}
+use Rattle.std.proofs.lemmas.List.Elements.{All-push}
+use Rattle.scq_word.specs.Sizes.{n_of}
 use Rattle.scq_word.specs.declared.setup.Setup.{Setup}
 use Rattle.scq_core.specs.declared.step.Step.{Step}
 use Rattle.scq_law.specs.Run.{Recorded, recorded_by, recorded_first, recorded_along, recorded_of, IsRun}
@@ -29,10 +31,14 @@ along_last c recorded (y ∷ ys) x =
 
 -- a run goes on by an enabled step
 pub run_last : (c : Setup) (opening : List (List ℕ)) (steps : List (ℕ × Step)) (recorded next : Recorded) (x : ℕ × Step) → IsRun c opening steps recorded
-    → recorded_by c recorded x ≡ Some next → IsRun c opening (steps ++ x ∷ []) next
-run_last c opening steps recorded next x run step =
+    → x.0 < c.seats → recorded_by c recorded x ≡ Some next → IsRun c opening (steps ++ x ∷ []) next
+run_last c opening steps recorded next x run low step =
     let is = run.recorded_is in
-    record { recorded_is = along_last c (recorded_first c opening) steps x ∙ rw is step }
+    record {
+      full = run.full;
+      seats = All-push (λ (y : ℕ × Step). y.0 < c.seats) steps x run.seats low;
+      recorded_is = along_last c (recorded_first c opening) steps x ∙ rw is step;
+    }
 
 -- a step that isn't enabled ends no run
 pub run_stops : (c : Setup) (opening : List (List ℕ)) (steps : List (ℕ × Step)) (recorded : Recorded) (x : ℕ × Step) → IsRun c opening steps recorded
@@ -42,5 +48,5 @@ run_stops c opening steps recorded x run step =
     along_last c (recorded_first c opening) steps x ∙ rw is step
 
 -- the empty run
-pub run_first : (c : Setup) (opening : List (List ℕ)) → IsRun c opening [] (recorded_first c opening)
-run_first c opening = record { recorded_is = refl }
+pub run_first : (c : Setup) (opening : List (List ℕ)) → length opening ≡ n_of c.order → IsRun c opening [] (recorded_first c opening)
+run_first c opening full = record { full = full; seats = λ k d low. absurd (omega arith); recorded_is = refl }

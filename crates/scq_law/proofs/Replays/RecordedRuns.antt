@@ -22,7 +22,7 @@ mapped : {A B : Type 0} → (f : A → B) (o : Option A) (b : B) → option_map 
 mapped f None b e = absurd (cc)
 mapped f (Some a) b e = (a, refl, cc)
 
-chained : {A B : Type 0} → (f : A → Option B) (o : Option A) (b : B) → option_and_then f o ≡ Some b → (a : A) × (o ≡ Some a) × (f a ≡ Some b)
+pub chained : {A B : Type 0} → (f : A → Option B) (o : Option A) (b : B) → option_and_then f o ≡ Some b → (a : A) × (o ≡ Some a) × (f a ≡ Some b)
 chained f None b e = absurd (cc)
 chained f (Some a) b e = (a, refl, e)
 

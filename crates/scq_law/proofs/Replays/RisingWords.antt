@@ -65,16 +65,15 @@ moments_later c opening steps i j now last seats order first second =
     (All-take (λ (x : ℕ × Step). x.0 < c.seats) (j - i) (drop i steps) (All-drop (λ (x : ℕ × Step). x.0 < c.seats) i steps seats))
     along
 
-pub moment_reached : (c : Setup) (opening : List (List ℕ)) (steps : List (ℕ × Step)) (i : ℕ) (now : Recorded) → length opening ≡ n_of c.order
-    → All (λ (x : ℕ × Step). x.0 < c.seats) steps → IsMoment c opening steps i now → IsReachable c now.state
-moment_reached c opening steps i now full seats is =
-    run_reaches c opening (take i steps) now full (All-take (λ (x : ℕ × Step). x.0 < c.seats) i steps seats) is
+pub moment_reached : (c : Setup) (opening : List (List ℕ)) (steps : List (ℕ × Step)) (i : ℕ) (now : Recorded) → IsMoment c opening steps i now
+    → IsReachable c now.state
+moment_reached c opening steps i now is = run_reaches c opening (take i steps) now is
 
 pub rises_throughout : (c : Setup) (opening : List (List ℕ)) (steps : List (ℕ × Step)) → length opening ≡ n_of c.order
     → All (λ (x : ℕ × Step). x.0 < c.seats) steps → RisesThroughout c opening steps
 rises_throughout c opening steps full seats =
     let reach : (i : ℕ) (now : Recorded) → IsMoment c opening steps i now → IsReachable c now.state =
-    λ i now is. moment_reached c opening steps i now full seats is in
+    moment_reached c opening steps in
     record {
       ranks =
           λ i j now last order first second.

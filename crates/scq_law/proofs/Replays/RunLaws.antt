@@ -1,12 +1,9 @@
 -- Runs and reachable states are one; what a word was does not come back.
-use Rattle.std.proofs.Common.{◌≡◌, ℕ, ◌<◌, List, [], ◌∷◌, ◌++◌, length, refl, ap, arith, inl, inr, sym}
+use Rattle.std.proofs.Common.{◌≡◌, ℕ, List, [], ◌∷◌, ◌++◌, refl, ap, inl, inr, sym}
 use Rattle.std.specs.Prelude.{Some}
 use Rattle.std.specs.Option.{option_map}
-use Rattle.std.specs.List.{All}
 use Rattle.std.proofs.lemmas.Bool.{cases_eq}
-use Rattle.std.proofs.lemmas.List.Elements.{All-push}
 use Rattle.scq_word.specs.declared.setup.Setup.{Setup}
-use Rattle.scq_word.specs.Sizes.{n_of}
 use Rattle.scq_core.specs.declared.step.Step.{Step}
 use Rattle.scq_core.specs.Machine.{Machine}
 use Rattle.scq_core.specs.Table.{turn_of, ring_slots}
@@ -25,11 +22,11 @@ use Rattle.scq_law.proofs.Replays.LongerRuns.{run_first, run_last}
 use Rattle.scq_law.proofs.Replays.RecordedRuns.{all_along, turn_reaches}
 
 -- a run ends in a reachable state
-pub run_reaches : (c : Setup) (opening : List (List ℕ)) (steps : List (ℕ × Step)) (recorded : Recorded) → length opening ≡ n_of c.order
-    → All (λ (x : ℕ × Step). x.0 < c.seats) steps → IsRun c opening steps recorded → IsReachable c recorded.state
-run_reaches c opening steps recorded full seats run =
+pub run_reaches : (c : Setup) (opening : List (List ℕ)) (steps : List (ℕ × Step)) (recorded : Recorded)
+    → IsRun c opening steps recorded → IsReachable c recorded.state
+run_reaches c opening steps recorded run =
     all_along c (λ t. IsReachable c t.state) (λ t k s turn low enabled holds. turn_reaches c t.state k s turn low enabled holds)
-    steps (recorded_first c opening) recorded seats run.recorded_is (at_start opening full)
+    steps (recorded_first c opening) recorded run.seats run.recorded_is (at_start opening run.full)
 
 -- and each reachable state is the end of one, by its steps in order
 pub reached_by_run : (c : Setup) (m : Machine) → IsReachable c m → EndsRun c m
@@ -38,9 +35,7 @@ reached_by_run c m (at_start opening full) =
       opening = opening;
       steps = [];
       recorded = recorded_first c opening;
-      full = full;
-      seats = λ k d low. absurd (omega arith);
-      run = run_first c opening;
+      run = run_first c opening full;
       ends = refl;
     }
 reached_by_run c m' (reach.by_step {m = m} k s before low is) =
@@ -52,9 +47,7 @@ reached_by_run c m' (reach.by_step {m = m} k s before low is) =
       opening = e.opening;
       steps = e.steps ++ (k, s) ∷ [];
       recorded = next;
-      full = e.full;
-      seats = All-push (λ (x : ℕ × Step). x.0 < c.seats) e.steps (k, s) e.seats low;
-      run = run_last c e.opening e.steps e.recorded next (k, s) e.run (ap (option_map (λ turn. recorded_after c k turn e.recorded)) enabled);
+      run = run_last c e.opening e.steps e.recorded next (k, s) e.run low (ap (option_map (λ turn. recorded_after c k turn e.recorded)) enabled);
       ends = rw e.ends (sym t.next);
     }
 

@@ -1,6 +1,7 @@
 -- What is recorded of more and more steps of a run. Its counts are at most the number of steps.
 use Rattle.std.proofs.Common.{◌≡◌, ℕ, ◌+◌, ◌^◌, ◌<◌, ◌≤◌, List, [], ◌∷◌, ◌++◌, length, take, get_or, refl, sym, ◌∙◌, ap, subst, arith}
 use Rattle.std.specs.Prelude.{Option, Some, None}
+use Rattle.std.specs.List.{All}
 use Rattle.std.specs.Option.{option_and_then}
 use Rattle.std.proofs.lemmas.List.{take_more, length-take-le}
 use Rattle.scq_word.specs.declared.setup.Setup.{Setup}
@@ -89,16 +90,16 @@ more xs at x low is = take_more xs at x low ∙ ap (λ y. take at xs ++ y ∷ []
 
 -- one step more
 pub one_more : (c : Setup) (opening : List (List ℕ)) (steps : List (ℕ × Step)) (at : ℕ) (x : ℕ × Step) (old new : Recording) → at < length steps
-    → x ≡ get_or steps at x → (recorded : IsRecording c opening (take at steps) old)
+    → x ≡ get_or steps at x → All (λ (y : ℕ × Step). y.0 < c.seats) steps → (recorded : IsRecording c opening (take at steps) old)
     → (next : Recorded) × (recorded_by c recorded.recorded x ≡ Some next) × Shows c next new → IsRecording c opening (take (at + 1) steps) new
-one_more c opening steps at x old new low is recorded after =
+one_more c opening steps at x old new low is seats recorded after =
     record {
       recorded = after.0;
       run =
           subst
           (λ (xs : List (ℕ × Step)). IsRun c opening xs after.0)
           (sym (more steps at x low is))
-          (run_last c opening (take at steps) recorded.recorded after.0 x recorded.run after.1);
+          (run_last c opening (take at steps) recorded.recorded after.0 x recorded.run (subst (λ (y : ℕ × Step). y.0 < c.seats) (sym is) (seats at x low)) after.1);
       shows = after.2;
     }
 

@@ -1,162 +1,24 @@
--- What each event adds to the counts of tickets and of ended calls: placed tickets against ended and landed puts, taken
--- ones against gets that took, and Head with Threshold against what an attempt comes to.
-use Rattle.std.proofs.Common.{◌≡◌, ◌≢◌, ℕ, ◌+◌, ◌-◌, ◌<◌, ◌≤◌, ◌⊎◌, Bool, true, false, length, refl, inl, inr, ap, sym, ◌∙◌, arith}
+-- What each event adds to Head with Threshold, against what an attempt comes to.
+use Rattle.std.proofs.Common.{◌≡◌, ◌≢◌, ℕ, ◌+◌, ◌-◌, ◌<◌, ◌≤◌, ◌⊎◌, Bool, true, false, refl, inl, inr, ap, arith}
 use Rattle.std.specs.Prelude.{◌==◌}
-use Rattle.std.proofs.lemmas.Bool.{cases_lt}
 use Rattle.scq_word.specs.declared.setup.Setup.{Setup}
-use Rattle.scq_core.specs.declared.ended.Ended.{Ended}
-use Rattle.scq_core.specs.declared.ended.Ended.TheVariants.{Done, Got}
 use Rattle.scq_core.specs.Machine.{Machine}
 use Rattle.scq_core.specs.Updated.{updated}
 use Rattle.scq_core.specs.Laws.{spent_of}
 use Rattle.scq_core.proofs.UpdatedLemmas.{updated_or}
 use Rattle.scq_core.proofs.Steady.{either_way}
-use Rattle.scq_law.specs.Places.{call_of}
 use Rattle.scq_law.specs.Bounds.{tally}
-use Rattle.scq_law.proofs.Base.Ghosts.{Ghost, PutState, GetState, fresh, pending, failed, placed, unopened, opened, dead, took}
-use Rattle.scq_law.proofs.Base.TicketEvents.{Stance, landed, TicketEvent, calm, drew, fell, laid, finished, entered, refused, began, died, saw_end, lifted, taken, lowered, emptied, overran, ended_by}
+use Rattle.scq_law.specs.Kept.{was_got}
+use Rattle.scq_law.proofs.Base.Ghosts.{Ghost}
+use Rattle.scq_law.proofs.Base.TicketEvents.{TicketEvent, calm, drew, fell, laid, finished, entered, refused, began, died, saw_end, lifted, taken, lowered, emptied, overran, ended_by}
 use Rattle.scq_law.proofs.Base.EventFacts.{stance}
-use Rattle.scq_law.proofs.Base.BaseGroup.{IsDrawn}
-use Rattle.scq_law.proofs.Base.EventSteps.{EventStep, ghost_next}
-use Rattle.scq_law.proofs.Tickets.TicketSums.{sum_to, OneMore, sum_updated}
+use Rattle.scq_law.proofs.Base.EventSteps.{EventStep}
 use Rattle.scq_law.proofs.Threshold.FinishedPlaced.{is_finish}
 use Rattle.scq_law.proofs.Threshold.Covering.{bit, here_one, there_none, flying}
-
-abbrev pub placed_bit : PutState → ℕ
-placed_bit (placed i w b) = 1
-placed_bit _ = 0
-
-abbrev pub took_bit : GetState → ℕ
-took_bit (took k j) = 1
-took_bit _ = 0
-
--- how many places of a ring were placed, and how many taken
-abbrev pub placeds : Setup → Ghost → ℕ → ℕ
-placeds c g r = sum_to (λ p. placed_bit (g.puts r p)) c.limit
-
-abbrev pub tooks : Setup → Ghost → ℕ → ℕ
-tooks c g r = sum_to (λ p. took_bit (g.gets r p)) c.limit
-
--- 1 for a put of this ring that ended, for a get there that took, for a seat whose put has its index placed
-abbrev pub was_done : ℕ → Ended → ℕ
-was_done r (Done q p w) = bit q r
-was_done r ended = 0
-
-abbrev pub was_got : ℕ → Ended → ℕ
-was_got r (Got q p w) = bit q r
-was_got r ended = 0
-
-abbrev pub landing : ℕ → Stance → ℕ
-landing r (landed q i w t) = bit q r
-landing r s = 0
-
-put_below_limit : (c : Setup) (tail head : ℕ → ℕ) (g : Ghost) (r t : ℕ) (x : PutState) → IsDrawn c tail head g → g.puts r t ≡ x → x ≢ fresh → t < c.limit
-put_below_limit c tail head g r t x drawn is some =
-    elim (cases_lt t c.limit) [ inl less ↦ less | inr high ↦ absurd (some (sym is ∙ drawn.put_limit r t high)) ]
-
-get_below_limit : (c : Setup) (tail head : ℕ → ℕ) (g : Ghost) (r t : ℕ) (x : GetState) → IsDrawn c tail head g → g.gets r t ≡ x → x ≢ unopened → t < c.limit
-get_below_limit c tail head g r t x drawn is some =
-    elim (cases_lt t c.limit) [ inl less ↦ less | inr high ↦ absurd (some (sym is ∙ drawn.get_limit r t high)) ]
 
 -- at most so much is added
 pub record Adds (before later more : ℕ) : Type 0 where
   pub adds : later ≤ before + more
-
--- a ticket whose number stays
-still_adds : (q r sum later before after : ℕ) → before ≡ after → OneMore q r sum later before after → later ≡ sum
-still_adds q r sum later before after same one =
-    elim one.moves [ inl a ↦ let e = a.1 in omega arith | inr a ↦ a.1 ]
-
--- one whose number rises from 0 to 1
-more_adds : (q r sum later before after : ℕ) → before ≡ 0 → after ≡ 1 → OneMore q r sum later before after → later ≡ sum + bit q r
-more_adds q r sum later before after low high one =
-    elim one.moves [
-      | inl a ↦ let e = a.1 in let here = here_one q r a.0 in omega arith
-      | inr a ↦ let e = a.1 in let there = there_none q r a.0 in omega arith
-    ]
-
--- placed tickets
-pub placed_event : (c : Setup) (time : ℕ) (g : Ghost) (m : Machine) (k : ℕ) (e : TicketEvent) (n : Machine) → EventStep c time g m k e n → (r : ℕ)
-    → Adds (placeds c g r) (placeds c (ghost_next time g m k e) r + landing r (stance m k)) (tally (was_done r) (ended_by e) + landing r (stance n k))
-placed_event c time g m k (calm) n event_step r =
-    let d = event_step.event_facts in rw d.stance (record { adds = omega arith })
-placed_event c time g m k (drew q i w t) n event_step r =
-    let d = event_step.event_facts in
-    let p = d.proper in
-    let sum = sum_updated placed_bit g.puts q t (pending k i) r c.limit p.low in
-    let still = still_adds q r (placeds c g r) _ (placed_bit (g.puts q t)) 0 (ap placed_bit p.fresh) sum in
-    elim p.was [
-      | inl rests ↦ rw (d.stance, rests.rests) (record { adds = omega arith })
-      | inr was ↦ rw (d.stance, was) (record { adds = omega arith })
-    ]
-placed_event c time g m k (fell q i w t found) n event_step r =
-    let d = event_step.event_facts in
-    let p = d.proper in
-    let low = put_below_limit c m.cells.tail m.cells.head g q t (pending k i) event_step.base.drawn p.pending (λ is. absurd (cc)) in
-    let sum = sum_updated placed_bit g.puts q t (failed time i found) r c.limit low in
-    let still = still_adds q r (placeds c g r) _ (placed_bit (g.puts q t)) 0 (ap placed_bit p.pending) sum in
-    rw (d.stance, p.was) (record { adds = omega arith })
-placed_event c time g m k (laid q i w t) n event_step r =
-    let d = event_step.event_facts in
-    let p = d.proper in
-    let low = put_below_limit c m.cells.tail m.cells.head g q t (pending k i) event_step.base.drawn p.pending (λ is. absurd (cc)) in
-    let sum = sum_updated placed_bit g.puts q t (placed i w (call_of k (length (m.part k).calls))) r c.limit low in
-    let more = more_adds q r (placeds c g r) _ (placed_bit (g.puts q t)) 1 (ap placed_bit p.pending) refl sum in
-    rw (d.stance, p.was) (record { adds = omega arith })
-placed_event c time g m k (finished q i w t) n event_step r =
-    let d = event_step.event_facts in rw (d.stance, d.proper.was) (record { adds = omega arith })
-placed_event c time g m k (entered q) n event_step r =
-    let d = event_step.event_facts in rw (d.stance, d.proper.was.rests) (record { adds = omega arith })
-placed_event c time g m k (refused q) n event_step r =
-    let d = event_step.event_facts in rw (d.stance, d.proper.was.rests) (record { adds = omega arith })
-placed_event c time g m k (began q h) n event_step r =
-    let d = event_step.event_facts in rw (d.stance, d.proper.was) (record { adds = omega arith })
-placed_event c time g m k (died q h) n event_step r =
-    let d = event_step.event_facts in rw (d.stance, d.proper.was) (record { adds = omega arith })
-placed_event c time g m k (saw_end q h) n event_step r =
-    let d = event_step.event_facts in rw (d.stance, d.proper.was) (record { adds = omega arith })
-placed_event c time g m k (lifted q h to) n event_step r =
-    let d = event_step.event_facts in rw (d.stance, d.proper.was) (record { adds = omega arith })
-placed_event c time g m k (taken q h i w) n event_step r =
-    let d = event_step.event_facts in rw (d.stance, d.proper.was) (record { adds = omega arith })
-placed_event c time g m k (lowered q h) n event_step r =
-    let d = event_step.event_facts in rw (d.stance, d.proper.was) (record { adds = omega arith })
-placed_event c time g m k (emptied q h) n event_step r =
-    let d = event_step.event_facts in
-    elim d.proper.was [
-      | inl was ↦ rw (d.stance, was) (record { adds = omega arith })
-      | inr was ↦ rw (d.stance, was.0) (record { adds = omega arith })
-    ]
-placed_event c time g m k (overran q t true) n event_step r =
-    let d = event_step.event_facts in
-    elim d.proper.was [
-      | inl rests ↦ rw (d.stance, rests.rests) (record { adds = omega arith })
-      | inr was ↦ rw (d.stance, was.2) (record { adds = omega arith })
-    ]
-placed_event c time g m k (overran q t false) n event_step r =
-    let d = event_step.event_facts in rw (d.stance, d.proper.was) (record { adds = omega arith })
-
--- taken tickets: at least as many more as gets that took
-pub took_event : (c : Setup) (time : ℕ) (g : Ghost) (m : Machine) (k : ℕ) (e : TicketEvent) (n : Machine) → EventStep c time g m k e n → (r : ℕ)
-    → Adds (tooks c (ghost_next time g m k e) r) (tooks c g r + tally (was_got r) (ended_by e)) 0
-took_event c time g m k (began q h) n event_step r =
-    let p = event_step.event_facts.proper in
-    let sum = sum_updated took_bit g.gets q h (opened k) r c.limit p.low in
-    let still = still_adds q r (tooks c g r) _ (took_bit (g.gets q h)) 0 (ap took_bit p.unopened) sum in
-    record { adds = omega arith }
-took_event c time g m k (died q h) n event_step r =
-    let p = event_step.event_facts.proper in
-    let low = get_below_limit c m.cells.tail m.cells.head g q h (opened k) event_step.base.drawn p.opened (λ is. absurd (cc)) in
-    let sum = sum_updated took_bit g.gets q h dead r c.limit low in
-    let still = still_adds q r (tooks c g r) _ (took_bit (g.gets q h)) 0 (ap took_bit p.opened) sum in
-    record { adds = omega arith }
-took_event c time g m k (taken q h i w) n event_step r =
-    let p = event_step.event_facts.proper in
-    let low = get_below_limit c m.cells.tail m.cells.head g q h (opened k) event_step.base.drawn p.opened (λ is. absurd (cc)) in
-    let sum = sum_updated took_bit g.gets q h (took k (length (m.part k).calls)) r c.limit low in
-    let more = more_adds q r (tooks c g r) _ (took_bit (g.gets q h)) 1 (ap took_bit p.opened) refl sum in
-    record { adds = omega arith }
-took_event c time g m k e n event_step r = record { adds = omega arith }
 
 -- a Threshold that falls by one
 falls_exactly : (level : ℕ → ℕ) (q r : ℕ) → 0 < level q → updated level q (level q - 1) r + bit q r ≡ level r

@@ -1,24 +1,23 @@
--- In each state of a run: at most as many gets took as tickets were taken, at most as many tickets were placed as puts
--- ended or landed, and Head with Threshold is within what gets, attempts in flight, kept tickets and resets come to.
-use Rattle.std.proofs.Common.{◌≡◌, ◌≢◌, ℕ, zero, suc, ◌+◌, ◌-◌, ◌*◌, ◌≤◌, ◌⊎◌, Bool, true, false, List, length, refl, inl, inr, ap, sym, ◌∙◌, arith, eq-eqb}
+-- In each state of a run Head with Threshold is within what gets, attempts in flight, kept tickets and resets come to.
+use Rattle.std.proofs.Common.{◌≡◌, ◌≢◌, ℕ, ◌+◌, ◌*◌, ◌≤◌, ◌⊎◌, Bool, true, false, List, length, refl, inl, inr, ap, sym, ◌∙◌, arith}
 use Rattle.std.specs.Prelude.{Option, Some, None}
 use Rattle.scq_word.specs.declared.setup.Setup.{Setup}
 use Rattle.scq_word.specs.Sizes.{n_of}
 use Rattle.scq_core.specs.declared.ended.Ended.{Ended}
 use Rattle.scq_core.specs.Machine.{Part, Machine}
 use Rattle.scq_core.specs.Updated.{updated}
-use Rattle.scq_core.specs.Table.{ring_slots, reset_level, reset_value}
+use Rattle.scq_core.specs.Table.{ring_slots, reset_level}
 use Rattle.scq_core.specs.Start.{start_of}
 use Rattle.scq_core.specs.Reach.{IsReachable, at_start}
 use Rattle.scq_core.specs.Laws.{total, spent_of}
 use Rattle.scq_core.proofs.UpdatedLemmas.{updated_or}
 use Rattle.scq_core.proofs.Fits.{words_fit}
 use Rattle.scq_core.proofs.Floor.{threshold_floor}
-use Rattle.scq_law.specs.Bounds.{tally, openings}
+use Rattle.scq_law.specs.Bounds.{tally}
+use Rattle.scq_law.specs.Kept.{was_done, was_got}
 use Rattle.scq_law.proofs.Base.Ghosts.{Ghost, start_ghost}
 use Rattle.scq_law.proofs.Base.TicketEvents.{Stance, resting, seeking, stance_of, TicketEvent, finished, overran, ended_by}
 use Rattle.scq_law.proofs.Base.EventFacts.{stance, EventFacts}
-use Rattle.scq_law.proofs.Base.StartTickets.{stands_at}
 use Rattle.scq_law.proofs.Base.Traces.{Trace, trace_start, trace_step}
 use Rattle.scq_law.proofs.Base.Based.{IsBased}
 use Rattle.scq_law.proofs.Base.EventSteps.{EventStep, ghost_next}
@@ -27,8 +26,8 @@ use Rattle.scq_law.proofs.Base.SeatSums.{total_change, tally-append}
 use Rattle.scq_law.proofs.Replays.RecordedRuns.{turn_reaches}
 use Rattle.scq_law.proofs.Threshold.FinishedPlaced.{is_finish}
 use Rattle.scq_law.proofs.Threshold.Covering.{here_one, there_none, flying}
-use Rattle.scq_law.proofs.Tickets.TicketSums.{sum_to}
-use Rattle.scq_law.proofs.Tickets.EventCounts.{placed_bit, placeds, tooks, was_done, was_got, landing, placed_event, took_event, spend_event}
+use Rattle.scq_law.proofs.Tickets.EventCounts.{spend_event}
+use Rattle.scq_word.specs.Bounds.{reset_value}
 
 -- a state of a run is reachable
 pub trace_reaches : (c : Setup) (time : ℕ) (g : Ghost) (m : Machine) → Trace c time g m → IsReachable c m
@@ -36,65 +35,29 @@ trace_reaches c time g m (trace_start opening full) = at_start opening full
 trace_reaches c time g m (trace_step {time = t} {g = h} {m = old} k s turn trace low enabled) =
     turn_reaches c old k s turn low enabled (trace_reaches c t h old trace)
 
--- what a seat counts for: its gets that took; its ended puts; these and the one that has landed; its gets that took, its
--- attempt in flight and its kept ticket
-abbrev pub got_of : ℕ → Part → ℕ
-got_of r p = tally (was_got r) p.calls
-
+-- what a seat counts for: its ended puts; its gets that took, its attempt in flight and its kept ticket
 abbrev pub done_of : ℕ → Part → ℕ
 done_of r p = tally (was_done r) p.calls
-
-abbrev pub laid_of : ℕ → Part → ℕ
-laid_of r p = tally (was_done r) p.calls + landing r (stance_of p.phase)
 
 abbrev pub spend_of : ℕ → Part → ℕ
 spend_of r p = tally (was_got r) p.calls + (flying r (stance_of p.phase) + spent_of p.spent)
 
 pub record IsTallied (c : Setup) (time : ℕ) (g : Ghost) (m : Machine) : Type 0 where
-  pub taken : (r : ℕ) → total (got_of r) m.part c.seats ≤ tooks c g r
-  pub placed : (r : ℕ) → placeds c g r ≤ total (laid_of r) m.part c.seats + openings c r
   pub spends : (r : ℕ)
       → m.cells.head r + m.cells.threshold r ≤ ring_slots c + total (spend_of r) m.part c.seats + total (done_of r) m.part
-      c.seats * (reset_value c + c.seats) + reset_level c
+      c.seats * (reset_value c.order c.seats + c.seats) + reset_level c
 
 -- a tally of the seat's calls after the event
-calls_then : (f : Ended → ℕ) (c : Setup) (g : Ghost) (m : Machine) (k : ℕ) (e : TicketEvent) (n : Machine) → EventFacts c m g k e n
+pub calls_then : (f : Ended → ℕ) (c : Setup) (g : Ghost) (m : Machine) (k : ℕ) (e : TicketEvent) (n : Machine) → EventFacts c m g k e n
     → tally f (n.part k).calls ≡ tally f (m.part k).calls + tally f (ended_by e)
 calls_then f c g m k e n event_facts = ap (tally f) event_facts.calls ∙ tally-append f (m.part k).calls (ended_by e)
-
--- the opening places
-opening_sum : (c : Setup) (opening : List (List ℕ)) (r n : ℕ)
-    → (sum_to (λ p. placed_bit ((start_ghost c opening).puts r p)) n ≤ n - ring_slots c)
-    × (sum_to (λ p. placed_bit ((start_ghost c opening).puts r p)) n ≤ openings c r)
-opening_sum c opening r zero = (omega arith, omega arith)
-opening_sum c opening r (suc n) =
-    let rest = opening_sum c opening r n in
-    let low = rest.0 in
-    let few = rest.1 in
-    elim (stands_at c opening r n) [
-      | inl s ↦
-          let first = s.first in
-          let last = s.last in
-          let one : placed_bit ((start_ghost c opening).puts r n) ≡ 1 = ap placed_bit s.is in
-          let all : openings c r ≡ n_of c.order = rw (eq-eqb r 0 s.ring) refl in
-          (omega arith, omega arith)
-      | inr s ↦
-          let none : placed_bit ((start_ghost c opening).puts r n) ≡ 0 = ap placed_bit s.is in
-          (omega arith, omega arith)
-    ]
 
 tallied_start : (c : Setup) (opening : List (List ℕ)) → length opening ≡ n_of c.order → IsTallied c 0 (start_ghost c opening) (start_of c opening)
 tallied_start c opening full =
     let reach : IsReachable c (start_of c opening) = at_start opening full in
     record {
-      taken = λ r. nothing r c.seats;
-      placed = λ r. let few = opening_sum c opening r c.limit in let most = few.1 in omega arith;
       spends = λ r. let ceiling = (threshold_floor c (start_of c opening) reach).ceiling r in omega arith;
     }
-  where
-    nothing : (r k : ℕ) → total (got_of r) (start_of c opening).part k ≤ tooks c (start_ghost c opening) r
-    nothing r zero = omega arith
-    nothing r (suc k) = let rest = nothing r k in omega arith
 
 -- a seat that draws a ticket past the limit keeps none yet
 keeps_none : (c : Setup) (g : Ghost) (m : Machine) (k : ℕ) → IsBased c g m → (s : Stance) → stance m k ≡ s → s ≢ resting → spent_of (m.part k).spent ≡ 0
@@ -123,7 +86,7 @@ one_more d x = grind arith
 spends_on : (c : Setup) (time : ℕ) (g : Ghost) (m : Machine) (k : ℕ) (e : TicketEvent) (n : Machine) → Trace c time g m → EventStep c time g m k e n
     → is_finish e ≡ false → IsTallied c time g m → (r : ℕ) → total (done_of r) n.part c.seats ≡ total (done_of r) m.part c.seats
     → n.cells.head r + n.cells.threshold r ≤ ring_slots c + total (spend_of r) n.part c.seats + total (done_of r) n.part
-    c.seats * (reset_value c + c.seats) + reset_level c
+    c.seats * (reset_value c.order c.seats + c.seats) + reset_level c
 spends_on c time g m k e n trace event_step not was r same =
     let fits = words_fit c m (trace_reaches c time g m trace) in
     let sum = total_change (spend_of r) m.part n.part k c.seats event_step.low event_step.event_facts.others in
@@ -150,7 +113,7 @@ dones_move c time g m k e n event_step r =
 spends_reset : (c : Setup) (time : ℕ) (g : Ghost) (m : Machine) (k q i : ℕ) (w : List ℕ) (t : ℕ) (n : Machine) → Trace c time g m
     → EventStep c time g m k (finished q i w t) n → IsTallied c time g m → (r : ℕ)
     → n.cells.head r + n.cells.threshold r ≤ ring_slots c + total (spend_of r) n.part c.seats + total (done_of r) n.part
-    c.seats * (reset_value c + c.seats) + reset_level c
+    c.seats * (reset_value c.order c.seats + c.seats) + reset_level c
 spends_reset c time g m k q i w t n trace event_step was r =
     let d = event_step.event_facts in
     let floor = (threshold_floor c m (trace_reaches c time g m trace)).floor r in
@@ -169,7 +132,7 @@ spends_reset c time g m k q i w t n trace event_step was r =
           let one = here_one q r a.0 in
           let reset = a.1 in
           let more : total (done_of r) n.part c.seats ≡ total (done_of r) m.part c.seats + 1 = omega arith in
-          let product = one_more (total (done_of r) m.part c.seats) (reset_value c + c.seats) in
+          let product = one_more (total (done_of r) m.part c.seats) (reset_value c.order c.seats + c.seats) in
           rw more (omega arith)
       | inr a ↦
           let none = there_none q r a.0 in
@@ -178,32 +141,12 @@ spends_reset c time g m k q i w t n trace event_step was r =
           rw no_more (omega arith)
     ]
 
-counts_step : (c : Setup) (time : ℕ) (g : Ghost) (m : Machine) (k : ℕ) (e : TicketEvent) (n : Machine) → EventStep c time g m k e n → IsTallied c time g m
-    → (r : ℕ) → (total (got_of r) n.part c.seats ≤ tooks c (ghost_next time g m k e) r)
-    × (placeds c (ghost_next time g m k e) r ≤ total (laid_of r) n.part c.seats + openings c r)
-counts_step c time g m k e n event_step was r =
-    let gots = total_change (got_of r) m.part n.part k c.seats event_step.low event_step.event_facts.others in
-    let got_calls = calls_then (was_got r) c g m k e n event_step.event_facts in
-    let took_adds = (took_event c time g m k e n event_step r).adds in
-    let laids = total_change (laid_of r) m.part n.part k c.seats event_step.low event_step.event_facts.others in
-    let done_calls = calls_then (was_done r) c g m k e n event_step.event_facts in
-    let placed_adds = (placed_event c time g m k e n event_step r).adds in
-    let taken_before = was.taken r in
-    let placed_before = was.placed r in
-    (omega arith, omega arith)
-
 tallied_step : (c : Setup) (time : ℕ) (g : Ghost) (m : Machine) (k : ℕ) (e : TicketEvent) (n : Machine) → Trace c time g m → EventStep c time g m k e n
     → IsTallied c time g m → IsTallied c (time + 1) (ghost_next time g m k e) n
 tallied_step c time g m k (finished q i w t) n trace event_step was =
-    record {
-      taken = λ r. let both = counts_step c time g m k (finished q i w t) n event_step was r in both.0;
-      placed = λ r. let both = counts_step c time g m k (finished q i w t) n event_step was r in both.1;
-      spends = spends_reset c time g m k q i w t n trace event_step was;
-    }
+    record { spends = spends_reset c time g m k q i w t n trace event_step was }
 tallied_step c time g m k e n trace event_step was =
     record {
-      taken = λ r. let both = counts_step c time g m k e n event_step was r in both.0;
-      placed = λ r. let both = counts_step c time g m k e n event_step was r in both.1;
       spends =
           λ r.
           let dones = dones_move c time g m k e n event_step r in

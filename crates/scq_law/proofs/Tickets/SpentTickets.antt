@@ -1,5 +1,5 @@
 -- Who ended for want of a ticket drew one at or past the limit, so its ring's counter is past the limit. Where the ticket
--- bound is within the limit, nobody did.
+-- bound of a ring is within the limit, nobody did there.
 use Rattle.std.proofs.Common.{◌≡◌, ℕ, ◌+◌, ◌<◌, ◌≤◌, ◌⊎◌, Bool, true, false, List, ◌++◌, refl, inl, inr, arith}
 use Rattle.std.specs.List.{Contains}
 use Rattle.std.proofs.lemmas.Bool.{cases_eq}
@@ -11,7 +11,7 @@ use Rattle.scq_core.specs.Machine.{Machine}
 use Rattle.scq_core.specs.Start.{start_of}
 use Rattle.scq_core.specs.Reach.{IsReachable}
 use Rattle.scq_core.proofs.UpdatedLemmas.{updated_here}
-use Rattle.scq_law.specs.Bounds.{enqueues, ticket_bound, TicketsBounded, NoneSpent}
+use Rattle.scq_law.specs.Bounds.{enqueues, TicketsBounded, NoneSpent}
 use Rattle.scq_law.proofs.Base.Ghosts.{Ghost, start_ghost}
 use Rattle.scq_law.proofs.Base.TicketEvents.{seeking, TicketEvent, finished, refused, taken, emptied, overran, ended_by}
 use Rattle.scq_law.proofs.Base.EventFacts.{EventFacts}
@@ -21,6 +21,7 @@ use Rattle.scq_law.proofs.Base.SeatStances.{stance_has}
 use Rattle.scq_law.proofs.Window.TicketFlows.{advances}
 use Rattle.scq_law.proofs.Base.SeatSums.{contains_none, contains_one}
 use Rattle.scq_law.proofs.Tickets.TicketLaws.{tickets_bounded}
+use Rattle.scq_word.specs.Bounds.{ticket_bound}
 
 -- a ticket at or past the limit that was drawn from this counter of a ring
 pub record Overran (c : Setup) (counter r t : ℕ) : Type 0 where
@@ -37,7 +38,7 @@ rose : (c : Setup) (x y r t : ℕ) → x ≤ y → Overran c x r t → Overran c
 rose c x y r t le o = let low = o.below in record { ring = o.ring; past = o.past; below = omega arith }
 
 -- a call that ended before, or by the event
-spent_back : (c : Setup) (g : Ghost) (m : Machine) (k : ℕ) (e : TicketEvent) (n : Machine) → EventFacts c m g k e n → (j : ℕ) (x : Ended)
+pub spent_back : (c : Setup) (g : Ghost) (m : Machine) (k : ℕ) (e : TicketEvent) (n : Machine) → EventFacts c m g k e n → (j : ℕ) (x : Ended)
     → Contains (n.part j).calls x → Contains (m.part j).calls x ⊎ Contains (ended_by e) x
 spent_back c g m k e n event_facts j x has =
     elim (cases_eq j k) [
@@ -56,7 +57,7 @@ is_overrun (overran r t b) = true
 is_overrun e = false
 
 -- no other event ends a call so
-ends_otherwise : (e : TicketEvent) (r t : ℕ) (b : Bool) → is_overrun e ≡ false → Contains (ended_by e) (Spent r t b) → ⊥
+pub ends_otherwise : (e : TicketEvent) (r t : ℕ) (b : Bool) → is_overrun e ≡ false → Contains (ended_by e) (Spent r t b) → ⊥
 ends_otherwise (overran q u v) r t b not has = absurd (cc)
 ends_otherwise (finished q i v u) r t b not has =
     let same : Done q u v ≡ Spent r t b = contains_one (Done q u v) (Spent r t b) has in absurd (cc)
@@ -159,23 +160,20 @@ none_spent c m reach =
     let past = has_trace c m reach in
     let over = overrun c past.time past.ghost m past.trace in
     let bounded = tickets_bounded c m reach in
-    record {
-      none = λ within k r t is_put has. go over bounded within k r t is_put has;
-    }
+    record { none = λ r within k t is_put has. go over bounded r within k t is_put has }
   where
-    go : {time : ℕ} {g : Ghost} → IsOverrun c time g m → TicketsBounded c m → ((r : ℕ) → r < c.rings → ticket_bound c (enqueues c m r) ≤ c.limit)
-        → (k r t : ℕ) (is_put : Bool) → Contains (m.part k).calls (Spent r t is_put) → ⊥
-    go over bounded within k r t true has =
+    go : {time : ℕ} {g : Ghost} → IsOverrun c time g m → TicketsBounded c m → (r : ℕ) → ticket_bound c.order c.seats (enqueues c m r) ≤ c.limit
+        → (k t : ℕ) (is_put : Bool)
+        → Contains (m.part k).calls (Spent r t is_put) → ⊥
+    go over bounded r fits k t true has =
         let o = over.puts k r t has in
         let past = o.past in
         let below = o.below in
-        let fits = within r o.ring in
         let tail = bounded.tail r in
         omega arith
-    go over bounded within k r t false has =
+    go over bounded r fits k t false has =
         let o = over.gets k r t has in
         let past = o.past in
         let below = o.below in
-        let fits = within r o.ring in
         let head = bounded.head r in
         omega arith

@@ -1,6 +1,7 @@
--- The ticket bound. Plan: Head is within what gets that took, attempts in flight, kept tickets and resets come to; the attempts in
--- flight are made up by the floor of Threshold, and the rest is within the enqueues that were begun.
-use Rattle.std.proofs.Common.{◌≡◌, ℕ, ◌+◌, ◌-◌, ◌*◌, ◌≤◌, true, false, List, [], ◌∷◌, refl, inl, inr, ap, arith}
+-- The ticket bound. Plan: Head is within what gets that took, attempts in flight, kept tickets and resets come to; gets took no
+-- more than puts placed; the attempts in flight are made up by the floor of Threshold, and the rest is within the enqueues that
+-- were begun.
+use Rattle.std.proofs.Common.{◌≡◌, ℕ, ◌+◌, ◌-◌, ◌*◌, ◌≤◌, true, false, List, [], ◌∷◌, inl, inr, arith}
 use Rattle.std.specs.Prelude.{min}
 use Rattle.std.proofs.Math.Nat.{mul-le-mul_right}
 use Rattle.std.proofs.lemmas.Bool.{cases_lt}
@@ -11,23 +12,22 @@ use Rattle.scq_core.specs.declared.ended.Ended.TheVariants.{Done}
 use Rattle.scq_core.specs.declared.phase.Phase.{Phase}
 use Rattle.scq_core.specs.declared.phase.Phase.TheVariants.{AtE5, AtE6, AtD10}
 use Rattle.scq_core.specs.Machine.{Part, Machine}
-use Rattle.scq_core.specs.Table.{reset_value}
 use Rattle.scq_core.specs.Reach.{IsReachable}
 use Rattle.scq_core.specs.Laws.{total, dequeues, dequeues_of, spent_of}
 use Rattle.scq_core.proofs.Floor.{threshold_floor}
 use Rattle.scq_core.proofs.Limits.{counters_bounded}
-use Rattle.scq_law.specs.Bounds.{WithinWindow, ThresholdCovers, tally, was_put, is_putting, enqueues, ticket_bound, TicketsBounded}
-use Rattle.scq_law.proofs.Base.Ghosts.{Ghost, GetState, unopened, opened, dead, took}
+use Rattle.scq_law.specs.Bounds.{WithinWindow, ThresholdCovers, tally, was_put, is_putting, enqueues, TicketsBounded}
+use Rattle.scq_law.specs.Kept.{was_done, has_placed, gets_of, puts_of}
+use Rattle.scq_law.proofs.Base.Ghosts.{Ghost}
 use Rattle.scq_law.proofs.Base.TicketEvents.{stance_of}
-use Rattle.scq_law.proofs.Window.FailCauses.{placement}
 use Rattle.scq_law.proofs.Base.Traces.{Trace, has_trace}
 use Rattle.scq_law.proofs.Base.Based.{based}
 use Rattle.scq_law.proofs.Window.CoverThroughout.{windowed}
 use Rattle.scq_law.proofs.Base.SeatSums.{total_le, total_plus}
 use Rattle.scq_law.proofs.Threshold.Covering.{flying, covers}
-use Rattle.scq_law.proofs.Tickets.TicketSums.{sum_le}
-use Rattle.scq_law.proofs.Tickets.EventCounts.{placed_bit, took_bit, placeds, tooks, was_done, landing}
-use Rattle.scq_law.proofs.Tickets.RunCounts.{got_of, done_of, laid_of, tallied, trace_reaches}
+use Rattle.scq_law.proofs.Balance.KeptLaws.{balanced}
+use Rattle.scq_law.proofs.Tickets.RunCounts.{done_of, tallied, trace_reaches}
+use Rattle.scq_word.specs.Bounds.{reset_value, ticket_bound}
 
 -- the window and the threshold's cover on every reachable state
 pub within_window : (c : Setup) (m : Machine) → IsReachable c m → WithinWindow c m
@@ -58,66 +58,44 @@ done_put : (r : ℕ) (x : Ended) → was_done r x ≤ was_put r x
 done_put r (Done q p w) = omega arith
 done_put r x = omega arith
 
-landing_putting : (r : ℕ) (phase : Phase) → landing r (stance_of phase) ≤ is_putting r phase
-landing_putting r (AtE5 q i w t) = omega arith
-landing_putting r (AtE6 q i w t) = omega arith
-landing_putting r (AtD10 q h true) = omega arith
-landing_putting r (AtD10 q h false) = omega arith
-landing_putting r phase = omega arith
+placed_putting : (r : ℕ) (phase : Phase) → has_placed r phase ≤ is_putting r phase
+placed_putting r (AtE5 q i w t) = omega arith
+placed_putting r (AtE6 q i w t) = omega arith
+placed_putting r phase = omega arith
 
 flying_dequeues : (r : ℕ) (phase : Phase) → flying r (stance_of phase) ≤ dequeues r phase
 flying_dequeues r (AtD10 q h true) = omega arith
 flying_dequeues r (AtD10 q h false) = omega arith
 flying_dequeues r phase = omega arith
 
--- taken tickets were placed
-took_placed : (c : Setup) (time : ℕ) (g : Ghost) (m : Machine) → Trace c time g m → (r : ℕ) → tooks c g r ≤ placeds c g r
-took_placed c time g m trace r =
-    sum_le (λ p. took_bit (g.gets r p)) (λ p. placed_bit (g.puts r p)) c.limit (λ p. one p)
-  where
-    one : (p : ℕ) → took_bit (g.gets r p) ≤ placed_bit (g.puts r p)
-    one p = go (g.gets r p) refl
-      where
-        go : (x : GetState) → g.gets r p ≡ x → took_bit (g.gets r p) ≤ placed_bit (g.puts r p)
-        go (took k j) is =
-            let there = placement g r p ((based c time g m trace).booked.taken r p k j is) in
-            let left : took_bit (g.gets r p) ≡ 1 = ap took_bit is in
-            let right : placed_bit (g.puts r p) ≡ 1 = ap placed_bit there.is in
-            omega arith
-        go unopened is = let none : took_bit (g.gets r p) ≡ 0 = ap took_bit is in omega arith
-        go (opened k) is = let none : took_bit (g.gets r p) ≡ 0 = ap took_bit is in omega arith
-        go dead is = let none : took_bit (g.gets r p) ≡ 0 = ap took_bit is in omega arith
-
 -- the bound's product
 bound_parts : (e x : ℕ) → (e + 1) * (x + 1) ≡ e * x + e + x + 1
 bound_parts e x = grind arith
 
 head_bounded : (c : Setup) (time : ℕ) (g : Ghost) (m : Machine) → Trace c time g m → (r : ℕ)
-    → m.cells.head r + 2 * n_of c.order ≤ ticket_bound c (enqueues c m r)
+    → m.cells.head r + 2 * n_of c.order ≤ ticket_bound c.order c.seats (enqueues c m r)
 head_bounded c time g m trace r =
     let reach = trace_reaches c time g m trace in
     let t = tallied c time g m trace in
-    let taken = t.taken r in
-    let placed = t.placed r in
+    let balance = (balanced c m reach).balance r in
     let spends = t.spends r in
-    let both = took_placed c time g m trace r in
     let floor = (threshold_floor c m reach).floor r in
     let few = (counters_bounded c m reach).spent in
     let puts = λ (p : Part). tally (was_put r) p.calls + is_putting r p.phase in
-    let laids : total (laid_of r) m.part c.seats ≤ total puts m.part c.seats =
-    total_le (laid_of r) puts m.part
-    (λ k. let calls = tally_le (was_done r) (was_put r) (done_put r) (m.part k).calls in let phase = landing_putting r (m.part k).phase in omega arith)
+    let placed : total (puts_of r) m.part c.seats ≤ total puts m.part c.seats =
+    total_le (puts_of r) puts m.part
+    (λ k. let calls = tally_le (was_done r) (was_put r) (done_put r) (m.part k).calls in let phase = placed_putting r (m.part k).phase in omega arith)
     c.seats in
     let dones : total (done_of r) m.part c.seats ≤ total puts m.part c.seats =
     total_le (done_of r) puts m.part (λ k. let calls = tally_le (was_done r) (was_put r) (done_put r) (m.part k).calls in omega arith) c.seats in
-    let split = total_plus (got_of r) (λ (p : Part). flying r (stance_of p.phase) + spent_of p.spent) m.part c.seats in
+    let split = total_plus (gets_of r) (λ (p : Part). flying r (stance_of p.phase) + spent_of p.spent) m.part c.seats in
     let again = total_plus (λ (p : Part). flying r (stance_of p.phase)) (λ (p : Part). spent_of p.spent) m.part c.seats in
     let attempts_in_flight : total (λ (p : Part). flying r (stance_of p.phase)) m.part c.seats ≤ dequeues_of c m r =
     total_le (λ (p : Part). flying r (stance_of p.phase)) (λ (p : Part). dequeues r p.phase) m.part (λ k. flying_dequeues r (m.part k).phase) c.seats in
-    let product : total (done_of r) m.part c.seats * (reset_value c + c.seats) ≤ enqueues c m r * (reset_value c + c.seats) =
-    mul-le-mul_right (reset_value c + c.seats) (omega arith) in
-    let parts = bound_parts (enqueues c m r) (reset_value c + c.seats) in
-    let same : reset_value c + 1 + c.seats ≡ reset_value c + c.seats + 1 = omega arith in
+    let product : total (done_of r) m.part c.seats * (reset_value c.order c.seats + c.seats) ≤ enqueues c m r * (reset_value c.order c.seats + c.seats) =
+    mul-le-mul_right (reset_value c.order c.seats + c.seats) (omega arith) in
+    let parts = bound_parts (enqueues c m r) (reset_value c.order c.seats + c.seats) in
+    let same : reset_value c.order c.seats + 1 + c.seats ≡ reset_value c.order c.seats + c.seats + 1 = omega arith in
     rw same (omega arith)
 
 pub tickets_bounded : (c : Setup) (m : Machine) → IsReachable c m → TicketsBounded c m

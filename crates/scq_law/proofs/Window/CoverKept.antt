@@ -4,19 +4,17 @@
 use Rattle.std.proofs.Common.{◌≡◌, ◌≢◌, ℕ, ◌+◌, ◌<◌, ◌≤◌, ◌⊎◌, true, inl, inr, ap, sym, ◌∙◌, arith}
 use Rattle.std.proofs.lemmas.Bool.{cases_lt, cases_order}
 use Rattle.scq_word.specs.declared.setup.Setup.{Setup}
-use Rattle.scq_word.specs.Tickets.{slot_of}
 use Rattle.scq_word.proofs.TicketLemmas.{earlier_cycle, lower_ticket}
 use Rattle.scq_core.specs.Machine.{Entries}
-use Rattle.scq_core.specs.Table.{ring_slots}
-use Rattle.scq_core.proofs.Entries.{some_slots}
+use Rattle.scq_core.specs.Table.{ring_slots, slot}
 use Rattle.scq_law.proofs.Base.Ghosts.{Ghost, PutState, fresh, pending, failed, placed, waiting}
 use Rattle.scq_law.proofs.Base.BaseGroup.{IsBooked, IsDrawn}
 use Rattle.scq_law.proofs.Window.FailedTickets.{IsAlone, IsCovered, IsAfter, Bars, FailedTickets, IsWindow}
 use Rattle.scq_law.proofs.Window.TicketFlows.{Fails, Flows, Advances}
 
 -- tickets of one slot are a round of the ring apart
-turn_apart : (c : Setup) (t u : ℕ) → slot_of (ring_slots c) t ≡ slot_of (ring_slots c) u → t < u → t + ring_slots c ≤ u
-turn_apart c t u slot less = earlier_cycle (ring_slots c) t u slot (lower_ticket (ring_slots c) t u (some_slots c) slot less)
+turn_apart : (c : Setup) (t u : ℕ) → slot c t ≡ slot c u → t < u → t + ring_slots c ≤ u
+turn_apart c t u slot less = earlier_cycle c.order t u slot (lower_ticket c.order t u slot less)
 
 pub covered_step : (c : Setup) (g h : Ghost) (tail head tail' head' : ℕ → ℕ) (time : ℕ) → Flows c g tail head time h → Advances c tail head tail' head' h
     → IsCovered c g tail head → IsCovered c h tail' head'
@@ -127,7 +125,7 @@ module _ (c : Setup) (e : Entries) (g h : Ghost) (tail head head' : ℕ → ℕ)
       → ⊥
   bar_bar r s t b low high near_s near_t other first second =
       let one = alone.lives r first.place second.place b first.live second.live in
-      let slot : slot_of (ring_slots c) s ≡ slot_of (ring_slots c) t = sym first.slot ∙ ap (slot_of (ring_slots c)) one ∙ second.slot in
+      let slot : slot c s ≡ slot c t = sym first.slot ∙ ap (slot c) one ∙ second.slot in
       elim (cases_order s t) [
         | inl same ↦ other same
         | inr order ↦

@@ -5,11 +5,10 @@ use Rattle.std.proofs.Common.{◌≡◌, ◌≢◌, ℕ, ◌<◌, ◌≤◌, tru
 use Rattle.std.specs.Prelude.{nat_lt}
 use Rattle.std.proofs.lemmas.Bool.{cases_Bool, cases_lt, and_from}
 use Rattle.scq_word.specs.declared.setup.Setup.{Setup}
-use Rattle.scq_word.specs.Tickets.{slot_of}
 use Rattle.scq_word.specs.Words.{index_in, cycle_in, is_none_in}
 use Rattle.scq_word.proofs.TicketLemmas.{ticket_in, slot_of-ticket_in, cycle_of-ticket_in, lower_ticket}
 use Rattle.scq_core.specs.Machine.{Entries}
-use Rattle.scq_core.specs.Table.{ring_slots, cycle}
+use Rattle.scq_core.specs.Table.{ring_slots, cycle, slot}
 use Rattle.scq_core.proofs.Entries.{some_slots}
 use Rattle.scq_law.specs.Places.{Maker}
 use Rattle.scq_law.proofs.Base.Ghosts.{Ghost, PutState, fresh, pending, failed, placed, is_placed, waiting}
@@ -64,7 +63,7 @@ pub fail_cause : (c : Setup) (e : Entries) (g : Ghost) (tail head : ℕ → ℕ)
 fail_cause c e g tail head k r i t booked drawn first mine fails =
     let x = at_ticket c e.word r t in
     let q = ticket_in (ring_slots c) t (cycle_in (ring_slots c) x) in
-    let slot : slot_of (ring_slots c) q ≡ slot_of (ring_slots c) t = slot_of-ticket_in (ring_slots c) t (cycle_in (ring_slots c) x) (some_slots c) in
+    let slot : slot c q ≡ slot c t = slot_of-ticket_in c.order t (cycle_in (ring_slots c) x) in
     let turn : cycle c q ≡ cycle_in (ring_slots c) x = cycle_of-ticket_in (ring_slots c) t (cycle_in (ring_slots c) x) (some_slots c) in
     let at_q : at_ticket c e.word r q ≡ x = ap (e.word r) slot in
     elim (cases_Bool (is_none_in (ring_slots c) x)) [
@@ -79,7 +78,7 @@ fail_cause c e g tail head k r i t booked drawn first mine fails =
           ] in
           let above : t ≤ q =
           elim (cases_lt q t) [
-            | inl less ↦ let lower = lower_ticket (ring_slots c) q t (some_slots c) slot less in absurd (omega arith)
+            | inl less ↦ let lower = lower_ticket c.order q t slot less in absurd (omega arith)
             | inr not ↦ not
           ] in
           let over = booked.over r q (omega arith) (rw at_q (sym turn)) (rw at_q none) in

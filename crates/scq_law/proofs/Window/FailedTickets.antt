@@ -2,8 +2,7 @@
 use Rattle.std.specs.Prelude.{◌≡◌, ◌≢◌, ℕ, ◌+◌, ◌<◌, ◌≤◌, ◌⊎◌}
 use Rattle.scq_word.specs.declared.setup.Setup.{Setup}
 use Rattle.scq_word.specs.Sizes.{n_of}
-use Rattle.scq_word.specs.Tickets.{slot_of}
-use Rattle.scq_core.specs.Table.{ring_slots}
+use Rattle.scq_core.specs.Table.{ring_slots, slot}
 use Rattle.scq_law.proofs.Base.Ghosts.{Ghost, fresh, pending, failed}
 use Rattle.scq_law.proofs.Base.EventFacts.{Live}
 
@@ -27,7 +26,7 @@ pub record IsAfter (g : Ghost) (r x t : ℕ) : Type 0 where
 pub record Bars (c : Setup) (g : Ghost) (r t i : ℕ) : Type 0 where
   pub place : ℕ
   pub earlier : place < t
-  pub slot : slot_of (ring_slots c) place ≡ slot_of (ring_slots c) t
+  pub slot : slot c place ≡ slot c t
   pub live : Live g r place i
 
 -- the failed tickets, each with the step at which it failed, its drawer's index and the index that it found: of those at

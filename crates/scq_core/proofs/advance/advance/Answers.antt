@@ -40,4 +40,4 @@ returns-clause-ok c =
     c.index_mut.result.now c.write.new.self c.cell_of-cell.result c.read-found.result c.written-word.result c.beside.result.now c.in_ok-copy.copy
     c.in_ok-laid.laid
     c.requires.rings (c.requires.ready t enabled).ring enabled c.ring_of-index.ensures c.index-ring.ensures c.index_mut.ensures.value c.cell_of-cell.ensures
-    c.beside.ensures c.in_ok-copy.ensures c.read-found.ensures c.written-word.ensures part lays c.write.ensures
+    c.beside.ensures c.in_ok-copy.ensures.ok c.read-found.ensures c.written-word.ensures part lays c.write.ensures

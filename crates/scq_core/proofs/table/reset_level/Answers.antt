@@ -1,9 +1,9 @@
-use Rattle.std.proofs.Common.{◌∙◌, ap, arith}
-use Rattle.scq_word.specs.Sizes.{n_of}
-use Rattle.scq_core.specs.Table.{zero_level, reset_value}
-use Rattle.scq_core.proofs.Entries.{some_indices}
+use Rattle.std.proofs.Common.{arith}
+use Rattle.scq_core.proofs.Entries.{zero_level_is, reset_small}
 use Rattle.scq_core.proofs.table.reset_level.Goals as goal
 
+pub overflow_add-result : goal.overflow_add-result
+overflow_add-result c = omega (arith, c.reset_value.ensures, reset_small c.args.setup.now)
+
 pub returns : goal.returns
-unfolding zero_level reset_value
-returns c = omega (arith, some_indices c.args.setup.now, c.from.ensures ∙ c.n.ensures ∙ ap n_of c.shape.ensures)
+returns c = omega (arith, zero_level_is, c.reset_value.ensures)

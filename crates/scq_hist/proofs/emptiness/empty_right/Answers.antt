@@ -2,26 +2,25 @@ use Rattle.std.proofs.Common.{below_more, refl, ◌<◌, ◌≤◌, ℕ, List, a
 use Rattle.std.proofs.lemmas.Bool.{iff_false}
 use Rattle.std.proofs.lemmas.Option.{slice_get_within}
 use Rattle.scq_hist.specs.Aspects.{IsEmptyRight}
-use Rattle.scq_hist.specs.Tallies.{IsRightAt}
+use Rattle.scq_hist.specs.Aspects.{IsEmptyRightAt}
 use Rattle.scq_hist.specs.declared.events.Event.{Event}
 use Rattle.scq_hist.specs.declared.events.Event.TheVariants.{End}
 use Rattle.scq_hist.specs.declared.events.Reply.TheVariants.{Nothing}
 use Rattle.scq_hist.proofs.emptiness.empty_right.Goals as goal
 
-all_right : (opening : List (List ℕ)) (events : List Event) (i : ℕ) → length events ≤ i → ((e : ℕ) → e < i → IsRightAt opening events e)
+all_right : (opening : List (List ℕ)) (events : List Event) (i : ℕ) → length events ≤ i → ((e : ℕ) → e < i → IsEmptyRightAt opening events e)
     → IsEmptyRight opening events
-all_right opening events i past each s e seat queue call =
-    (each e (let lt = slice_get_within events e (End seat Nothing) call.ends in omega arith)).right s seat queue call
+all_right opening events i past each e s seat queue call =
+    each e (let lt = slice_get_within events e (End seat Nothing) call.ends in omega arith) s seat queue call
 
 pub loop-e-preserved : goal.loop-e-preserved
 loop-e-preserved c =
-    below_more _ _ c.loop-e.invariant ((c.is_right_at.ensures c.args.opening.now c.opening_tally-tokens.ensures.tally).0 c.if-not-is_right_at.false)
+    below_more _ _ c.loop-e.invariant ((c.is_empty_right_at.ensures c.args.opening.now c.opening_tally-tokens.ensures.tally).0 c.if-not-is_empty_right_at.false)
 
-pub returns-then-not-is_right_at : goal.returns-then-not-is_right_at
-returns-then-not-is_right_at c = (
+pub returns-then-not-is_empty_right_at : goal.returns-then-not-is_empty_right_at
+returns-then-not-is_empty_right_at c = (
   λ t. absurd cc,
-  λ h. absurd (iff_false (c.is_right_at.ensures c.args.opening.now c.opening_tally-tokens.ensures.tally) c.if-not-is_right_at.true
-      (record { right = λ s seat queue call. h s c.loop-e.e seat queue call })),
+  λ h. absurd (iff_false (c.is_empty_right_at.ensures c.args.opening.now c.opening_tally-tokens.ensures.tally) c.if-not-is_empty_right_at.true (h c.loop-e.e)),
 )
 
 pub returns : goal.returns

@@ -1,5 +1,5 @@
 use Rattle.std.proofs.Common.{ℕ, ◌<◌}
-use Rattle.scq_hist.specs.Lookups.{IsFreshAt}
+use Rattle.scq_hist.specs.Aspects.{IsFreshAt}
 use Rattle.scq_hist.proofs.freshness.fresh.Given as goal
 
 abbrev pub invariant-loop-e : goal.invariant-loop-e

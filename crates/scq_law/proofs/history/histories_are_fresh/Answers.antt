@@ -3,4 +3,4 @@ use Rattle.scq_law.proofs.Aspects.CoupledRuns.{tied_run}
 use Rattle.scq_law.proofs.history.histories_are_fresh.Goals as goal
 
 pub returns : goal.returns
-returns c = λ setup opening steps recorded full low run. fresh setup opening recorded (tied_run setup opening steps recorded full low run)
+returns c = λ setup opening steps recorded run. fresh setup opening recorded (tied_run setup opening steps recorded run.full run.seats run)

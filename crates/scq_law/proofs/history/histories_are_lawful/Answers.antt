@@ -2,4 +2,4 @@ use Rattle.scq_law.proofs.Aspects.CoupledRuns.{tied_run}
 use Rattle.scq_law.proofs.history.histories_are_lawful.Goals as goal
 
 pub returns : goal.returns
-returns c = λ setup opening steps recorded full low run. (tied_run setup opening steps recorded full low run).tied.called.lawful
+returns c = λ setup opening steps recorded run. (tied_run setup opening steps recorded run.full run.seats run).tied.called.lawful

@@ -3,4 +3,4 @@ use Rattle.scq_law.proofs.Aspects.CoupledRuns.{tied_run}
 use Rattle.scq_law.proofs.history.histories_have_aspects.Goals as goal
 
 pub returns : goal.returns
-returns c = λ setup opening steps recorded full low run. has_aspects setup opening full recorded (tied_run setup opening steps recorded full low run)
+returns c = λ setup opening steps recorded run. has_aspects setup opening run.full recorded (tied_run setup opening steps recorded run.full run.seats run)

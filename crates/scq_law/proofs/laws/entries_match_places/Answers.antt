@@ -1,4 +1,4 @@
-use Rattle.scq_law.proofs.EntryLaws.{entries_match_places}
+use Rattle.scq_law.proofs.Places.EntryLaws.{entries_match_places}
 use Rattle.scq_law.proofs.laws.entries_match_places.Goals as goal
 
 pub returns : goal.returns

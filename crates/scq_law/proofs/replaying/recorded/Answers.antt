@@ -1,6 +1,4 @@
-use Rattle.std.proofs.Common.{◌≡◌, ℕ, ◌<◌, rules, sym, ◌∙◌, ap, subst, Err}
-use Rattle.std.proofs.lemmas.List.Elements.{All-take}
-use Rattle.scq_core.specs.declared.step.Step.{Step}
+use Rattle.std.proofs.Common.{◌≡◌, ℕ, rules, ap, subst, Err}
 use Rattle.scq_law.specs.Replay.{StopsAt}
 use Rattle.scq_law.proofs.Replays.StepsRecorded.{run_room, one_more, stops}
 use Rattle.scq_law.proofs.Replays.RunLaws.{run_reaches}
@@ -11,13 +9,11 @@ make-requires-clause-room c =
     run_room c.args.setup c.args.opening.items c.args.steps.now c.loop-at.at c.loop-at.recording c.loop-at-test.true (search rules) c.loop-at.invariant
 
 pub make-requires-clause-shown : goal.make-requires-clause-shown
-make-requires-clause-shown c =
-    let seats = All-take (λ (x : ℕ × Step). x.0 < c.args.setup.seats) c.loop-at.at c.args.steps.now c.requires.seats in (
-      c.loop-at.invariant.recorded,
-      c.loop-at.invariant.shows,
-      run_reaches c.args.setup c.args.opening.items _ c.loop-at.invariant.recorded (sym c.args.opening.ok.0 ∙ c.requires.opening) seats
-          c.loop-at.invariant.run,
-    )
+make-requires-clause-shown c = (
+  c.loop-at.invariant.recorded,
+  c.loop-at.invariant.shows,
+  run_reaches c.args.setup c.args.opening.items _ c.loop-at.invariant.recorded c.loop-at.invariant.run,
+)
 
 pub returns-in-Err-NotEnabled-clause-not_enabled : goal.returns-in-Err-NotEnabled-clause-not_enabled
 returns-in-Err-NotEnabled-clause-not_enabled c =
@@ -34,4 +30,4 @@ returns-in-Err-NotEnabled-clause-not_enabled c =
 pub loop-at-preserved : goal.loop-at-preserved
 loop-at-preserved c =
     one_more c.args.setup c.args.opening.items c.args.steps.now c.loop-at.at c.index-steps-at.result c.loop-at.recording c.make.new.self c.loop-at-test.true
-    c.index-steps-at.is c.loop-at.invariant (c.in-Ok.ensures.ok c.loop-at.invariant.recorded c.loop-at.invariant.shows)
+    c.index-steps-at.is c.requires.seats c.loop-at.invariant (c.in-Ok.ensures.ok c.loop-at.invariant.recorded c.loop-at.invariant.shows)

@@ -10,14 +10,25 @@ use Rattle.scq_law.specs.Hands.{OneHand}
 use Rattle.scq_law.specs.Places.{PlacesOnce}
 use Rattle.scq_law.specs.Standing.{EntriesMatchPlaces}
 use Rattle.scq_law.specs.Bounds.{WithinWindow, ThresholdCovers, TicketsBounded, NoneSpent}
+use Rattle.scq_law.specs.Spent.{SpentKept}
+use Rattle.scq_law.specs.Kept.{Balanced, AllKept}
+use Rattle.scq_law.specs.Retries.{RetriesRise}
+use Rattle.scq_law.specs.CallSteps.{CallsEnd, FewSteps}
+use Rattle.scq_law.specs.Begun.{EnqueuesBegun}
 use Rattle.scq_law.proofs.Places.HandLaws.{one_hand}
 use Rattle.scq_law.proofs.Places.PlaceLaws.{places_once}
-use Rattle.scq_law.proofs.EntryLaws.{entries_match_places}
+use Rattle.scq_law.proofs.Places.EntryLaws.{entries_match_places}
 use Rattle.scq_law.proofs.Tickets.TicketLaws.{within_window, threshold_covers, tickets_bounded}
 use Rattle.scq_law.proofs.Tickets.SpentTickets.{none_spent}
+use Rattle.scq_law.proofs.Tickets.SpentLaws.{spent_kept}
+use Rattle.scq_law.proofs.Balance.KeptLaws.{balanced, all_kept}
+use Rattle.scq_law.proofs.Retries.RetryLaws.{retries_rise}
+use Rattle.scq_law.proofs.Retries.CallLaws.{calls_end}
+use Rattle.scq_law.proofs.Retries.StepLaws.{few_steps}
+use Rattle.scq_law.proofs.Tickets.BegunLaws.{enqueues_begun}
 use Rattle.scq_law.proofs.Replays.RisingWords.{rises_throughout}
-use Rattle.scq_law.proofs.Lasting.{places_last_throughout}
-use Rattle.scq_law.proofs.Replays.ReplayLaws.{of_state, of_history, of_fails}
+use Rattle.scq_law.proofs.Replays.LastingPlaces.{places_last_throughout}
+use Rattle.scq_law.proofs.Replays.ReplayLaws.{of_state, of_history, of_fails, of_run}
 use Rattle.scq_law.proofs.replaying.replay.Goals as goal
 
 pub returns-clause-one_hand : goal.returns-clause-one_hand
@@ -74,6 +85,36 @@ returns-clause-none_spent c =
     of_state setup c.args.opening.items c.args.steps.now c.recorded.result (λ (m : Machine). NoneSpent setup m) (sym c.args.opening.ok.0 ∙ c.requires.opening)
     c.requires.seats c.recorded.ensures.run (none_spent setup)
 
+pub returns-clause-spent_kept : goal.returns-clause-spent_kept
+returns-clause-spent_kept c =
+    let setup = c.args.setup in
+    of_state setup c.args.opening.items c.args.steps.now c.recorded.result (λ (m : Machine). SpentKept setup m) (sym c.args.opening.ok.0 ∙ c.requires.opening)
+    c.requires.seats c.recorded.ensures.run (spent_kept setup)
+
+pub returns-clause-balanced : goal.returns-clause-balanced
+returns-clause-balanced c =
+    let setup = c.args.setup in
+    of_state setup c.args.opening.items c.args.steps.now c.recorded.result (λ (m : Machine). Balanced setup m) (sym c.args.opening.ok.0 ∙ c.requires.opening)
+    c.requires.seats c.recorded.ensures.run (balanced setup)
+
+pub returns-clause-all_kept : goal.returns-clause-all_kept
+returns-clause-all_kept c =
+    let setup = c.args.setup in
+    of_state setup c.args.opening.items c.args.steps.now c.recorded.result (λ (m : Machine). AllKept setup m) (sym c.args.opening.ok.0 ∙ c.requires.opening)
+    c.requires.seats c.recorded.ensures.run (all_kept setup)
+
+pub returns-clause-retries_rise : goal.returns-clause-retries_rise
+returns-clause-retries_rise c =
+    let setup = c.args.setup in
+    of_state setup c.args.opening.items c.args.steps.now c.recorded.result (λ (m : Machine). RetriesRise setup m)
+    (sym c.args.opening.ok.0 ∙ c.requires.opening) c.requires.seats c.recorded.ensures.run (retries_rise setup)
+
+pub returns-clause-calls_end : goal.returns-clause-calls_end
+returns-clause-calls_end c =
+    let setup = c.args.setup in
+    of_state setup c.args.opening.items c.args.steps.now c.recorded.result (λ (m : Machine). CallsEnd setup m) (sym c.args.opening.ok.0 ∙ c.requires.opening)
+    c.requires.seats c.recorded.ensures.run (calls_end setup)
+
 pub returns-clause-lawful : goal.returns-clause-lawful
 returns-clause-lawful c =
     let setup = c.args.setup in
@@ -108,6 +149,22 @@ pub returns-clause-fails_bounded : goal.returns-clause-fails_bounded
 returns-clause-fails_bounded c =
     of_fails c.args.setup c.args.opening.items c.args.steps.now c.recorded.result (sym c.args.opening.ok.0 ∙ c.requires.opening) c.requires.seats
     c.recorded.ensures.run
+
+pub returns-clause-begun : goal.returns-clause-begun
+returns-clause-begun c =
+    let setup = c.args.setup in
+    let opening = c.args.opening.items in
+    let steps = c.args.steps.now in
+    of_run setup opening steps c.recorded.result (EnqueuesBegun setup) c.recorded.ensures.run
+    (enqueues_begun setup opening steps)
+
+pub returns-clause-few_steps : goal.returns-clause-few_steps
+returns-clause-few_steps c =
+    let setup = c.args.setup in
+    let opening = c.args.opening.items in
+    let steps = c.args.steps.now in
+    of_run setup opening steps c.recorded.result (λ m _. FewSteps setup steps m) c.recorded.ensures.run
+    (few_steps setup opening steps)
 
 pub returns-clause-rises : goal.returns-clause-rises
 returns-clause-rises c =

@@ -5,7 +5,7 @@ use Rattle.scq_topics.specs.Topics.{topic_of}
 use Rattle.scq_frames.specs.declared.message.Message.{Message}
 use Rattle.scq_frames.specs.declared.fault.FrameFault.{FrameFault}
 use Rattle.scq_frames.specs.declared.fault.FrameFault.TheVariants.{NoMemory}
-use Rattle.scq_frames.specs.Framing.{Framing, told_ahead, IsNext, fresh}
+use Rattle.scq_frames.specs.Framing.{Framing, visible_ahead, IsNext, fresh}
 use Rattle.scq_frames.specs.Coming.{Found}
 use Rattle.scq_frames.proofs.FindingLemmas.{Gave-found, Found-gave}
 use Rattle.scq_service.proofs.Answered.{answered-next, answered-all}
@@ -40,7 +40,7 @@ messages-preserved g c =
     let left = g.S.Source.left in
     let before = left c.messages.source in
     let now = left c.next.new.source in
-    let after = told_ahead (topic_of c.none-topics.result) c.next.new.self now in
+    let after = visible_ahead (topic_of c.none-topics.result) c.next.new.self now in
     let P : Option Message → Type 0 = λ given. IfSome given (IsNext c.messages.framer c.next.new.self) in
     let next : IsNext c.messages.framer c.next.new.self m = subst P c.in-Some.is said.next in
     let first = said.gives ∙ ap (λ given. option_map (λ rest. option_to_list given ++ rest) after) c.in-Some.is in
@@ -64,7 +64,7 @@ pub returns-clause-output : goal.returns-clause-output
 returns-clause-output g c =
     let left = g.S.Source.left c.messages.source in
     let number = topic_of c.none-topics.result in
-    let P : Option Message → Type 0 = λ given. IfNone given (told_ahead number c.messages.framer left ≡ option_map (λ _. []) left) in
+    let P : Option Message → Type 0 = λ given. IfNone given (visible_ahead number c.messages.framer left ≡ option_map (λ _. []) left) in
     let none = subst P c.in_default.is c.in_ok-message.ensures.none in
     answered-all number c.args.file (g.S.Source.left c.args.source.now) left _ _ _ _ _ _ c.messages.invariant.answered none c.in_ok-push_total.ensures
 

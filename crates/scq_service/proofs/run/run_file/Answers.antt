@@ -1,7 +1,7 @@
 use Rattle.std.proofs.Common.{◌≡◌, ◌∙◌, refl, ap, subst, ℕ, List, [], ◌∷◌, ◌++◌, Option, IfSome, Err}
 use Rattle.scq_service.specs.Ends.{output_of}
-use Rattle.scq_service.specs.Writing.{told_with, WrotePart}
-use Rattle.scq_service.proofs.Contents.{told-one}
+use Rattle.scq_service.specs.Writing.{written_with, WrotePart}
+use Rattle.scq_service.proofs.Contents.{visible-one}
 use Rattle.scq_service.proofs.Endings.{refused, ended-early, ended-open, ended-whole, ended-write}
 use Rattle.scq_service.proofs.Seen.{rose-above}
 use Rattle.scq_service.proofs.run.run_file.Goals as goal
@@ -34,8 +34,8 @@ returns-in-Ok-write_all-clause-ends g c =
     rw (end.status, end.fault, end.read, sources)
     (ended-whole g.F.Src.Source.faults g.F.Src.Source.left c.args.name.now _ _ _ _ source content
     (record { there = was.content; judged = said.judged; table_left = was.given; files_kept = was.kept }) (said.kept (λ e. absurd (cc)) ∙ was.fresh) said.end
-    (told-one (g.F.Files.table c.args.files.now) c.args.name.now content (λ contents. g.K.Sink.written c.write_all.new.sink ≡ told_with (g.K.Sink.written c.args.out.now) (output_of contents)) was.content
-    (λ text is. c.in-Ok-write_all.ensures.whole ∙ ap (told_with (g.K.Sink.written c.args.out.now)) (c.as_slice.ensures.value ∙ subst P is said.output)))
+    (visible-one (g.F.Files.table c.args.files.now) c.args.name.now content (λ contents. g.K.Sink.written c.write_all.new.sink ≡ written_with (g.K.Sink.written c.args.out.now) (output_of contents)) was.content
+    (λ text is. c.in-Ok-write_all.ensures.whole ∙ ap (written_with (g.K.Sink.written c.args.out.now)) (c.as_slice.ensures.value ∙ subst P is said.output)))
     c.in-Ok-write_all.ensures.kept)
 
 pub returns-in-Ok-answered-clause-ends : goal.returns-in-Ok-answered-clause-ends
@@ -52,7 +52,7 @@ returns-in-Ok-answered-clause-ends g c =
     rw (end.status, end.fault, end.read, sources)
     (ended-write g.F.Src.Source.faults g.F.Src.Source.left c.args.name.now _ _ _ _ source content
     (record { there = was.content; judged = said.judged; table_left = was.given; files_kept = was.kept }) (said.kept (λ e. absurd (cc)) ∙ was.fresh) said.end
-    (told-one (g.F.Files.table c.args.files.now) c.args.name.now content (λ contents. WrotePart (g.K.Sink.written c.args.out.now) (g.K.Sink.written c.write_all.new.sink) (output_of contents)) was.content
+    (visible-one (g.F.Files.table c.args.files.now) c.args.name.now content (λ contents. WrotePart (g.K.Sink.written c.args.out.now) (g.K.Sink.written c.write_all.new.sink) (output_of contents)) was.content
     (λ text is. subst Q (c.as_slice.ensures.value ∙ subst P is said.output) c.in-Err-write_all.ensures.part))
     c.in-Err-write_all.ensures.rose)
 

@@ -1,8 +1,8 @@
 use Rattle.std.proofs.Common.{◌≡◌, ◌∙◌, sym, ap, List, ℕ, ◌+◌, ◌-◌, ◌++◌, length, take, drop, arith}
 use Rattle.std.proofs.Math.Seq.{take-add}
 use Rattle.std.proofs.lemmas.Grind.{common_steps}
-use Rattle.scq_service.specs.Writing.{told_with}
-use Rattle.scq_service.proofs.Told.{told-then}
+use Rattle.scq_service.specs.Writing.{written_with}
+use Rattle.scq_service.proofs.Writings.{written-then}
 use Rattle.scq_service.proofs.writing.write_all.Goals as goal
 
 -- a slice from an index to its end is what drop gives
@@ -19,7 +19,7 @@ loop-done-preserved g c =
     record {
       within = omega (arith, c.in_ok-done.ensures.within);
       written = c.in_ok-done.ensures.appended
-          ∙ ap (λ told. told_with told (take k (take (length bytes - done) (drop done bytes)))) c.loop-done.invariant.written
-          ∙ told-then _ (take done bytes) _ ∙ ap (told_with (g.K.Sink.written c.args.sink.now)) front;
+          ∙ ap (λ written. written_with written (take k (take (length bytes - done) (drop done bytes)))) c.loop-done.invariant.written
+          ∙ written-then _ (take done bytes) _ ∙ ap (written_with (g.K.Sink.written c.args.sink.now)) front;
       kept = c.in_ok-done.ensures.kept ∙ c.loop-done.invariant.kept;
     }

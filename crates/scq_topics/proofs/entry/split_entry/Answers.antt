@@ -4,7 +4,7 @@ use Rattle.std.proofs.lemmas.List.{take_all}
 use Rattle.std.proofs.lemmas.Bool.Decides.{nat_tests}
 use Rattle.std.proofs.lemmas.Iterator.{YieldsList-from_slice}
 use Rattle.std.proofs.lemmas.Iterator.Search.{position_from_yields_List}
-use Rattle.scq_topics.proofs.Found.{at_place, nowhere, list_any-place}
+use Rattle.scq_topics.proofs.Found.{at_position, nowhere, list_any-position}
 use Rattle.scq_topics.proofs.entry.split_entry.Goals as goal
 
 abbrev is_equals : ℕ → Bool
@@ -14,13 +14,13 @@ pub returns-in-Some-clause-name : goal.returns-in-Some-clause-name
 returns-in-Some-clause-name c =
     let entry = c.args.entry.now in
     let found = position_from_yields_List is_equals _ _ c.position.result c.position.ensures.ran (YieldsList-from_slice entry cc) (λ x b q k. search (rules, tests)) in
-    ap (λ end. take end entry) (at_place (position_or_len is_equals entry) (length entry) c.position.result c.in-Some.end found c.in-Some.is)
+    ap (λ end. take end entry) (at_position (position_or_len is_equals entry) (length entry) c.position.result c.in-Some.end found c.in-Some.is)
 
 pub returns-in-Some-clause-word : goal.returns-in-Some-clause-word
 returns-in-Some-clause-word c =
     let entry = c.args.entry.now in
     let found = position_from_yields_List is_equals _ _ c.position.result c.position.ensures.ran (YieldsList-from_slice entry cc) (λ x b q k. search (rules, tests)) in
-    let at = at_place (position_or_len is_equals entry) (length entry) c.position.result c.in-Some.end found c.in-Some.is in
+    let at = at_position (position_or_len is_equals entry) (length entry) c.position.result c.in-Some.end found c.in-Some.is in
     take_all _ (drop (c.in-Some.end + 1) entry) (omega (arith, length-drop (c.in-Some.end + 1) entry)) ∙ ap (λ end. drop (end + 1) entry) at
 
 pub returns-in-None-clause-name : goal.returns-in-None-clause-name
@@ -35,4 +35,4 @@ returns-in-None-clause-has_word c =
     let entry = c.args.entry.now in
     let found = position_from_yields_List is_equals _ _ c.position.result c.position.ensures.ran (YieldsList-from_slice entry cc) (λ x b q k. search (rules, tests)) in
     let past = nowhere (position_or_len is_equals entry) (length entry) c.position.result found c.in-None.is in
-    rw (list_any-place is_equals entry) (grind (arith, nat_tests, past))
+    rw (list_any-position is_equals entry) (grind (arith, nat_tests, past))

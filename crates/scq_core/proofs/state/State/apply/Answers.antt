@@ -4,6 +4,8 @@ use Rattle.std.specs.Prelude.{Some, OnOk}
 use Rattle.scq_core.specs.Table.{turn_of, step_of}
 use Rattle.scq_core.specs.StateLists.{StateLists, part_in, machine_of}
 use Rattle.scq_core.proofs.ListedTurns.{can_turn, seat_lent, applied_sound, applied_steps}
+use Rattle.scq_core.specs.Advance.{WantsMemory}
+use Rattle.scq_core.proofs.Memory.{takes_memory}
 use Rattle.scq_core.proofs.state.State.apply.Goals as goal
 
 pub advance-requires-clause-ready : goal.advance-requires-clause-ready
@@ -36,3 +38,12 @@ returns-clause-ok c =
 
 pub returns-clause-reachable : goal.returns-clause-reachable
 returns-clause-reachable c = (invariant_of-self c).reachable
+
+pub returns-clause-no_memory : goal.returns-clause-no_memory
+returns-clause-no_memory c wants =
+    let b : StateLists =
+    record { setup = c.self.inside.setup; rings = c.self.inside.rings.items; seats = c.self.inside.seats.items; opening = c.self.inside.opening.items } in
+    let low : c.args.seat < b.setup.seats = rw (← c.self.view_is) at c.requires in
+    let lent = seat_lent b c.args.seat c.index_mut.result.now c.self.invariant low c.index_mut.ensures.value in
+    let may : WantsMemory b.setup (part_in b.seats c.args.seat) c.args.step.now b.rings = rw lent at (c.advance.ensures.no_memory wants) in
+    rw (← c.self.view_is) (takes_memory b c.args.seat c.args.step.now may)

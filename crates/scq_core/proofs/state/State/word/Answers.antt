@@ -1,5 +1,7 @@
 use Rattle.std.proofs.Common.{subst}
 use Rattle.scq_core.specs.StateLists.{StateLists, IsState, no_slot}
+use Rattle.scq_core.specs.StateLists.{machine_of}
+use Rattle.scq_core.proofs.Indices.{has_indices}
 use Rattle.scq_core.proofs.Looks.{threshold_small, indexed_ring, cell_there}
 use Rattle.scq_core.proofs.state.State.word.Goals as goal
 
@@ -14,3 +16,9 @@ returns-clause-word c =
 
 pub returns-clause-fits : goal.returns-clause-fits
 returns-clause-fits c = threshold_small c.args.self.now (subst (λ (b : StateLists). IsState b) c.self.view_is c.self.invariant) c.args.ring
+
+pub returns-clause-index : goal.returns-clause-index
+returns-clause-index c slot is =
+    let state = subst (λ (b : StateLists). IsState b) c.self.view_is c.self.invariant in
+    let b = c.args.self.now in
+    rw (returns-clause-word c, is) ((has_indices b.setup (machine_of b) state.reachable).entries c.args.ring slot)

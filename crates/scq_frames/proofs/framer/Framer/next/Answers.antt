@@ -5,8 +5,8 @@ use Rattle.scq_frames.specs.declared.message.Message.{Message}
 use Rattle.std.specs.Option.{option_map, option_to_list}
 use Rattle.scq_frames.specs.Lines.{EndsAt, HasNoLineFeed}
 use Rattle.scq_topics.specs.Topics.{topic_of}
-use Rattle.scq_frames.specs.Framing.{Framing, told_ahead}
-use Rattle.scq_frames.specs.Sound.{framing}
+use Rattle.scq_frames.specs.Framing.{Framing, visible_ahead}
+use Rattle.scq_frames.specs.FramerState.{framing}
 use Rattle.scq_frames.specs.Coming.{Found}
 use Rattle.scq_frames.proofs.NextLemmas.{Searches, Searches-start, Passed, PassedLast, Searches-line, Searches-read, gives-line, gives-last, gives-again, none-last, Found-line, Found-last}
 use Rattle.std.proofs.lemmas.Result.{err_from_is_err_and}
@@ -43,11 +43,11 @@ returns-clause-gives g c =
     let first = c.args.self.now in
     let before = left c.args.source.now in
     let after = left c.loop-len.source in
-    let ahead = c.loop-len.invariant.ahead ∙ ap (λ (f : Framing). told_ahead number f after) (sym c.line_len.ensures.same) in
+    let ahead = c.loop-len.invariant.ahead ∙ ap (λ (f : Framing). visible_ahead number f after) (sym c.line_len.ensures.same) in
     let now = c.line_len.new.self in
     let given = c.match-line_len.given in
-    let done = ap (λ (f : Framing). told_ahead number f after) c.self-2.view_is in
-    let gives : told_ahead number first before ≡ option_map (λ rest. option_to_list given ++ rest) (told_ahead number c.match-line_len.self after) =
+    let done = ap (λ (f : Framing). visible_ahead number f after) c.self-2.view_is in
+    let gives : visible_ahead number first before ≡ option_map (λ rest. option_to_list given ++ rest) (visible_ahead number c.match-line_len.self after) =
     elim c.match-line_len.branch [
       | in-Some+in_ok-message-in-Some+in-Some-2 w ↦
           let passed : Passed number now w.pass.new.self w.in-Some.len w.in_ok-message-in-Some.field-0 = record {
@@ -78,7 +78,7 @@ returns-clause-none g c =
     let first = c.args.self.now in
     let before = left c.args.source.now in
     let after = left c.loop-len.source in
-    let ahead = c.loop-len.invariant.ahead ∙ ap (λ (f : Framing). told_ahead number f after) (sym c.line_len.ensures.same) in
+    let ahead = c.loop-len.invariant.ahead ∙ ap (λ (f : Framing). visible_ahead number f after) (sym c.line_len.ensures.same) in
     let now = c.line_len.new.self in
     elim c.match-line_len.branch [
       | in-Some+in_ok-message-in-Some+in-Some-2 w ↦ rw w.given-is tt

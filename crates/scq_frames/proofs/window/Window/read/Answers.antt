@@ -1,4 +1,4 @@
--- The held bytes stand where `make_room` moved them, and `read_at` changed nothing before its place.
+-- The held bytes stand where `make_room` moved them, and `read_at` changed nothing before its position.
 use Rattle.std.proofs.Common.{◌∙◌, ap, ℕ, ◌+◌, ◌-◌, ◌++◌, arith}
 use Rattle.std.specs.Prelude.{slice_range}
 use Rattle.scq_frames.proofs.ResultLemmas.{on_err}

@@ -1,0 +1,5 @@
+pub mod Spans
+pub mod VecOfBytes
+pub mod FrameLists
+pub mod Sorting
+pub mod BlockFrames

@@ -1,0 +1,63 @@
+-- Which steps may want memory: those that copy a content, and those that end their call.
+use Rattle.std.proofs.Common.{◌≡◌, ℕ, ◌+◌, true, false, List, ◌⊎◌, inl, inr, refl, ◌∙◌}
+use Rattle.std.specs.Prelude.{Option, Some}
+use Rattle.scq_word.specs.declared.setup.Setup.{Setup}
+use Rattle.scq_core.specs.declared.phase.Phase.{Phase}
+use Rattle.scq_core.specs.declared.phase.Phase.TheVariants.{Idle, AtE1, AtE2, AtE3, AtE4, AtE5, AtE6, AtD1, AtD2, AtD3, AtD4, AtD5, AtD6, AtD7, AtD8, AtD9, AtD10}
+use Rattle.scq_core.specs.declared.step.Step.{Step}
+use Rattle.scq_core.specs.declared.step.Step.TheVariants.{E1, E1Again, E2, E3, E4, E5, E6, D1, D2, D3, D4, D5, D6, D7, D8, D9, D10}
+use Rattle.scq_core.specs.Machine.{Part, Machine, read, beside}
+use Rattle.scq_core.specs.Table.{turn_at, turn_of, next_step, ring_of, cell_of, location_of, after, step_of}
+use Rattle.scq_core.specs.Turn.{needs_copy, copies_content, ends_call, TakesMemory}
+use Rattle.scq_core.specs.StateLists.{StateLists, part_in, machine_of}
+use Rattle.scq_core.specs.Advance.{found_by, WantsMemory}
+use Rattle.scq_core.proofs.UpdatedLemmas.{updated_here}
+use Rattle.scq_core.proofs.Turns.{turned, Begins, begins_put, begins_get, begins, goes_alone, awake}
+use Rattle.scq_core.proofs.TurnCells.{read-cell}
+
+phase_copies : (phase : Phase) (step : Step) → next_step phase ≡ Some step → needs_copy phase ≡ true → copies_content step ≡ true
+phase_copies (AtE4 r i w t e) E4 is needs = refl
+phase_copies (AtD4 r h) D4 is needs = refl
+phase_copies phase step is needs = absurd (cc)
+
+begun_copies_none : (c : Setup) (hand : List ℕ) (turn : Phase) → Begins c hand turn → needs_copy turn ≡ true → ⊥
+begun_copies_none c hand turn (begins_put r i w low small held) needs = cc
+begun_copies_none c hand turn (begins_get r low) needs = cc
+
+-- a turn that needs a copy is that of a step that copies
+pub step_copies : (c : Setup) (hand : List ℕ) (spent : Option ℕ) (phase : Phase) (step : Step) (turn : Phase) → turn_at c hand spent phase step ≡ Some turn
+    → needs_copy turn ≡ true → copies_content step ≡ true
+step_copies c hand spent phase step turn enabled needs =
+    elim (begins c hand spent phase step turn enabled) [
+      | inl same ↦
+          let wakes : phase ≡ Idle → ⊥ = λ idle. awake c hand spent phase step turn enabled (same ∙ idle) in
+          phase_copies phase step (goes_alone c hand spent phase step turn wakes enabled) (rw same at needs)
+      | inr new ↦ absurd (begun_copies_none c hand turn new.2 needs)
+    ]
+
+-- a turn that ends its call leaves the seat idle
+pub ended_idle : (c : Setup) (turn : Phase) (x : ℕ) (y : List ℕ) (p : Part) → ends_call c turn x ≡ true → (after c turn x y p).phase ≡ Idle
+ended_idle c (AtE1 r i w l) x y p ends = rw ends refl
+ended_idle c (AtE5 r i w t) x y p ends = rw ends refl
+ended_idle c (AtE6 r i w t) x y p ends = refl
+ended_idle c (AtD1 r) x y p ends = rw ends refl
+ended_idle c (AtD2 r l) x y p ends = rw ends refl
+ended_idle c (AtD4 r h) x y p ends = refl
+ended_idle c (AtD10 r h true) x y p ends = refl
+ended_idle c (AtD10 r h false) x y p ends = rw ends refl
+ended_idle c turn x y p ends = absurd (cc)
+
+-- what the lists say of memory, the machine says
+pub takes_memory : (b : StateLists) (k : ℕ) (step : Step) → WantsMemory b.setup (part_in b.seats k) step b.rings → TakesMemory b.setup (machine_of b) k step
+takes_memory b k step (inl copies) = inl copies
+takes_memory b k step (inr ends) =
+    inr
+    (λ later e.
+    let c = b.setup in
+    let m = machine_of b in
+    let t = turned c m k step later e in
+    let location = location_of c t.turn in
+    let x = read m.cells location in
+    let y = beside m.cells location in
+    let found : x ≡ found_by c b.rings t.turn = read-cell c b.rings (ring_of t.turn) (cell_of c t.turn) in
+    rw (t.next, updated_here m.part k (after c t.turn x y (m.part k))) (ended_idle c t.turn x y (m.part k) (rw found (ends t.turn t.enabled))))

@@ -1,0 +1,3 @@
+pub mod RetryLaws
+pub mod CallLaws
+pub mod StepLaws

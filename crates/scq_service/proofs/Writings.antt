@@ -1,0 +1,28 @@
+-- What a sink has after one writing and another.
+use Rattle.std.proofs.Common.{arith, min, take, length, sym, ◌∙◌, ◌+◌, ◌≡◌, refl, ap, List, ℕ, ◌++◌, Option, Some, None, append_assoc}
+use Rattle.std.proofs.Math.Seq.{take-append-add}
+use Rattle.std.proofs.lemmas.Grind.{common_steps}
+use Rattle.std.proofs.lemmas.List.{take-append-le}
+use Rattle.scq_service.specs.Writing.{written_with, WrotePart}
+
+-- bytes and then bytes are their sum
+pub written-then : (written : Option (List ℕ)) (a b : List ℕ) → written_with (written_with written a) b ≡ written_with written (a ++ b)
+written-then None a b = refl
+written-then (Some before) a b = ap Some (append_assoc before a b)
+
+-- a part of the first bytes is one of both
+pub part-first : (old new : Option (List ℕ)) (a b : List ℕ) → WrotePart old new a → WrotePart old new (a ++ b)
+part-first old new a b part = record {
+  count = min part.count (length a);
+  written = part.written ∙ ap (written_with old) (sym (take-append-le (min part.count (length a)) a b (omega arith) ∙ shorter part.count a));
+} where
+  shorter : (k : ℕ) (xs : List ℕ) → take (min k (length xs)) xs ≡ take k xs
+  shorter k xs = grind (arith, common_steps)
+
+-- the first bytes and then a part of the second
+pub part-second : (old between new : Option (List ℕ)) (a b : List ℕ) → between ≡ written_with old a → WrotePart between new b → WrotePart old new (a ++ b)
+part-second old between new a b whole part = record {
+  count = length a + part.count;
+  written = part.written ∙ ap (λ written. written_with written (take part.count b)) whole ∙ written-then old a (take part.count b)
+      ∙ ap (written_with old) (sym (take-append-add a b part.count));
+}

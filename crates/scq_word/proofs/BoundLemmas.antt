@@ -1,0 +1,19 @@
+-- What everything above uses of the reset value.
+use Rattle.std.proofs.Common.{ℕ, ◌+◌, ◌^◌, ◌<◌, ◌≤◌, arith, pow_mono}
+use Rattle.scq_word.specs.Sizes.{n_of, slots_of}
+use Rattle.scq_word.specs.Bounds.{reset_value}
+
+-- it reaches over the window
+pub reset_covers : (order seats : ℕ) → 1 ≤ order → n_of order + 1 ≤ reset_value order seats
+unfolding reset_value
+reset_covers order seats some = let low : 2 ^ 1 ≤ 2 ^ order = pow_mono some in omega arith
+
+-- and over every seat
+pub reset_reaches : (order seats : ℕ) → seats ≤ n_of order → slots_of order + seats ≤ reset_value order seats + 1
+unfolding reset_value
+reset_reaches order seats few = omega arith
+
+-- and is small
+pub reset_small : (order seats : ℕ) → order ≤ 12 → reset_value order seats < 2 ^ 16
+unfolding reset_value
+reset_small order seats few = let high : 2 ^ order ≤ 2 ^ 12 = pow_mono few in omega arith
