@@ -9,8 +9,7 @@ use Rattle.scq_core.specs.declared.phase.Phase.{Phase}
 use Rattle.scq_core.specs.declared.phase.Phase.TheVariants.{Idle, AtE1, AtE2, AtE3, AtE4, AtE5, AtE6, AtD1, AtD2, AtD3, AtD4, AtD5, AtD6, AtD7, AtD8, AtD9, AtD10}
 use Rattle.scq_core.specs.declared.step.Step.{Step}
 use Rattle.scq_core.specs.Machine.{Cells, Machine, tail_of, head_of, threshold_of, read}
-use Rattle.scq_core.specs.Table.{ring_slots, turn_of, location_of, moved, entry_at}
-use Rattle.scq_core.specs.Turn.{ring_of}
+use Rattle.scq_core.specs.Table.{ring_slots, ring_of, turn_of, location_of, moved}
 use Rattle.scq_core.specs.Reach.{IsReachable, by_step}
 use Rattle.scq_core.specs.Laws.{Busy, word_at}
 use Rattle.scq_core.proofs.Entries.{some_slots}
@@ -23,10 +22,10 @@ use Rattle.scq_core.proofs.Readiness.{ring_low, ready_turn}
 use Rattle.scq_law.specs.Later as later
 use Rattle.scq_law.proofs.Places.HandLaws.{one_hand}
 use Rattle.scq_law.proofs.Places.PlaceLaws.{places_once}
-use Rattle.scq_law.proofs.EntryLaws.{takes_phase, stands_at_turn}
+use Rattle.scq_law.proofs.Places.EntryLaws.{takes_phase, stands_at_turn}
 use Rattle.scq_law.proofs.Places.LaterLaws.{finished_stays}
 use Rattle.scq_law.proofs.Tickets.TicketLaws.{threshold_covers}
-use Rattle.scq_band.specs.Layout.{ring_at, IsSlotAt, IsLocation}
+use Rattle.scq_band.specs.Layout.{ring_at, IsSlotAt, IsLocation, entry_at}
 use Rattle.scq_band.specs.Turns.{Finds}
 use Rattle.scq_band.proofs.Moves.{Ground}
 
@@ -51,11 +50,11 @@ ring_at-turn c (AtD9 r h from to) = refl
 ring_at-turn c (AtD10 r h leaving) = refl
 
 slot_at-turn : (c : Setup) (t : Phase) → IsSlotAt c (location_of c t)
-slot_at-turn c (AtE2 r i w t l) = slot_of_small (ring_slots c) t (some_slots c)
-slot_at-turn c (AtE4 r i w t e) = slot_of_small (ring_slots c) t (some_slots c)
-slot_at-turn c (AtD3 r h l) = slot_of_small (ring_slots c) h (some_slots c)
-slot_at-turn c (AtD4 r h) = slot_of_small (ring_slots c) h (some_slots c)
-slot_at-turn c (AtD5 r h e) = slot_of_small (ring_slots c) h (some_slots c)
+slot_at-turn c (AtE2 r i w t l) = slot_of_small c.order t
+slot_at-turn c (AtE4 r i w t e) = slot_of_small c.order t
+slot_at-turn c (AtD3 r h l) = slot_of_small c.order h
+slot_at-turn c (AtD4 r h) = slot_of_small c.order h
+slot_at-turn c (AtD5 r h e) = slot_of_small c.order h
 slot_at-turn c Idle = tt
 slot_at-turn c (AtE1 r i w l) = tt
 slot_at-turn c (AtE3 r i w t e) = tt
@@ -116,13 +115,13 @@ ground c m k s t reach low enabled =
           let answer = places.answered k r h (takes_phase c (m.part k) s r h (enabled ∙ ap Some is)) in
           (places.below_limit r h _ answer.0 answer.1).1;
       up = counters_rise c m.cells (m.part k).hand t busy;
-      stay = λ r p is. finished_stays c m (moved c m k t) r p reach (later.by_step {n' = moved c m k t} k s (later.at_once) low (ap (option_map (moved c m k)) enabled)) is;
+      stay = λ r p is. finished_stays c m (moved c m k t) r p (later.by_step {n' = moved c m k t} k s (later.at_once) low (ap (option_map (moved c m k)) enabled)) is;
       reach = next;
     }
 
 -- the locations of a ring of the setup
 pub entry_location : (c : Setup) (r t : ℕ) → r < c.rings → IsLocation c (entry_at c r t)
-entry_location c r t low = (low, slot_of_small (ring_slots c) t (some_slots c))
+entry_location c r t low = (low, slot_of_small c.order t)
 
 pub head_location : (c : Setup) (r : ℕ) → r < c.rings → IsLocation c (head_of r)
 head_location c r low = (low, tt)

@@ -11,14 +11,13 @@ use Rattle.atomic_table.specs.Table.{Act, keeps, takes, gives, Valid, carried_af
 use Rattle.atomic_table.proofs.Lists.{set_here, set_else}
 use Rattle.scq_word.specs.declared.setup.Setup.{Setup}
 use Rattle.scq_word.specs.Sizes.{n_of}
-use Rattle.scq_word.specs.Tickets.{slot_of}
 use Rattle.scq_word.specs.Words.{packed, mark_of, index_in, cycle_in, safe_in, is_none_in}
 use Rattle.scq_word.proofs.TicketLemmas.{slot_of_small}
 use Rattle.scq_word.proofs.WordLemmas.{index_in-packed, index_in_small}
 use Rattle.scq_core.specs.declared.phase.Phase.{Phase}
 use Rattle.scq_core.specs.declared.phase.Phase.TheVariants.{Idle, AtE1, AtE2, AtE3, AtE4, AtE5, AtE6, AtD1, AtD2, AtD3, AtD4, AtD5, AtD6, AtD7, AtD8, AtD9, AtD10}
 use Rattle.scq_core.specs.Machine.{Cells, Entries, Machine, Location, entry_of, read, beside, written}
-use Rattle.scq_core.specs.Table.{ring_slots, cycle, passed, location_of, writes, stores, cells_after}
+use Rattle.scq_core.specs.Table.{ring_slots, cycle, slot, passed, location_of, writes, stores, cells_after}
 use Rattle.scq_core.specs.Laws.{Busy, word_at}
 use Rattle.scq_core.proofs.UpdatedLemmas.{written_same, updated_entry_or}
 use Rattle.scq_core.proofs.Entries.{some_slots, some_indices, below_mark, none_in-marked, none_in-filled, index_below}
@@ -101,10 +100,10 @@ module _ {S : Type 0} (Lies : ℕ → S → List ℕ → Type 0) where
         room = length-set homes x.0 (some x.1);
         stored =
             λ q z low has.
-              elim (entry_either m.cells r (slot_of (ring_slots c) t) (writes c (AtE4 r i w t e) (word_at c m.cells r t)) (stores (AtE4 r i w t e) (word_at c m.cells r t) (m.cells.entries.content r (slot_of (ring_slots c) t))) q z) [
+              elim (entry_either m.cells r (slot c t) (writes c (AtE4 r i w t e) (word_at c m.cells r t)) (stores (AtE4 r i w t e) (word_at c m.cells r t) (m.cells.entries.content r (slot c t))) q z) [
                 | inl h ↦
                     let word : writes c (AtE4 r i w t e) (word_at c m.cells r t) ≡ packed (ring_slots c) (cycle c t) 1 i = rw test refl in
-                    let content : stores (AtE4 r i w t e) (word_at c m.cells r t) (m.cells.entries.content r (slot_of (ring_slots c) t)) ≡ w = rw test refl in
+                    let content : stores (AtE4 r i w t e) (word_at c m.cells r t) (m.cells.entries.content r (slot c t)) ≡ w = rw test refl in
                     rw (h.2, h.3, word, content, first) (rw (index_in-packed (ring_slots c) (cycle c t) 1 i (omega arith)) put)
                 | inr h ↦
                     let old = rw h.1 at has in
@@ -121,8 +120,8 @@ module _ {S : Type 0} (Lies : ℕ → S → List ℕ → Type 0) where
   takes_out : (c : Setup) (m : Machine) (homes : List (maybe.Option S)) (slots : List (ℕ × S)) (k r h : ℕ) → OneHand c m → Stored Lies c m.cells.entries homes
       → is_none_in (ring_slots c) (word_at c m.cells r h) ≡ false → Handles c m homes slots k (AtD4 r h)
   takes_out c m homes slots k r h one stored stands =
-      let s = slot_of (ring_slots c) h in
-      let low = slot_of_small (ring_slots c) h (some_slots c) in
+      let s = slot c h in
+      let low = slot_of_small c.order h in
       let i = index_in (ring_slots c) (word_at c m.cells r h) in
       let small = one.in_entries r s low stands in
       let has = stored r s low stands in
@@ -151,8 +150,8 @@ module _ {S : Type 0} (Lies : ℕ → S → List ℕ → Type 0) where
   -- a get that passes an entry by leaves its index and its content, or had none there
   passes_by : (c : Setup) (m : Machine) (homes : List (maybe.Option S)) (slots : List (ℕ × S)) (k r h e : ℕ) → Stored Lies c m.cells.entries homes → word_at c m.cells r h ≡ e → Handles c m homes slots k (AtD5 r h e)
   passes_by c m homes slots k r h e stored hit =
-      let s = slot_of (ring_slots c) h in
-      let low = slot_of_small (ring_slots c) h (some_slots c) in
+      let s = slot c h in
+      let low = slot_of_small c.order h in
       let test : (word_at c m.cells r h == e) ≡ true = eq-eqb _ _ hit in
       let word : writes c (AtD5 r h e) (word_at c m.cells r h) ≡ passed c h e = rw test refl in
       record {

@@ -3,7 +3,11 @@
 use Rattle.std.specs.Prelude.{ℕ, zero, suc, ◌+◌, ◌*◌, ◌/◌, ◌%◌, ◌<◌}
 use Rattle.scq_word.specs.declared.setup.Setup.{Setup}
 use Rattle.scq_core.specs.Machine.{Location, tail_of, head_of, threshold_of, entry_of}
-use Rattle.scq_core.specs.Table.{ring_slots}
+use Rattle.scq_core.specs.Table.{ring_slots, slot}
+
+-- where the entry of a ticket's slot stands
+abbrev pub entry_at : Setup → ℕ → ℕ → Location
+entry_at c ring ticket = entry_of ring (slot c ticket)
 
 -- how many words a ring has
 abbrev pub ring_words : Setup → ℕ

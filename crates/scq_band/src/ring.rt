@@ -1,9 +1,8 @@
 //! A ring of the table: where its words are, and the numbers that a call needs of the setup.
 ghost use Rattle.std.specs.Prelude.{◌≡◌, ◌^◌, ◌<◌};
 ghost use Rattle.scq_core.specs.Machine.{head_of, threshold_of};
-ghost use Rattle.scq_core.specs.Table.{entry_at};
 ghost use Rattle.scq_word.specs.declared.setup.Setup.{Setup};
-ghost use Rattle.scq_band.specs.Layout.{at};
+ghost use Rattle.scq_band.specs.Layout.{at, entry_at};
 ghost use Rattle.scq_band.specs.Rings.{IsRing};
 
 use scq_word::{Shape, slot_of};

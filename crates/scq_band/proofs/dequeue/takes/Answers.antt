@@ -5,9 +5,9 @@ use Rattle.scq_word.specs.Tickets.{cycle_of}
 use Rattle.scq_word.specs.Words.{cycle_in, rank_in}
 use Rattle.scq_core.specs.declared.phase.Phase.TheVariants.{AtD3, AtD4, AtD5}
 use Rattle.scq_core.specs.declared.step.Step.TheVariants.{D3, D4, D5}
-use Rattle.scq_core.specs.Table.{ring_slots, cycle, entry_at}
+use Rattle.scq_core.specs.Table.{ring_slots, cycle}
 use Rattle.scq_core.proofs.Packing.{cycle_fits}
-use Rattle.scq_band.specs.Layout.{ring_of_word}
+use Rattle.scq_band.specs.Layout.{ring_of_word, entry_at}
 use Rattle.scq_band.specs.Buffers.{LiesIn}
 use Rattle.scq_band.specs.Steps.{my_phase, loading}
 use Rattle.scq_band.specs.Seats.{goes_to, least_of}

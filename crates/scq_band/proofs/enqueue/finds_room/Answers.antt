@@ -2,8 +2,7 @@ use Rattle.std.proofs.Common.{rules, ◌≡◌, ◌+◌, ◌<◌, refl, sym, ap,
 use Rattle.scq_core.specs.Machine.{head_of}
 use Rattle.scq_core.specs.declared.phase.Phase.TheVariants.{AtE2, AtE3}
 use Rattle.scq_core.specs.declared.step.Step.TheVariants.{E2, E3}
-use Rattle.scq_core.specs.Table.{entry_at}
-use Rattle.scq_band.specs.Layout.{ring_of_word}
+use Rattle.scq_band.specs.Layout.{ring_of_word, entry_at}
 use Rattle.scq_band.specs.Buffers.{LiesIn}
 use Rattle.scq_band.specs.Steps.{my_phase, loading, load_turn}
 use Rattle.scq_band.specs.Seats.{index_of, content_of, least_of}
