@@ -1,0 +1,133 @@
+-- What the laws of the machine give for each enabled turn of a seat, in the form that the rule's steps use.
+use Rattle.std.proofs.Common.{◌≡◌, ◌≢◌, ℕ, ◌<◌, ◌≤◌, false, List, refl, sym, ◌∙◌, ap, subst, arith}
+use Rattle.std.specs.Prelude.{Some}
+use Rattle.std.specs.Option.{option_map}
+use Rattle.scq_word.specs.declared.setup.Setup.{Setup}
+use Rattle.scq_word.specs.Words.{is_none_in}
+use Rattle.scq_word.proofs.TicketLemmas.{slot_of_small}
+use Rattle.scq_core.specs.declared.phase.Phase.{Phase}
+use Rattle.scq_core.specs.declared.phase.Phase.TheVariants.{Idle, AtE1, AtE2, AtE3, AtE4, AtE5, AtE6, AtD1, AtD2, AtD3, AtD4, AtD5, AtD6, AtD7, AtD8, AtD9, AtD10}
+use Rattle.scq_core.specs.declared.step.Step.{Step}
+use Rattle.scq_core.specs.Machine.{Cells, Machine, tail_of, head_of, threshold_of, read}
+use Rattle.scq_core.specs.Table.{ring_slots, ring_of, turn_of, location_of, moved}
+use Rattle.scq_core.specs.Reach.{IsReachable, by_step}
+use Rattle.scq_core.specs.Laws.{Busy, word_at}
+use Rattle.scq_core.proofs.Entries.{some_slots}
+use Rattle.scq_core.proofs.Turns.{awake}
+use Rattle.scq_core.proofs.Steady.{has, steady}
+use Rattle.scq_core.proofs.Ranks.{counters_rise}
+use Rattle.scq_core.proofs.Fits.{words_fit}
+use Rattle.scq_core.proofs.Indices.{has_indices}
+use Rattle.scq_core.proofs.Readiness.{ring_low, ready_turn}
+use Rattle.scq_law.specs.Later as later
+use Rattle.scq_law.proofs.Places.HandLaws.{one_hand}
+use Rattle.scq_law.proofs.Places.PlaceLaws.{places_once}
+use Rattle.scq_law.proofs.Places.EntryLaws.{takes_phase, stands_at_turn}
+use Rattle.scq_law.proofs.Places.LaterLaws.{finished_stays}
+use Rattle.scq_law.proofs.Tickets.TicketLaws.{threshold_covers}
+use Rattle.scq_band.specs.Layout.{ring_at, IsSlotAt, IsLocation, entry_at}
+use Rattle.scq_band.specs.Turns.{Finds}
+use Rattle.scq_band.proofs.Moves.{Ground}
+
+-- the location of a turn is on the turn's ring
+ring_at-turn : (c : Setup) (t : Phase) → ring_at (location_of c t) ≡ ring_of t
+ring_at-turn c Idle = refl
+ring_at-turn c (AtE1 r i w l) = refl
+ring_at-turn c (AtE2 r i w t l) = refl
+ring_at-turn c (AtE3 r i w t e) = refl
+ring_at-turn c (AtE4 r i w t e) = refl
+ring_at-turn c (AtE5 r i w t) = refl
+ring_at-turn c (AtE6 r i w t) = refl
+ring_at-turn c (AtD1 r) = refl
+ring_at-turn c (AtD2 r l) = refl
+ring_at-turn c (AtD3 r h l) = refl
+ring_at-turn c (AtD4 r h) = refl
+ring_at-turn c (AtD5 r h e) = refl
+ring_at-turn c (AtD6 r h) = refl
+ring_at-turn c (AtD7 r h from to) = refl
+ring_at-turn c (AtD8 r h from) = refl
+ring_at-turn c (AtD9 r h from to) = refl
+ring_at-turn c (AtD10 r h leaving) = refl
+
+slot_at-turn : (c : Setup) (t : Phase) → IsSlotAt c (location_of c t)
+slot_at-turn c (AtE2 r i w t l) = slot_of_small c.order t
+slot_at-turn c (AtE4 r i w t e) = slot_of_small c.order t
+slot_at-turn c (AtD3 r h l) = slot_of_small c.order h
+slot_at-turn c (AtD4 r h) = slot_of_small c.order h
+slot_at-turn c (AtD5 r h e) = slot_of_small c.order h
+slot_at-turn c Idle = tt
+slot_at-turn c (AtE1 r i w l) = tt
+slot_at-turn c (AtE3 r i w t e) = tt
+slot_at-turn c (AtE5 r i w t) = tt
+slot_at-turn c (AtE6 r i w t) = tt
+slot_at-turn c (AtD1 r) = tt
+slot_at-turn c (AtD2 r l) = tt
+slot_at-turn c (AtD6 r h) = tt
+slot_at-turn c (AtD7 r h from to) = tt
+slot_at-turn c (AtD8 r h from) = tt
+slot_at-turn c (AtD9 r h from to) = tt
+slot_at-turn c (AtD10 r h leaving) = tt
+
+-- a turn's location is one of the setup's
+pub is_location : (c : Setup) (t : Phase) → ring_of t < c.rings → IsLocation c (location_of c t)
+is_location c t low = (subst (λ r. r < c.rings) (sym (ring_at-turn c t)) low, slot_at-turn c t)
+
+-- what a turn finds
+finds_of : (c : Setup) (m : Cells) (hand : List ℕ) (t : Phase) → Busy c m hand t → ((r h : ℕ) → t ≡ AtD4 r h → is_none_in (ring_slots c) (word_at c m r h) ≡ false) → Finds c t (read m (location_of c t))
+finds_of c m hand Idle busy stands = tt
+finds_of c m hand (AtE1 r i w l) busy stands = busy.1
+finds_of c m hand (AtE2 r i w t l) busy stands = busy.2
+finds_of c m hand (AtE3 r i w t e) busy stands = tt
+finds_of c m hand (AtE4 r i w t e) busy stands = busy.2.above
+finds_of c m hand (AtE5 r i w t) busy stands = tt
+finds_of c m hand (AtE6 r i w t) busy stands = tt
+finds_of c m hand (AtD1 r) busy stands = tt
+finds_of c m hand (AtD2 r l) busy stands = busy.1
+finds_of c m hand (AtD3 r h l) busy stands = busy.2
+finds_of c m hand (AtD4 r h) busy stands = stands r h refl
+finds_of c m hand (AtD5 r h e) busy stands = busy.2.above
+finds_of c m hand (AtD6 r h) busy stands = tt
+finds_of c m hand (AtD7 r h from to) busy stands = busy.2.was_tail
+finds_of c m hand (AtD8 r h from) busy stands = tt
+finds_of c m hand (AtD9 r h from to) busy stands = busy.2
+finds_of c m hand (AtD10 r h leaving) busy stands = tt
+
+pub ground : (c : Setup) (m : Machine) (k : ℕ) (s : Step) (t : Phase) → IsReachable c m → k < c.seats → turn_of c (m.part k) s ≡ Some t → Ground c m k t
+ground c m k s t reach low enabled =
+    let calm = steady c m reach in
+    let busy = has c m.cells (m.part k) s t (calm.busy k) enabled in
+    let wakes = awake c (m.part k).hand (m.part k).spent (m.part k).phase s t enabled in
+    let stands : (r h : ℕ) → t ≡ AtD4 r h → is_none_in (ring_slots c) (word_at c m.cells r h) ≡ false =
+    λ r h is. stands_at_turn c m k s r h reach (enabled ∙ ap Some is) in
+    let next = by_step {m' = moved c m k t} k s reach low (ap (option_map (moved c m k)) enabled) in
+    let places = places_once c m reach in
+    record {
+      busy = busy;
+      location = is_location c t (ring_low c m.cells (m.part k).hand t busy);
+      one = one_hand c m reach;
+      stands = stands;
+      ready = ready_turn c m.cells (m.part k).hand t busy (words_fit c m reach) (has_indices c m reach) wakes;
+      finds = finds_of c m.cells (m.part k).hand t busy stands;
+      covers = threshold_covers c m reach;
+      first = calm.heads;
+      got =
+          λ r h is.
+          let answer = places.answered k r h (takes_phase c (m.part k) s r h (enabled ∙ ap Some is)) in
+          (places.below_limit r h _ answer.0 answer.1).1;
+      up = counters_rise c m.cells (m.part k).hand t busy;
+      stay = λ r p is. finished_stays c m (moved c m k t) r p (later.by_step {n' = moved c m k t} k s (later.at_once) low (ap (option_map (moved c m k)) enabled)) is;
+      reach = next;
+    }
+
+-- the locations of a ring of the setup
+pub entry_location : (c : Setup) (r t : ℕ) → r < c.rings → IsLocation c (entry_at c r t)
+entry_location c r t low = (low, slot_of_small c.order t)
+
+pub head_location : (c : Setup) (r : ℕ) → r < c.rings → IsLocation c (head_of r)
+head_location c r low = (low, tt)
+
+pub tail_location : (c : Setup) (r : ℕ) → r < c.rings → IsLocation c (tail_of r)
+tail_location c r low = (low, tt)
+
+pub threshold_location : (c : Setup) (r : ℕ) → r < c.rings → IsLocation c (threshold_of r)
+threshold_location c r low = (low, tt)

@@ -1,0 +1,17 @@
+pub mod Layouts
+pub mod WordLemmas
+pub mod Handles
+pub mod Knowledge
+pub mod Learning
+pub mod Moves
+pub mod Grounds
+pub mod Operations
+pub mod Outcomes
+pub mod RingLemmas
+pub mod PutOutcomes
+pub mod Placing
+pub mod Ending
+pub mod Drawing
+pub mod Seeking
+pub mod Leaving
+pub mod Drawn

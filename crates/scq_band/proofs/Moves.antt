@@ -1,0 +1,165 @@
+-- A turn that a seat may make keeps the rule, and tells what it should. Plan: the turn's word and its slot are those of the
+-- machine's step, so the next state is shown; the seat's own view is the one that the turn makes, and all others stay true.
+use Rattle.std.proofs.Common.{◌≡◌, ◌≢◌, ◌⊎◌, ℕ, zero, suc, ◌+◌, ◌<◌, ◌≤◌, false, List, [], ◌∷◌, map, length, refl, sym, ◌∙◌, ap, subst, inl, inr, arith}
+use Rattle.std.specs.Prelude.{Some, slice_get, slice_set, slice_index, Option}
+use Rattle.std.specs.List.{Contains}
+use mathlib.Core.Option.{some}
+use mathlib.Core.Option as maybe
+use lib.ListN.{get_elem?}
+use Rattle.atomic_table.specs.Table.{State, Me, Allows, stepped, Act, Valid, carried_after, homes_after}
+use Rattle.atomic_table.proofs.Lists.{at_set}
+use Rattle.scq_word.specs.declared.setup.Setup.{Setup}
+use Rattle.scq_word.specs.Sizes.{n_of}
+use Rattle.scq_word.specs.Words.{is_none_in}
+use Rattle.scq_core.specs.declared.phase.Phase.{Phase}
+use Rattle.scq_core.specs.declared.phase.Phase.TheVariants.{AtE1, AtD2, AtD4}
+use Rattle.scq_core.specs.declared.step.Step.{Step}
+use Rattle.scq_core.specs.Machine.{Cells, Part, Machine, read, beside}
+use Rattle.scq_core.specs.Table.{ring_slots, turn_of, location_of, writes, stores, after, moved}
+use Rattle.scq_core.specs.Turn.{IsReady}
+use Rattle.scq_core.specs.Reach.{IsReachable}
+use Rattle.scq_core.specs.Laws.{CountersRise, Busy, word_at}
+use Rattle.scq_core.proofs.UpdatedLemmas.{updated_here, updated_else}
+use Rattle.scq_law.specs.Hands.{times, OneHand}
+use Rattle.scq_law.specs.Bounds.{ThresholdCovers}
+use Rattle.scq_band.specs.declared.numbers.Numbers.{Numbers}
+use Rattle.scq_band.specs.Layout.{at, IsLocation}
+use Rattle.scq_band.specs.Known.{Member, Known}
+use Rattle.scq_band.specs.Shown.{Scene, ShowsWords, Has, Stored, IsMember, Owns, IsView, Shown, awake}
+use Rattle.scq_band.specs.Turns.{learned, turned_member, made, Finds, Draws, MayTurn, Carries, SlotsAfter, Turned}
+use Rattle.scq_band.proofs.WordLemmas.{written_shown, gate_kept}
+use Rattle.scq_band.proofs.Handles.{Handles, handles}
+use Rattle.scq_band.proofs.Knowledge.{AllTrue, FinishedStay, all_stay}
+use Rattle.scq_band.proofs.Learning.{learned_true}
+
+-- what the laws of the machine give for a turn of a seat
+pub record Ground (c : Setup) (m : Machine) (k : ℕ) (t : Phase) : Type 0 where
+  pub busy : Busy c m.cells (m.part k).hand t
+  pub location : IsLocation c (location_of c t)
+  pub one : OneHand c m
+  pub stands : (r h : ℕ) → t ≡ AtD4 r h → is_none_in (ring_slots c) (word_at c m.cells r h) ≡ false
+  pub ready : IsReady c t (read m.cells (location_of c t))
+  pub finds : Finds c t (read m.cells (location_of c t))
+  pub covers : ThresholdCovers c m
+  pub first : (r : ℕ) → ring_slots c ≤ m.cells.head r
+  pub got : (r h : ℕ) → t ≡ AtD4 r h → h < m.cells.tail r
+  pub up : CountersRise m.cells (moved c m k t).cells
+  pub stay : FinishedStay c m (moved c m k t)
+  pub reach : IsReachable c (moved c m k t)
+
+-- a ticket is above what is known of its counter
+draws_above : (c : Setup) (m : Machine) (t : Phase) (numbers : List Numbers) → AllTrue c m numbers → Draws t (read m.cells (location_of c t)) numbers
+draws_above c m (AtE1 r i w l) numbers all = λ x e. (all r x e).seen
+draws_above c m (AtD2 r l) numbers all = λ x e. (all r x e).head
+draws_above c m t numbers all = tt
+
+module _ {S : Type 0} (Lies : ℕ → S → List ℕ → Type 0) where
+  -- the seats of another view, after a turn
+  owns_else : (c : Setup) (z : Scene) (homes homes' : List (maybe.Option S)) (id j k : ℕ) (t : Phase) → z.owner k ≡ (id, 0) → j ≢ id
+      → ((i b : ℕ) (w : List ℕ) → b ≢ k → 0 < times i (z.state.part b).hand → Has Lies homes i w → Has Lies homes' i w)
+      → (xs : List Member) → Owns Lies c z homes j xs → Owns Lies c (record z { state = moved c z.state k t }) homes' j xs
+  owns_else c z homes homes' id j k t mine apart stays [] owns = tt
+  owns_else c z homes homes' id j k t mine apart stays (x ∷ xs) owns =
+      let x_is = owns.0 in
+      let other : x.number ≢ k = λ e. let both = sym x_is.owner ∙ ap z.owner e ∙ mine in apart (ap (λ (q : ℕ × ℕ). q.0) both) in
+      (
+        record {
+          low = x_is.low;
+          owner = x_is.owner;
+          part = updated_else z.state.part k _ x.number other ∙ x_is.part;
+          gone = x_is.gone;
+          brought =
+              λ i there.
+                let b = x_is.brought i there in
+                (b.0, (b.1.0, stays i x.number b.1.0 other (rw x_is.part b.0) b.1.1));
+        },
+        owns_else c z homes homes' id j k t mine apart stays xs owns.1,
+      )
+
+  -- the seat's own, after its turn
+  owns_own : (c : Setup) (z : Scene) (homes homes' : List (maybe.Option S)) (id : ℕ) (t : Phase) (x : Member) → x.home ≡ [] → IsMember Lies c z homes id 0 x
+      → Owns Lies c (record z { state = moved c z.state x.number t }) homes' id (turned_member c t (read z.state.cells (location_of c t)) (beside z.state.cells (location_of c t)) x ∷ [])
+  owns_own c z homes homes' id t x none x_is =
+      (
+        record {
+          low = x_is.low;
+          owner = x_is.owner;
+          part = updated_here z.state.part x.number _ ∙ ap (after c t (read z.state.cells (location_of c t)) (beside z.state.cells (location_of c t))) x_is.part;
+          gone = x_is.gone;
+          brought = λ i there. let e : Contains [] i = subst (λ (l : List ℕ). Contains l i) none there in absurd (omega (arith, e.1));
+        },
+        tt,
+      )
+
+  -- the rule after the turn
+  moved_shown : (c : Setup) (s : State S Known) (id : ℕ) (me : Me S Known) (t : Phase) (may : MayTurn c me.0 t) (sh : Shown Lies c s) → get_elem? s.views id ≡ some me.0
+      → IsMember Lies c sh.scene s.homes id 0 may.member → Ground c sh.scene.state may.member.number t
+      → (h : Handles Lies c sh.scene.state s.homes me.1 may.member.number t)
+      → Shown Lies c (stepped s (at c (location_of c t)) (writes c t (read sh.scene.state.cells (location_of c t))) id me.1 (made c t (read sh.scene.state.cells (location_of c t)) (beside sh.scene.state.cells (location_of c t)) me.0) h.act)
+  moved_shown c s id me t may sh here x_is g h =
+      let m = sh.scene.state in
+      let k = may.member.number in
+      let l = location_of c t in
+      let gate = gate_kept c s.words l (writes c t (read m.cells l)) in
+      record {
+        scene = record sh.scene { state = moved c m k t };
+        reachable = g.reach;
+        words = written_shown c s.words m.cells l (writes c t (read m.cells l)) (stores t (read m.cells l) (beside m.cells l)) g.location sh.words;
+        awake_seats = gate ∙ sh.awake_seats;
+        room = h.room ∙ sh.room;
+        views =
+            λ j v e.
+              elim (at_set s.views id j (made c t (read m.cells l) (beside m.cells l) me.0) v e) [
+                | inl same ↦
+                    let mine = sh.views id me.0 here in
+                    let view : IsView Lies c (record sh.scene { state = moved c m k t }) (homes_after s.homes me.1 h.act) (slice_index s.words 0) id (made c t (read m.cells l) (beside m.cells l) me.0) =
+                    record {
+                      seats =
+                          subst (λ (xs : List Member). Owns Lies c (record sh.scene { state = moved c m k t }) (homes_after s.homes me.1 h.act) id (map (turned_member c t (read m.cells l) (beside m.cells l)) xs)) (sym may.alone)
+                          (owns_own c sh.scene s.homes (homes_after s.homes me.1 h.act) id t may.member may.out x_is);
+                      numbers = learned_true c m k t me.0.numbers g.busy g.up g.stay g.covers g.first g.got mine.numbers;
+                      last_gate = mine.last_gate;
+                    } in
+                    rw (gate, same.0) (subst (λ (u : Known). IsView Lies c (record sh.scene { state = moved c m k t }) (homes_after s.homes me.1 h.act) (slice_index s.words 0) id u) same.1 view)
+                | inr other ↦
+                    let old = sh.views j v other.1 in
+                    rw gate (record {
+                      seats = owns_else c sh.scene s.homes (homes_after s.homes me.1 h.act) id j k t x_is.owner other.0 h.stays v.seats old.seats;
+                      numbers = all_stay c m (moved c m k t) v.numbers g.up g.stay old.numbers;
+                      last_gate = old.last_gate;
+                    })
+              ];
+        stored = h.stored;
+      }
+
+  -- a turn may be made, whatever the table is when its word changes
+  pub moves : (c : Setup) (slots id : ℕ) (me : Me S Known) (t : Phase) (i : ℕ) (f : ℕ → ℕ) (may : MayTurn c me.0 t) → Carries Lies t me.1 → i ≡ at c (location_of c t)
+      → ((m : Machine) → IsReachable c m → Busy c m.cells may.member.part.hand t → f (read m.cells (location_of c t)) ≡ writes c t (read m.cells (location_of c t)))
+      → ((m : Machine) (k : ℕ) (s : Step) → IsReachable c m → k < c.seats → turn_of c (m.part k) s ≡ Some t → Ground c m k t)
+      → Allows (Shown Lies c) slots id me i f (Turned Lies c t me)
+  moves c slots id me t i f may carries word does grounds s sh many here small =
+      let m = sh.scene.state in
+      let k = may.member.number in
+      let l = location_of c t in
+      let mine = sh.views id me.0 here in
+      let owns : Owns Lies c sh.scene s.homes id (may.member ∷ []) = subst (λ (xs : List Member). Owns Lies c sh.scene s.homes id xs) may.alone mine.seats in
+      let x_is = owns.0 in
+      let enabled : turn_of c (m.part k) may.step ≡ Some t = rw x_is.part may.enabled in
+      let g = grounds m k may.step sh.reachable x_is.low enabled in
+      let h = handles Lies c m s.homes me.1 k t g.one sh.room sh.stored g.busy carries g.stands in
+      let found : slice_index s.words i ≡ read m.cells l = ap (slice_index s.words) word ∙ sh.words.shows l g.location in
+      let busy : Busy c m.cells may.member.part.hand t = subst (λ (p : Part). Busy c m.cells p.hand t) x_is.part g.busy in
+      let wrote : f (slice_index s.words i) ≡ writes c t (read m.cells l) = ap f found ∙ does m sh.reachable busy in
+      let w = made c t (read m.cells l) (beside m.cells l) me.0 in
+      let shown : Shown Lies c (stepped s i (f (slice_index s.words i)) id me.1 w h.act) =
+      subst (λ (v : ℕ). Shown Lies c (stepped s i v id me.1 w h.act)) (sym wrote)
+      (subst (λ (j : ℕ). Shown Lies c (stepped s j (writes c t (read m.cells l)) id me.1 w h.act)) (sym word) (moved_shown c s id me t may sh here x_is g h)) in
+      let tells : Turned Lies c t me (read m.cells l) (w, carried_after me.1 h.act) = record {
+        beside = beside m.cells l;
+        view = refl;
+        slots = h.carried;
+        found = g.finds;
+        ready = g.ready;
+        draws = draws_above c m t me.0.numbers mine.numbers;
+      } in
+      (w, h.act, h.valid, shown, subst (λ n. Turned Lies c t me n (w, carried_after me.1 h.act)) (sym found) tells)

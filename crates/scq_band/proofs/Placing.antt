@@ -1,0 +1,59 @@
+-- The loop of E2 to E4: the exchange hits, or the entry has a higher rank than any that was found before.
+use Rattle.std.proofs.Common.{◌≡◌, ◌≢◌, ◌⊎◌, ℕ, ◌+◌, ◌-◌, ◌*◌, ◌/◌, ◌^◌, ◌<◌, ◌≤◌, Bool, true, false, ◌==◌, List, [], ◌∷◌, refl, sym, ◌∙◌, ap, subst, inl, inr, arith, eq-eqb, ne_eqb}
+use Rattle.std.specs.Prelude.{if◌then◌else◌}
+use Rattle.std.proofs.Math.Nat.{div-le_self}
+use Rattle.atomic_table.specs.Table.{Me, rest}
+use Rattle.scq_word.specs.declared.setup.Setup.{Setup}
+use Rattle.scq_word.specs.Sizes.{n_of, slots_of}
+use Rattle.scq_word.specs.Words.{cycle_in, rank_in}
+use Rattle.scq_word.proofs.WordLemmas.{rank_in_range}
+use Rattle.scq_word.proofs.EntryLemmas.{cycle_in_fits}
+use Rattle.scq_core.specs.declared.phase.Phase.{Phase}
+use Rattle.scq_core.specs.declared.phase.Phase.TheVariants.{AtE2, AtE4, AtE5}
+use Rattle.scq_core.specs.Machine.{Part}
+use Rattle.scq_core.specs.Table.{ring_slots, goes_on, hand_without}
+use Rattle.scq_core.specs.Laws.{IsAbove}
+use Rattle.scq_band.specs.Known.{Known}
+use Rattle.scq_band.specs.Turns.{Turned}
+use Rattle.scq_band.specs.Steps.{my, my_phase}
+use Rattle.scq_band.specs.Seats.{IsAlone, goes_to, placed_to, index_of, content_of, least_of}
+use Rattle.scq_band.proofs.Outcomes.{goes_as, turned_as}
+
+module _ {S : Type 0} (Lies : ℕ → S → List ℕ → Type 0) (c : Setup) (me later : Me S Known) (turn : Phase) (x r i : ℕ) (w : List ℕ) (t e : ℕ) where
+  pub saw_placed : turn ≡ AtE4 r i w t e → IsAlone me.0 → x ≡ e → Turned Lies c turn me x later → later.0 ≡ placed_to r i w t me.0
+  saw_placed is alone hit turned =
+      goes_as Lies c turn (AtE4 r i w t e) me later x (goes_on (AtE5 r i w t) (record (my me.0).part { hand = hand_without i (my me.0).part.hand })) is alone (λ y. rw (eq-eqb x e hit) refl) turned
+
+  pub saw_missed : turn ≡ AtE4 r i w t e → IsAlone me.0 → x ≢ e → Turned Lies c turn me x later → later.0 ≡ goes_to (AtE2 r i w t (rank_in (ring_slots c) x)) me.0
+  saw_missed is alone miss turned =
+      goes_as Lies c turn (AtE4 r i w t e) me later x (goes_on (AtE2 r i w t (rank_in (ring_slots c) x)) (my me.0).part) is alone (λ y. rw (ne_eqb x e miss) refl) turned
+
+  pub slots_placed : turn ≡ AtE4 r i w t e → x ≡ e → Turned Lies c turn me x later → later.1 ≡ rest me.1
+  slots_placed is hit turned = let u = turned_as Lies c turn (AtE4 r i w t e) me later x is turned in u.slots ∙ rw (eq-eqb x e hit) refl
+
+  pub slots_missed : turn ≡ AtE4 r i w t e → x ≢ e → Turned Lies c turn me x later → later.1 ≡ me.1
+  slots_missed is miss turned = let u = turned_as Lies c turn (AtE4 r i w t e) me later x is turned in u.slots ∙ rw (ne_eqb x e miss) refl
+
+  pub missed_rises : turn ≡ AtE4 r i w t e → x ≢ e → Turned Lies c turn me x later → rank_in (ring_slots c) e < rank_in (ring_slots c) x
+  missed_rises is miss turned =
+      let u = turned_as Lies c turn (AtE4 r i w t e) me later x is turned in
+      higher (u.found.above)
+    where
+      higher : (x ≡ e) ⊎ (rank_in (ring_slots c) e < rank_in (ring_slots c) x) → rank_in (ring_slots c) e < rank_in (ring_slots c) x
+      higher (inl same) = absurd (miss same)
+      higher (inr up) = up
+
+-- the rank of a word of 64 bits is one
+pub rank_fits : (c : Setup) (x : ℕ) → x < 2 ^ 64 → rank_in (ring_slots c) x < 2 ^ 64
+rank_fits c x small =
+    let o = c.order_in_range in
+    let low = cycle_in_fits c.order (62 - c.order) x (omega arith) small in
+    let le : 2 ^ 62 / n_of c.order ≤ 2 ^ 62 = div-le_self (2 ^ 62) (n_of c.order) in
+    let top = (rank_in_range (ring_slots c) x).1 in
+    omega arith
+
+-- what finds_room and exchange say of the seat, told of the view that the loop began with
+pub room_then : (v w later : Known) (r i : ℕ) (content : List ℕ) (t l e : ℕ) → w ≡ goes_to (AtE2 r i content t l) v
+    → later ≡ goes_to (AtE4 r (index_of (my_phase w)) (content_of (my_phase w)) t e) w → later ≡ goes_to (AtE4 r i content t e) v
+room_then v w later r i content t l e first next =
+    subst (λ (u : Known). later ≡ goes_to (AtE4 r (index_of (my_phase u)) (content_of (my_phase u)) t e) u) first next

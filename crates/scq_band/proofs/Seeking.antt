@@ -1,0 +1,80 @@
+-- The loop of D3 to D5: an index is taken, the ticket is given up, or the entry has a higher rank than any that was found.
+use Rattle.std.proofs.Common.{◌≡◌, ◌≢◌, ◌⊎◌, ℕ, ◌<◌, ◌≤◌, Bool, true, false, ◌==◌, List, [], ◌∷◌, ◌++◌, refl, sym, ◌∙◌, ap, subst, inl, inr, arith, eq-eqb, ne_eqb, lt-ltb, ltb-true}
+use Rattle.std.specs.Prelude.{if◌then◌else◌, nat_lt}
+use Rattle.std.proofs.lemmas.Bool.{cases_Bool, cases_eq}
+use Rattle.scq_word.specs.declared.entry.Entry.{Entry}
+use Rattle.scq_word.specs.Sizes.{slots_of}
+use Rattle.scq_word.specs.Tickets.{cycle_of}
+use Rattle.scq_word.specs.Entries.{entry_in}
+use Rattle.atomic_table.specs.Table.{Me}
+use Rattle.scq_word.specs.declared.setup.Setup.{Setup}
+use Rattle.scq_word.specs.Words.{index_in, cycle_in, rank_in}
+use Rattle.scq_core.specs.declared.ended.Ended.TheVariants.{Got}
+use Rattle.scq_core.specs.declared.phase.Phase.{Phase}
+use Rattle.scq_core.specs.declared.phase.Phase.TheVariants.{AtD3, AtD4, AtD5, AtD6}
+use Rattle.scq_core.specs.Table.{ring_slots, cycle, goes_on, ends}
+use Rattle.scq_band.specs.Known.{Known}
+use Rattle.scq_band.specs.Turns.{Turned, Takes, made}
+use Rattle.scq_band.specs.Steps.{my, my_phase}
+use Rattle.scq_band.specs.Seats.{IsAlone, goes_to, got_at, HasGot, least_of}
+use Rattle.scq_band.proofs.Outcomes.{goes_as, turned_as, then_goes}
+
+apart_low : {a b : ℕ} → a < b → a ≢ b
+apart_low less e = absurd (omega arith)
+
+apart_high : {a b : ℕ} → b < a → a ≢ b
+apart_high less e = absurd (omega arith)
+
+module _ {S : Type 0} (Lies : ℕ → S → List ℕ → Type 0) (c : Setup) (me later : Me S Known) (turn : Phase) (x r h : ℕ) where
+  pub saw_own_cycle : (l : ℕ) → turn ≡ AtD3 r h l → IsAlone me.0 → cycle_in (ring_slots c) x ≡ cycle c h → Turned Lies c turn me x later → later.0 ≡ goes_to (AtD4 r h) me.0
+  saw_own_cycle l is alone same turned =
+      goes_as Lies c turn (AtD3 r h l) me later x (goes_on (AtD4 r h) (my me.0).part) is alone (λ y. rw (eq-eqb _ _ same) refl) turned
+
+  pub saw_earlier : (l : ℕ) → turn ≡ AtD3 r h l → IsAlone me.0 → cycle_in (ring_slots c) x < cycle c h → Turned Lies c turn me x later → later.0 ≡ goes_to (AtD5 r h x) me.0
+  saw_earlier l is alone low turned =
+      goes_as Lies c turn (AtD3 r h l) me later x (goes_on (AtD5 r h x) (my me.0).part) is alone (λ y. rw (ne_eqb _ _ (apart_low low), lt-ltb _ _ low) refl) turned
+
+  pub saw_later : (l : ℕ) → turn ≡ AtD3 r h l → IsAlone me.0 → cycle c h < cycle_in (ring_slots c) x → Turned Lies c turn me x later → later.0 ≡ goes_to (AtD6 r h) me.0
+  saw_later l is alone high turned =
+      goes_as Lies c turn (AtD3 r h l) me later x (goes_on (AtD6 r h) (my me.0).part) is alone (λ y. rw (ne_eqb _ _ (apart_high high), not_less) refl) turned
+    where
+      not_less : nat_lt (cycle_in (ring_slots c) x) (cycle c h) ≡ false
+      not_less =
+          elim (cases_Bool (nat_lt (cycle_in (ring_slots c) x) (cycle c h))) [ | inl holds ↦ absurd (let lt = ltb-true _ _ holds in omega arith) | inr fails ↦ fails ]
+
+  pub passed_hit : (e : ℕ) → turn ≡ AtD5 r h e → IsAlone me.0 → x ≡ e → Turned Lies c turn me x later → later.0 ≡ goes_to (AtD6 r h) me.0
+  passed_hit e is alone hit turned =
+      goes_as Lies c turn (AtD5 r h e) me later x (goes_on (AtD6 r h) (my me.0).part) is alone (λ y. rw (eq-eqb x e hit) refl) turned
+
+  pub passed_missed : (e : ℕ) → turn ≡ AtD5 r h e → IsAlone me.0 → x ≢ e → Turned Lies c turn me x later → later.0 ≡ goes_to (AtD3 r h (rank_in (ring_slots c) x)) me.0
+  passed_missed e is alone miss turned =
+      goes_as Lies c turn (AtD5 r h e) me later x (goes_on (AtD3 r h (rank_in (ring_slots c) x)) (my me.0).part) is alone (λ y. rw (ne_eqb x e miss) refl) turned
+
+  pub passed_rises : (e : ℕ) → turn ≡ AtD5 r h e → x ≢ e → Turned Lies c turn me x later → rank_in (ring_slots c) e < rank_in (ring_slots c) x
+  passed_rises e is miss turned =
+      let u = turned_as Lies c turn (AtD5 r h e) me later x is turned in
+      higher (u.found.above)
+    where
+      higher : (x ≡ e) ⊎ (rank_in (ring_slots c) e < rank_in (ring_slots c) x) → rank_in (ring_slots c) e < rank_in (ring_slots c) x
+      higher (inl same) = absurd (miss same)
+      higher (inr up) = up
+
+  -- what a get that takes has
+  pub took : (v : Known) (slots : List (ℕ × S)) → turn ≡ AtD4 r h → IsAlone v → me.0 ≡ goes_to (AtD4 r h) v → me.1 ≡ slots → Turned Lies c turn me x later → HasGot Lies r h (index_in (ring_slots c) x) (v, slots) later
+  took v slots is alone went same turned =
+      let u = turned_as Lies c turn (AtD4 r h) me later x is turned in
+      record {
+        content = u.beside;
+        view = u.view ∙ ap (λ (z : Known). made_of z u.beside) went;
+        slots = subst (λ (ss : List (ℕ × S)). Takes Lies (index_in (ring_slots c) x) u.beside ss later.1) same u.slots;
+      }
+    where
+      made_of : Known → List ℕ → Known
+      made_of z y = made c (AtD4 r h) x y z
+
+-- an entry that is neither of the ticket's cycle nor of a later one
+pub earlier_cycle_of : (c : Setup) (order t x cyc : ℕ) (entry : Entry) → order ≡ c.order → entry ≡ entry_in order x → cyc ≡ cycle_of (slots_of order) t → entry.cycle ≢ cyc → entry.cycle ≤ cyc → cycle_in (ring_slots c) x < cycle c t
+earlier_cycle_of c order t x cyc entry same is drawn apart low =
+    let a : entry.cycle ≡ cycle_in (slots_of order) x = ap (λ (e : Entry). e.cycle) is in
+    let here : cycle_in (slots_of order) x < cycle_of (slots_of order) t = elim (cases_eq entry.cycle cyc) [ | inl e ↦ absurd (apart e) | inr other ↦ omega (arith, other, low, a, drawn) ] in
+    subst (λ (o : ℕ). cycle_in (slots_of o) x < cycle_of (slots_of o) t) same here

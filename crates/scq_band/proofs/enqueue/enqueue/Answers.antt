@@ -1,0 +1,70 @@
+use Rattle.std.proofs.Common.{rules, ◌≡◌, ◌<◌, refl, sym, ◌∙◌, ap, subst, arith, ℕ}
+use Rattle.scq_core.specs.Machine.{tail_of}
+use Rattle.scq_core.specs.declared.phase.Phase.{Phase}
+use Rattle.scq_core.specs.declared.phase.Phase.TheVariants.{AtE2}
+use Rattle.scq_core.specs.Table.{location_of}
+use Rattle.scq_band.specs.Layout.{at}
+use Rattle.scq_band.specs.Buffers.{LiesIn}
+use Rattle.scq_band.specs.Turns.{MayTurn}
+use Rattle.scq_band.specs.Steps.{my_phase, front_bytes}
+use Rattle.scq_band.specs.Seats.{least_of}
+use Rattle.scq_band.proofs.RingLemmas.{word_low}
+use Rattle.scq_band.proofs.Grounds.{tail_location}
+use Rattle.scq_band.proofs.Drawing.{turn_of_draw, may_draw, drew_past, drew, drew_above, looks_as}
+use Rattle.scq_band.proofs.enqueue.enqueue.Goals as goal
+
+pub draw-ticket-requires-clause-low : goal.draw-ticket-requires-clause-low
+draw-ticket-requires-clause-low g c κs within =
+    let k = c.args.words.now.key.setup in
+    word_low k (tail_of c.args.ring.number) c.args.ring.tail _ (tail_location k c.args.ring.number c.requires.ring.low) c.requires.ring.tail c.requires.own.1
+
+pub draw-ticket-requires-clause-may : goal.draw-ticket-requires-clause-may
+draw-ticket-requires-clause-may g c κs within =
+    let k = c.args.words.now.key.setup in
+    let contents = g.B.Buffer.contents in
+    let slots = c.args.token.now.me.1 in
+    let turn = turn_of_draw contents k c.args.ring c.draws.token.me slots c.args.index c.requires.ring c.draws.invariant.2 c.requires.first c.draws.invariant.4 in
+    subst (λ (t : Phase). MayTurn k c.draws.token.me.0 t) (sym turn)
+    (may_draw k c.args.token.now.me.0 c.draws.token.me.0 c.args.ring.number c.args.index (front_bytes contents slots) c.requires.alone c.draws.invariant.3 c.draws.invariant.4 c.requires.idle.1 c.requires.held.0 c.requires.ring.low c.requires.held.1)
+
+pub draw-ticket-requires-clause-word : goal.draw-ticket-requires-clause-word
+draw-ticket-requires-clause-word g c κs within =
+    let k = c.args.words.now.key.setup in
+    let contents = g.B.Buffer.contents in
+    let slots = c.args.token.now.me.1 in
+    let turn = turn_of_draw contents k c.args.ring c.draws.token.me slots c.args.index c.requires.ring c.draws.invariant.2 c.requires.first c.draws.invariant.4 in
+    c.requires.ring.tail ∙ ap (λ t. at k (location_of k t)) (sym turn)
+
+pub returns-then-ticket-ring-clause-spent : goal.returns-then-ticket-ring-clause-spent
+returns-then-ticket-ring-clause-spent g c =
+    let k = c.args.words.now.key.setup in
+    let contents = g.B.Buffer.contents in
+    let Lie = LiesIn contents g.B.Buffer.IsSameBuffer c.args.words.now.key.given.value.items in
+    let slots = c.args.token.now.me.1 in
+    let limit = c.requires.ring.limit in
+    let past = c.if-ticket-ring.true in
+    let turn = turn_of_draw contents k c.args.ring c.draws.token.me slots c.args.index c.requires.ring c.draws.invariant.2 c.requires.first c.draws.invariant.4 in
+    drew_past Lie k c.args.token.now.me.0 c.draws.token.me c.draw-ticket.new.token.me _ c.draw-ticket.result c.args.ring.number c.args.index (front_bytes contents slots) _ turn c.requires.alone c.draws.invariant.3 (omega arith) c.draw-ticket.ensures.turned
+
+pub is_placed-requires-clause-looks : goal.is_placed-requires-clause-looks
+is_placed-requires-clause-looks g c κs within =
+    let k = c.args.words.now.key.setup in
+    let contents = g.B.Buffer.contents in
+    let Lie = LiesIn contents g.B.Buffer.IsSameBuffer c.args.words.now.key.given.value.items in
+    let slots = c.args.token.now.me.1 in
+    let limit = c.requires.ring.limit in
+    let low = c.if-ticket-ring.false in
+    let turn = turn_of_draw contents k c.args.ring c.draws.token.me slots c.args.index c.requires.ring c.draws.invariant.2 c.requires.first c.draws.invariant.4 in
+    let now = drew Lie k c.args.token.now.me.0 c.draws.token.me c.draw-ticket.new.token.me _ c.draw-ticket.result c.args.ring.number c.args.index (front_bytes contents slots) _ turn c.requires.alone c.draws.invariant.3 (omega arith) c.draw-ticket.ensures.turned in
+    looks_as c.draw-ticket.new.token.me.0 c.args.ring.number c.args.index (front_bytes contents slots) c.draw-ticket.result 0 (ap my_phase now)
+
+pub returns-then-is_placed-clause-above : goal.returns-then-is_placed-clause-above
+returns-then-is_placed-clause-above g c =
+    let k = c.args.words.now.key.setup in
+    let contents = g.B.Buffer.contents in
+    let Lie = LiesIn contents g.B.Buffer.IsSameBuffer c.args.words.now.key.given.value.items in
+    let slots = c.args.token.now.me.1 in
+    let limit = c.requires.ring.limit in
+    let low = c.if-ticket-ring.false in
+    let turn = turn_of_draw contents k c.args.ring c.draws.token.me slots c.args.index c.requires.ring c.draws.invariant.2 c.requires.first c.draws.invariant.4 in
+    (omega arith, drew_above Lie k c.args.token.now.me.0 c.draws.token.me c.draw-ticket.new.token.me _ c.draw-ticket.result c.args.ring.number c.args.index (front_bytes contents slots) _ turn c.draws.invariant.3 c.draw-ticket.ensures.turned)

@@ -1,0 +1,13 @@
+use Rattle.std.proofs.Common.{◌≡◌, ◌-◌, ◌<◌, ℕ}
+use Rattle.std.specs.Prelude.{Some, slice_get}
+use Rattle.scq_band.specs.Steps.{my_phase, front_bytes}
+use Rattle.scq_band.specs.Seats.{IsToDraw, goes_to, least_of}
+use Rattle.scq_band.proofs.enqueue.enqueue.Given as goal
+
+abbrev pub invariant-draws : goal.invariant-draws
+invariant-draws g l =
+    (l.token.table_id ≡ l.fn.token.table_id) × (l.token.id ≡ l.fn.token.id) × (l.token.me.1 ≡ l.fn.token.me.1)
+    × (l.token.me.0 ≡ goes_to (my_phase l.token.me.0) l.fn.token.me.0) × IsToDraw l.fn.ring.number l.fn.index (front_bytes g.B.Buffer.contents l.fn.token.me.1) (my_phase l.token.me.0)
+
+abbrev pub decreases-draws : goal.decreases-draws
+decreases-draws g l = l.fn.ring.limit - least_of (my_phase l.token.me.0)

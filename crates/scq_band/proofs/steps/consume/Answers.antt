@@ -1,0 +1,25 @@
+use Rattle.std.proofs.Common.{rules, ◌≡◌, ◌<◌, ℕ, ◌+◌, ◌-◌, ◌%◌, ◌^◌, ◌==◌}
+use Rattle.std.specs.Prelude.{bit_or}
+use prog.Atomic.{either}
+use Rattle.scq_core.specs.Machine.{read}
+use Rattle.scq_core.specs.Table.{location_of}
+use Rattle.scq_core.proofs.Fits.{words_fit}
+use Rattle.scq_band.specs.Buffers.{LiesIn}
+use Rattle.scq_band.specs.Steps.{my_phase, load_turn, draw_turn}
+use Rattle.scq_band.proofs.Moves.{moves}
+use Rattle.scq_band.proofs.Grounds.{ground}
+use Rattle.scq_band.proofs.Operations.{consume_says, consume_carries}
+use Rattle.scq_band.proofs.steps.consume.Goals as goal
+
+pub fetch_or-requires : goal.fetch_or-requires
+fetch_or-requires g c =
+    let k = c.args.words.now.key in
+    let t = my_phase c.args.token.now.me.0 in
+    let Lie = LiesIn g.B.Buffer.contents g.B.Buffer.IsSameBuffer k.given.value.items in
+    (
+      c.requires.own,
+      c.requires.low,
+      moves Lie k.setup c.args.words.now.table_id.slots c.args.token.now.id c.args.token.now.me t c.args.word (λ n. bit_or n c.args.mark) c.requires.may
+      (consume_carries Lie t c.args.token.now.me.1 c.requires.kind) c.requires.word (λ m r b. consume_says k.setup t _ c.args.mark c.requires.kind c.requires.mark)
+      (λ m seat s reach low e. ground k.setup m seat s t reach low e),
+    )

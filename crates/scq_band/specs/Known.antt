@@ -1,0 +1,25 @@
+-- What a seat of the table knows, its view: the seats of the machine that stand in it with their parts, a lower bound of each
+-- ring's counters, and what it read at the gate. A note is a view in which no seat stands.
+use Rattle.std.specs.Prelude.{ℕ, List, [], ◌∷◌, Option, Some, None}
+use Rattle.scq_word.specs.declared.setup.Setup.{Setup}
+use Rattle.scq_core.specs.Machine.{Part}
+use Rattle.scq_band.specs.declared.numbers.Numbers.{Numbers}
+
+-- a seat: its number, its part, how many calls stood in its record when it retired, and the indices in its hand whose slots
+-- were brought home before the table closes
+pub record Member : Type 0 where
+  pub number : ℕ
+  pub part : Part
+  pub retired : Option ℕ
+  pub home : List ℕ
+
+pub record Known : Type 0 where
+  pub seats : List Member
+  pub numbers : List Numbers
+  -- how often the gate was read, and what the last reading found
+  pub gates : ℕ
+  pub gate : Option ℕ
+
+-- the view that knows nothing: what a seat is left with that was joined to another
+abbrev pub nobody : Known
+nobody = record { seats = []; numbers = []; gates = 0; gate = None }

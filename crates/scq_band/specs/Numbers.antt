@@ -1,0 +1,63 @@
+-- The three numbers that a view knows of each ring: a finished place, what Tail is above, and what Head has reached. Each is
+-- true for good once it is true, and only rises.
+use Rattle.std.specs.Prelude.{◌≡◌, ℕ, zero, suc, ◌+◌, ◌-◌, ◌<◌, ◌≤◌, ◌⊎◌, ◌==◌, if◌then◌else◌, max, List, [], ◌∷◌, ◌++◌, slice_index_or, slice_set}
+use Rattle.scq_word.specs.declared.setup.Setup.{Setup}
+use Rattle.scq_word.specs.Sizes.{n_of}
+use Rattle.scq_core.specs.Machine.{Machine}
+use Rattle.scq_core.specs.Table.{ring_slots}
+use Rattle.scq_law.specs.Bounds.{IsFinished}
+use Rattle.scq_band.specs.declared.numbers.Numbers.{Numbers}
+
+-- before anything was placed on a ring; on ring 0 the opening puts have finished
+abbrev pub first_place : Setup → ℕ → ℕ
+first_place c r = (if r == 0 then ring_slots c + n_of c.order else ring_slots c) - 1
+
+abbrev pub first_numbers_of : Setup → ℕ → Numbers
+first_numbers_of c r = record { finished = first_place c r; seen = first_place c r; head = ring_slots c }
+
+-- those of the rings below a number, in order
+abbrev pub first_numbers : Setup → ℕ → List Numbers
+first_numbers c zero = []
+first_numbers c (suc r) = first_numbers c r ++ first_numbers_of c r ∷ []
+
+-- past the last ring nothing is known
+abbrev pub known_of : List Numbers → ℕ → Numbers
+known_of numbers r = slice_index_or numbers r (record { finished = 0; seen = 0; head = 0 })
+
+-- `finished` is the place of a put that has ended, or what was known at the start; Tail is above `seen`, Head is at or
+-- past `head`
+pub record IsTrue (c : Setup) (m : Machine) (r : ℕ) (x : Numbers) : Type 0 where
+  pub finished : (x.finished < ring_slots c) ⊎ IsFinished c m r x.finished
+  pub order : x.finished ≤ x.seen
+  pub seen : x.seen < m.cells.tail r
+  pub head : x.head ≤ m.cells.head r
+
+-- a put of one's own has ended at a place
+abbrev pub finishes : ℕ → Numbers → Numbers
+finishes place x = record { finished = max x.finished place; seen = max x.seen place; head = x.head }
+
+-- an index was got at a place
+abbrev pub sees : ℕ → Numbers → Numbers
+sees place x = record x { seen = max x.seen place }
+
+-- Head is at or past a number
+abbrev pub passes : ℕ → Numbers → Numbers
+passes head x = record x { head = max x.head head }
+
+-- nothing finished that was known was left: Head is past it
+abbrev pub empties : Numbers → Numbers
+empties x = passes (x.finished + 1) x
+
+-- the larger of each
+abbrev pub larger : Numbers → Numbers → Numbers
+larger x y = record { finished = max x.finished y.finished; seen = max x.seen y.seen; head = max x.head y.head }
+
+-- the numbers of one ring changed
+abbrev pub changed : (Numbers → Numbers) → ℕ → List Numbers → List Numbers
+changed f r numbers = slice_set numbers r (f (known_of numbers r))
+
+-- two lists of them, ring by ring
+abbrev pub joined : List Numbers → List Numbers → List Numbers
+joined [] ys = ys
+joined (x ∷ xs) [] = x ∷ xs
+joined (x ∷ xs) (y ∷ ys) = larger x y ∷ joined xs ys

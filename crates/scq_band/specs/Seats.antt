@@ -1,0 +1,139 @@
+-- For private calls: the view of one seat that stands alone, and what becomes of it.
+use Rattle.std.specs.Prelude.{◌≡◌, ◌⊎◌, ◌+◌, ℕ, Bool, false, List, [], ◌∷◌, ◌++◌}
+use Rattle.scq_core.specs.declared.phase.Phase.{Phase}
+use Rattle.scq_core.specs.declared.phase.Phase.TheVariants.{Idle, AtE1, AtE2, AtE3, AtE4, AtE5, AtE6, AtD1, AtD2, AtD3, AtD4, AtD5, AtD6, AtD7, AtD8, AtD9, AtD10}
+use Rattle.scq_core.specs.Machine.{Part}
+use Rattle.scq_core.specs.Table.{hand_without, ends, spends}
+use Rattle.scq_core.specs.declared.ended.Ended.TheVariants.{Done, Got, Nothing}
+use Rattle.scq_band.specs.Numbers.{changed, finishes, sees, passes, empties}
+use Rattle.scq_band.specs.declared.numbers.Numbers.{Numbers}
+use Rattle.scq_band.specs.Known.{Member, Known}
+use Rattle.atomic_table.specs.Table.{Me}
+use Rattle.scq_band.specs.Turns.{Takes}
+use Rattle.scq_band.specs.Steps.{my}
+
+-- one seat stands in the view, and none of its slots was brought home
+pub record IsAlone (v : Known) : Type 0 where
+  pub seats : v.seats ≡ my v ∷ []
+  pub out : (my v).home ≡ []
+
+abbrev pub with_part : Part → Member → Member
+with_part q x = record x { part = q }
+
+-- a seat whose call goes on
+abbrev pub at_phase : Phase → Member → Member
+at_phase t x = record x { part = record x.part { phase = t } }
+
+-- the view of this seat with these numbers
+abbrev pub seated : Member → List Numbers → Known → Known
+seated x numbers v = record v { seats = x ∷ []; numbers = numbers }
+
+-- the view of a seat whose call goes on, and which has learned nothing
+abbrev pub goes_to : Phase → Known → Known
+goes_to t v = seated (at_phase t (my v)) v.numbers v
+
+-- the view of a seat that has placed an index: it has left the hand
+abbrev pub placed_to : ℕ → ℕ → List ℕ → ℕ → Known → Known
+placed_to r i w t v =
+    seated (with_part (record (my v).part { phase = AtE5 r i w t; hand = hand_without i (my v).part.hand }) (my v)) v.numbers v
+
+-- the view of a seat whose put has ended at a place
+abbrev pub done_at : ℕ → ℕ → List ℕ → Known → Known
+done_at r p w v = seated (with_part (ends (Done r p w) (my v).part) (my v)) (changed (finishes p) r v.numbers) v
+
+-- the view of a seat that has put an index: it has left the hand, and the put stands in the record
+abbrev pub put_at : ℕ → ℕ → ℕ → List ℕ → Known → Known
+put_at r i p w v =
+    seated (with_part (ends (Done r p w) (record (my v).part { hand = hand_without i (my v).part.hand })) (my v)) (changed (finishes p) r v.numbers) v
+
+-- the view of a seat that has got an index at a place
+abbrev pub got_at : ℕ → ℕ → ℕ → List ℕ → Known → Known
+got_at r h i w v =
+    seated (with_part (ends (Got r h w) (record (my v).part { hand = (my v).part.hand ++ i ∷ [] })) (my v)) (changed (sees h) r v.numbers) v
+
+-- the view of a seat whose get has found nothing
+abbrev pub nothing_at : ℕ → Known → Known
+nothing_at r v = seated (with_part (ends (Nothing r) (my v).part) (my v)) (changed empties r v.numbers) v
+
+-- the view of a seat whose call drew a ticket at or past the limit
+abbrev pub spent_at : ℕ → ℕ → Bool → Known → Known
+spent_at r ticket is_put v = seated (with_part (spends r ticket is_put (my v).part) (my v)) v.numbers v
+
+-- the index of a put under way
+abbrev pub index_of : Phase → ℕ
+index_of (AtE1 r i w l) = i
+index_of (AtE2 r i w t l) = i
+index_of (AtE3 r i w t e) = i
+index_of (AtE4 r i w t e) = i
+index_of (AtE5 r i w t) = i
+index_of (AtE6 r i w t) = i
+index_of phase = 0
+
+-- the content of a put under way
+abbrev pub content_of : Phase → List ℕ
+content_of (AtE1 r i w l) = w
+content_of (AtE2 r i w t l) = w
+content_of (AtE3 r i w t e) = w
+content_of (AtE4 r i w t e) = w
+content_of (AtE5 r i w t) = w
+content_of (AtE6 r i w t) = w
+content_of phase = []
+
+-- the least number that a step is known to find
+abbrev pub least_of : Phase → ℕ
+least_of (AtE1 r i w l) = l
+least_of (AtE2 r i w t l) = l
+least_of (AtD2 r l) = l
+least_of (AtD3 r h l) = l
+least_of phase = 0
+
+-- a put is about to draw, to look at its slot, to exchange the entry that it found there, and to reset Threshold
+abbrev pub IsDrawing : ℕ → Phase → Type 0
+IsDrawing r phase = phase ≡ AtE1 r (index_of phase) (content_of phase) (least_of phase)
+
+abbrev pub IsLooking : ℕ → ℕ → Phase → Type 0
+IsLooking r t phase = phase ≡ AtE2 r (index_of phase) (content_of phase) t (least_of phase)
+
+abbrev pub IsPlacing : ℕ → ℕ → ℕ → Phase → Type 0
+IsPlacing r t e phase = phase ≡ AtE4 r (index_of phase) (content_of phase) t e
+
+abbrev pub IsEnding : ℕ → ℕ → Phase → Type 0
+IsEnding r t phase = phase ≡ AtE5 r (index_of phase) (content_of phase) t
+
+-- a put is about to draw its first ticket, or its next
+abbrev pub IsToDraw : ℕ → ℕ → List ℕ → Phase → Type 0
+IsToDraw r i w phase = (phase ≡ Idle) ⊎ (phase ≡ AtE1 r i w (least_of phase))
+
+-- a get is about to look at its ticket's slot, or to look at Tail
+abbrev pub IsSeeking : ℕ → ℕ → Phase → Type 0
+IsSeeking r h phase = phase ≡ AtD3 r h (least_of phase)
+
+-- a seat has got the index i at the place h, and its slot
+pub record HasGot {S : Type 0} (Lies : ℕ → S → List ℕ → Type 0) (r h i : ℕ) (me later : Me S Known) : Type 0 where
+  pub content : List ℕ
+  pub view : later.0 ≡ got_at r h i content me.0
+  pub slots : Takes Lies i content me.1 later.1
+
+-- a get that leaves is about to lift Tail
+abbrev pub IsBehind : ℕ → ℕ → ℕ → ℕ → Phase → Type 0
+IsBehind r h from to phase = phase ≡ AtD7 r h from to
+
+-- the view of a seat that has drawn a ticket from Head
+abbrev pub drew_head : ℕ → ℕ → Known → Known
+drew_head r h v = seated (my v) (changed (passes (h + 1)) r v.numbers) v
+
+-- a seat has got an index with the last ticket that it drew
+abbrev pub HasGotAfter : {S : Type 0} → (ℕ → S → List ℕ → Type 0) → ℕ → ℕ → ℕ → Me S Known → Me S Known → Type 0
+HasGotAfter Lies r h i me later = HasGot Lies r h i (drew_head r h me.0, me.1) later
+
+-- a get has found nothing, at once or with the last ticket that it drew
+abbrev pub HasNothing : ℕ → Known → Known → Type 0
+HasNothing r v later = (later ≡ nothing_at r v) ⊎ ((h : ℕ) × (later ≡ nothing_at r (drew_head r h v)))
+
+-- the view of a seat whose get drew a ticket at or past the limit
+abbrev pub drawn_spent : ℕ → ℕ → Known → Known
+drawn_spent r ticket v = spent_at r ticket false (drew_head r ticket v)
+
+-- the view of a get that is to draw: it has drawn the tickets below a number
+abbrev pub to_draw : ℕ → ℕ → Known → Known
+to_draw r l v = seated (at_phase (AtD2 r l) (my v)) (changed (passes l) r v.numbers) v

@@ -1,0 +1,45 @@
+//! A ring of the table: where its words are, and the numbers that a call needs of the setup.
+ghost use Rattle.std.specs.Prelude.{◌≡◌, ◌^◌, ◌<◌};
+ghost use Rattle.scq_core.specs.Machine.{head_of, threshold_of};
+ghost use Rattle.scq_word.specs.declared.setup.Setup.{Setup};
+ghost use Rattle.scq_band.specs.Layout.{at, entry_at};
+ghost use Rattle.scq_band.specs.Rings.{IsRing};
+
+use scq_word::{Shape, slot_of};
+
+/// `tail` is the word of its Tail; Head, Threshold and the entries by slot follow. `level` is what Threshold is reset to.
+#[derive(Clone, Copy)]
+pub struct Ring {
+    pub number: u32,
+    pub shape: Shape,
+    pub limit: u64,
+    pub tail: usize,
+    pub level: u64,
+}
+
+impl Ring {
+    #[inline(always)]
+    pub fn head(&self) -> usize
+        requires { self.now.tail < 2 ^ 32 }
+        ensures { (c : Setup) → IsRing c self.now → result ≡ at c (head_of self.now.number) }
+    {
+        self.tail + 1
+    }
+
+    #[inline(always)]
+    pub fn threshold(&self) -> usize
+        requires { self.now.tail < 2 ^ 32 }
+        ensures { (c : Setup) → IsRing c self.now → result ≡ at c (threshold_of self.now.number) }
+    {
+        self.tail + 2
+    }
+
+    /// The word of the entry of a ticket's slot.
+    #[inline(always)]
+    pub fn entry(&self, ticket: u64) -> usize
+        requires { self.now.tail < 2 ^ 32 }
+        ensures { (c : Setup) → IsRing c self.now → result ≡ at c (entry_at c self.now.number ticket) }
+    {
+        self.tail + 3 + slot_of(self.shape, ticket) as usize
+    }
+}

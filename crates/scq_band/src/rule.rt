@@ -1,0 +1,33 @@
+use crate::slot::Slot;
+use crate::view::View;
+use atomic_table::{Play, Seat, Shared, TableRule};
+use scq_word::{Buffer, Setup};
+use std::marker::Brand;
+use std::snapshot::Snapshot;
+
+/// What the table is told once: its setup, and the slots that it was made with.
+pub struct Key<B> {
+    pub setup: Setup,
+    pub given: Snapshot<Vec<Slot<B>>>,
+}
+
+/// The words and the views show a state of the machine that steps reach.
+pub struct Rule {}
+
+impl<B: Buffer> TableRule<Slot<B>, View, Key<B>> for Rule {
+    ghost use Rattle.scq_band.specs.Shown.{Shown, first_view};
+    ghost use Rattle.scq_band.specs.Buffers.{LiesIn};
+
+    ghost holds = { λ key. Shown (LiesIn B.contents B.IsSameBuffer key.given.value.items) key.setup };
+
+    ghost first = { λ key. first_view key.setup };
+}
+
+// What a step tells is picked where the step is made.
+impl<B> Play<Slot<B>, View> for Brand {
+    ghost then = { λ _ _ _ _. Unit {0} };
+}
+
+pub type Words<B> = Shared<Slot<B>, View, Key<B>, Rule>;
+
+pub type Token<B> = Seat<Slot<B>, View>;
