@@ -1,13 +1,13 @@
 -- Which steps may want memory: those that copy a content, and those that end their call.
-use Rattle.std.proofs.Common.{◌≡◌, ℕ, ◌+◌, true, false, List, ◌⊎◌, inl, inr, refl, ◌∙◌}
+use Rattle.std.proofs.Common.{◌≡◌, ℕ, true, false, List, inl, inr, refl, ◌∙◌}
 use Rattle.std.specs.Prelude.{Option, Some}
 use Rattle.scq_word.specs.declared.setup.Setup.{Setup}
 use Rattle.scq_core.specs.declared.phase.Phase.{Phase}
-use Rattle.scq_core.specs.declared.phase.Phase.TheVariants.{Idle, AtE1, AtE2, AtE3, AtE4, AtE5, AtE6, AtD1, AtD2, AtD3, AtD4, AtD5, AtD6, AtD7, AtD8, AtD9, AtD10}
+use Rattle.scq_core.specs.declared.phase.Phase.TheVariants.{Idle, AtE1, AtE4, AtE5, AtE6, AtD1, AtD2, AtD4, AtD10}
 use Rattle.scq_core.specs.declared.step.Step.{Step}
-use Rattle.scq_core.specs.declared.step.Step.TheVariants.{E1, E1Again, E2, E3, E4, E5, E6, D1, D2, D3, D4, D5, D6, D7, D8, D9, D10}
-use Rattle.scq_core.specs.Machine.{Part, Machine, read, beside}
-use Rattle.scq_core.specs.Table.{turn_at, turn_of, next_step, ring_of, cell_of, location_of, after, step_of}
+use Rattle.scq_core.specs.declared.step.Step.TheVariants.{E4, D4}
+use Rattle.scq_core.specs.Machine.{Part, read, beside}
+use Rattle.scq_core.specs.Table.{turn_at, next_step, ring_of, cell_of, location_of, after}
 use Rattle.scq_core.specs.Turn.{needs_copy, copies_content, ends_call, TakesMemory}
 use Rattle.scq_core.specs.StateLists.{StateLists, part_in, machine_of}
 use Rattle.scq_core.specs.Advance.{found_by, WantsMemory}
