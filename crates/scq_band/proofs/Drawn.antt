@@ -22,10 +22,10 @@ use Rattle.scq_band.specs.Seats.{IsAlone, with_part, at_phase, seated, goes_to, 
 use Rattle.scq_band.proofs.Outcomes.{goes_as, turned_as}
 
 not_at_most : {a b : ℕ} → b < a → nat_le a b ≡ false
-not_at_most {a} {b} less = elim (cases_Bool (nat_le a b)) [ | inl holds ↦ absurd (let le = leb-true a b holds in omega arith) | inr fails ↦ fails ]
+not_at_most {a} {b} less = elim (cases_Bool (nat_le a b)) [ inl holds ↦ absurd (let le = leb-true a b holds in omega arith) | inr fails ↦ fails ]
 
 not_below : {a b : ℕ} → b ≤ a → nat_lt a b ≡ false
-not_below {a} {b} le = elim (cases_Bool (nat_lt a b)) [ | inl holds ↦ absurd (let lt = ltb-true a b holds in omega arith) | inr fails ↦ fails ]
+not_below {a} {b} le = elim (cases_Bool (nat_lt a b)) [ inl holds ↦ absurd (let lt = ltb-true a b holds in omega arith) | inr fails ↦ fails ]
 
 -- to know that Head is at least 0 is to know nothing
 pub passes_none : (numbers : List Numbers) (r : ℕ) → changed (passes 0) r numbers ≡ numbers
@@ -43,7 +43,8 @@ passes_again (x ∷ xs) zero l h le = ap (λ n. record x { head = n } ∷ xs) hi
 passes_again (x ∷ xs) (suc r) l h le = ap (λ ys. x ∷ ys) (passes_again xs r l h le)
 
 -- a get may begin
-pub may_get : (c : Setup) (v : Known) (word r : ℕ) → IsAlone v → my_phase v ≡ Idle → (my v).part.spent ≡ None → ring_of_word c word ≡ r → r < c.rings → MayTurn c v (load_turn c word v)
+pub may_get : (c : Setup) (v : Known) (word r : ℕ) → IsAlone v → my_phase v ≡ Idle → (my v).part.spent ≡ None → ring_of_word c word ≡ r → r < c.rings
+    → MayTurn c v (load_turn c word v)
 may_get c v word r alone idle none ring low =
     let able : turn_at c (my v).part.hand (my v).part.spent Idle (D1 r) ≡ Some (AtD1 r) = rw (none, lt-ltb r c.rings low) refl in
     subst (λ (t : Phase). MayTurn c v t) (sym (ap (loading (ring_of_word c word)) idle ∙ ap AtD1 ring))
@@ -64,9 +65,11 @@ module _ {S : Type 0} (Lies : ℕ → S → List ℕ → Type 0) (c : Setup) (v 
   pub saw_some : turn ≡ AtD1 r → IsAlone me.0 → zero_level ≤ x → Turned Lies c turn me x later → later.0 ≡ to_draw r 0 me.0
   saw_some is alone high turned =
       goes_as Lies c turn (AtD1 r) me later x (goes_on (AtD2 r 0) (my me.0).part) is alone (λ y. rw (not_below high) refl) turned
-      ∙ ap (λ (ns : List Numbers). seated (with_part (goes_on (AtD2 r 0) (my me.0).part) (my me.0)) ns me.0) (rw (not_below high) (sym (passes_none me.0.numbers r)))
+      ∙ ap (λ (ns : List Numbers). seated (with_part (goes_on (AtD2 r 0) (my me.0).part) (my me.0)) ns me.0)
+      (rw (not_below high) (sym (passes_none me.0.numbers r)))
 
-  pub drew_one : (l : ℕ) → turn ≡ AtD2 r l → IsAlone me.0 → me.0 ≡ to_draw r l v → x < c.limit → Turned Lies c turn me x later → later.0 ≡ goes_to (AtD3 r x 0) (drew_head r x v)
+  pub drew_one : (l : ℕ) → turn ≡ AtD2 r l → IsAlone me.0 → me.0 ≡ to_draw r l v → x < c.limit → Turned Lies c turn me x later
+      → later.0 ≡ goes_to (AtD3 r x 0) (drew_head r x v)
   drew_one l is alone here low turned =
       let u = turned_as Lies c turn (AtD2 r l) me later x is turned in
       let le = u.found in
@@ -74,7 +77,8 @@ module _ {S : Type 0} (Lies : ℕ → S → List ℕ → Type 0) (c : Setup) (v 
       ∙ ap (λ (w : Known). seated (at_phase (AtD3 r x 0) (my w)) (changed (passes (x + 1)) r w.numbers) w) here
       ∙ ap (λ (ns : List Numbers). seated (at_phase (AtD3 r x 0) (my v)) ns v) (passes_again v.numbers r l (x + 1) (omega arith))
 
-  pub drew_past_head : (l : ℕ) → turn ≡ AtD2 r l → IsAlone me.0 → me.0 ≡ to_draw r l v → c.limit ≤ x → Turned Lies c turn me x later → later.0 ≡ drawn_spent r x v
+  pub drew_past_head : (l : ℕ) → turn ≡ AtD2 r l → IsAlone me.0 → me.0 ≡ to_draw r l v → c.limit ≤ x → Turned Lies c turn me x later
+      → later.0 ≡ drawn_spent r x v
   drew_past_head l is alone here past turned =
       let u = turned_as Lies c turn (AtD2 r l) me later x is turned in
       let le = u.found in
@@ -83,7 +87,8 @@ module _ {S : Type 0} (Lies : ℕ → S → List ℕ → Type 0) (c : Setup) (v 
       ∙ ap (λ (ns : List Numbers). seated (with_part (spends r x false (my v).part) (my v)) ns v) (passes_again v.numbers r l (x + 1) (omega arith))
 
   -- a ticket is not below what was known of Head
-  pub drew_above_head : (l : ℕ) → turn ≡ AtD2 r l → me.0 ≡ to_draw r l v → Turned Lies c turn me x later → (known : Numbers) → slice_get v.numbers r ≡ Some known → known.head ≤ x
+  pub drew_above_head : (l : ℕ) → turn ≡ AtD2 r l → me.0 ≡ to_draw r l v → Turned Lies c turn me x later → (known : Numbers)
+      → slice_get v.numbers r ≡ Some known → known.head ≤ x
   drew_above_head l is here turned known e =
       let u = turned_as Lies c turn (AtD2 r l) me later x is turned in
       let more : slice_get me.0.numbers r ≡ Some (passes l known) = ap (λ (w : Known). slice_get w.numbers r) here ∙ changed_read v.numbers r known l e in
@@ -96,7 +101,8 @@ module _ {S : Type 0} (Lies : ℕ → S → List ℕ → Type 0) (c : Setup) (v 
       changed_read (z ∷ zs) (suc q) y n there = changed_read zs q y n there
 
 -- what was got with the last ticket, told of the seat before the call
-pub got_then : {S : Type 0} (Lies : ℕ → S → List ℕ → Type 0) (r h i : ℕ) (v : Known) (slots : List (ℕ × S)) (me later : Me S Known) → me.0 ≡ goes_to (AtD3 r h 0) (drew_head r h v) → me.1 ≡ slots → HasGot Lies r h i me later
+pub got_then : {S : Type 0} (Lies : ℕ → S → List ℕ → Type 0) (r h i : ℕ) (v : Known) (slots : List (ℕ × S)) (me later : Me S Known)
+    → me.0 ≡ goes_to (AtD3 r h 0) (drew_head r h v) → me.1 ≡ slots → HasGot Lies r h i me later
     → HasGotAfter Lies r h i (v, slots) later
 got_then {S = S} Lies r h i v slots me later went same got =
     record {

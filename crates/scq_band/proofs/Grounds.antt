@@ -73,7 +73,8 @@ pub is_location : (c : Setup) (t : Phase) → ring_of t < c.rings → IsLocation
 is_location c t low = (subst (λ r. r < c.rings) (sym (ring_at-turn c t)) low, slot_at-turn c t)
 
 -- what a turn finds
-finds_of : (c : Setup) (m : Cells) (hand : List ℕ) (t : Phase) → Busy c m hand t → ((r h : ℕ) → t ≡ AtD4 r h → is_none_in (ring_slots c) (word_at c m r h) ≡ false) → Finds c t (read m (location_of c t))
+finds_of : (c : Setup) (m : Cells) (hand : List ℕ) (t : Phase) → Busy c m hand t
+    → ((r h : ℕ) → t ≡ AtD4 r h → is_none_in (ring_slots c) (word_at c m r h) ≡ false) → Finds c t (read m (location_of c t))
 finds_of c m hand Idle busy stands = tt
 finds_of c m hand (AtE1 r i w l) busy stands = busy.1
 finds_of c m hand (AtE2 r i w t l) busy stands = busy.2
@@ -115,7 +116,8 @@ ground c m k s t reach low enabled =
           let answer = places.answered k r h (takes_phase c (m.part k) s r h (enabled ∙ ap Some is)) in
           (places.below_limit r h _ answer.0 answer.1).1;
       up = counters_rise c m.cells (m.part k).hand t busy;
-      stay = λ r p is. finished_stays c m (moved c m k t) r p (later.by_step {n' = moved c m k t} k s (later.at_once) low (ap (option_map (moved c m k)) enabled)) is;
+      stay = λ r p is. finished_stays c m (moved c m k t) r p
+          (later.by_step {n' = moved c m k t} k s (later.at_once) low (ap (option_map (moved c m k)) enabled)) is;
       reach = next;
     }
 

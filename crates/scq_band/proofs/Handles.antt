@@ -29,7 +29,8 @@ use Rattle.scq_band.specs.Turns.{Carries, Fronts, Takes, SlotsAfter}
 -- an entry that is written, told from all others
 entry_either : (m : Cells) (r s x : ℕ) (y : List ℕ) (q z : ℕ)
     → ((q ≡ r) × (z ≡ s) × ((written m (entry_of r s) x y).entries.word q z ≡ x) × ((written m (entry_of r s) x y).entries.content q z ≡ y))
-    ⊎ ((q ≡ r → z ≡ s → ⊥) × ((written m (entry_of r s) x y).entries.word q z ≡ m.entries.word q z) × ((written m (entry_of r s) x y).entries.content q z ≡ m.entries.content q z))
+    ⊎ ((q ≡ r → z ≡ s → ⊥) × ((written m (entry_of r s) x y).entries.word q z ≡ m.entries.word q z)
+    × ((written m (entry_of r s) x y).entries.content q z ≡ m.entries.content q z))
 entry_either m r s x y q z =
     elim (updated_entry_or m.entries.word r s x q z) [
       | inl h ↦
@@ -55,7 +56,8 @@ module _ {S : Type 0} (Lies : ℕ → S → List ℕ → Type 0) where
 
   -- a turn that leaves the entries moves no slot
   quiet : (c : Setup) (m : Machine) (homes : List (maybe.Option S)) (slots : List (ℕ × S)) (k : ℕ) (t : Phase) → Stored Lies c m.cells.entries homes
-      → (cells_after c t m.cells).entries ≡ m.cells.entries → SlotsAfter Lies c t (read m.cells (location_of c t)) (beside m.cells (location_of c t)) slots slots → Handles c m homes slots k t
+      → (cells_after c t m.cells).entries ≡ m.cells.entries
+      → SlotsAfter Lies c t (read m.cells (location_of c t)) (beside m.cells (location_of c t)) slots slots → Handles c m homes slots k t
   quiet c m homes slots k t stored same carried =
       record {
         act = keeps;
@@ -76,18 +78,22 @@ module _ {S : Type 0} (Lies : ℕ → S → List ℕ → Type 0) where
   in_hand_alone c m i k j one small here there apart =
       let same : hand_of j ≡ hand_of k = one.alone i (hand_of j) (hand_of k) small there here in apart (cc)
 
-  hand_or_entry : (c : Setup) (m : Machine) (i k r s : ℕ) → OneHand c m → i < n_of c.order → 0 < times i (m.part k).hand → s < ring_slots c → index_in (ring_slots c) (m.cells.entries.word r s) ≡ i → ⊥
+  hand_or_entry : (c : Setup) (m : Machine) (i k r s : ℕ) → OneHand c m → i < n_of c.order → 0 < times i (m.part k).hand → s < ring_slots c
+      → index_in (ring_slots c) (m.cells.entries.word r s) ≡ i → ⊥
   hand_or_entry c m i k r s one small here low is =
       let same : hand_of k ≡ in_slot r s = one.alone i (hand_of k) (in_slot r s) small here (low, is) in absurd (cc)
 
-  entries_apart : (c : Setup) (m : Machine) (i r s q z : ℕ) → OneHand c m → i < n_of c.order → s < ring_slots c → index_in (ring_slots c) (m.cells.entries.word r s) ≡ i
+  entries_apart : (c : Setup) (m : Machine) (i r s q z : ℕ) → OneHand c m → i < n_of c.order → s < ring_slots c
+      → index_in (ring_slots c) (m.cells.entries.word r s) ≡ i
       → z < ring_slots c → index_in (ring_slots c) (m.cells.entries.word q z) ≡ i → (q ≡ r) × (z ≡ s)
   entries_apart c m i r s q z one small low is low' is' =
       let same : in_slot q z ≡ in_slot r s = one.alone i (in_slot q z) (in_slot r s) small (low', is') (low, is) in (cc, cc)
 
   -- a put's exchange that succeeds: the slot of its index goes home
-  gives_home : (c : Setup) (m : Machine) (homes : List (maybe.Option S)) (x : ℕ × S) (xs : List (ℕ × S)) (k r i : ℕ) (w : List ℕ) (t e : ℕ) → OneHand c m → length homes ≡ n_of c.order
-      → Stored Lies c m.cells.entries homes → Busy c m.cells (m.part k).hand (AtE4 r i w t e) → x.0 ≡ i → Lies i x.1 w → word_at c m.cells r t ≡ e → Handles c m homes (x ∷ xs) k (AtE4 r i w t e)
+  gives_home : (c : Setup) (m : Machine) (homes : List (maybe.Option S)) (x : ℕ × S) (xs : List (ℕ × S)) (k r i : ℕ) (w : List ℕ) (t e : ℕ) → OneHand c m
+      → length homes ≡ n_of c.order
+      → Stored Lies c m.cells.entries homes → Busy c m.cells (m.part k).hand (AtE4 r i w t e) → x.0 ≡ i → Lies i x.1 w → word_at c m.cells r t ≡ e
+      → Handles c m homes (x ∷ xs) k (AtE4 r i w t e)
   gives_home c m homes x xs k r i w t e one room stored busy first lies hit =
       let small = busy.0.index in
       let mine = seen_times (m.part k).hand i busy.0.held in
@@ -100,20 +106,21 @@ module _ {S : Type 0} (Lies : ℕ → S → List ℕ → Type 0) where
         room = length-set homes x.0 (some x.1);
         stored =
             λ q z low has.
-              elim (entry_either m.cells r (slot c t) (writes c (AtE4 r i w t e) (word_at c m.cells r t)) (stores (AtE4 r i w t e) (word_at c m.cells r t) (m.cells.entries.content r (slot c t))) q z) [
-                | inl h ↦
-                    let word : writes c (AtE4 r i w t e) (word_at c m.cells r t) ≡ packed (ring_slots c) (cycle c t) 1 i = rw test refl in
-                    let content : stores (AtE4 r i w t e) (word_at c m.cells r t) (m.cells.entries.content r (slot c t)) ≡ w = rw test refl in
-                    rw (h.2, h.3, word, content, first) (rw (index_in-packed (ring_slots c) (cycle c t) 1 i (omega arith)) put)
-                | inr h ↦
-                    let old = rw h.1 at has in
-                    let apart : index_in (ring_slots c) (m.cells.entries.word q z) ≢ i =
-                    λ is. hand_or_entry c m i k q z one small mine low is in
-                    rw (h.1, h.2, first) (has_else homes i _ (some x.1) _ apart (stored q z low old))
-              ];
+            elim (entry_either m.cells r (slot c t) (writes c (AtE4 r i w t e) (word_at c m.cells r t))
+            (stores (AtE4 r i w t e) (word_at c m.cells r t) (m.cells.entries.content r (slot c t))) q z) [
+              | inl h ↦
+                  let word : writes c (AtE4 r i w t e) (word_at c m.cells r t) ≡ packed (ring_slots c) (cycle c t) 1 i = rw test refl in
+                  let content : stores (AtE4 r i w t e) (word_at c m.cells r t) (m.cells.entries.content r (slot c t)) ≡ w = rw test refl in
+                  rw (h.2, h.3, word, content, first) (rw (index_in-packed (ring_slots c) (cycle c t) 1 i (omega arith)) put)
+              | inr h ↦
+                  let old = rw h.1 at has in
+                  let apart : index_in (ring_slots c) (m.cells.entries.word q z) ≢ i =
+                  λ is. hand_or_entry c m i k q z one small mine low is in
+                  rw (h.1, h.2, first) (has_else homes i _ (some x.1) _ apart (stored q z low old))
+            ];
         stays =
             λ j b v apart seen has.
-              rw (first) (has_else homes i j (some x.1) v (λ is. in_hand_alone c m i k b one small mine (rw (← is) seen) apart) has);
+            rw (first) (has_else homes i j (some x.1) v (λ is. in_hand_alone c m i k b one small mine (rw (← is) seen) apart) has);
       }
 
   -- a get takes the index, and brings its slot
@@ -132,23 +139,25 @@ module _ {S : Type 0} (Lies : ℕ → S → List ℕ → Type 0) where
         room = length-set homes i maybe.none;
         stored =
             λ q z there full.
-              elim (entry_either m.cells r s (writes c (AtD4 r h) (word_at c m.cells r h)) (m.cells.entries.content r s) q z) [
-                | inl g ↦
-                    let marked = none_in-marked (ring_slots c) (cycle_in (ring_slots c) (word_at c m.cells r h)) (safe_in (ring_slots c) (word_at c m.cells r h)) (some_slots c) in
-                    let no = rw g.2 at full in absurd (cc)
-                | inr g ↦
-                    let old = rw g.1 at full in
-                    let apart : index_in (ring_slots c) (m.cells.entries.word q z) ≢ i =
-                    λ is. let both = entries_apart c m i r s q z one small low refl there is in g.0 both.0 both.1 in
-                    rw (g.1, g.2) (has_else homes i _ maybe.none _ apart (stored q z there old))
-              ];
+            elim (entry_either m.cells r s (writes c (AtD4 r h) (word_at c m.cells r h)) (m.cells.entries.content r s) q z) [
+              | inl g ↦
+                  let marked = none_in-marked (ring_slots c) (cycle_in (ring_slots c) (word_at c m.cells r h))
+                  (safe_in (ring_slots c) (word_at c m.cells r h)) (some_slots c) in
+                  let no = rw g.2 at full in absurd (cc)
+              | inr g ↦
+                  let old = rw g.1 at full in
+                  let apart : index_in (ring_slots c) (m.cells.entries.word q z) ≢ i =
+                  λ is. let both = entries_apart c m i r s q z one small low refl there is in g.0 both.0 both.1 in
+                  rw (g.1, g.2) (has_else homes i _ maybe.none _ apart (stored q z there old))
+            ];
         stays =
             λ j b v apart seen keeps_it.
-              has_else homes i j maybe.none v (λ is. hand_or_entry c m i b r s one small (rw (← is) seen) low refl) keeps_it;
+            has_else homes i j maybe.none v (λ is. hand_or_entry c m i b r s one small (rw (← is) seen) low refl) keeps_it;
       }
 
   -- a get that passes an entry by leaves its index and its content, or had none there
-  passes_by : (c : Setup) (m : Machine) (homes : List (maybe.Option S)) (slots : List (ℕ × S)) (k r h e : ℕ) → Stored Lies c m.cells.entries homes → word_at c m.cells r h ≡ e → Handles c m homes slots k (AtD5 r h e)
+  passes_by : (c : Setup) (m : Machine) (homes : List (maybe.Option S)) (slots : List (ℕ × S)) (k r h e : ℕ) → Stored Lies c m.cells.entries homes
+      → word_at c m.cells r h ≡ e → Handles c m homes slots k (AtD5 r h e)
   passes_by c m homes slots k r h e stored hit =
       let s = slot c h in
       let low = slot_of_small c.order h in
@@ -161,28 +170,32 @@ module _ {S : Type 0} (Lies : ℕ → S → List ℕ → Type 0) where
         room = refl;
         stored =
             λ q z there full.
-              elim (entry_either m.cells r s (writes c (AtD5 r h e) (word_at c m.cells r h)) (m.cells.entries.content r s) q z) [
-                | inl g ↦
-                    let now : is_none_in (ring_slots c) (passed c h e) ≡ false = rw (g.2, word) at full in
-                    elim (cases_Bool (is_none_in (ring_slots c) e)) [
-                      | inl none ↦
-                          let marked = none_in-marked (ring_slots c) (cycle c h) (safe_in (ring_slots c) e) (some_slots c) in
-                          let no = rw none at now in absurd (cc)
-                      | inr index ↦
-                          let is : index_in (ring_slots c) (passed c h e) ≡ index_in (ring_slots c) e = rw index (index_in-packed (ring_slots c) (cycle_in (ring_slots c) e) 0 (index_in (ring_slots c) e) (index_in_small (ring_slots c) e (some_slots c))) in
-                          let old : is_none_in (ring_slots c) (m.cells.entries.word r s) ≡ false = rw hit index in
-                          let st : Has Lies homes (index_in (ring_slots c) (word_at c m.cells r h)) (m.cells.entries.content r s) = stored r s low old in
-                          let here : Has Lies homes (index_in (ring_slots c) e) (m.cells.entries.content r s) = rw hit at st in
-                          rw (g.2, g.3, word, is) here
-                    ]
-                | inr g ↦ let old = rw g.1 at full in rw (g.1, g.2) (stored q z there old)
-              ];
+            elim (entry_either m.cells r s (writes c (AtD5 r h e) (word_at c m.cells r h)) (m.cells.entries.content r s) q z) [
+              | inl g ↦
+                  let now : is_none_in (ring_slots c) (passed c h e) ≡ false = rw (g.2, word) at full in
+                  elim (cases_Bool (is_none_in (ring_slots c) e)) [
+                    | inl none ↦
+                        let marked = none_in-marked (ring_slots c) (cycle c h) (safe_in (ring_slots c) e) (some_slots c) in
+                        let no = rw none at now in absurd (cc)
+                    | inr index ↦
+                        let is : index_in (ring_slots c) (passed c h e) ≡ index_in (ring_slots c) e =
+                        rw index (index_in-packed (ring_slots c) (cycle_in (ring_slots c) e) 0 (index_in (ring_slots c) e)
+                        (index_in_small (ring_slots c) e (some_slots c))) in
+                        let old : is_none_in (ring_slots c) (m.cells.entries.word r s) ≡ false = rw hit index in
+                        let st : Has Lies homes (index_in (ring_slots c) (word_at c m.cells r h)) (m.cells.entries.content r s) = stored r s low old in
+                        let here : Has Lies homes (index_in (ring_slots c) e) (m.cells.entries.content r s) = rw hit at st in
+                        rw (g.2, g.3, word, is) here
+                  ]
+              | inr g ↦ let old = rw g.1 at full in rw (g.1, g.2) (stored q z there old)
+            ];
         stays = λ i j w apart seen has. has;
       }
 
   -- each turn that a seat may make
-  pub handles : (c : Setup) (m : Machine) (homes : List (maybe.Option S)) (slots : List (ℕ × S)) (k : ℕ) (t : Phase) → OneHand c m → length homes ≡ n_of c.order → Stored Lies c m.cells.entries homes
-      → Busy c m.cells (m.part k).hand t → Carries Lies t slots → ((r h : ℕ) → t ≡ AtD4 r h → is_none_in (ring_slots c) (word_at c m.cells r h) ≡ false) → Handles c m homes slots k t
+  pub handles : (c : Setup) (m : Machine) (homes : List (maybe.Option S)) (slots : List (ℕ × S)) (k : ℕ) (t : Phase) → OneHand c m
+      → length homes ≡ n_of c.order → Stored Lies c m.cells.entries homes
+      → Busy c m.cells (m.part k).hand t → Carries Lies t slots → ((r h : ℕ) → t ≡ AtD4 r h → is_none_in (ring_slots c) (word_at c m.cells r h) ≡ false)
+      → Handles c m homes slots k t
   handles c m homes slots k Idle one room stored busy front stands =
       quiet c m homes slots k Idle stored refl refl
   handles c m homes slots k (AtE1 r i w l) one room stored busy front stands =
@@ -197,7 +210,8 @@ module _ {S : Type 0} (Lies : ℕ → S → List ℕ → Type 0) where
         | inl hit ↦ gives_home c m homes x xs k r i w t e one room stored busy front.0 front.1 hit
         | inr miss ↦
             let test : (word_at c m.cells r t == e) ≡ false = ne_eqb _ _ miss in
-            quiet c m homes (x ∷ xs) k (AtE4 r i w t e) stored (rw test (ap (λ (n : Cells). n.entries) (written_same m.cells (location_of c (AtE4 r i w t e))))) (rw test refl)
+            quiet c m homes (x ∷ xs) k (AtE4 r i w t e) stored
+            (rw test (ap (λ (n : Cells). n.entries) (written_same m.cells (location_of c (AtE4 r i w t e))))) (rw test refl)
       ]
   handles c m homes slots k (AtE5 r i w t) one room stored busy front stands =
       quiet c m homes slots k (AtE5 r i w t) stored refl refl

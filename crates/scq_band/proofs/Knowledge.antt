@@ -35,10 +35,12 @@ true_stays c m n r x up stay t =
       head = let le = up.head r in let ok = t.head in omega arith;
     }
 
-pub all_stay : (c : Setup) (m n : Machine) (numbers : List Numbers) → CountersRise m.cells n.cells → FinishedStay c m n → AllTrue c m numbers → AllTrue c n numbers
+pub all_stay : (c : Setup) (m n : Machine) (numbers : List Numbers) → CountersRise m.cells n.cells → FinishedStay c m n → AllTrue c m numbers
+    → AllTrue c n numbers
 all_stay c m n numbers up stay all r x e = true_stays c m n r x up stay (all r x e)
 
-set_read : {A : Type 0} → (xs : List A) (q r : ℕ) (a x : A) → slice_get (slice_set xs q a) r ≡ Some x → ((r ≡ q) × (q < length xs) × (x ≡ a)) ⊎ ((r ≢ q) × (slice_get xs r ≡ Some x))
+set_read : {A : Type 0} → (xs : List A) (q r : ℕ) (a x : A) → slice_get (slice_set xs q a) r ≡ Some x
+    → ((r ≡ q) × (q < length xs) × (x ≡ a)) ⊎ ((r ≢ q) × (slice_get xs r ≡ Some x))
 set_read [] q r a x e = absurd (cc)
 set_read (y ∷ ys) zero zero a x e = inl (refl, omega arith, cc)
 set_read (y ∷ ys) zero (suc r) a x e = inr ((λ h. omega arith), e)
@@ -55,7 +57,8 @@ read_known (x ∷ xs) zero low = refl
 read_known (x ∷ xs) (suc q) low = read_known xs q (omega arith)
 
 -- the numbers of one ring changed to ones that are true
-pub changed_true : (c : Setup) (m : Machine) (f : Numbers → Numbers) (q : ℕ) (numbers : List Numbers) → AllTrue c m numbers → ((x : Numbers) → IsTrue c m q x → IsTrue c m q (f x)) → AllTrue c m (changed f q numbers)
+pub changed_true : (c : Setup) (m : Machine) (f : Numbers → Numbers) (q : ℕ) (numbers : List Numbers) → AllTrue c m numbers
+    → ((x : Numbers) → IsTrue c m q x → IsTrue c m q (f x)) → AllTrue c m (changed f q numbers)
 changed_true c m f q numbers all new r x e =
     elim (set_read numbers q r (f (known_of numbers q)) x e) [
       | inl h ↦ rw (h.2, h.0) (new (known_of numbers q) (all q (known_of numbers q) (read_known numbers q h.1)))

@@ -23,7 +23,8 @@ use Rattle.scq_band.proofs.Knowledge.{AllTrue, FinishedStay, true_stays, all_sta
 
 module _ (c : Setup) (m : Machine) (k : ℕ) where
   -- a state in which Threshold is too low for a finished place at or past Head: what is known as finished is below it
-  low_threshold : (r : ℕ) (x : Numbers) → ThresholdCovers c m → ring_slots c ≤ m.cells.head r → m.cells.threshold r ≤ zero_level → IsTrue c m r x → x.finished + 1 ≤ m.cells.head r
+  low_threshold : (r : ℕ) (x : Numbers) → ThresholdCovers c m → ring_slots c ≤ m.cells.head r → m.cells.threshold r ≤ zero_level → IsTrue c m r x
+      → x.finished + 1 ≤ m.cells.head r
   low_threshold r x covers first low t =
       elim (t.finished) [
         | inl start ↦ omega arith
@@ -35,12 +36,14 @@ module _ (c : Setup) (m : Machine) (k : ℕ) where
       ]
 
   -- the numbers of the ring before the turn, changed to what is true already
-  told_before : (t : Phase) (f : Numbers → Numbers) (r : ℕ) (numbers : List Numbers) → CountersRise m.cells (moved c m k t).cells → FinishedStay c m (moved c m k t) → AllTrue c m numbers
+  told_before : (t : Phase) (f : Numbers → Numbers) (r : ℕ) (numbers : List Numbers) → CountersRise m.cells (moved c m k t).cells
+      → FinishedStay c m (moved c m k t) → AllTrue c m numbers
       → ((x : Numbers) → IsTrue c m r x → IsTrue c m r (f x)) → AllTrue c (moved c m k t) (changed f r numbers)
   told_before t f r numbers up stay all new =
       all_stay c m (moved c m k t) (changed f r numbers) up stay (changed_true c m f r numbers all new)
 
-  told_after : (t : Phase) (f : Numbers → Numbers) (r : ℕ) (numbers : List Numbers) → CountersRise m.cells (moved c m k t).cells → FinishedStay c m (moved c m k t) → AllTrue c m numbers
+  told_after : (t : Phase) (f : Numbers → Numbers) (r : ℕ) (numbers : List Numbers) → CountersRise m.cells (moved c m k t).cells
+      → FinishedStay c m (moved c m k t) → AllTrue c m numbers
       → ((x : Numbers) → IsTrue c (moved c m k t) r x → IsTrue c (moved c m k t) r (f x)) → AllTrue c (moved c m k t) (changed f r numbers)
   told_after t f r numbers up stay all new =
       changed_true c (moved c m k t) f r numbers (all_stay c m (moved c m k t) numbers up stay all) new
@@ -56,8 +59,10 @@ module _ (c : Setup) (m : Machine) (k : ℕ) where
   same_list : (n : Machine) (xs ys : List Numbers) → xs ≡ ys → AllTrue c n ys → AllTrue c n xs
   same_list n xs ys e all = subst (λ (z : List Numbers). AllTrue c n z) (sym e) all
 
-  pub learned_true : (t : Phase) (numbers : List Numbers) → Busy c m.cells (m.part k).hand t → CountersRise m.cells (moved c m k t).cells → FinishedStay c m (moved c m k t) → ThresholdCovers c m
-      → ((r : ℕ) → ring_slots c ≤ m.cells.head r) → ((r h : ℕ) → t ≡ AtD4 r h → h < m.cells.tail r) → AllTrue c m numbers → AllTrue c (moved c m k t) (learned c t (read m.cells (location_of c t)) numbers)
+  pub learned_true : (t : Phase) (numbers : List Numbers) → Busy c m.cells (m.part k).hand t → CountersRise m.cells (moved c m k t).cells
+      → FinishedStay c m (moved c m k t) → ThresholdCovers c m
+      → ((r : ℕ) → ring_slots c ≤ m.cells.head r) → ((r h : ℕ) → t ≡ AtD4 r h → h < m.cells.tail r) → AllTrue c m numbers
+      → AllTrue c (moved c m k t) (learned c t (read m.cells (location_of c t)) numbers)
   learned_true Idle numbers busy up stay covers first got all = all_stay c m _ numbers up stay all
   learned_true (AtE1 r i w l) numbers busy up stay covers first got all = all_stay c m _ numbers up stay all
   learned_true (AtE2 r i w t l) numbers busy up stay covers first got all = all_stay c m _ numbers up stay all
@@ -70,9 +75,11 @@ module _ (c : Setup) (m : Machine) (k : ℕ) where
             let le = up.tail r in
             let there : Contains ((moved c m k (AtE5 r i w t)).part k).calls (Done r t w) =
             rw (updated_here m.part k _) (rw ends_here (last_call (m.part k).calls (Done r t w))) in
-            same_list _ (learned c (AtE5 r i w t) (m.cells.threshold r) numbers) _ (rw ends_here refl) (told_after (AtE5 r i w t) (finishes t) r numbers up stay all
+            same_list _ (learned c (AtE5 r i w t) (m.cells.threshold r) numbers) _ (rw ends_here refl)
+            (told_after (AtE5 r i w t) (finishes t) r numbers up stay all
             (λ x h. finishes_true c (moved c m k (AtE5 r i w t)) r t x (done_by (AtE5 r i w t) r t w there) (omega arith) h))
-        | inr goes ↦ same_list _ (learned c (AtE5 r i w t) (m.cells.threshold r) numbers) _ (rw goes refl) (all_stay c m (moved c m k (AtE5 r i w t)) numbers up stay all)
+        | inr goes ↦ same_list _ (learned c (AtE5 r i w t) (m.cells.threshold r) numbers) _ (rw goes refl)
+            (all_stay c m (moved c m k (AtE5 r i w t)) numbers up stay all)
       ]
   learned_true (AtE6 r i w t) numbers busy up stay covers first got all =
       let low = busy.1.below in
@@ -114,7 +121,9 @@ module _ (c : Setup) (m : Machine) (k : ℕ) where
       elim (cases_Bool (nat_le (m.cells.threshold r) zero_level)) [
         | inl ends_here ↦
             let low = leb-true _ _ ends_here in
-            same_list _ (learned c (AtD10 r h false) (m.cells.threshold r) numbers) _ (rw ends_here refl) (told_before (AtD10 r h false) empties r numbers up stay all
+            same_list _ (learned c (AtD10 r h false) (m.cells.threshold r) numbers) _ (rw ends_here refl)
+            (told_before (AtD10 r h false) empties r numbers up stay all
             (λ x t. passes_true c m r (x.finished + 1) x (low_threshold r x covers (first r) low t) t))
-        | inr goes ↦ same_list _ (learned c (AtD10 r h false) (m.cells.threshold r) numbers) _ (rw goes refl) (all_stay c m (moved c m k (AtD10 r h false)) numbers up stay all)
+        | inr goes ↦ same_list _ (learned c (AtD10 r h false) (m.cells.threshold r) numbers) _ (rw goes refl)
+            (all_stay c m (moved c m k (AtD10 r h false)) numbers up stay all)
       ]

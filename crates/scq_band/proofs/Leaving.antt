@@ -17,11 +17,12 @@ use Rattle.scq_band.specs.Seats.{IsAlone, with_part, at_phase, seated, goes_to, 
 use Rattle.scq_band.proofs.Outcomes.{goes_as, turned_as}
 
 not_at_most : {a b : ℕ} → b < a → nat_le a b ≡ false
-not_at_most {a} {b} less = elim (cases_Bool (nat_le a b)) [ | inl holds ↦ absurd (let le = leb-true a b holds in omega arith) | inr fails ↦ fails ]
+not_at_most {a} {b} less = elim (cases_Bool (nat_le a b)) [ inl holds ↦ absurd (let le = leb-true a b holds in omega arith) | inr fails ↦ fails ]
 
 module _ {S : Type 0} (Lies : ℕ → S → List ℕ → Type 0) (c : Setup) (me later : Me S Known) (turn : Phase) (x r h : ℕ) where
   -- the view of a get that found Tail at most one past its ticket: it has learned that nothing was left, and is to lift Tail
-  pub saw_tail_low : turn ≡ AtD6 r h → IsAlone me.0 → x ≤ h + 1 → Turned Lies c turn me x later → later.0 ≡ seated (at_phase (AtD7 r h x (h + 1)) (my me.0)) (changed empties r me.0.numbers) me.0
+  pub saw_tail_low : turn ≡ AtD6 r h → IsAlone me.0 → x ≤ h + 1 → Turned Lies c turn me x later
+      → later.0 ≡ seated (at_phase (AtD7 r h x (h + 1)) (my me.0)) (changed empties r me.0.numbers) me.0
   saw_tail_low is alone low turned =
       goes_as Lies c turn (AtD6 r h) me later x (goes_on (AtD7 r h x (h + 1)) (my me.0).part) is alone (λ y. rw (le-leb x (h + 1) low) refl) turned
       ∙ ap (λ (ns : List Numbers). seated (with_part (goes_on (AtD7 r h x (h + 1)) (my me.0).part) (my me.0)) ns me.0) (rw (le-leb x (h + 1) low) refl)
@@ -55,18 +56,21 @@ module _ {S : Type 0} (Lies : ℕ → S → List ℕ → Type 0) (c : Setup) (me
   tail_rose from to is turned = (turned_as Lies c turn (AtD9 r h from to) me later x is turned).found
 
   -- a get that leaves ends with Nothing, with what it learned at Tail
-  pub left_over : (v : Known) → turn ≡ AtD10 r h true → IsAlone me.0 → me.0 ≡ seated (at_phase (AtD10 r h true) (my v)) (changed empties r v.numbers) v → Turned Lies c turn me x later → later.0 ≡ nothing_at r v
+  pub left_over : (v : Known) → turn ≡ AtD10 r h true → IsAlone me.0 → me.0 ≡ seated (at_phase (AtD10 r h true) (my v)) (changed empties r v.numbers) v
+      → Turned Lies c turn me x later → later.0 ≡ nothing_at r v
   left_over v is alone here turned =
       goes_as Lies c turn (AtD10 r h true) me later x (ends (Nothing r) (my me.0).part) is alone (λ y. refl) turned
       ∙ ap (λ (u : Known). seated (with_part (ends (Nothing r) (my u).part) (my u)) u.numbers u) here
 
-  pub ran_out : (v : Known) → turn ≡ AtD10 r h false → IsAlone me.0 → me.0 ≡ goes_to (AtD10 r h false) v → x ≤ zero_level → Turned Lies c turn me x later → later.0 ≡ nothing_at r v
+  pub ran_out : (v : Known) → turn ≡ AtD10 r h false → IsAlone me.0 → me.0 ≡ goes_to (AtD10 r h false) v → x ≤ zero_level → Turned Lies c turn me x later
+      → later.0 ≡ nothing_at r v
   ran_out v is alone here low turned =
       goes_as Lies c turn (AtD10 r h false) me later x (ends (Nothing r) (my me.0).part) is alone (λ y. rw (le-leb x zero_level low) refl) turned
       ∙ ap (λ (ns : List Numbers). seated (with_part (ends (Nothing r) (my me.0).part) (my me.0)) ns me.0) (rw (le-leb x zero_level low) refl)
       ∙ ap (nothing_at r) here
 
-  pub goes_round : (v : Known) → turn ≡ AtD10 r h false → IsAlone me.0 → me.0 ≡ goes_to (AtD10 r h false) v → zero_level < x → Turned Lies c turn me x later → later.0 ≡ goes_to (AtD2 r (h + 1)) v
+  pub goes_round : (v : Known) → turn ≡ AtD10 r h false → IsAlone me.0 → me.0 ≡ goes_to (AtD10 r h false) v → zero_level < x → Turned Lies c turn me x later
+      → later.0 ≡ goes_to (AtD2 r (h + 1)) v
   goes_round v is alone here high turned =
       goes_as Lies c turn (AtD10 r h false) me later x (goes_on (AtD2 r (h + 1)) (my me.0).part) is alone (λ y. rw (not_at_most high) refl) turned
       ∙ ap (λ (ns : List Numbers). seated (with_part (goes_on (AtD2 r (h + 1)) (my me.0).part) (my me.0)) ns me.0) (rw (not_at_most high) refl)

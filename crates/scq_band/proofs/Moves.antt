@@ -61,8 +61,7 @@ module _ {S : Type 0} (Lies : ℕ → S → List ℕ → Type 0) where
   owns_else c z homes homes' id j k t mine apart stays [] owns = tt
   owns_else c z homes homes' id j k t mine apart stays (x ∷ xs) owns =
       let x_is = owns.0 in
-      let other : x.number ≢ k = λ e. let both = sym x_is.owner ∙ ap z.owner e ∙ mine in apart (ap (λ (q : ℕ × ℕ). q.0) both) in
-      (
+      let other : x.number ≢ k = λ e. let both = sym x_is.owner ∙ ap z.owner e ∙ mine in apart (ap (λ (q : ℕ × ℕ). q.0) both) in (
         record {
           low = x_is.low;
           owner = x_is.owner;
@@ -70,32 +69,35 @@ module _ {S : Type 0} (Lies : ℕ → S → List ℕ → Type 0) where
           gone = x_is.gone;
           brought =
               λ i there.
-                let b = x_is.brought i there in
-                (b.0, (b.1.0, stays i x.number b.1.0 other (rw x_is.part b.0) b.1.1));
+              let b = x_is.brought i there in
+              (b.0, (b.1.0, stays i x.number b.1.0 other (rw x_is.part b.0) b.1.1));
         },
         owns_else c z homes homes' id j k t mine apart stays xs owns.1,
       )
 
   -- the seat's own, after its turn
   owns_own : (c : Setup) (z : Scene) (homes homes' : List (maybe.Option S)) (id : ℕ) (t : Phase) (x : Member) → x.home ≡ [] → IsMember Lies c z homes id 0 x
-      → Owns Lies c (record z { state = moved c z.state x.number t }) homes' id (turned_member c t (read z.state.cells (location_of c t)) (beside z.state.cells (location_of c t)) x ∷ [])
-  owns_own c z homes homes' id t x none x_is =
-      (
-        record {
-          low = x_is.low;
-          owner = x_is.owner;
-          part = updated_here z.state.part x.number _ ∙ ap (after c t (read z.state.cells (location_of c t)) (beside z.state.cells (location_of c t))) x_is.part;
-          gone = x_is.gone;
-          brought = λ i there. let e : Contains [] i = subst (λ (l : List ℕ). Contains l i) none there in absurd (omega (arith, e.1));
-        },
-        tt,
-      )
+      → Owns Lies c (record z { state = moved c z.state x.number t }) homes' id
+      (turned_member c t (read z.state.cells (location_of c t)) (beside z.state.cells (location_of c t)) x ∷ [])
+  owns_own c z homes homes' id t x none x_is = (
+    record {
+      low = x_is.low;
+      owner = x_is.owner;
+      part = updated_here z.state.part x.number _
+          ∙ ap (after c t (read z.state.cells (location_of c t)) (beside z.state.cells (location_of c t))) x_is.part;
+      gone = x_is.gone;
+      brought = λ i there. let e : Contains [] i = subst (λ (l : List ℕ). Contains l i) none there in absurd (omega (arith, e.1));
+    },
+    tt,
+  )
 
   -- the rule after the turn
-  moved_shown : (c : Setup) (s : State S Known) (id : ℕ) (me : Me S Known) (t : Phase) (may : MayTurn c me.0 t) (sh : Shown Lies c s) → get_elem? s.views id ≡ some me.0
+  moved_shown : (c : Setup) (s : State S Known) (id : ℕ) (me : Me S Known) (t : Phase) (may : MayTurn c me.0 t) (sh : Shown Lies c s)
+      → get_elem? s.views id ≡ some me.0
       → IsMember Lies c sh.scene s.homes id 0 may.member → Ground c sh.scene.state may.member.number t
       → (h : Handles Lies c sh.scene.state s.homes me.1 may.member.number t)
-      → Shown Lies c (stepped s (at c (location_of c t)) (writes c t (read sh.scene.state.cells (location_of c t))) id me.1 (made c t (read sh.scene.state.cells (location_of c t)) (beside sh.scene.state.cells (location_of c t)) me.0) h.act)
+      → Shown Lies c (stepped s (at c (location_of c t)) (writes c t (read sh.scene.state.cells (location_of c t))) id me.1
+      (made c t (read sh.scene.state.cells (location_of c t)) (beside sh.scene.state.cells (location_of c t)) me.0) h.act)
   moved_shown c s id me t may sh here x_is g h =
       let m = sh.scene.state in
       let k = may.member.number in
@@ -109,32 +111,38 @@ module _ {S : Type 0} (Lies : ℕ → S → List ℕ → Type 0) where
         room = h.room ∙ sh.room;
         views =
             λ j v e.
-              elim (at_set s.views id j (made c t (read m.cells l) (beside m.cells l) me.0) v e) [
-                | inl same ↦
-                    let mine = sh.views id me.0 here in
-                    let view : IsView Lies c (record sh.scene { state = moved c m k t }) (homes_after s.homes me.1 h.act) (slice_index s.words 0) id (made c t (read m.cells l) (beside m.cells l) me.0) =
-                    record {
-                      seats =
-                          subst (λ (xs : List Member). Owns Lies c (record sh.scene { state = moved c m k t }) (homes_after s.homes me.1 h.act) id (map (turned_member c t (read m.cells l) (beside m.cells l)) xs)) (sym may.alone)
-                          (owns_own c sh.scene s.homes (homes_after s.homes me.1 h.act) id t may.member may.out x_is);
-                      numbers = learned_true c m k t me.0.numbers g.busy g.up g.stay g.covers g.first g.got mine.numbers;
-                      last_gate = mine.last_gate;
-                    } in
-                    rw (gate, same.0) (subst (λ (u : Known). IsView Lies c (record sh.scene { state = moved c m k t }) (homes_after s.homes me.1 h.act) (slice_index s.words 0) id u) same.1 view)
-                | inr other ↦
-                    let old = sh.views j v other.1 in
-                    rw gate (record {
-                      seats = owns_else c sh.scene s.homes (homes_after s.homes me.1 h.act) id j k t x_is.owner other.0 h.stays v.seats old.seats;
-                      numbers = all_stay c m (moved c m k t) v.numbers g.up g.stay old.numbers;
-                      last_gate = old.last_gate;
-                    })
-              ];
+            elim (at_set s.views id j (made c t (read m.cells l) (beside m.cells l) me.0) v e) [
+              | inl same ↦
+                  let mine = sh.views id me.0 here in
+                  let view : IsView Lies c (record sh.scene { state = moved c m k t }) (homes_after s.homes me.1 h.act) (slice_index s.words 0) id
+                  (made c t (read m.cells l) (beside m.cells l) me.0) =
+                  record {
+                    seats =
+                        subst (λ (xs : List Member). Owns Lies c (record sh.scene { state = moved c m k t }) (homes_after s.homes me.1 h.act) id
+                        (map (turned_member c t (read m.cells l) (beside m.cells l)) xs)) (sym may.alone)
+                        (owns_own c sh.scene s.homes (homes_after s.homes me.1 h.act) id t may.member may.out x_is);
+                    numbers = learned_true c m k t me.0.numbers g.busy g.up g.stay g.covers g.first g.got mine.numbers;
+                    last_gate = mine.last_gate;
+                  } in
+                  rw (gate, same.0) (subst
+                  (λ (u : Known). IsView Lies c (record sh.scene { state = moved c m k t }) (homes_after s.homes me.1 h.act) (slice_index s.words 0) id
+                  u) same.1 view)
+              | inr other ↦
+                  let old = sh.views j v other.1 in
+                  rw gate (record {
+                    seats = owns_else c sh.scene s.homes (homes_after s.homes me.1 h.act) id j k t x_is.owner other.0 h.stays v.seats old.seats;
+                    numbers = all_stay c m (moved c m k t) v.numbers g.up g.stay old.numbers;
+                    last_gate = old.last_gate;
+                  })
+            ];
         stored = h.stored;
       }
 
   -- a turn may be made, whatever the table is when its word changes
-  pub moves : (c : Setup) (slots id : ℕ) (me : Me S Known) (t : Phase) (i : ℕ) (f : ℕ → ℕ) (may : MayTurn c me.0 t) → Carries Lies t me.1 → i ≡ at c (location_of c t)
-      → ((m : Machine) → IsReachable c m → Busy c m.cells may.member.part.hand t → f (read m.cells (location_of c t)) ≡ writes c t (read m.cells (location_of c t)))
+  pub moves : (c : Setup) (slots id : ℕ) (me : Me S Known) (t : Phase) (i : ℕ) (f : ℕ → ℕ) (may : MayTurn c me.0 t) → Carries Lies t me.1
+      → i ≡ at c (location_of c t)
+      → ((m : Machine) → IsReachable c m → Busy c m.cells may.member.part.hand t
+      → f (read m.cells (location_of c t)) ≡ writes c t (read m.cells (location_of c t)))
       → ((m : Machine) (k : ℕ) (s : Step) → IsReachable c m → k < c.seats → turn_of c (m.part k) s ≡ Some t → Ground c m k t)
       → Allows (Shown Lies c) slots id me i f (Turned Lies c t me)
   moves c slots id me t i f may carries word does grounds s sh many here small =

@@ -119,14 +119,16 @@ exchange_says c (AtD9 r h from to) x old new is = absurd is
 exchange_says c (AtD10 r h leaving) x old new is = absurd is
 
 -- a reset tells nothing of what it found
-pub reset_tells : {S : Type 0} (Lies : ℕ → S → List ℕ → Type 0) (c : Setup) (t : Phase) (me later : Me S Known) (x y : ℕ) → IsReset t → Turned Lies c t me x later → Turned Lies c t me y later
+pub reset_tells : {S : Type 0} (Lies : ℕ → S → List ℕ → Type 0) (c : Setup) (t : Phase) (me later : Me S Known) (x y : ℕ) → IsReset t
+    → Turned Lies c t me x later → Turned Lies c t me y later
 reset_tells Lies c Idle me later x y is told = absurd is
 reset_tells Lies c (AtE1 r i w l) me later x y is told = absurd is
 reset_tells Lies c (AtE2 r i w t l) me later x y is told = absurd is
 reset_tells Lies c (AtE3 r i w t e) me later x y is told = absurd is
 reset_tells Lies c (AtE4 r i w t e) me later x y is told = absurd is
 reset_tells Lies c (AtE5 r i w t) me later x y is told = absurd is
-reset_tells Lies c (AtE6 r i w t) me later x y is told = record { beside = told.beside; view = told.view; slots = told.slots; found = tt; ready = tt; draws = tt }
+reset_tells Lies c (AtE6 r i w t) me later x y is told =
+    record { beside = told.beside; view = told.view; slots = told.slots; found = tt; ready = tt; draws = tt }
 reset_tells Lies c (AtD1 r) me later x y is told = absurd is
 reset_tells Lies c (AtD2 r l) me later x y is told = absurd is
 reset_tells Lies c (AtD3 r h l) me later x y is told = absurd is
@@ -221,7 +223,8 @@ less_one x some small =
     let e : x + (2 ^ 64 - 1) ≡ (x - 1) + 1 * 2 ^ 64 = omega arith in
     ap (λ n. n % 2 ^ 64) e ∙ add-mul-mod_self_right (x - 1) 1 (2 ^ 64) ∙ mod-eq_of_lt (omega arith)
 
-pub count_says : (c : Setup) (m : Cells) (t : Phase) → WordsFit c m → IsCount t → (read m (location_of c t) + (2 ^ 64 - 1)) % 2 ^ 64 ≡ writes c t (read m (location_of c t))
+pub count_says : (c : Setup) (m : Cells) (t : Phase) → WordsFit c m → IsCount t
+    → (read m (location_of c t) + (2 ^ 64 - 1)) % 2 ^ 64 ≡ writes c t (read m (location_of c t))
 count_says c m Idle fit is = absurd is
 count_says c m (AtE1 r i w l) fit is = absurd is
 count_says c m (AtE2 r i w t l) fit is = absurd is

@@ -13,27 +13,33 @@ use Rattle.scq_band.specs.Steps.{my, my_phase, loading, load_turn}
 use Rattle.scq_band.specs.Turns.{MayTurn, Turned, made, learned, turned_member}
 use Rattle.scq_band.specs.Seats.{IsAlone, with_part, at_phase, goes_to, seated}
 
-made_alone : (c : Setup) (t : Phase) (x : ℕ) (y : List ℕ) (v : Known) → v.seats ≡ my v ∷ [] → made c t x y v ≡ seated (turned_member c t x y (my v)) (learned c t x v.numbers) v
+made_alone : (c : Setup) (t : Phase) (x : ℕ) (y : List ℕ) (v : Known) → v.seats ≡ my v ∷ []
+    → made c t x y v ≡ seated (turned_member c t x y (my v)) (learned c t x v.numbers) v
 made_alone c t x y v alone = ap (λ (xs : List Member). record v { seats = map (turned_member c t x y) xs; numbers = learned c t x v.numbers }) alone
 
 -- the seat's part becomes what the table says, and its numbers what the turn tells
-pub goes : {S : Type 0} (Lies : ℕ → S → List ℕ → Type 0) (c : Setup) (t : Phase) (me later : Me S Known) (x : ℕ) (q : Part) → IsAlone me.0 → ((y : List ℕ) → after c t x y (my me.0).part ≡ q)
+pub goes : {S : Type 0} (Lies : ℕ → S → List ℕ → Type 0) (c : Setup) (t : Phase) (me later : Me S Known) (x : ℕ) (q : Part) → IsAlone me.0
+    → ((y : List ℕ) → after c t x y (my me.0).part ≡ q)
     → Turned Lies c t me x later → later.0 ≡ seated (with_part q (my me.0)) (learned c t x me.0.numbers) me.0
 goes Lies c t me later x q alone is turned =
-    turned.view ∙ made_alone c t x turned.beside me.0 alone.seats ∙ ap (λ (p : Part). seated (with_part p (my me.0)) (learned c t x me.0.numbers) me.0) (is turned.beside)
+    turned.view ∙ made_alone c t x turned.beside me.0 alone.seats
+    ∙ ap (λ (p : Part). seated (with_part p (my me.0)) (learned c t x me.0.numbers) me.0) (is turned.beside)
 
 -- the same, of a turn that is known by an equation
-pub goes_as : {S : Type 0} (Lies : ℕ → S → List ℕ → Type 0) (c : Setup) (t u : Phase) (me later : Me S Known) (x : ℕ) (q : Part) → t ≡ u → IsAlone me.0 → ((y : List ℕ) → after c u x y (my me.0).part ≡ q)
+pub goes_as : {S : Type 0} (Lies : ℕ → S → List ℕ → Type 0) (c : Setup) (t u : Phase) (me later : Me S Known) (x : ℕ) (q : Part) → t ≡ u → IsAlone me.0
+    → ((y : List ℕ) → after c u x y (my me.0).part ≡ q)
     → Turned Lies c t me x later → later.0 ≡ seated (with_part q (my me.0)) (learned c u x me.0.numbers) me.0
 goes_as Lies c t u me later x q same alone is turned =
     goes Lies c u me later x q alone is (subst (λ (z : Phase). Turned Lies c z me x later) same turned)
 
 -- what a turn that is known by an equation tells besides
-pub turned_as : {S : Type 0} (Lies : ℕ → S → List ℕ → Type 0) (c : Setup) (t u : Phase) (me later : Me S Known) (x : ℕ) → t ≡ u → Turned Lies c t me x later → Turned Lies c u me x later
+pub turned_as : {S : Type 0} (Lies : ℕ → S → List ℕ → Type 0) (c : Setup) (t u : Phase) (me later : Me S Known) (x : ℕ) → t ≡ u → Turned Lies c t me x later
+    → Turned Lies c u me x later
 turned_as Lies c t u me later x same turned = subst (λ (z : Phase). Turned Lies c z me x later) same turned
 
 -- a seat that stands alone may make the turn of its phase
-pub may_go : (c : Setup) (v : Known) (t : Phase) (s : Step) → IsAlone v → my_phase v ≡ t → turn_at c (my v).part.hand (my v).part.spent t s ≡ Some t → MayTurn c v t
+pub may_go : (c : Setup) (v : Known) (t : Phase) (s : Step) → IsAlone v → my_phase v ≡ t → turn_at c (my v).part.hand (my v).part.spent t s ≡ Some t
+    → MayTurn c v t
 may_go c v t s alone phase able =
     record {
       member = my v;
@@ -44,7 +50,8 @@ may_go c v t s alone phase able =
     }
 
 -- and by a load, where its phase is a turn that only reads
-pub may_load : (c : Setup) (v : Known) (word : ℕ) (t : Phase) (s : Step) → IsAlone v → my_phase v ≡ t → loading (ring_of_word c word) t ≡ t → turn_at c (my v).part.hand (my v).part.spent t s ≡ Some t → MayTurn c v (load_turn c word v)
+pub may_load : (c : Setup) (v : Known) (word : ℕ) (t : Phase) (s : Step) → IsAlone v → my_phase v ≡ t → loading (ring_of_word c word) t ≡ t
+    → turn_at c (my v).part.hand (my v).part.spent t s ≡ Some t → MayTurn c v (load_turn c word v)
 may_load c v word t s alone phase reads able =
     subst (λ (u : Phase). MayTurn c v u) (sym (ap (loading (ring_of_word c word)) phase ∙ reads)) (may_go c v t s alone phase able)
 
@@ -64,5 +71,6 @@ alone_at v later t alone is = alone_seated v later (at_phase t (my v)) v.numbers
 pub then_goes : (v w later : Known) (t u : Phase) → w ≡ goes_to t v → later ≡ goes_to u w → later ≡ goes_to u v
 then_goes v w later t u first next = next ∙ ap (goes_to u) first
 
-pub may_phase : (c : Setup) (v : Known) (t : Phase) (s : Step) → IsAlone v → my_phase v ≡ t → turn_at c (my v).part.hand (my v).part.spent t s ≡ Some t → MayTurn c v (my_phase v)
+pub may_phase : (c : Setup) (v : Known) (t : Phase) (s : Step) → IsAlone v → my_phase v ≡ t → turn_at c (my v).part.hand (my v).part.spent t s ≡ Some t
+    → MayTurn c v (my_phase v)
 may_phase c v t s alone phase able = subst (λ (u : Phase). MayTurn c v u) (sym phase) (may_go c v t s alone phase able)

@@ -22,11 +22,14 @@ use Rattle.scq_band.proofs.Outcomes.{goes_as, turned_as}
 module _ {S : Type 0} (Lies : ℕ → S → List ℕ → Type 0) (c : Setup) (me later : Me S Known) (turn : Phase) (x r i : ℕ) (w : List ℕ) (t e : ℕ) where
   pub saw_placed : turn ≡ AtE4 r i w t e → IsAlone me.0 → x ≡ e → Turned Lies c turn me x later → later.0 ≡ placed_to r i w t me.0
   saw_placed is alone hit turned =
-      goes_as Lies c turn (AtE4 r i w t e) me later x (goes_on (AtE5 r i w t) (record (my me.0).part { hand = hand_without i (my me.0).part.hand })) is alone (λ y. rw (eq-eqb x e hit) refl) turned
+      goes_as Lies c turn (AtE4 r i w t e) me later x (goes_on (AtE5 r i w t) (record (my me.0).part { hand = hand_without i (my me.0).part.hand })) is alone
+      (λ y. rw (eq-eqb x e hit) refl) turned
 
-  pub saw_missed : turn ≡ AtE4 r i w t e → IsAlone me.0 → x ≢ e → Turned Lies c turn me x later → later.0 ≡ goes_to (AtE2 r i w t (rank_in (ring_slots c) x)) me.0
+  pub saw_missed : turn ≡ AtE4 r i w t e → IsAlone me.0 → x ≢ e → Turned Lies c turn me x later
+      → later.0 ≡ goes_to (AtE2 r i w t (rank_in (ring_slots c) x)) me.0
   saw_missed is alone miss turned =
-      goes_as Lies c turn (AtE4 r i w t e) me later x (goes_on (AtE2 r i w t (rank_in (ring_slots c) x)) (my me.0).part) is alone (λ y. rw (ne_eqb x e miss) refl) turned
+      goes_as Lies c turn (AtE4 r i w t e) me later x (goes_on (AtE2 r i w t (rank_in (ring_slots c) x)) (my me.0).part) is alone
+      (λ y. rw (ne_eqb x e miss) refl) turned
 
   pub slots_placed : turn ≡ AtE4 r i w t e → x ≡ e → Turned Lies c turn me x later → later.1 ≡ rest me.1
   slots_placed is hit turned = let u = turned_as Lies c turn (AtE4 r i w t e) me later x is turned in u.slots ∙ rw (eq-eqb x e hit) refl

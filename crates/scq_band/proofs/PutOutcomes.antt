@@ -24,23 +24,28 @@ abbrev pub takes_an_index : Setup → ℕ → ℕ → Bool
 takes_an_index c t x = nat_lt (cycle_in (ring_slots c) x) (cycle c t) && is_none_in (ring_slots c) x
 
 module _ {S : Type 0} (Lies : ℕ → S → List ℕ → Type 0) (c : Setup) (me later : Me S Known) (turn : Phase) (x r i : ℕ) (w : List ℕ) where
-  pub saw_passed : (t l : ℕ) → turn ≡ AtE2 r i w t l → IsAlone me.0 → takes_an_index c t x ≡ false → Turned Lies c turn me x later → later.0 ≡ goes_to (AtE1 r i w (t + 1)) me.0
+  pub saw_passed : (t l : ℕ) → turn ≡ AtE2 r i w t l → IsAlone me.0 → takes_an_index c t x ≡ false → Turned Lies c turn me x later
+      → later.0 ≡ goes_to (AtE1 r i w (t + 1)) me.0
   saw_passed t l is alone fails turned =
       goes_as Lies c turn (AtE2 r i w t l) me later x (goes_on (AtE1 r i w (t + 1)) (my me.0).part) is alone (λ y. rw fails refl) turned
 
-  pub saw_room : (t l : ℕ) → turn ≡ AtE2 r i w t l → IsAlone me.0 → takes_an_index c t x ≡ true → (safe_in (ring_slots c) x == 1) ≡ true → Turned Lies c turn me x later → later.0 ≡ goes_to (AtE4 r i w t x) me.0
+  pub saw_room : (t l : ℕ) → turn ≡ AtE2 r i w t l → IsAlone me.0 → takes_an_index c t x ≡ true → (safe_in (ring_slots c) x == 1) ≡ true
+      → Turned Lies c turn me x later → later.0 ≡ goes_to (AtE4 r i w t x) me.0
   saw_room t l is alone does safe turned =
       goes_as Lies c turn (AtE2 r i w t l) me later x (goes_on (AtE4 r i w t x) (my me.0).part) is alone (λ y. rw (does, safe) refl) turned
 
-  pub saw_unsafe : (t l : ℕ) → turn ≡ AtE2 r i w t l → IsAlone me.0 → takes_an_index c t x ≡ true → (safe_in (ring_slots c) x == 1) ≡ false → Turned Lies c turn me x later → later.0 ≡ goes_to (AtE3 r i w t x) me.0
+  pub saw_unsafe : (t l : ℕ) → turn ≡ AtE2 r i w t l → IsAlone me.0 → takes_an_index c t x ≡ true → (safe_in (ring_slots c) x == 1) ≡ false
+      → Turned Lies c turn me x later → later.0 ≡ goes_to (AtE3 r i w t x) me.0
   saw_unsafe t l is alone does unsafe turned =
       goes_as Lies c turn (AtE2 r i w t l) me later x (goes_on (AtE3 r i w t x) (my me.0).part) is alone (λ y. rw (does, unsafe) refl) turned
 
-  pub saw_head_past : (t e : ℕ) → turn ≡ AtE3 r i w t e → IsAlone me.0 → nat_le x t ≡ false → Turned Lies c turn me x later → later.0 ≡ goes_to (AtE1 r i w (t + 1)) me.0
+  pub saw_head_past : (t e : ℕ) → turn ≡ AtE3 r i w t e → IsAlone me.0 → nat_le x t ≡ false → Turned Lies c turn me x later
+      → later.0 ≡ goes_to (AtE1 r i w (t + 1)) me.0
   saw_head_past t e is alone fails turned =
       goes_as Lies c turn (AtE3 r i w t e) me later x (goes_on (AtE1 r i w (t + 1)) (my me.0).part) is alone (λ y. rw fails refl) turned
 
-  pub saw_head_low : (t e : ℕ) → turn ≡ AtE3 r i w t e → IsAlone me.0 → nat_le x t ≡ true → Turned Lies c turn me x later → later.0 ≡ goes_to (AtE4 r i w t e) me.0
+  pub saw_head_low : (t e : ℕ) → turn ≡ AtE3 r i w t e → IsAlone me.0 → nat_le x t ≡ true → Turned Lies c turn me x later
+      → later.0 ≡ goes_to (AtE4 r i w t e) me.0
   saw_head_low t e is alone holds turned =
       goes_as Lies c turn (AtE3 r i w t e) me later x (goes_on (AtE4 r i w t e) (my me.0).part) is alone (λ y. rw holds refl) turned
 
@@ -52,7 +57,8 @@ unset_index order x unset =
       | inr fails ↦ let full : ◌≡◌ {A = Bool} true false = rw fails at unset in absurd (cc)
     ]
 
-pub takes_one : (c : Setup) (order t x cyc : ℕ) (entry : Entry) → order ≡ c.order → entry ≡ entry_in order x → cyc ≡ cycle_of (slots_of order) t → entry.cycle < cyc → is_some entry.index ≡ false → takes_an_index c t x ≡ true
+pub takes_one : (c : Setup) (order t x cyc : ℕ) (entry : Entry) → order ≡ c.order → entry ≡ entry_in order x → cyc ≡ cycle_of (slots_of order) t
+    → entry.cycle < cyc → is_some entry.index ≡ false → takes_an_index c t x ≡ true
 takes_one c order t x cyc entry same is drawn low unset =
     let a : entry.cycle ≡ cycle_in (slots_of order) x = ap (λ (e : Entry). e.cycle) is in
     let here : cycle_in (slots_of order) x < cycle_of (slots_of order) t = omega (arith, low, a, drawn) in
@@ -60,6 +66,7 @@ takes_one c order t x cyc entry same is drawn low unset =
     subst (λ (o : ℕ). (nat_lt (cycle_in (slots_of o) x) (cycle_of (slots_of o) t) && is_none_in (slots_of o) x) ≡ true) same
     (both_true (lt-ltb _ _ here) (unset_index order x index))
 
-pub is_unsafe : (c : Setup) (order x : ℕ) (entry : Entry) → order ≡ c.order → entry ≡ entry_in order x → entry.safe ≡ false → (safe_in (ring_slots c) x == 1) ≡ false
+pub is_unsafe : (c : Setup) (order x : ℕ) (entry : Entry) → order ≡ c.order → entry ≡ entry_in order x → entry.safe ≡ false
+    → (safe_in (ring_slots c) x == 1) ≡ false
 is_unsafe c order x entry same is unsafe =
     subst (λ (o : ℕ). (safe_in (slots_of o) x == 1) ≡ false) same (sym (ap (λ (e : Entry). e.safe) is) ∙ unsafe)

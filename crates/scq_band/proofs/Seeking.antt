@@ -26,29 +26,36 @@ apart_high : {a b : ℕ} → b < a → a ≢ b
 apart_high less e = absurd (omega arith)
 
 module _ {S : Type 0} (Lies : ℕ → S → List ℕ → Type 0) (c : Setup) (me later : Me S Known) (turn : Phase) (x r h : ℕ) where
-  pub saw_own_cycle : (l : ℕ) → turn ≡ AtD3 r h l → IsAlone me.0 → cycle_in (ring_slots c) x ≡ cycle c h → Turned Lies c turn me x later → later.0 ≡ goes_to (AtD4 r h) me.0
+  pub saw_own_cycle : (l : ℕ) → turn ≡ AtD3 r h l → IsAlone me.0 → cycle_in (ring_slots c) x ≡ cycle c h → Turned Lies c turn me x later
+      → later.0 ≡ goes_to (AtD4 r h) me.0
   saw_own_cycle l is alone same turned =
       goes_as Lies c turn (AtD3 r h l) me later x (goes_on (AtD4 r h) (my me.0).part) is alone (λ y. rw (eq-eqb _ _ same) refl) turned
 
-  pub saw_earlier : (l : ℕ) → turn ≡ AtD3 r h l → IsAlone me.0 → cycle_in (ring_slots c) x < cycle c h → Turned Lies c turn me x later → later.0 ≡ goes_to (AtD5 r h x) me.0
+  pub saw_earlier : (l : ℕ) → turn ≡ AtD3 r h l → IsAlone me.0 → cycle_in (ring_slots c) x < cycle c h → Turned Lies c turn me x later
+      → later.0 ≡ goes_to (AtD5 r h x) me.0
   saw_earlier l is alone low turned =
-      goes_as Lies c turn (AtD3 r h l) me later x (goes_on (AtD5 r h x) (my me.0).part) is alone (λ y. rw (ne_eqb _ _ (apart_low low), lt-ltb _ _ low) refl) turned
+      goes_as Lies c turn (AtD3 r h l) me later x (goes_on (AtD5 r h x) (my me.0).part) is alone (λ y. rw (ne_eqb _ _ (apart_low low), lt-ltb _ _ low) refl)
+      turned
 
-  pub saw_later : (l : ℕ) → turn ≡ AtD3 r h l → IsAlone me.0 → cycle c h < cycle_in (ring_slots c) x → Turned Lies c turn me x later → later.0 ≡ goes_to (AtD6 r h) me.0
+  pub saw_later : (l : ℕ) → turn ≡ AtD3 r h l → IsAlone me.0 → cycle c h < cycle_in (ring_slots c) x → Turned Lies c turn me x later
+      → later.0 ≡ goes_to (AtD6 r h) me.0
   saw_later l is alone high turned =
       goes_as Lies c turn (AtD3 r h l) me later x (goes_on (AtD6 r h) (my me.0).part) is alone (λ y. rw (ne_eqb _ _ (apart_high high), not_less) refl) turned
     where
       not_less : nat_lt (cycle_in (ring_slots c) x) (cycle c h) ≡ false
       not_less =
-          elim (cases_Bool (nat_lt (cycle_in (ring_slots c) x) (cycle c h))) [ | inl holds ↦ absurd (let lt = ltb-true _ _ holds in omega arith) | inr fails ↦ fails ]
+          elim (cases_Bool (nat_lt (cycle_in (ring_slots c) x) (cycle c h)))
+          [ inl holds ↦ absurd (let lt = ltb-true _ _ holds in omega arith) | inr fails ↦ fails ]
 
   pub passed_hit : (e : ℕ) → turn ≡ AtD5 r h e → IsAlone me.0 → x ≡ e → Turned Lies c turn me x later → later.0 ≡ goes_to (AtD6 r h) me.0
   passed_hit e is alone hit turned =
       goes_as Lies c turn (AtD5 r h e) me later x (goes_on (AtD6 r h) (my me.0).part) is alone (λ y. rw (eq-eqb x e hit) refl) turned
 
-  pub passed_missed : (e : ℕ) → turn ≡ AtD5 r h e → IsAlone me.0 → x ≢ e → Turned Lies c turn me x later → later.0 ≡ goes_to (AtD3 r h (rank_in (ring_slots c) x)) me.0
+  pub passed_missed : (e : ℕ) → turn ≡ AtD5 r h e → IsAlone me.0 → x ≢ e → Turned Lies c turn me x later
+      → later.0 ≡ goes_to (AtD3 r h (rank_in (ring_slots c) x)) me.0
   passed_missed e is alone miss turned =
-      goes_as Lies c turn (AtD5 r h e) me later x (goes_on (AtD3 r h (rank_in (ring_slots c) x)) (my me.0).part) is alone (λ y. rw (ne_eqb x e miss) refl) turned
+      goes_as Lies c turn (AtD5 r h e) me later x (goes_on (AtD3 r h (rank_in (ring_slots c) x)) (my me.0).part) is alone (λ y. rw (ne_eqb x e miss) refl)
+      turned
 
   pub passed_rises : (e : ℕ) → turn ≡ AtD5 r h e → x ≢ e → Turned Lies c turn me x later → rank_in (ring_slots c) e < rank_in (ring_slots c) x
   passed_rises e is miss turned =
@@ -60,7 +67,8 @@ module _ {S : Type 0} (Lies : ℕ → S → List ℕ → Type 0) (c : Setup) (me
       higher (inr up) = up
 
   -- what a get that takes has
-  pub took : (v : Known) (slots : List (ℕ × S)) → turn ≡ AtD4 r h → IsAlone v → me.0 ≡ goes_to (AtD4 r h) v → me.1 ≡ slots → Turned Lies c turn me x later → HasGot Lies r h (index_in (ring_slots c) x) (v, slots) later
+  pub took : (v : Known) (slots : List (ℕ × S)) → turn ≡ AtD4 r h → IsAlone v → me.0 ≡ goes_to (AtD4 r h) v → me.1 ≡ slots → Turned Lies c turn me x later
+      → HasGot Lies r h (index_in (ring_slots c) x) (v, slots) later
   took v slots is alone went same turned =
       let u = turned_as Lies c turn (AtD4 r h) me later x is turned in
       record {
@@ -73,8 +81,10 @@ module _ {S : Type 0} (Lies : ℕ → S → List ℕ → Type 0) (c : Setup) (me
       made_of z y = made c (AtD4 r h) x y z
 
 -- an entry that is neither of the ticket's cycle nor of a later one
-pub earlier_cycle_of : (c : Setup) (order t x cyc : ℕ) (entry : Entry) → order ≡ c.order → entry ≡ entry_in order x → cyc ≡ cycle_of (slots_of order) t → entry.cycle ≢ cyc → entry.cycle ≤ cyc → cycle_in (ring_slots c) x < cycle c t
+pub earlier_cycle_of : (c : Setup) (order t x cyc : ℕ) (entry : Entry) → order ≡ c.order → entry ≡ entry_in order x → cyc ≡ cycle_of (slots_of order) t
+    → entry.cycle ≢ cyc → entry.cycle ≤ cyc → cycle_in (ring_slots c) x < cycle c t
 earlier_cycle_of c order t x cyc entry same is drawn apart low =
     let a : entry.cycle ≡ cycle_in (slots_of order) x = ap (λ (e : Entry). e.cycle) is in
-    let here : cycle_in (slots_of order) x < cycle_of (slots_of order) t = elim (cases_eq entry.cycle cyc) [ | inl e ↦ absurd (apart e) | inr other ↦ omega (arith, other, low, a, drawn) ] in
+    let here : cycle_in (slots_of order) x < cycle_of (slots_of order) t =
+    elim (cases_eq entry.cycle cyc) [ inl e ↦ absurd (apart e) | inr other ↦ omega (arith, other, low, a, drawn) ] in
     subst (λ (o : ℕ). cycle_in (slots_of o) x < cycle_of (slots_of o) t) same here

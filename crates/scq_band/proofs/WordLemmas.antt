@@ -41,20 +41,21 @@ read_else m (entry_of r s) (entry_of q z) x y apart =
     ]
 
 -- the table shows the cells with one word written
-pub written_shown : (c : Setup) (words : List ℕ) (m : Cells) (l : Location) (x : ℕ) (y : List ℕ) → IsLocation c l → ShowsWords c words m → ShowsWords c (slice_set words (at c l) x) (written m l x y)
+pub written_shown : (c : Setup) (words : List ℕ) (m : Cells) (l : Location) (x : ℕ) (y : List ℕ) → IsLocation c l → ShowsWords c words m
+    → ShowsWords c (slice_set words (at c l) x) (written m l x y)
 written_shown c words m l x y here s =
     record {
       count = length-set words (at c l) x ∙ s.count;
       shows =
           λ k there.
-            elim (cases_eq (at c k) (at c l)) [
-              | inl same ↦
-                  let one = at_apart c k l there here same in
-                  rw (one) (get_or-set_same words (at c l) x 0 (rw (s.count) (at_low c l here)) ∙ sym (read_here m l x y))
-              | inr apart ↦
-                  get_or-set_other words (at c l) (at c k) x 0 apart ∙ s.shows k there
-                    ∙ sym (read_else m l k x y (λ e. apart (ap (at c) e)))
-            ];
+          elim (cases_eq (at c k) (at c l)) [
+            | inl same ↦
+                let one = at_apart c k l there here same in
+                rw (one) (get_or-set_same words (at c l) x 0 (rw (s.count) (at_low c l here)) ∙ sym (read_here m l x y))
+            | inr apart ↦
+                get_or-set_other words (at c l) (at c k) x 0 apart ∙ s.shows k there
+                ∙ sym (read_else m l k x y (λ e. apart (ap (at c) e)))
+          ];
     }
 
 -- the gate stays

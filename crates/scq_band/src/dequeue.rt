@@ -43,19 +43,15 @@ fn passed_by(ring: Ring, ticket: u64, found: u64) -> u64
 }
 
 /// D3 to D5 until an index is taken, or the ticket is given up.
-fn takes<B: Buffer>(
-    words: &Words<B>,
-    token: &mut Token<B>,
-    ring: Ring,
-    ticket: u64,
-) -> Option<u32>
+fn takes<B: Buffer>(words: &Words<B>, token: &mut Token<B>, ring: Ring, ticket: u64) -> Option<u32>
     requires own { (token.old.table_id ≡ words.now.table_id) × (words.now.table_id.words ≡ word_count words.now.key.setup) }
     requires ring { IsRing words.now.key.setup ring }
     requires alone { IsAlone token.old.me.0 }
     requires limit { ticket < ring.limit }
     requires seeks { IsSeeking ring.number ticket (my_phase token.old.me.0) }
     ensures own { (token.new.table_id ≡ token.old.table_id) × (token.new.id ≡ token.old.id) }
-    ensures got { IfSome result (λ index. HasGot (LiesIn B.contents B.IsSameBuffer words.now.key.given.value.items) ring.number ticket index token.old.me token.new.me) }
+    ensures got { IfSome result
+        (λ index. HasGot (LiesIn B.contents B.IsSameBuffer words.now.key.given.value.items) ring.number ticket index token.old.me token.new.me) }
     ensures small { IfSome result (λ index. index < n_of words.now.key.setup.order) }
     ensures given_up { IfNone result (token.new.me.0 ≡ goes_to (AtD6 ring.number ticket) token.old.me.0) }
     ensures slots { IfNone result (token.new.me.1 ≡ token.old.me.1) }
@@ -65,26 +61,32 @@ fn takes<B: Buffer>(
         let found = load(words, token, ring.entry(ticket));
         let entry = unpack(ring.shape, found);
         if entry.cycle == cycle {
-            let old = consume(words, token, ring.entry(ticket), u64::from(ring.shape.none()));
+            let old = consume(
+                words,
+                token,
+                ring.entry(ticket),
+                u64::from(ring.shape.none()),
+            );
             return unpack(ring.shape, old).index;
         }
         if entry.cycle > cycle {
             return None;
         }
-        if exchange(words, token, ring.entry(ticket), found, passed_by(ring, ticket, found)) == found {
+        if exchange(
+            words,
+            token,
+            ring.entry(ticket),
+            found,
+            passed_by(ring, ticket, found),
+        ) == found
+        {
             return None;
         }
     }
 }
 
 /// D7 to D9 until Tail is caught up.
-fn catch_up<B: Buffer>(
-    words: &Words<B>,
-    token: &mut Token<B>,
-    ring: Ring,
-    ticket: u64,
-    tail: u64,
-)
+fn catch_up<B: Buffer>(words: &Words<B>, token: &mut Token<B>, ring: Ring, ticket: u64, tail: u64)
     requires own { (token.old.table_id ≡ words.now.table_id) × (words.now.table_id.words ≡ word_count words.now.key.setup) }
     requires ring { IsRing words.now.key.setup ring }
     requires alone { IsAlone token.old.me.0 }
@@ -109,12 +111,7 @@ fn catch_up<B: Buffer>(
 }
 
 /// D6, and what follows a ticket that was given up: whether the call ends with Nothing.
-fn is_over<B: Buffer>(
-    words: &Words<B>,
-    token: &mut Token<B>,
-    ring: Ring,
-    ticket: u64,
-) -> bool
+fn is_over<B: Buffer>(words: &Words<B>, token: &mut Token<B>, ring: Ring, ticket: u64) -> bool
     requires own { (token.old.table_id ≡ words.now.table_id) × (words.now.table_id.words ≡ word_count words.now.key.setup) }
     requires ring { IsRing words.now.key.setup ring }
     requires alone { IsAlone token.old.me.0 }
@@ -151,11 +148,13 @@ pub fn dequeue<B: Buffer>(
     requires alone { IsAlone token.old.me.0 }
     requires idle { (my_phase token.old.me.0 ≡ Idle) × ((my token.old.me.0).part.spent ≡ None) }
     ensures own { (token.new.table_id ≡ token.old.table_id) × (token.new.id ≡ token.old.id) }
-    ensures got { IfOk result (λ r. HasGotAfter (LiesIn B.contents B.IsSameBuffer words.now.key.given.value.items) ring.number r.0 r.1 token.old.me token.new.me) }
+    ensures got { IfOk result
+        (λ r. HasGotAfter (LiesIn B.contents B.IsSameBuffer words.now.key.given.value.items) ring.number r.0 r.1 token.old.me token.new.me) }
     ensures small { IfOk result (λ r. (r.0 < words.now.key.setup.limit) × (r.1 < n_of words.now.key.setup.order)) }
     ensures above { IfOk result (λ r. (known : Numbers) → slice_get token.old.me.0.numbers ring.number ≡ Some known → known.head ≤ r.0) }
     ensures nothing { result ≡ Err Without.Nothing → HasNothing ring.number token.old.me.0 token.new.me.0 }
-    ensures spent { (ticket : ℕ) → result ≡ Err (Without.Spent ticket) → (token.new.me.0 ≡ drawn_spent ring.number ticket token.old.me.0) × (words.now.key.setup.limit ≤ ticket) }
+    ensures spent { (ticket : ℕ) → result ≡ Err (Without.Spent ticket)
+        → (token.new.me.0 ≡ drawn_spent ring.number ticket token.old.me.0) × (words.now.key.setup.limit ≤ ticket) }
     ensures kept { IfErr result (λ e. token.new.me.1 ≡ token.old.me.1) }
 {
     if load(words, token, ring.threshold()) < ZERO_LEVEL {

@@ -31,9 +31,12 @@ fn finds_room<B: Buffer>(
     requires looks { IsLooking ring.number ticket (my_phase token.old.me.0) }
     ensures own { (token.new.table_id ≡ token.old.table_id) × (token.new.id ≡ token.old.id) }
     ensures slots { token.new.me.1 ≡ token.old.me.1 }
-    ensures room { IfSome result (λ found. token.new.me.0 ≡ goes_to (AtE4 ring.number (index_of (my_phase token.old.me.0)) (content_of (my_phase token.old.me.0)) ticket found) token.old.me.0) }
+    ensures room { IfSome result
+        (λ found. token.new.me.0
+        ≡ goes_to (AtE4 ring.number (index_of (my_phase token.old.me.0)) (content_of (my_phase token.old.me.0)) ticket found) token.old.me.0) }
     ensures least { IfSome result (λ found. least_of (my_phase token.old.me.0) ≤ rank_in (ring_slots words.now.key.setup) found) }
-    ensures no_room { IfNone result (token.new.me.0 ≡ goes_to (AtE1 ring.number (index_of (my_phase token.old.me.0)) (content_of (my_phase token.old.me.0)) (ticket + 1)) token.old.me.0) }
+    ensures no_room { IfNone result
+        (token.new.me.0 ≡ goes_to (AtE1 ring.number (index_of (my_phase token.old.me.0)) (content_of (my_phase token.old.me.0)) (ticket + 1)) token.old.me.0) }
 {
     let found = load(words, token, ring.entry(ticket));
     let entry = unpack(ring.shape, found);
@@ -114,7 +117,8 @@ pub fn enqueue<B: Buffer>(
     ensures own { (token.new.table_id ≡ token.old.table_id) × (token.new.id ≡ token.old.id) }
     ensures placed { IfOk result (λ place. token.new.me.0 ≡ put_at ring.number index place (front_bytes B.contents token.old.me.1) token.old.me.0) }
     ensures given { IfOk result (λ place. token.new.me.1 ≡ rest token.old.me.1) }
-    ensures above { IfOk result (λ place. (place < words.now.key.setup.limit) × ((known : Numbers) → slice_get token.old.me.0.numbers ring.number ≡ Some known → known.seen < place)) }
+    ensures above { IfOk result
+        (λ place. (place < words.now.key.setup.limit) × ((known : Numbers) → slice_get token.old.me.0.numbers ring.number ≡ Some known → known.seen < place)) }
     ensures spent { IfErr result (λ ticket. token.new.me.0 ≡ spent_at ring.number ticket true token.old.me.0) }
     ensures kept { IfErr result (λ ticket. (token.new.me.1 ≡ token.old.me.1) × (words.now.key.setup.limit ≤ ticket)) }
 {

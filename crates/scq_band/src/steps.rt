@@ -21,7 +21,8 @@ pub fn load<B: Buffer>(words: &Words<B>, token: &mut Token<B>, word: usize) -> u
     requires kind { IsLoad (load_turn words.now.key.setup word token.old.me.0) }
     requires word { word ≡ at words.now.key.setup (location_of words.now.key.setup (load_turn words.now.key.setup word token.old.me.0)) }
     ensures own { (token.new.table_id ≡ token.old.table_id) × (token.new.id ≡ token.old.id) }
-    ensures turned { Turned (LiesIn B.contents B.IsSameBuffer words.now.key.given.value.items) words.now.key.setup (load_turn words.now.key.setup word token.old.me.0) token.old.me result token.new.me }
+    ensures turned { Turned (LiesIn B.contents B.IsSameBuffer words.now.key.given.value.items) words.now.key.setup
+        (load_turn words.now.key.setup word token.old.me.0) token.old.me result token.new.me }
 {
     words.load::<Brand>(token, word)
 }
@@ -35,14 +36,21 @@ pub fn draw<B: Buffer>(words: &Words<B>, token: &mut Token<B>, word: usize) -> u
     requires kind { IsDraw (draw_turn B.contents words.now.key.setup word token.old.me) }
     requires word { word ≡ at words.now.key.setup (location_of words.now.key.setup (draw_turn B.contents words.now.key.setup word token.old.me)) }
     ensures own { (token.new.table_id ≡ token.old.table_id) × (token.new.id ≡ token.old.id) }
-    ensures turned { Turned (LiesIn B.contents B.IsSameBuffer words.now.key.given.value.items) words.now.key.setup (draw_turn B.contents words.now.key.setup word token.old.me) token.old.me result token.new.me }
+    ensures turned { Turned (LiesIn B.contents B.IsSameBuffer words.now.key.given.value.items) words.now.key.setup
+        (draw_turn B.contents words.now.key.setup word token.old.me) token.old.me result token.new.me }
 {
     words.fetch_add::<Brand>(token, word, 1)
 }
 
 /// E4, D5 and D7: the word as it was, which has become `new` if it was `old`.
 #[inline(always)]
-pub fn exchange<B: Buffer>(words: &Words<B>, token: &mut Token<B>, word: usize, old: u64, new: u64) -> u64
+pub fn exchange<B: Buffer>(
+    words: &Words<B>,
+    token: &mut Token<B>,
+    word: usize,
+    old: u64,
+    new: u64,
+) -> u64
     requires own { token.old.table_id ≡ words.now.table_id }
     requires low { word < words.now.table_id.words }
     requires may { MayTurn words.now.key.setup token.old.me.0 (my_phase token.old.me.0) }
@@ -50,7 +58,8 @@ pub fn exchange<B: Buffer>(words: &Words<B>, token: &mut Token<B>, word: usize, 
     requires word { word ≡ at words.now.key.setup (location_of words.now.key.setup (my_phase token.old.me.0)) }
     requires carries { Carries (LiesIn B.contents B.IsSameBuffer words.now.key.given.value.items) (my_phase token.old.me.0) token.old.me.1 }
     ensures own { (token.new.table_id ≡ token.old.table_id) × (token.new.id ≡ token.old.id) }
-    ensures turned { Turned (LiesIn B.contents B.IsSameBuffer words.now.key.given.value.items) words.now.key.setup (my_phase token.old.me.0) token.old.me result token.new.me }
+    ensures turned { Turned (LiesIn B.contents B.IsSameBuffer words.now.key.given.value.items) words.now.key.setup (my_phase token.old.me.0) token.old.me
+        result token.new.me }
 {
     words.compare_exchange::<Brand>(token, word, old, new)
 }
@@ -65,7 +74,8 @@ pub fn reset<B: Buffer>(words: &Words<B>, token: &mut Token<B>, word: usize, lev
     requires word { word ≡ at words.now.key.setup (location_of words.now.key.setup (my_phase token.old.me.0)) }
     requires level { level ≡ reset_level words.now.key.setup }
     ensures own { (token.new.table_id ≡ token.old.table_id) × (token.new.id ≡ token.old.id) }
-    ensures turned { Turned (LiesIn B.contents B.IsSameBuffer words.now.key.given.value.items) words.now.key.setup (my_phase token.old.me.0) token.old.me level token.new.me }
+    ensures turned { Turned (LiesIn B.contents B.IsSameBuffer words.now.key.given.value.items) words.now.key.setup (my_phase token.old.me.0) token.old.me level
+        token.new.me }
 {
     words.store::<Brand>(token, word, level)
 }
@@ -80,7 +90,8 @@ pub fn consume<B: Buffer>(words: &Words<B>, token: &mut Token<B>, word: usize, m
     requires word { word ≡ at words.now.key.setup (location_of words.now.key.setup (my_phase token.old.me.0)) }
     requires mark { mark ≡ mark_of (ring_slots words.now.key.setup) }
     ensures own { (token.new.table_id ≡ token.old.table_id) × (token.new.id ≡ token.old.id) }
-    ensures turned { Turned (LiesIn B.contents B.IsSameBuffer words.now.key.given.value.items) words.now.key.setup (my_phase token.old.me.0) token.old.me result token.new.me }
+    ensures turned { Turned (LiesIn B.contents B.IsSameBuffer words.now.key.given.value.items) words.now.key.setup (my_phase token.old.me.0) token.old.me
+        result token.new.me }
 {
     words.fetch_or::<Brand>(token, word, mark)
 }
@@ -94,7 +105,8 @@ pub fn count_down<B: Buffer>(words: &Words<B>, token: &mut Token<B>, word: usize
     requires kind { IsCount (my_phase token.old.me.0) }
     requires word { word ≡ at words.now.key.setup (location_of words.now.key.setup (my_phase token.old.me.0)) }
     ensures own { (token.new.table_id ≡ token.old.table_id) × (token.new.id ≡ token.old.id) }
-    ensures turned { Turned (LiesIn B.contents B.IsSameBuffer words.now.key.given.value.items) words.now.key.setup (my_phase token.old.me.0) token.old.me result token.new.me }
+    ensures turned { Turned (LiesIn B.contents B.IsSameBuffer words.now.key.given.value.items) words.now.key.setup (my_phase token.old.me.0) token.old.me
+        result token.new.me }
 {
     words.fetch_sub::<Brand>(token, word, 1)
 }

@@ -29,7 +29,8 @@ head-requires g c = tail_fits c.args.words.now.key.setup c.args.ring c.requires.
 pub load-to-requires-clause-low : goal.load-to-requires-clause-low
 load-to-requires-clause-low g c κs within =
     let k = c.args.words.now.key.setup in
-    word_low k (head_of c.args.ring.number) c.head.result _ (head_location k c.args.ring.number c.requires.ring.low) (c.head.ensures k c.requires.ring) c.requires.own.1
+    word_low k (head_of c.args.ring.number) c.head.result _ (head_location k c.args.ring.number c.requires.ring.low) (c.head.ensures k c.requires.ring)
+    c.requires.own.1
 
 pub load-to-requires-clause-may : goal.load-to-requires-clause-may
 load-to-requires-clause-may g c κs within =
@@ -40,7 +41,8 @@ load-to-requires-clause-may g c κs within =
     let h = c.args.ticket in
     let turn = AtD7 r h c.tries.from c.tries.to in
     let alone = alone_at c.args.token.now.me.0 v turn c.requires.alone c.tries.invariant.3 in
-    let next = lift_missed Lie k c.tries.token.me c.exchange.new.token.me (my_phase v) c.exchange.result r h c.tries.from c.tries.to (ap my_phase c.tries.invariant.3) alone c.if-exchange-from.false c.exchange.ensures.turned in
+    let next = lift_missed Lie k c.tries.token.me c.exchange.new.token.me (my_phase v) c.exchange.result r h c.tries.from c.tries.to
+    (ap my_phase c.tries.invariant.3) alone c.if-exchange-from.false c.exchange.ensures.turned in
     let w = c.exchange.new.token.me.0 in
     may_load k w c.head.result (AtD8 r h c.tries.from) D8 (alone_at v w (AtD8 r h c.tries.from) alone next) (ap my_phase next) refl refl
 
@@ -58,9 +60,12 @@ load-from-requires-clause-may g c κs within =
     let h = c.args.ticket in
     let turn = AtD7 r h c.tries.from c.tries.to in
     let alone = alone_at c.args.token.now.me.0 v turn c.requires.alone c.tries.invariant.3 in
-    let next = lift_missed Lie k c.tries.token.me c.exchange.new.token.me (my_phase v) c.exchange.result r h c.tries.from c.tries.to (ap my_phase c.tries.invariant.3) alone c.if-exchange-from.false c.exchange.ensures.turned in
+    let next = lift_missed Lie k c.tries.token.me c.exchange.new.token.me (my_phase v) c.exchange.result r h c.tries.from c.tries.to
+    (ap my_phase c.tries.invariant.3) alone c.if-exchange-from.false c.exchange.ensures.turned in
     let w = c.exchange.new.token.me.0 in
     let beside = alone_at v w (AtD8 r h c.tries.from) alone next in
-    let seen = saw_head_again Lie k c.exchange.new.token.me c.load-to.new.token.me _ c.load-to.result r h c.tries.from (ap (loading (ring_of_word k c.head.result)) (ap my_phase next)) beside c.load-to.ensures.turned in
+    let seen = saw_head_again Lie k c.exchange.new.token.me c.load-to.new.token.me _ c.load-to.result r h c.tries.from
+    (ap (loading (ring_of_word k c.head.result)) (ap my_phase next)) beside c.load-to.ensures.turned in
     let u = c.load-to.new.token.me.0 in
-    may_load k u c.args.ring.tail (AtD9 r h c.tries.from c.load-to.result) D9 (alone_at w u (AtD9 r h c.tries.from c.load-to.result) beside seen) (ap my_phase seen) refl refl
+    may_load k u c.args.ring.tail (AtD9 r h c.tries.from c.load-to.result) D9 (alone_at w u (AtD9 r h c.tries.from c.load-to.result) beside seen)
+    (ap my_phase seen) refl refl

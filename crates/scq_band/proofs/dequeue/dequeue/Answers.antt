@@ -25,45 +25,58 @@ threshold-requires g c = tail_fits c.args.words.now.key.setup c.args.ring c.requ
 pub load-requires-clause-low : goal.load-requires-clause-low
 load-requires-clause-low g c κs within =
     let k = c.args.words.now.key.setup in
-    word_low k (threshold_of c.args.ring.number) c.threshold.result _ (threshold_location k c.args.ring.number c.requires.ring.low) (c.threshold.ensures k c.requires.ring) c.requires.own.1
+    word_low k (threshold_of c.args.ring.number) c.threshold.result _ (threshold_location k c.args.ring.number c.requires.ring.low)
+    (c.threshold.ensures k c.requires.ring) c.requires.own.1
 
 pub load-requires-clause-may : goal.load-requires-clause-may
 load-requires-clause-may g c κs within =
     let k = c.args.words.now.key.setup in
     let r = c.args.ring.number in
-    let ring : ring_of_word k c.threshold.result ≡ r = ap (ring_of_word k) (c.threshold.ensures k c.requires.ring) ∙ ring_of_word-at k (threshold_of r) (threshold_location k r c.requires.ring.low) in
+    let ring : ring_of_word k c.threshold.result ≡ r = ap (ring_of_word k) (c.threshold.ensures k c.requires.ring)
+    ∙ ring_of_word-at k (threshold_of r) (threshold_location k r c.requires.ring.low) in
     may_get k c.args.token.now.me.0 c.threshold.result r c.requires.alone c.requires.idle.0 c.requires.idle.1 ring c.requires.ring.low
 
 pub load-requires-clause-word : goal.load-requires-clause-word
 load-requires-clause-word g c κs within =
     let k = c.args.words.now.key.setup in
     let r = c.args.ring.number in
-    let ring : ring_of_word k c.threshold.result ≡ r = ap (ring_of_word k) (c.threshold.ensures k c.requires.ring) ∙ ring_of_word-at k (threshold_of r) (threshold_location k r c.requires.ring.low) in
-    c.threshold.ensures k c.requires.ring ∙ ap (λ t. at k (location_of k t)) (sym (ap (loading (ring_of_word k c.threshold.result)) c.requires.idle.0 ∙ ap AtD1 ring))
+    let ring : ring_of_word k c.threshold.result ≡ r = ap (ring_of_word k) (c.threshold.ensures k c.requires.ring)
+    ∙ ring_of_word-at k (threshold_of r) (threshold_location k r c.requires.ring.low) in
+    c.threshold.ensures k c.requires.ring
+    ∙ ap (λ t. at k (location_of k t)) (sym (ap (loading (ring_of_word k c.threshold.result)) c.requires.idle.0 ∙ ap AtD1 ring))
 
 pub returns-then-load-lt-ZERO_LEVEL-clause-nothing : goal.returns-then-load-lt-ZERO_LEVEL-clause-nothing
 returns-then-load-lt-ZERO_LEVEL-clause-nothing g c is =
     let k = c.args.words.now.key.setup in
     let r = c.args.ring.number in
     let Lie = LiesIn g.B.Buffer.contents g.B.Buffer.IsSameBuffer c.args.words.now.key.given.value.items in
-    let ring : ring_of_word k c.threshold.result ≡ r = ap (ring_of_word k) (c.threshold.ensures k c.requires.ring) ∙ ring_of_word-at k (threshold_of r) (threshold_location k r c.requires.ring.low) in
+    let ring : ring_of_word k c.threshold.result ≡ r = ap (ring_of_word k) (c.threshold.ensures k c.requires.ring)
+    ∙ ring_of_word-at k (threshold_of r) (threshold_location k r c.requires.ring.low) in
     let turn = ap (loading (ring_of_word k c.threshold.result)) c.requires.idle.0 ∙ ap AtD1 ring in
     let low = c.if-load-lt-ZERO_LEVEL.true in
     let level = zero_level_is in
-    inl (saw_empty Lie k c.args.token.now.me.0 c.args.token.now.me c.load.new.token.me _ c.load.result r turn c.requires.alone (omega arith) c.load.ensures.turned)
+    inl (saw_empty Lie k c.args.token.now.me.0 c.args.token.now.me c.load.new.token.me _ c.load.result r turn c.requires.alone (omega arith)
+    c.load.ensures.turned)
 
 pub draws-init : goal.draws-init
 draws-init g c =
     let k = c.args.words.now.key.setup in
     let r = c.args.ring.number in
     let Lie = LiesIn g.B.Buffer.contents g.B.Buffer.IsSameBuffer c.args.words.now.key.given.value.items in
-    let ring : ring_of_word k c.threshold.result ≡ r = ap (ring_of_word k) (c.threshold.ensures k c.requires.ring) ∙ ring_of_word-at k (threshold_of r) (threshold_location k r c.requires.ring.low) in
+    let ring : ring_of_word k c.threshold.result ≡ r = ap (ring_of_word k) (c.threshold.ensures k c.requires.ring)
+    ∙ ring_of_word-at k (threshold_of r) (threshold_location k r c.requires.ring.low) in
     let turn = ap (loading (ring_of_word k c.threshold.result)) c.requires.idle.0 ∙ ap AtD1 ring in
     let high = c.if-load-lt-ZERO_LEVEL.false in
     let level = zero_level_is in
-    let now = saw_some Lie k c.args.token.now.me.0 c.args.token.now.me c.load.new.token.me _ c.load.result r turn c.requires.alone (omega arith) c.load.ensures.turned in
-    let least : least_of (my_phase c.load.new.token.me.0) ≡ 0 = ap (λ u. least_of (my_phase u)) now in
-    (c.load.ensures.own.0, c.load.ensures.own.1, (turned_as Lie k _ (AtD1 r) c.args.token.now.me c.load.new.token.me c.load.result turn c.load.ensures.turned).slots, now ∙ ap (λ l. to_draw r l c.args.token.now.me.0) (sym least))
+    let now = saw_some Lie k c.args.token.now.me.0 c.args.token.now.me c.load.new.token.me _ c.load.result r turn c.requires.alone (omega arith)
+    c.load.ensures.turned in
+    let least : least_of (my_phase c.load.new.token.me.0) ≡ 0 = ap (λ u. least_of (my_phase u)) now in (
+      c.load.ensures.own.0,
+      c.load.ensures.own.1,
+      (turned_as Lie k _ (AtD1 r) c.args.token.now.me c.load.new.token.me c.load.result turn c.load.ensures.turned).slots,
+      now
+          ∙ ap (λ l. to_draw r l c.args.token.now.me.0) (sym least),
+    )
 
 pub head-requires : goal.head-requires
 head-requires g c = tail_fits c.args.words.now.key.setup c.args.ring c.requires.ring
@@ -71,7 +84,8 @@ head-requires g c = tail_fits c.args.words.now.key.setup c.args.ring c.requires.
 pub draw-ticket-requires-clause-low : goal.draw-ticket-requires-clause-low
 draw-ticket-requires-clause-low g c κs within =
     let k = c.args.words.now.key.setup in
-    word_low k (head_of c.args.ring.number) c.head.result _ (head_location k c.args.ring.number c.requires.ring.low) (c.head.ensures k c.requires.ring) c.requires.own.1
+    word_low k (head_of c.args.ring.number) c.head.result _ (head_location k c.args.ring.number c.requires.ring.low) (c.head.ensures k c.requires.ring)
+    c.requires.own.1
 
 pub draw-ticket-requires-clause-may : goal.draw-ticket-requires-clause-may
 draw-ticket-requires-clause-may g c κs within =
@@ -83,7 +97,8 @@ draw-ticket-requires-clause-may g c κs within =
     let here = c.draws.invariant.3 in
     let phase : my_phase w ≡ AtD2 r l = ap my_phase here in
     let alone : IsAlone w = alone_seated v w (at_phase (AtD2 r l) (my v)) (changed (passes l) r v.numbers) c.requires.alone.out here in
-    subst (λ (t : Phase). MayTurn k w t) (sym (ap (drawing (ring_of_word k c.head.result) (front_index c.draws.token.me.1) (front_bytes g.B.Buffer.contents c.draws.token.me.1)) phase))
+    subst (λ (t : Phase). MayTurn k w t)
+    (sym (ap (drawing (ring_of_word k c.head.result) (front_index c.draws.token.me.1) (front_bytes g.B.Buffer.contents c.draws.token.me.1)) phase))
     (may_go k w (AtD2 r l) D2 alone phase refl)
 
 pub returns-then-ticket-ring-clause-spent : goal.returns-then-ticket-ring-clause-spent
@@ -96,11 +111,13 @@ returns-then-ticket-ring-clause-spent g c ticket is =
     let l = least_of (my_phase w) in
     let here = c.draws.invariant.3 in
     let alone : IsAlone w = alone_seated v w (at_phase (AtD2 r l) (my v)) (changed (passes l) r v.numbers) c.requires.alone.out here in
-    let turn = ap (drawing (ring_of_word k c.head.result) (front_index c.draws.token.me.1) (front_bytes g.B.Buffer.contents c.draws.token.me.1)) (ap my_phase here) in
+    let turn = ap (drawing (ring_of_word k c.head.result) (front_index c.draws.token.me.1) (front_bytes g.B.Buffer.contents c.draws.token.me.1))
+    (ap my_phase here) in
     let limit = c.requires.ring.limit in
     let past = c.if-ticket-ring.true in
     let same : c.draw-ticket.result ≡ ticket = cc in
-    let now = drew_past_head Lie k v c.draws.token.me c.draw-ticket.new.token.me _ c.draw-ticket.result r l turn alone here (omega arith) c.draw-ticket.ensures.turned in
+    let now = drew_past_head Lie k v c.draws.token.me c.draw-ticket.new.token.me _ c.draw-ticket.result r l turn alone here (omega arith)
+    c.draw-ticket.ensures.turned in
     rw (← same) (now, (omega arith))
 
 pub returns-in-Some-clause-got : goal.returns-in-Some-clause-got
@@ -113,11 +130,14 @@ returns-in-Some-clause-got g c =
     let l = least_of (my_phase w) in
     let here = c.draws.invariant.3 in
     let alone : IsAlone w = alone_seated v w (at_phase (AtD2 r l) (my v)) (changed (passes l) r v.numbers) c.requires.alone.out here in
-    let turn = ap (drawing (ring_of_word k c.head.result) (front_index c.draws.token.me.1) (front_bytes g.B.Buffer.contents c.draws.token.me.1)) (ap my_phase here) in
+    let turn = ap (drawing (ring_of_word k c.head.result) (front_index c.draws.token.me.1) (front_bytes g.B.Buffer.contents c.draws.token.me.1))
+    (ap my_phase here) in
     let limit = c.requires.ring.limit in
     let low = c.if-ticket-ring.false in
-    let now = drew_one Lie k v c.draws.token.me c.draw-ticket.new.token.me _ c.draw-ticket.result r l turn alone here (omega arith) c.draw-ticket.ensures.turned in
-    let slots = (turned_as Lie k _ (AtD2 r l) c.draws.token.me c.draw-ticket.new.token.me c.draw-ticket.result turn c.draw-ticket.ensures.turned).slots ∙ c.draws.invariant.2 in
+    let now = drew_one Lie k v c.draws.token.me c.draw-ticket.new.token.me _ c.draw-ticket.result r l turn alone here (omega arith)
+    c.draw-ticket.ensures.turned in
+    let slots = (turned_as Lie k _ (AtD2 r l) c.draws.token.me c.draw-ticket.new.token.me c.draw-ticket.result turn c.draw-ticket.ensures.turned).slots
+    ∙ c.draws.invariant.2 in
     got_then Lie r c.draw-ticket.result c.in-Some.index v c.args.token.now.me.1 c.draw-ticket.new.token.me c.takes.new.token.me now slots c.in-Some.ensures.got
 
 pub returns-in-Some-clause-above : goal.returns-in-Some-clause-above
@@ -128,7 +148,8 @@ returns-in-Some-clause-above g c =
     let v = c.args.token.now.me.0 in
     let l = least_of (my_phase c.draws.token.me.0) in
     let here = c.draws.invariant.3 in
-    let turn = ap (drawing (ring_of_word k c.head.result) (front_index c.draws.token.me.1) (front_bytes g.B.Buffer.contents c.draws.token.me.1)) (ap my_phase here) in
+    let turn = ap (drawing (ring_of_word k c.head.result) (front_index c.draws.token.me.1) (front_bytes g.B.Buffer.contents c.draws.token.me.1))
+    (ap my_phase here) in
     drew_above_head Lie k v c.draws.token.me c.draw-ticket.new.token.me _ c.draw-ticket.result r l turn here c.draw-ticket.ensures.turned
 
 pub returns-then-is_over-clause-nothing : goal.returns-then-is_over-clause-nothing
@@ -141,7 +162,8 @@ returns-then-is_over-clause-nothing g c is =
     let l = least_of (my_phase w) in
     let here = c.draws.invariant.3 in
     let alone : IsAlone w = alone_seated v w (at_phase (AtD2 r l) (my v)) (changed (passes l) r v.numbers) c.requires.alone.out here in
-    let turn = ap (drawing (ring_of_word k c.head.result) (front_index c.draws.token.me.1) (front_bytes g.B.Buffer.contents c.draws.token.me.1)) (ap my_phase here) in
+    let turn = ap (drawing (ring_of_word k c.head.result) (front_index c.draws.token.me.1) (front_bytes g.B.Buffer.contents c.draws.token.me.1))
+    (ap my_phase here) in
     let limit = c.requires.ring.limit in
     let low = c.if-ticket-ring.false in
     let h = c.draw-ticket.result in
@@ -158,16 +180,17 @@ draws-preserved g c =
     let l = least_of (my_phase w) in
     let here = c.draws.invariant.3 in
     let alone : IsAlone w = alone_seated v w (at_phase (AtD2 r l) (my v)) (changed (passes l) r v.numbers) c.requires.alone.out here in
-    let turn = ap (drawing (ring_of_word k c.head.result) (front_index c.draws.token.me.1) (front_bytes g.B.Buffer.contents c.draws.token.me.1)) (ap my_phase here) in
+    let turn = ap (drawing (ring_of_word k c.head.result) (front_index c.draws.token.me.1) (front_bytes g.B.Buffer.contents c.draws.token.me.1))
+    (ap my_phase here) in
     let limit = c.requires.ring.limit in
     let low = c.if-ticket-ring.false in
     let h = c.draw-ticket.result in
     let now = drew_one Lie k v c.draws.token.me c.draw-ticket.new.token.me _ h r l turn alone here (omega arith) c.draw-ticket.ensures.turned in
     let slots = (turned_as Lie k _ (AtD2 r l) c.draws.token.me c.draw-ticket.new.token.me h turn c.draw-ticket.ensures.turned).slots ∙ c.draws.invariant.2 in
     let next : c.is_over.new.token.me.0 ≡ to_draw r (h + 1) v =
-    c.if-is_over.ensures.on refl ∙ ap (goes_to (AtD2 r (h + 1))) (c.in_default.ensures.given_up) ∙ ap (λ u. goes_to (AtD2 r (h + 1)) (goes_to (AtD6 r h) u)) now in
-    let least : least_of (my_phase c.is_over.new.token.me.0) ≡ h + 1 = ap (λ u. least_of (my_phase u)) next in
-    (
+    c.if-is_over.ensures.on refl ∙ ap (goes_to (AtD2 r (h + 1))) (c.in_default.ensures.given_up)
+    ∙ ap (λ u. goes_to (AtD2 r (h + 1)) (goes_to (AtD6 r h) u)) now in
+    let least : least_of (my_phase c.is_over.new.token.me.0) ≡ h + 1 = ap (λ u. least_of (my_phase u)) next in (
       c.is_over.ensures.own.0 ∙ c.takes.ensures.own.0 ∙ c.draw-ticket.ensures.own.0 ∙ c.draws.invariant.0,
       c.is_over.ensures.own.1 ∙ c.takes.ensures.own.1 ∙ c.draw-ticket.ensures.own.1 ∙ c.draws.invariant.1,
       c.is_over.ensures.slots ∙ c.in_default.ensures.slots ∙ slots,

@@ -21,7 +21,8 @@ load-tail-requires-clause-low g c κs within =
 
 pub load-tail-requires-clause-may : goal.load-tail-requires-clause-may
 load-tail-requires-clause-may g c κs within =
-    may_load c.args.words.now.key.setup c.args.token.now.me.0 c.args.ring.tail (AtD6 c.args.ring.number c.args.ticket) D6 c.requires.alone c.requires.given_up refl refl
+    may_load c.args.words.now.key.setup c.args.token.now.me.0 c.args.ring.tail (AtD6 c.args.ring.number c.args.ticket) D6 c.requires.alone c.requires.given_up
+    refl refl
 
 pub threshold-requires : goal.threshold-requires
 threshold-requires g c = tail_fits c.args.words.now.key.setup c.args.ring c.requires.ring
@@ -29,7 +30,8 @@ threshold-requires g c = tail_fits c.args.words.now.key.setup c.args.ring c.requ
 pub count_down-requires-clause-low : goal.count_down-requires-clause-low
 count_down-requires-clause-low g c κs within =
     let k = c.args.words.now.key.setup in
-    word_low k (threshold_of c.args.ring.number) c.threshold.result _ (threshold_location k c.args.ring.number c.requires.ring.low) (c.threshold.ensures k c.requires.ring) c.requires.own.1
+    word_low k (threshold_of c.args.ring.number) c.threshold.result _ (threshold_location k c.args.ring.number c.requires.ring.low)
+    (c.threshold.ensures k c.requires.ring) c.requires.own.1
 
 pub count_down-requires-clause-may : goal.count_down-requires-clause-may
 count_down-requires-clause-may g c κs within =
@@ -53,7 +55,8 @@ threshold-requires-2 g c = tail_fits c.args.words.now.key.setup c.args.ring c.re
 pub count_down-requires-2-clause-low : goal.count_down-requires-2-clause-low
 count_down-requires-2-clause-low g c κs within =
     let k = c.args.words.now.key.setup in
-    word_low k (threshold_of c.args.ring.number) c.threshold-2.result _ (threshold_location k c.args.ring.number c.requires.ring.low) (c.threshold-2.ensures k c.requires.ring) c.requires.own.1
+    word_low k (threshold_of c.args.ring.number) c.threshold-2.result _ (threshold_location k c.args.ring.number c.requires.ring.low)
+    (c.threshold-2.ensures k c.requires.ring) c.requires.own.1
 
 pub count_down-requires-2-clause-may : goal.count_down-requires-2-clause-may
 count_down-requires-2-clause-may g c κs within =
@@ -64,7 +67,8 @@ count_down-requires-2-clause-may g c κs within =
     let h = c.args.ticket in
     let is = ap (loading (ring_of_word k c.args.ring.tail)) c.requires.given_up in
     let w = c.load-tail.new.token.me.0 in
-    let seen = saw_tail_high Lie k c.args.token.now.me c.load-tail.new.token.me _ c.load-tail.result r h is c.requires.alone c.if-tail-ticket.false c.load-tail.ensures.turned in
+    let seen = saw_tail_high Lie k c.args.token.now.me c.load-tail.new.token.me _ c.load-tail.result r h is c.requires.alone c.if-tail-ticket.false
+    c.load-tail.ensures.turned in
     may_phase k w (AtD10 r h false) D10 (alone_at v w (AtD10 r h false) c.requires.alone seen) (ap my_phase seen) refl
 
 pub returns-clause-over : goal.returns-clause-over
@@ -76,10 +80,12 @@ returns-clause-over g c low =
     let h = c.args.ticket in
     let is = ap (loading (ring_of_word k c.args.ring.tail)) c.requires.given_up in
     let w = c.load-tail.new.token.me.0 in
-    let seen = saw_tail_high Lie k c.args.token.now.me c.load-tail.new.token.me _ c.load-tail.result r h is c.requires.alone c.if-tail-ticket.false c.load-tail.ensures.turned in
+    let seen = saw_tail_high Lie k c.args.token.now.me c.load-tail.new.token.me _ c.load-tail.result r h is c.requires.alone c.if-tail-ticket.false
+    c.load-tail.ensures.turned in
     let le = leb-true _ _ low in
     let level = zero_level_is in
-    ran_out Lie k c.load-tail.new.token.me c.count_down-2.new.token.me _ c.count_down-2.result r h v (ap my_phase seen) (alone_at v w (AtD10 r h false) c.requires.alone seen) seen (omega arith) c.count_down-2.ensures.turned
+    ran_out Lie k c.load-tail.new.token.me c.count_down-2.new.token.me _ c.count_down-2.result r h v (ap my_phase seen)
+    (alone_at v w (AtD10 r h false) c.requires.alone seen) seen (omega arith) c.count_down-2.ensures.turned
 
 pub returns-clause-on : goal.returns-clause-on
 returns-clause-on g c high =
@@ -90,7 +96,9 @@ returns-clause-on g c high =
     let h = c.args.ticket in
     let is = ap (loading (ring_of_word k c.args.ring.tail)) c.requires.given_up in
     let w = c.load-tail.new.token.me.0 in
-    let seen = saw_tail_high Lie k c.args.token.now.me c.load-tail.new.token.me _ c.load-tail.result r h is c.requires.alone c.if-tail-ticket.false c.load-tail.ensures.turned in
+    let seen = saw_tail_high Lie k c.args.token.now.me c.load-tail.new.token.me _ c.load-tail.result r h is c.requires.alone c.if-tail-ticket.false
+    c.load-tail.ensures.turned in
     let gt = leb-false _ _ high in
     let level = zero_level_is in
-    goes_round Lie k c.load-tail.new.token.me c.count_down-2.new.token.me _ c.count_down-2.result r h v (ap my_phase seen) (alone_at v w (AtD10 r h false) c.requires.alone seen) seen (omega arith) c.count_down-2.ensures.turned
+    goes_round Lie k c.load-tail.new.token.me c.count_down-2.new.token.me _ c.count_down-2.result r h v (ap my_phase seen)
+    (alone_at v w (AtD10 r h false) c.requires.alone seen) seen (omega arith) c.count_down-2.ensures.turned

@@ -24,7 +24,8 @@ entry-requires g c = tail_fits c.args.words.now.key.setup c.args.ring c.requires
 pub load-found-requires-clause-low : goal.load-found-requires-clause-low
 load-found-requires-clause-low g c κs within =
     let k = c.args.words.now.key.setup in
-    word_low k (entry_at k c.args.ring.number c.args.ticket) c.entry.result _ (entry_location k c.args.ring.number c.args.ticket c.requires.ring.low) (c.entry.ensures k c.requires.ring) c.requires.own.1
+    word_low k (entry_at k c.args.ring.number c.args.ticket) c.entry.result _ (entry_location k c.args.ring.number c.args.ticket c.requires.ring.low)
+    (c.entry.ensures k c.requires.ring) c.requires.own.1
 
 pub load-found-requires-clause-may : goal.load-found-requires-clause-may
 load-found-requires-clause-may g c κs within =
@@ -39,7 +40,8 @@ entry-requires-then-entry-cycle g c = tail_fits c.args.words.now.key.setup c.arg
 pub consume-old-requires-clause-low : goal.consume-old-requires-clause-low
 consume-old-requires-clause-low g c κs within =
     let k = c.args.words.now.key.setup in
-    word_low k (entry_at k c.args.ring.number c.args.ticket) c.entry-then-entry-cycle.result _ (entry_location k c.args.ring.number c.args.ticket c.requires.ring.low) (c.entry-then-entry-cycle.ensures k c.requires.ring) c.requires.own.1
+    word_low k (entry_at k c.args.ring.number c.args.ticket) c.entry-then-entry-cycle.result _
+    (entry_location k c.args.ring.number c.args.ticket c.requires.ring.low) (c.entry-then-entry-cycle.ensures k c.requires.ring) c.requires.own.1
 
 pub consume-old-requires-clause-may : goal.consume-old-requires-clause-may
 consume-old-requires-clause-may g c κs within =
@@ -52,7 +54,8 @@ consume-old-requires-clause-may g c κs within =
     let alone = alone_at c.args.token.now.me.0 v turn c.requires.alone c.tries.invariant.3 in
     let is = ap (loading (ring_of_word k c.entry.result)) (ap my_phase c.tries.invariant.3) in
     let same : cycle_in (ring_slots k) c.load-found.result ≡ cycle k h =
-    subst (λ (o : ℕ). cycle_in (slots_of o) c.load-found.result ≡ cycle_of (slots_of o) h) c.requires.ring.order (sym (ap (λ (e : Entry). e.cycle) c.unpack-entry.ensures.entry) ∙ c.if-entry-cycle.true ∙ c.cycle_of-cycle.ensures) in
+    subst (λ (o : ℕ). cycle_in (slots_of o) c.load-found.result ≡ cycle_of (slots_of o) h) c.requires.ring.order
+    (sym (ap (λ (e : Entry). e.cycle) c.unpack-entry.ensures.entry) ∙ c.if-entry-cycle.true ∙ c.cycle_of-cycle.ensures) in
     let now = saw_own_cycle Lie k c.tries.token.me c.load-found.new.token.me _ c.load-found.result r h _ is alone same c.load-found.ensures.turned in
     may_phase k c.load-found.new.token.me.0 (AtD4 r h) D4 (alone_at v c.load-found.new.token.me.0 (AtD4 r h) alone now) (ap my_phase now) refl
 
@@ -62,7 +65,8 @@ entry-requires-in-tries g c = tail_fits c.args.words.now.key.setup c.args.ring c
 pub exchange-requires-clause-low : goal.exchange-requires-clause-low
 exchange-requires-clause-low g c κs within =
     let k = c.args.words.now.key.setup in
-    word_low k (entry_at k c.args.ring.number c.args.ticket) c.entry-in-tries.result _ (entry_location k c.args.ring.number c.args.ticket c.requires.ring.low) (c.entry-in-tries.ensures k c.requires.ring) c.requires.own.1
+    word_low k (entry_at k c.args.ring.number c.args.ticket) c.entry-in-tries.result _ (entry_location k c.args.ring.number c.args.ticket c.requires.ring.low)
+    (c.entry-in-tries.ensures k c.requires.ring) c.requires.own.1
 
 pub passed_by-requires-clause-fits : goal.passed_by-requires-clause-fits
 passed_by-requires-clause-fits g c =
@@ -82,7 +86,8 @@ exchange-requires-clause-may g c κs within =
     let turn = AtD3 r h (least_of (my_phase v)) in
     let alone = alone_at c.args.token.now.me.0 v turn c.requires.alone c.tries.invariant.3 in
     let is = ap (loading (ring_of_word k c.entry.result)) (ap my_phase c.tries.invariant.3) in
-    let low = earlier_cycle_of k _ h x c.cycle_of-cycle.result c.unpack-entry.result c.requires.ring.order c.unpack-entry.ensures.entry c.cycle_of-cycle.ensures c.if-entry-cycle.false c.if-entry-cycle-2.false in
+    let low = earlier_cycle_of k _ h x c.cycle_of-cycle.result c.unpack-entry.result c.requires.ring.order c.unpack-entry.ensures.entry
+    c.cycle_of-cycle.ensures c.if-entry-cycle.false c.if-entry-cycle-2.false in
     let now = saw_earlier Lie k c.tries.token.me c.load-found.new.token.me _ x r h _ is alone low c.load-found.ensures.turned in
     may_phase k c.load-found.new.token.me.0 (AtD5 r h x) D5 (alone_at v c.load-found.new.token.me.0 (AtD5 r h x) alone now) (ap my_phase now) refl
 
@@ -98,12 +103,16 @@ tries-smaller g c =
     let turn = AtD3 r h (least_of (my_phase v)) in
     let alone = alone_at c.args.token.now.me.0 v turn c.requires.alone c.tries.invariant.3 in
     let is = ap (loading (ring_of_word k c.entry.result)) (ap my_phase c.tries.invariant.3) in
-    let low = earlier_cycle_of k _ h x c.cycle_of-cycle.result c.unpack-entry.result c.requires.ring.order c.unpack-entry.ensures.entry c.cycle_of-cycle.ensures c.if-entry-cycle.false c.if-entry-cycle-2.false in
+    let low = earlier_cycle_of k _ h x c.cycle_of-cycle.result c.unpack-entry.result c.requires.ring.order c.unpack-entry.ensures.entry
+    c.cycle_of-cycle.ensures c.if-entry-cycle.false c.if-entry-cycle-2.false in
     let now = saw_earlier Lie k c.tries.token.me c.load-found.new.token.me _ x r h _ is alone low c.load-found.ensures.turned in
     let beside = alone_at v c.load-found.new.token.me.0 (AtD5 r h x) alone now in
-    let up = passed_rises Lie k c.load-found.new.token.me c.exchange.new.token.me (my_phase c.load-found.new.token.me.0) y r h x (ap my_phase now) c.if-exchange-found.false c.exchange.ensures.turned in
-    let next = passed_missed Lie k c.load-found.new.token.me c.exchange.new.token.me (my_phase c.load-found.new.token.me.0) y r h x (ap my_phase now) beside c.if-exchange-found.false c.exchange.ensures.turned in
+    let up = passed_rises Lie k c.load-found.new.token.me c.exchange.new.token.me (my_phase c.load-found.new.token.me.0) y r h x (ap my_phase now)
+    c.if-exchange-found.false c.exchange.ensures.turned in
+    let next = passed_missed Lie k c.load-found.new.token.me c.exchange.new.token.me (my_phase c.load-found.new.token.me.0) y r h x (ap my_phase now) beside
+    c.if-exchange-found.false c.exchange.ensures.turned in
     let least : least_of (my_phase c.exchange.new.token.me.0) ≡ rank_in (ring_slots k) y = ap (λ u. least_of (my_phase u)) next in
     let fits = rank_fits k y c.exchange.type_inv in
-    let found : least_of (my_phase v) ≤ rank_in (ring_slots k) x = (turned_as Lie k _ turn c.tries.token.me c.load-found.new.token.me x is c.load-found.ensures.turned).found in
+    let found : least_of (my_phase v) ≤ rank_in (ring_slots k) x =
+    (turned_as Lie k _ turn c.tries.token.me c.load-found.new.token.me x is c.load-found.ensures.turned).found in
     omega arith

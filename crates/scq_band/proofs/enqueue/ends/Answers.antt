@@ -18,12 +18,14 @@ threshold-requires g c = tail_fits c.args.words.now.key.setup c.args.ring c.requ
 pub load-requires-clause-low : goal.load-requires-clause-low
 load-requires-clause-low g c κs within =
     let k = c.args.words.now.key.setup in
-    word_low k (threshold_of c.args.ring.number) c.threshold.result _ (threshold_location k c.args.ring.number c.requires.ring.low) (c.threshold.ensures k c.requires.ring) c.requires.own.1
+    word_low k (threshold_of c.args.ring.number) c.threshold.result _ (threshold_location k c.args.ring.number c.requires.ring.low)
+    (c.threshold.ensures k c.requires.ring) c.requires.own.1
 
 pub load-requires-clause-may : goal.load-requires-clause-may
 load-requires-clause-may g c κs within =
     let p = my_phase c.args.token.now.me.0 in
-    may_load c.args.words.now.key.setup c.args.token.now.me.0 c.threshold.result (AtE5 c.args.ring.number (index_of p) (content_of p) c.args.ticket) E5 c.requires.alone c.requires.placed refl refl
+    may_load c.args.words.now.key.setup c.args.token.now.me.0 c.threshold.result (AtE5 c.args.ring.number (index_of p) (content_of p) c.args.ticket) E5
+    c.requires.alone c.requires.placed refl refl
 
 pub threshold-requires-then-load-ring : goal.threshold-requires-then-load-ring
 threshold-requires-then-load-ring g c = tail_fits c.args.words.now.key.setup c.args.ring c.requires.ring
@@ -31,7 +33,8 @@ threshold-requires-then-load-ring g c = tail_fits c.args.words.now.key.setup c.a
 pub reset-requires-clause-low : goal.reset-requires-clause-low
 reset-requires-clause-low g c κs within =
     let k = c.args.words.now.key.setup in
-    word_low k (threshold_of c.args.ring.number) c.threshold-then-load-ring.result _ (threshold_location k c.args.ring.number c.requires.ring.low) (c.threshold-then-load-ring.ensures k c.requires.ring) c.requires.own.1
+    word_low k (threshold_of c.args.ring.number) c.threshold-then-load-ring.result _ (threshold_location k c.args.ring.number c.requires.ring.low)
+    (c.threshold-then-load-ring.ensures k c.requires.ring) c.requires.own.1
 
 pub reset-requires-clause-may : goal.reset-requires-clause-may
 reset-requires-clause-may g c κs within =
@@ -40,6 +43,8 @@ reset-requires-clause-may g c κs within =
     let v = c.args.token.now.me.0 in
     let p = my_phase v in
     let r = c.args.ring.number in
-    let now = saw_other_level Lie k c.args.token.now.me c.load.new.token.me _ c.load.result r (index_of p) (content_of p) c.args.ticket (ap (loading (ring_of_word k c.threshold.result)) c.requires.placed)
+    let now = saw_other_level Lie k c.args.token.now.me c.load.new.token.me _ c.load.result r (index_of p) (content_of p) c.args.ticket
+    (ap (loading (ring_of_word k c.threshold.result)) c.requires.placed)
     c.requires.alone (λ e. c.if-load-ring.true (e ∙ sym c.requires.ring.level)) c.load.ensures.turned in
-    may_phase k c.load.new.token.me.0 (AtE6 r (index_of p) (content_of p) c.args.ticket) E6 (alone_at v c.load.new.token.me.0 _ c.requires.alone now) (ap my_phase now) refl
+    may_phase k c.load.new.token.me.0 (AtE6 r (index_of p) (content_of p) c.args.ticket) E6 (alone_at v c.load.new.token.me.0 _ c.requires.alone now)
+    (ap my_phase now) refl

@@ -23,16 +23,19 @@ draw-ticket-requires-clause-may g c κs within =
     let k = c.args.words.now.key.setup in
     let contents = g.B.Buffer.contents in
     let slots = c.args.token.now.me.1 in
-    let turn = turn_of_draw contents k c.args.ring c.draws.token.me slots c.args.index c.requires.ring c.draws.invariant.2 c.requires.first c.draws.invariant.4 in
+    let turn = turn_of_draw contents k c.args.ring c.draws.token.me slots c.args.index c.requires.ring c.draws.invariant.2 c.requires.first
+    c.draws.invariant.4 in
     subst (λ (t : Phase). MayTurn k c.draws.token.me.0 t) (sym turn)
-    (may_draw k c.args.token.now.me.0 c.draws.token.me.0 c.args.ring.number c.args.index (front_bytes contents slots) c.requires.alone c.draws.invariant.3 c.draws.invariant.4 c.requires.idle.1 c.requires.held.0 c.requires.ring.low c.requires.held.1)
+    (may_draw k c.args.token.now.me.0 c.draws.token.me.0 c.args.ring.number c.args.index (front_bytes contents slots) c.requires.alone c.draws.invariant.3
+    c.draws.invariant.4 c.requires.idle.1 c.requires.held.0 c.requires.ring.low c.requires.held.1)
 
 pub draw-ticket-requires-clause-word : goal.draw-ticket-requires-clause-word
 draw-ticket-requires-clause-word g c κs within =
     let k = c.args.words.now.key.setup in
     let contents = g.B.Buffer.contents in
     let slots = c.args.token.now.me.1 in
-    let turn = turn_of_draw contents k c.args.ring c.draws.token.me slots c.args.index c.requires.ring c.draws.invariant.2 c.requires.first c.draws.invariant.4 in
+    let turn = turn_of_draw contents k c.args.ring c.draws.token.me slots c.args.index c.requires.ring c.draws.invariant.2 c.requires.first
+    c.draws.invariant.4 in
     c.requires.ring.tail ∙ ap (λ t. at k (location_of k t)) (sym turn)
 
 pub returns-then-ticket-ring-clause-spent : goal.returns-then-ticket-ring-clause-spent
@@ -43,8 +46,10 @@ returns-then-ticket-ring-clause-spent g c =
     let slots = c.args.token.now.me.1 in
     let limit = c.requires.ring.limit in
     let past = c.if-ticket-ring.true in
-    let turn = turn_of_draw contents k c.args.ring c.draws.token.me slots c.args.index c.requires.ring c.draws.invariant.2 c.requires.first c.draws.invariant.4 in
-    drew_past Lie k c.args.token.now.me.0 c.draws.token.me c.draw-ticket.new.token.me _ c.draw-ticket.result c.args.ring.number c.args.index (front_bytes contents slots) _ turn c.requires.alone c.draws.invariant.3 (omega arith) c.draw-ticket.ensures.turned
+    let turn = turn_of_draw contents k c.args.ring c.draws.token.me slots c.args.index c.requires.ring c.draws.invariant.2 c.requires.first
+    c.draws.invariant.4 in
+    drew_past Lie k c.args.token.now.me.0 c.draws.token.me c.draw-ticket.new.token.me _ c.draw-ticket.result c.args.ring.number c.args.index
+    (front_bytes contents slots) _ turn c.requires.alone c.draws.invariant.3 (omega arith) c.draw-ticket.ensures.turned
 
 pub is_placed-requires-clause-looks : goal.is_placed-requires-clause-looks
 is_placed-requires-clause-looks g c κs within =
@@ -54,8 +59,10 @@ is_placed-requires-clause-looks g c κs within =
     let slots = c.args.token.now.me.1 in
     let limit = c.requires.ring.limit in
     let low = c.if-ticket-ring.false in
-    let turn = turn_of_draw contents k c.args.ring c.draws.token.me slots c.args.index c.requires.ring c.draws.invariant.2 c.requires.first c.draws.invariant.4 in
-    let now = drew Lie k c.args.token.now.me.0 c.draws.token.me c.draw-ticket.new.token.me _ c.draw-ticket.result c.args.ring.number c.args.index (front_bytes contents slots) _ turn c.requires.alone c.draws.invariant.3 (omega arith) c.draw-ticket.ensures.turned in
+    let turn = turn_of_draw contents k c.args.ring c.draws.token.me slots c.args.index c.requires.ring c.draws.invariant.2 c.requires.first
+    c.draws.invariant.4 in
+    let now = drew Lie k c.args.token.now.me.0 c.draws.token.me c.draw-ticket.new.token.me _ c.draw-ticket.result c.args.ring.number c.args.index
+    (front_bytes contents slots) _ turn c.requires.alone c.draws.invariant.3 (omega arith) c.draw-ticket.ensures.turned in
     looks_as c.draw-ticket.new.token.me.0 c.args.ring.number c.args.index (front_bytes contents slots) c.draw-ticket.result 0 (ap my_phase now)
 
 pub returns-then-is_placed-clause-above : goal.returns-then-is_placed-clause-above
@@ -66,5 +73,9 @@ returns-then-is_placed-clause-above g c =
     let slots = c.args.token.now.me.1 in
     let limit = c.requires.ring.limit in
     let low = c.if-ticket-ring.false in
-    let turn = turn_of_draw contents k c.args.ring c.draws.token.me slots c.args.index c.requires.ring c.draws.invariant.2 c.requires.first c.draws.invariant.4 in
-    (omega arith, drew_above Lie k c.args.token.now.me.0 c.draws.token.me c.draw-ticket.new.token.me _ c.draw-ticket.result c.args.ring.number c.args.index (front_bytes contents slots) _ turn c.draws.invariant.3 c.draw-ticket.ensures.turned)
+    let turn = turn_of_draw contents k c.args.ring c.draws.token.me slots c.args.index c.requires.ring c.draws.invariant.2 c.requires.first
+    c.draws.invariant.4 in (
+      omega arith,
+      drew_above Lie k c.args.token.now.me.0 c.draws.token.me c.draw-ticket.new.token.me _ c.draw-ticket.result c.args.ring.number c.args.index
+          (front_bytes contents slots) _ turn c.draws.invariant.3 c.draw-ticket.ensures.turned,
+    )

@@ -24,7 +24,8 @@ load-found-requires-clause-low g c κs within =
 pub load-found-requires-clause-may : goal.load-found-requires-clause-may
 load-found-requires-clause-may g c κs within =
     let p = my_phase c.args.token.now.me.0 in
-    may_load c.args.words.now.key.setup c.args.token.now.me.0 c.entry.result (AtE2 c.args.ring.number (index_of p) (content_of p) c.args.ticket (least_of p)) E2 c.requires.alone c.requires.looks refl refl
+    may_load c.args.words.now.key.setup c.args.token.now.me.0 c.entry.result (AtE2 c.args.ring.number (index_of p) (content_of p) c.args.ticket (least_of p))
+    E2 c.requires.alone c.requires.looks refl refl
 
 pub head-requires : goal.head-requires
 head-requires g c = tail_fits c.args.words.now.key.setup c.args.ring c.requires.ring
@@ -32,7 +33,8 @@ head-requires g c = tail_fits c.args.words.now.key.setup c.args.ring c.requires.
 pub load-requires-clause-low : goal.load-requires-clause-low
 load-requires-clause-low g c κs within =
     let k = c.args.words.now.key.setup in
-    word_low k (head_of c.args.ring.number) c.head.result _ (head_location k c.args.ring.number c.requires.ring.low) (c.head.ensures k c.requires.ring) c.requires.own.1
+    word_low k (head_of c.args.ring.number) c.head.result _ (head_location k c.args.ring.number c.requires.ring.low) (c.head.ensures k c.requires.ring)
+    c.requires.own.1
 
 pub load-requires-clause-may : goal.load-requires-clause-may
 load-requires-clause-may g c κs within =
@@ -42,9 +44,12 @@ load-requires-clause-may g c κs within =
     let p = my_phase v in
     let r = c.args.ring.number in
     let x = c.load-found.result in
-    let turn : load_turn k c.entry.result v ≡ AtE2 r (index_of p) (content_of p) c.args.ticket (least_of p) = ap (loading (ring_of_word k c.entry.result)) c.requires.looks in
-    let does = takes_one k _ c.args.ticket x c.cycle_of.result c.unpack-entry.result c.requires.ring.order c.unpack-entry.ensures.entry c.cycle_of.ensures c.if-entry-cycle_of.false (sym c.is_some.ensures ∙ c.if-is_some.false) in
+    let turn : load_turn k c.entry.result v ≡ AtE2 r (index_of p) (content_of p) c.args.ticket (least_of p) =
+    ap (loading (ring_of_word k c.entry.result)) c.requires.looks in
+    let does = takes_one k _ c.args.ticket x c.cycle_of.result c.unpack-entry.result c.requires.ring.order c.unpack-entry.ensures.entry c.cycle_of.ensures
+    c.if-entry-cycle_of.false (sym c.is_some.ensures ∙ c.if-is_some.false) in
     let unsafe = is_unsafe k _ x c.unpack-entry.result c.requires.ring.order c.unpack-entry.ensures.entry c.if-not-entry.true in
-    let now = saw_unsafe Lie k c.args.token.now.me c.load-found.new.token.me _ x r (index_of p) (content_of p) c.args.ticket (least_of p) turn c.requires.alone does unsafe c.load-found.ensures.turned in
+    let now = saw_unsafe Lie k c.args.token.now.me c.load-found.new.token.me _ x r (index_of p) (content_of p) c.args.ticket (least_of p) turn c.requires.alone
+    does unsafe c.load-found.ensures.turned in
     let alone = alone_seated v c.load-found.new.token.me.0 _ _ c.requires.alone.out now in
     may_load k c.load-found.new.token.me.0 c.head.result (AtE3 r (index_of p) (content_of p) c.args.ticket x) E3 alone (ap my_phase now) refl refl

@@ -39,7 +39,8 @@ exchange-requires-clause-may g c κs within =
     let k = c.args.words.now.key.setup in
     let v = c.args.token.now.me.0 in
     let turn = AtE4 c.args.ring.number c.args.index (content_of (my_phase v)) c.args.ticket c.in-Some.found in
-    let now = room_then v c.tries.token.me.0 c.finds_room.new.token.me.0 c.args.ring.number c.args.index (content_of (my_phase v)) c.args.ticket (least_of (my_phase c.tries.token.me.0)) c.in-Some.found c.tries.invariant.3 c.in-Some.ensures.room in
+    let now = room_then v c.tries.token.me.0 c.finds_room.new.token.me.0 c.args.ring.number c.args.index (content_of (my_phase v)) c.args.ticket
+    (least_of (my_phase c.tries.token.me.0)) c.in-Some.found c.tries.invariant.3 c.in-Some.ensures.room in
     may_phase k c.finds_room.new.token.me.0 turn E4 (alone_at v c.finds_room.new.token.me.0 turn c.requires.alone now) (ap my_phase now) refl
 
 pub tries-smaller : goal.tries-smaller
@@ -52,10 +53,13 @@ tries-smaller g c =
     let w = content_of (my_phase v) in
     let r = c.args.ring.number in
     let turn = AtE4 r c.args.index w c.args.ticket e in
-    let now = room_then v c.tries.token.me.0 c.finds_room.new.token.me.0 r c.args.index w c.args.ticket (least_of (my_phase c.tries.token.me.0)) e c.tries.invariant.3 c.in-Some.ensures.room in
+    let now = room_then v c.tries.token.me.0 c.finds_room.new.token.me.0 r c.args.index w c.args.ticket (least_of (my_phase c.tries.token.me.0)) e
+    c.tries.invariant.3 c.in-Some.ensures.room in
     let alone = alone_at v c.finds_room.new.token.me.0 turn c.requires.alone now in
-    let up = missed_rises Lie k c.finds_room.new.token.me c.exchange.new.token.me (my_phase c.finds_room.new.token.me.0) x r c.args.index w c.args.ticket e (ap my_phase now) c.if-exchange-found.false c.exchange.ensures.turned in
-    let next = saw_missed Lie k c.finds_room.new.token.me c.exchange.new.token.me (my_phase c.finds_room.new.token.me.0) x r c.args.index w c.args.ticket e (ap my_phase now) alone c.if-exchange-found.false c.exchange.ensures.turned in
+    let up = missed_rises Lie k c.finds_room.new.token.me c.exchange.new.token.me (my_phase c.finds_room.new.token.me.0) x r c.args.index w c.args.ticket e
+    (ap my_phase now) c.if-exchange-found.false c.exchange.ensures.turned in
+    let next = saw_missed Lie k c.finds_room.new.token.me c.exchange.new.token.me (my_phase c.finds_room.new.token.me.0) x r c.args.index w c.args.ticket e
+    (ap my_phase now) alone c.if-exchange-found.false c.exchange.ensures.turned in
     let least : least_of (my_phase c.exchange.new.token.me.0) ≡ rank_in (ring_slots k) x = ap (λ u. least_of (my_phase u)) next in
     let fits = rank_fits k x c.exchange.type_inv in
     let low = c.in-Some.ensures.least in

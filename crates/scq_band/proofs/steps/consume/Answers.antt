@@ -15,11 +15,11 @@ pub fetch_or-requires : goal.fetch_or-requires
 fetch_or-requires g c =
     let k = c.args.words.now.key in
     let t = my_phase c.args.token.now.me.0 in
-    let Lie = LiesIn g.B.Buffer.contents g.B.Buffer.IsSameBuffer k.given.value.items in
-    (
+    let Lie = LiesIn g.B.Buffer.contents g.B.Buffer.IsSameBuffer k.given.value.items in (
       c.requires.own,
       c.requires.low,
       moves Lie k.setup c.args.words.now.table_id.slots c.args.token.now.id c.args.token.now.me t c.args.word (λ n. bit_or n c.args.mark) c.requires.may
-      (consume_carries Lie t c.args.token.now.me.1 c.requires.kind) c.requires.word (λ m r b. consume_says k.setup t _ c.args.mark c.requires.kind c.requires.mark)
-      (λ m seat s reach low e. ground k.setup m seat s t reach low e),
+          (consume_carries Lie t c.args.token.now.me.1 c.requires.kind) c.requires.word
+          (λ m r b. consume_says k.setup t _ c.args.mark c.requires.kind c.requires.mark)
+          (λ m seat s reach low e. ground k.setup m seat s t reach low e),
     )

@@ -15,11 +15,11 @@ pub compare_exchange-requires : goal.compare_exchange-requires
 compare_exchange-requires g c =
     let k = c.args.words.now.key in
     let t = my_phase c.args.token.now.me.0 in
-    let Lie = LiesIn g.B.Buffer.contents g.B.Buffer.IsSameBuffer k.given.value.items in
-    (
+    let Lie = LiesIn g.B.Buffer.contents g.B.Buffer.IsSameBuffer k.given.value.items in (
       c.requires.own,
       c.requires.low,
-      moves Lie k.setup c.args.words.now.table_id.slots c.args.token.now.id c.args.token.now.me t c.args.word (λ n. either (n == c.args.old) c.args.new n) c.requires.may
-      (c.requires.carries) c.requires.word (λ m r b. exchange_says k.setup t _ c.args.old c.args.new c.requires.kind)
-      (λ m seat s reach low e. ground k.setup m seat s t reach low e),
+      moves Lie k.setup c.args.words.now.table_id.slots c.args.token.now.id c.args.token.now.me t c.args.word (λ n. either (n == c.args.old) c.args.new n)
+          c.requires.may
+          (c.requires.carries) c.requires.word (λ m r b. exchange_says k.setup t _ c.args.old c.args.new c.requires.kind)
+          (λ m seat s reach low e. ground k.setup m seat s t reach low e),
     )

@@ -10,6 +10,7 @@ pub returns : goal.returns
 returns c k is =
     let s = c.slot_of.result in
     let its_slot : s ≡ slot_of k.order c.args.ticket = c.slot_of.ensures.slot ∙ ap (λ o. slot_of o c.args.ticket) is.order in
-    let here = at_offset k c.args.self.now.number (suc (suc (suc (slot_of k.order c.args.ticket)))) (entry_at k c.args.self.now.number c.args.ticket) refl refl in
+    let here = at_offset k c.args.self.now.number (suc (suc (suc (slot_of k.order c.args.ticket)))) (entry_at k c.args.self.now.number c.args.ticket) refl
+    refl in
     let tail = is.tail in
     omega arith
