@@ -12,4 +12,4 @@ mod text;
 mod totals;
 
 pub use answered::Answered;
-pub use text::output;
+pub use text::{output, push_totals};

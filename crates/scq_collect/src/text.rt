@@ -1,7 +1,7 @@
 ghost use Rattle.std.specs.Prelude.{◌≡◌, ℕ, ◌<◌, ◌≤◌, ◌++◌, List, length, slice_index, codes, decimal, IfOk, OnOk};
 ghost use Rattle.std.specs.List.{All};
 ghost use Rattle.scq_collect.specs.declared.answered.Answered.{Answered as TheAnswered};
-ghost use Rattle.scq_collect.specs.Output.{answers_to, count_on, bytes_on, one_thread_output, reply_line, text_of_answers, total_line};
+ghost use Rattle.scq_collect.specs.Output.{answers_to, count_on, bytes_on, one_thread_output, reply_line, text_of_answers, total_line, total_lines};
 
 use crate::Answered;
 use crate::totals::{Totals, totals_of};
@@ -22,12 +22,25 @@ pub fn output(alloc: Global, topics: &Topics, answered: &[Answered]) -> Result<B
     for member in answered {
         push_line(&mut text, topics, member)?;
     }
+    push_totals(&mut text, topics, answered)?;
+    Ok(Bytes::from(text))
+}
+
+/// Adds the totals of the answers: a line for each declared topic, and one for all others together.
+pub fn push_totals(
+    text: &mut Vec<u8>,
+    topics: &Topics,
+    answered: &[Answered],
+) -> Result<(), NoMemory>
+    requires { All (λ a. a.topic ≤ length topics.now) answered.now }
+    ensures { OnOk result (text.new.items ≡ text.old.items ++ total_lines topics.now answered.now) }
+{
     let numbers = topics.len() + 1;
     let totals = totals_of(answered);
     for topic in 0..numbers {
-        push_total(&mut text, topics, topic, &totals)?;
+        push_total(text, topics, topic, &totals)?;
     }
-    Ok(Bytes::from(text))
+    Ok(())
 }
 
 /// Adds the line for an answer: `file:line topic reply`.
