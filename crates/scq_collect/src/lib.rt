@@ -6,10 +6,12 @@
 #![tactic(auto)]
 
 mod answered;
+mod collecting;
 #[cfg(test)]
 mod tests;
 mod text;
 mod totals;
 
 pub use answered::Answered;
+pub use collecting::collect;
 pub use text::{output, push_totals};
