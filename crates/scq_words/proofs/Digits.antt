@@ -1,5 +1,5 @@
 -- A text of 1 to 10 digits, and what `parse` makes of it.
-use Rattle.std.proofs.Common.{◌≡◌, ◌∙◌, ◌⊎◌, refl, sym, ap, inl, inr, arith, true, false, zero, suc, ℕ, ◌+◌, ◌<◌, ◌≤◌, ◌^◌, Bool, cond, leb, ltb, List, [], ◌∷◌, length, Option, Some, None, Result, Ok, Err}
+use Rattle.std.proofs.Common.{◌≡◌, ◌∙◌, ◌⊎◌, refl, sym, ap, inl, inr, arith, true, false, zero, suc, ℕ, ◌<◌, ◌≤◌, ◌^◌, Bool, cond, leb, ltb, List, [], ◌∷◌, length, Some, None, Result, Ok, Err}
 use Rattle.std.specs.Prelude.{◌&&◌}
 use Rattle.std.specs.List.{list_all}
 use Rattle.std.specs.Char.{is_ascii_digit}

@@ -1,5 +1,5 @@
 -- What a parse that gives no matches says of the words.
-use Rattle.std.proofs.Common.{◌≡◌, ◌≢◌, ◌⊎◌, ◌∙◌, refl, sym, ap, subst, inl, inr, arith, true, false, ℕ, ◌<◌, Bool, cond, ltb, List, [], ◌∷◌, length, Option, Some, None}
+use Rattle.std.proofs.Common.{◌≡◌, ◌≢◌, ◌∙◌, refl, ap, subst, inl, inr, arith, true, false, ℕ, ◌<◌, Bool, List, [], ◌∷◌, length, Some}
 use Rattle.std.proofs.lemmas.Bool.{lt-ltb}
 use Rattle.clap.specs.Words.{App, takes, kind_of, HasKind, IsAmong, Kinds}
 use Rattle.clap.specs.Faults.{fault_of, is_simple_and_free}

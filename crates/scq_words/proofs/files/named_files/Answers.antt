@@ -1,8 +1,8 @@
-use Rattle.std.proofs.Common.{◌≡◌, ◌∙◌, ◌<◌, ap, sym, eqb, length, rules, tests, arith, ◌+◌, Option, Some, None, ℕ, List}
+use Rattle.std.proofs.Common.{◌∙◌, ap, sym, eqb, length, rules, tests, ◌+◌}
 use Rattle.std.specs.Prelude.{option_map}
 use Rattle.std.proofs.lemmas.Iterator.{YieldsList-from_slice}
 use Rattle.std.proofs.lemmas.Iterator.Search.{position_from_yields_List}
-use Rattle.scq_words.proofs.Named.{position-names, position-within}
+use Rattle.scq_words.proofs.Named.{position-names}
 use Rattle.scq_words.specs.declared.fault.WordsFault.TheVariants.{NoName}
 use Rattle.scq_words.proofs.files.named_files.Goals as goal
 

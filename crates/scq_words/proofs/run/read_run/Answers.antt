@@ -1,9 +1,8 @@
-use Rattle.std.proofs.Common.{◌≡◌, ◌∙◌, sym, ap, map, ℕ, List, [], Option, Some, None, Ok, Err}
-use Rattle.std.specs.Prelude.{string_bytes, unwrap_or, option_map}
+use Rattle.std.proofs.Common.{◌≡◌, ◌∙◌, sym, ap, map, Some, None, Ok, Err}
+use Rattle.std.specs.Prelude.{string_bytes}
 use Rattle.std.proofs.lemmas.Result.{IfOk-weaker}
 use Rattle.clap.specs.Words.{found_of, matches_of}
 use Rattle.scq_words.specs.Commands.{run_app}
-use Rattle.scq_words.specs.Numbers.{text_in}
 use Rattle.scq_words.specs.Asked.{asked_of_run, run, run_of}
 use Rattle.scq_words.specs.declared.fault.WordsError.TheVariants.{Refused}
 use Rattle.scq_words.specs.declared.fault.WordsFault.TheVariants.{NotUnderstood}
