@@ -1,0 +1,5 @@
+pub mod Begun
+pub mod Gathered
+pub mod Judging
+pub mod Lines
+pub mod Sums

@@ -1,0 +1,56 @@
+-- What one thread writes about the messages of some files, taken in order. `topics` has the names and
+-- kinds of the declared topics; the number after the last of them stands for all undeclared ones.
+use Rattle.std.specs.Prelude.{ℕ, ◌+◌, ◌==◌, List, [], ◌∷◌, ◌++◌, length, map, codes, decimal, flat_map, count_by, sum_by, if◌then◌else◌}
+use Rattle.std.specs.List.{range_with_len}
+use Rattle.scq_topics.specs.declared.kind.Kind.{Kind}
+use Rattle.scq_topics.specs.Reply.{reply_of}
+use Rattle.scq_topics.specs.Topics.{topic_of, name_of, kind_of}
+use Rattle.scq_frames.specs.Text.{Framed, messages_of}
+use Rattle.scq_collect.specs.declared.answered.Answered.{Answered}
+
+-- the answer to a message of this file
+abbrev pub answer_to : List (List ℕ × Kind) → ℕ → Framed → Answered
+answer_to topics file m = record {
+  file = file;
+  line = m.line;
+  topic = topic_of topics m.topic;
+  bytes = length m.payload;
+  reply = reply_of (kind_of topics (topic_of topics m.topic)) m.payload;
+}
+
+-- the answers to all messages of files with these contents, of which the first has this number
+abbrev pub answers_to : List (List ℕ × Kind) → ℕ → List (List ℕ) → List Answered
+answers_to topics file [] = []
+answers_to topics file (content ∷ more) =
+    map (answer_to topics file) (messages_of content) ++ answers_to topics (file + 1) more
+
+-- the line for an answer: `file:line topic reply`
+abbrev pub reply_line : List (List ℕ × Kind) → Answered → List ℕ
+reply_line topics a =
+    decimal a.file ++ codes ":" ++ decimal a.line ++ codes " " ++ name_of topics a.topic ++ codes " " ++ a.reply ++ codes "\n"
+
+-- how many answers are on the topic with this number
+abbrev pub count_on : ℕ → List Answered → ℕ
+count_on topic answers = count_by (λ a. a.topic == topic) answers
+
+-- how many payload bytes their messages have
+abbrev pub bytes_on : ℕ → List Answered → ℕ
+bytes_on topic answers = sum_by (λ a. if a.topic == topic then a.bytes else 0) answers
+
+-- the line for the topic with this number: `total topic count bytes`
+abbrev pub total_line : List (List ℕ × Kind) → List Answered → ℕ → List ℕ
+total_line topics answers topic =
+    codes "total " ++ name_of topics topic ++ codes " " ++ decimal (count_on topic answers) ++ codes " "
+    ++ decimal (bytes_on topic answers) ++ codes "\n"
+
+-- the totals: the declared topics in their order, and last those that aren't declared
+abbrev pub total_lines : List (List ℕ × Kind) → List Answered → List ℕ
+total_lines topics answers = flat_map (total_line topics answers) (range_with_len 0 (length topics + 1))
+
+-- what is written of answers
+abbrev pub text_of_answers : List (List ℕ × Kind) → List Answered → List ℕ
+text_of_answers topics answers = flat_map (reply_line topics) answers ++ total_lines topics answers
+
+-- what one thread writes about files with these contents
+abbrev pub one_thread_output : List (List ℕ × Kind) → List (List ℕ) → List ℕ
+one_thread_output topics contents = text_of_answers topics (answers_to topics 1 contents)

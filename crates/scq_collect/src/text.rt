@@ -1,0 +1,97 @@
+ghost use Rattle.std.specs.Prelude.{◌≡◌, ℕ, ◌<◌, ◌≤◌, ◌++◌, List, length, slice_index, codes, decimal, IfOk, OnOk};
+ghost use Rattle.std.specs.List.{All};
+ghost use Rattle.scq_collect.specs.declared.answered.Answered.{Answered as TheAnswered};
+ghost use Rattle.scq_collect.specs.Output.{answers_to, count_on, bytes_on, one_thread_output, reply_line, text_of_answers, total_line, total_lines};
+
+use crate::Answered;
+use crate::totals::{Totals, totals_of};
+use itoa::Buffer;
+use scq_topics::Topics;
+use scq_word::{Bytes, NoMemory};
+use std::alloc::Global;
+
+/// The text of the answers: a line for each, in their order, and then a line of totals for each
+/// declared topic and for all others together. It fails only for want of memory.
+pub fn output(alloc: Global, topics: &Topics, answered: &[Answered]) -> Result<Bytes, NoMemory>
+    requires { All (λ a. a.topic ≤ length topics.now) answered.now }
+    ensures text { IfOk result (λ bytes. bytes ≡ text_of_answers topics.now answered.now) }
+    ensures one_thread { (contents : List (List ℕ)) → answered.now ≡ answers_to topics.now 1 contents
+        → IfOk result (λ bytes. bytes ≡ one_thread_output topics.now contents) }
+{
+    let mut text = Vec::new(alloc);
+    for member in answered {
+        push_line(&mut text, topics, member)?;
+    }
+    push_totals(&mut text, topics, answered)?;
+    Ok(Bytes::from(text))
+}
+
+/// Adds the totals of the answers: a line for each declared topic, and one for all others together.
+pub fn push_totals(
+    text: &mut Vec<u8>,
+    topics: &Topics,
+    answered: &[Answered],
+) -> Result<(), NoMemory>
+    requires { All (λ a. a.topic ≤ length topics.now) answered.now }
+    ensures { OnOk result (text.new.items ≡ text.old.items ++ total_lines topics.now answered.now) }
+{
+    let numbers = topics.len() + 1;
+    let totals = totals_of(answered);
+    for topic in 0..numbers {
+        push_total(text, topics, topic, &totals)?;
+    }
+    Ok(())
+}
+
+/// Adds the line for an answer: `file:line topic reply`.
+fn push_line(text: &mut Vec<u8>, topics: &Topics, member: &Answered) -> Result<(), NoMemory>
+    requires { member.now.topic ≤ length topics.now }
+    ensures { OnOk result (text.new.items ≡ text.old.items ++ reply_line topics.now member.now) }
+{
+    push_position(text, member)?;
+    text.extend_from_slice(topics.name(member.topic))?;
+    text.extend_from_slice(b" ")?;
+    text.extend_from_slice(member.reply.bytes())?;
+    text.extend_from_slice(b"\n")?;
+    Ok(())
+}
+
+/// Adds where an answer's message stands: `file:line `.
+fn push_position(text: &mut Vec<u8>, member: &Answered) -> Result<(), NoMemory>
+    ensures { OnOk result (text.new.items ≡ text.old.items ++ (decimal member.now.file ++ codes ":" ++ decimal member.now.line ++ codes " ")) }
+{
+    push_number(text, u128::from(member.file))?;
+    text.extend_from_slice(b":")?;
+    push_number(text, u128::from(member.line))?;
+    text.extend_from_slice(b" ")?;
+    Ok(())
+}
+
+/// Adds the line for a topic: `total topic count bytes`.
+fn push_total(
+    text: &mut Vec<u8>,
+    topics: &Topics,
+    topic: u32,
+    totals: &Totals,
+) -> Result<(), NoMemory>
+    requires known { topic ≤ length topics.now }
+    requires within { topic < 17 }
+    ensures { (answers : List TheAnswered) → slice_index totals.now.counts topic ≡ count_on topic answers → slice_index totals.now.bytes topic ≡ bytes_on topic answers
+        → OnOk result (text.new.items ≡ text.old.items ++ total_line topics.now answers topic) }
+{
+    text.extend_from_slice(b"total ")?;
+    text.extend_from_slice(topics.name(topic))?;
+    text.extend_from_slice(b" ")?;
+    push_number(text, u128::from(totals.counts[topic as usize]))?;
+    text.extend_from_slice(b" ")?;
+    push_number(text, totals.bytes[topic as usize])?;
+    text.extend_from_slice(b"\n")?;
+    Ok(())
+}
+
+fn push_number(text: &mut Vec<u8>, number: u128) -> Result<(), NoMemory>
+    ensures { OnOk result (text.new.items ≡ text.old.items ++ decimal number) }
+{
+    text.extend_from_slice(Buffer::new().format(number).as_bytes())?;
+    Ok(())
+}

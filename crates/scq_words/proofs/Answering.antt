@@ -1,0 +1,89 @@
+-- What is asked, from the matches of `clap` and the tests of the texts.
+use Rattle.std.proofs.Common.{◌≡◌, ◌∙◌, sym, ap, ℕ, List, [], codes, Option, Some, None, Result, Ok, Err}
+use Rattle.std.specs.Prelude.{◌≢◌, IsErrOf, unwrap_or, option_map}
+use Rattle.std.specs.Result.{IsErrAnd}
+use Rattle.std.specs.Option.{option_or}
+use Rattle.clap.specs.Words.{Row, all_of, first_of, first_value, matched_of, matches_of, raw_values, rows_of}
+use Rattle.clap.specs.declared.parser.matches.Found.{Found}
+use Rattle.clap.proofs.WalkLemmas.{first_value-rows, raw_values-rows}
+use Rattle.scq_words.specs.Commands.{run_app, self_app}
+use Rattle.scq_words.specs.Asked.{Asked, RunTexts, SelfTexts, answered_by, asked_of_run, asked_of_self, first_of_tests, generated, refused_by_clap, run, run_asked, run_tests, run_texts, self_asked, self_tests, self_texts, texts_of_run, texts_of_self}
+use Rattle.scq_words.specs.declared.fault.WordsFault.{WordsFault}
+use Rattle.scq_words.specs.declared.fault.WordsError.{WordsError}
+use Rattle.scq_words.specs.declared.fault.WordsError.TheVariants.{Refused, NoMemory}
+
+-- a text that was got by its name
+text-same : (f : Found) (rows : List Row) (name : List ℕ) (text : Option (List ℕ)) → rows_of f ≡ rows → text ≡ first_value f name → text ≡ first_of name rows
+text-same f rows name text same got = got ∙ first_value-rows f name ∙ ap (first_of name) same
+
+files-same : (f : Found) (rows : List Row) (name : List ℕ) (files : Option (List (List ℕ))) → rows_of f ≡ rows → files ≡ option_map raw_values (matched_of f name)
+    → unwrap_or files [] ≡ unwrap_or (all_of name rows) []
+files-same f rows name files same got = ap (λ o. unwrap_or o []) (got ∙ raw_values-rows f name ∙ ap (all_of name) same)
+
+pub run-texts : (f : Found) (rows : List Row) (workers order size topics : Option (List ℕ)) (files : Option (List (List ℕ))) → rows_of f ≡ rows
+    → workers ≡ first_value f (codes "workers") → order ≡ first_value f (codes "order") → size ≡ first_value f (codes "size") → topics ≡ first_value f (codes "topics")
+    → files ≡ option_map raw_values (matched_of f (codes "files")) → texts_of_run workers order size topics (unwrap_or files []) ≡ run_texts rows
+run-texts f rows workers order size topics files same w o s t fs =
+    let ew = text-same f rows (codes "workers") workers same w in
+    let eo = text-same f rows (codes "order") order same o in
+    let es = text-same f rows (codes "size") size same s in
+    let et = text-same f rows (codes "topics") topics same t in
+    let ef = files-same f rows (codes "files") files same fs in
+    λ i. texts_of_run (ew i) (eo i) (es i) (et i) (ef i)
+
+pub self-texts : (f : Found) (rows : List Row) (seed lines workers : Option (List ℕ)) → rows_of f ≡ rows
+    → seed ≡ first_value f (codes "seed") → lines ≡ first_value f (codes "lines") → workers ≡ first_value f (codes "workers")
+    → texts_of_self seed lines workers ≡ self_texts rows
+self-texts f rows seed lines workers same s l w =
+    let es = text-same f rows (codes "seed") seed same s in
+    let el = text-same f rows (codes "lines") lines same l in
+    let ew = text-same f rows (codes "workers") workers same w in
+    λ i. texts_of_self (es i) (el i) (ew i)
+
+-- `clap` takes the words, and then the tests decide
+after_clap : (clap rest : Option WordsFault) (what : Asked) (said : Result Asked WordsFault) → clap ≡ None → answered_by rest what ≡ said → answered_by (option_or clap rest) what ≡ said
+after_clap clap rest what said passes is = ap (λ test. answered_by (option_or test rest) what) passes ∙ is
+
+pub run-answer : (words : List (List ℕ)) (t : RunTexts) (said : Result Asked WordsFault) → refused_by_clap run_app words ≡ None → t ≡ run_texts (matches_of run_app words)
+    → answered_by (first_of_tests (run_tests t)) (run (run_asked t)) ≡ said → asked_of_run words ≡ said
+unfolding asked_of_run
+run-answer words t said passes is answer =
+    after_clap (refused_by_clap run_app words) _ _ said passes
+    (ap (λ (t : RunTexts). answered_by (first_of_tests (run_tests t)) (run (run_asked t))) (sym is) ∙ answer)
+
+pub self-answer : (words : List (List ℕ)) (t : SelfTexts) (said : Result Asked WordsFault) → refused_by_clap self_app words ≡ None → t ≡ self_texts (matches_of self_app words)
+    → answered_by (first_of_tests (self_tests t)) (generated (self_asked t)) ≡ said → asked_of_self words ≡ said
+unfolding asked_of_self
+self-answer words t said passes is answer =
+    after_clap (refused_by_clap self_app words) _ _ said passes
+    (ap (λ (t : SelfTexts). answered_by (first_of_tests (self_tests t)) (generated (self_asked t))) (sym is) ∙ answer)
+
+pub answer-ok : (test : Option WordsFault) (what other : Asked) → test ≡ None → what ≡ other → answered_by test what ≡ Ok other
+answer-ok test what other none same = ap (λ t. answered_by t what) none ∙ ap Ok same
+
+pub answer-err : (test : Option WordsFault) (what : Asked) (fault : WordsFault) → test ≡ Some fault → answered_by test what ≡ Err fault
+answer-err test what fault some = ap (λ t. answered_by t what) some
+
+pub asked-refused-run : (words : List (List ℕ)) (fault : WordsFault) → refused_by_clap run_app words ≡ Some fault → asked_of_run words ≡ Err fault
+unfolding asked_of_run
+asked-refused-run words fault refused =
+    let t = run_texts (matches_of run_app words) in
+    ap (λ test. answered_by (option_or test (first_of_tests (run_tests t))) (run (run_asked t))) refused
+
+pub asked-refused-self : (words : List (List ℕ)) (fault : WordsFault) → refused_by_clap self_app words ≡ Some fault → asked_of_self words ≡ Err fault
+unfolding asked_of_self
+asked-refused-self words fault refused =
+    let t = self_texts (matches_of self_app words) in
+    ap (λ test. answered_by (option_or test (first_of_tests (self_tests t))) (generated (self_asked t))) refused
+
+-- an error that `?` hands on
+pub handed-on : {T E : Type 0} (r : Result T E) (e f : E) → IsErrAnd r (λ passed. passed ≡ e) → IsErrOf r f → e ≡ f
+handed-on (Ok x) e f passed is = absurd passed
+handed-on (Err x) e f passed is = let same : x ≡ f = cc in sym passed ∙ same
+
+-- want of memory is no fault of the words
+pub refused-some : (e : WordsError) (fault : WordsFault) → e ≡ Refused fault → e ≢ NoMemory
+refused-some e fault is = λ memory. cc
+
+pub refused-same : {fault other : WordsFault} → Refused fault ≡ Refused other → fault ≡ other
+refused-same e = cc

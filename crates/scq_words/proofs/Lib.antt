@@ -1,0 +1,4 @@
+pub mod Answering
+pub mod Digits
+pub mod Named
+pub mod Refusals

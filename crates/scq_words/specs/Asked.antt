@@ -1,0 +1,174 @@
+-- What the words of a command line ask for, or the first test that refuses them.
+use Rattle.std.specs.Prelude.{ℕ, ◌+◌, ◌^◌, ◌==◌, Bool, nat_lt, min, string_bytes, List, [], ◌∷◌, length, map, codes, Option, Some, None, option_map, unwrap_or, Result, Ok, Err, if◌then◌else◌}
+use Rattle.std.specs.List.{position}
+use Rattle.std.specs.Option.{option_or}
+use Rattle.std.specs.Str.{bytes_eq}
+use Rattle.clap.specs.Words.{App, Row, all_of, first_of, matches_of}
+use Rattle.clap.specs.Faults.{fault_of}
+use Rattle.scq_topics.specs.declared.kind.Kind.{Kind}
+use Rattle.scq_topics.specs.Topics.{declared_by, entries_of, first_fault}
+use Rattle.scq_words.specs.Commands.{run_app, self_app}
+use Rattle.scq_words.specs.Numbers.{number_or, refused_outside}
+use Rattle.scq_words.specs.declared.fault.WordsFault.{WordsFault}
+use Rattle.scq_words.specs.declared.fault.WordsFault.TheVariants.{NotUnderstood, Workers, Order, Size, Topics, TooManyFiles, NoName, MoreWorkers, Seed, Lines}
+use Rattle.scq_words.specs.declared.request.Request.{Request}
+use Rattle.scq_words.specs.declared.request.Request.TheVariants.{Run, SelfRun}
+use Rattle.scq_words.specs.declared.request.RunRequest.{RunRequest}
+use Rattle.scq_words.specs.declared.request.SelfRequest.{SelfRequest}
+
+-- the first fault of a list of tests
+abbrev pub first_of_tests : List (Option WordsFault) → Option WordsFault
+first_of_tests [] = None
+first_of_tests (test ∷ tests) = option_or test (first_of_tests tests)
+
+-- a test that refuses where this holds
+abbrev pub refused_if : Bool → WordsFault → Option WordsFault
+refused_if holds fault = if holds then Some fault else None
+
+-- `clap` refuses the words, whatever the kind of its error
+abbrev pub refused_by_clap : App → List (List ℕ) → Option WordsFault
+refused_by_clap app words = refused_if (nat_lt 0 (length (fault_of app words))) NotUnderstood
+
+-- the topics that a text declares, or none where none is given
+abbrev pub topics_or_none : Option (List ℕ) → List (List ℕ × Kind)
+topics_or_none None = []
+topics_or_none (Some text) = map declared_by (entries_of text)
+
+abbrev pub refused_topics : Option (List ℕ) → Option WordsFault
+refused_topics None = None
+refused_topics (Some text) = option_map Topics (first_fault [] (entries_of text))
+
+-- the first file that is the empty text
+abbrev pub refused_names : List (List ℕ) → Option WordsFault
+refused_names files = option_map (λ at. NoName (at + 1)) (position (λ name. length name == 0) files)
+
+-- how many workers there are: 4 or the number of buffers where none are given
+abbrev pub workers_or : ℕ → Option (List ℕ) → ℕ
+workers_or order text = number_or (min 4 (2 ^ order)) text
+
+-- more workers than buffers
+abbrev pub refused_workers : ℕ → Option (List ℕ) → Option WordsFault
+refused_workers order workers = refused_if (nat_lt (2 ^ order) (workers_or order workers)) MoreWorkers
+
+-- what is asked of files
+pub record RunAsked : Type 0 where
+  pub workers : ℕ
+  pub order : ℕ
+  pub size : ℕ
+  pub topics : List (List ℕ × Kind)
+  pub files : List (List ℕ)
+
+-- what is asked of a generated file
+pub record SelfAsked : Type 0 where
+  pub seed : ℕ
+  pub lines : ℕ
+  pub workers : ℕ
+
+pub data Asked : Type 0 where
+  run : RunAsked → Asked
+  generated : SelfAsked → Asked
+
+-- the texts of `run`'s arguments
+pub record RunTexts : Type 0 where
+  pub workers : Option (List ℕ)
+  pub order : Option (List ℕ)
+  pub size : Option (List ℕ)
+  pub topics : Option (List ℕ)
+  pub files : List (List ℕ)
+
+-- those of `self`
+pub record SelfTexts : Type 0 where
+  pub seed : Option (List ℕ)
+  pub lines : Option (List ℕ)
+  pub workers : Option (List ℕ)
+
+abbrev pub texts_of_run : Option (List ℕ) → Option (List ℕ) → Option (List ℕ) → Option (List ℕ) → List (List ℕ) → RunTexts
+texts_of_run workers order size topics files =
+    record { workers = workers; order = order; size = size; topics = topics; files = files }
+
+abbrev pub texts_of_self : Option (List ℕ) → Option (List ℕ) → Option (List ℕ) → SelfTexts
+texts_of_self seed lines workers = record { seed = seed; lines = lines; workers = workers }
+
+abbrev pub run_texts : List Row → RunTexts
+run_texts rows =
+    texts_of_run (first_of (codes "workers") rows) (first_of (codes "order") rows) (first_of (codes "size") rows)
+    (first_of (codes "topics") rows) (unwrap_or (all_of (codes "files") rows) [])
+
+abbrev pub self_texts : List Row → SelfTexts
+self_texts rows = texts_of_self (first_of (codes "seed") rows) (first_of (codes "lines") rows) (first_of (codes "workers") rows)
+
+-- the tests of `run`'s arguments, in order
+abbrev pub run_tests : RunTexts → List (Option WordsFault)
+run_tests t =
+    refused_outside 1 4096 Workers t.workers
+    ∷ refused_outside 1 12 Order t.order
+    ∷ refused_outside 1 65536 Size t.size
+    ∷ refused_topics t.topics
+    ∷ refused_if (nat_lt 64 (length t.files)) TooManyFiles
+    ∷ refused_names t.files
+    ∷ refused_workers (number_or 6 t.order) t.workers
+    ∷ []
+
+-- those of `self`, whose order is 6
+abbrev pub self_tests : SelfTexts → List (Option WordsFault)
+self_tests t =
+    refused_outside 0 2147483647 Seed t.seed
+    ∷ refused_outside 1 1000000 Lines t.lines
+    ∷ refused_outside 1 4096 Workers t.workers
+    ∷ refused_workers 6 t.workers
+    ∷ []
+
+-- the settings, where no test refuses
+abbrev pub run_asked : RunTexts → RunAsked
+run_asked t = record {
+  workers = workers_or (number_or 6 t.order) t.workers;
+  order = number_or 6 t.order;
+  size = number_or 65536 t.size;
+  topics = topics_or_none t.topics;
+  files = t.files;
+}
+
+abbrev pub self_asked : SelfTexts → SelfAsked
+self_asked t = record {
+  seed = number_or 0 t.seed;
+  lines = number_or 1 t.lines;
+  workers = workers_or 6 t.workers;
+}
+
+-- what is asked, or the first fault
+abbrev pub answered_by : Option WordsFault → Asked → Result Asked WordsFault
+answered_by None what = Ok what
+answered_by (Some fault) what = Err fault
+
+unfoldable pub asked_of_run : List (List ℕ) → Result Asked WordsFault
+asked_of_run words = let t = run_texts (matches_of run_app words) in
+    answered_by (first_of_tests (refused_by_clap run_app words ∷ run_tests t)) (run (run_asked t))
+
+unfoldable pub asked_of_self : List (List ℕ) → Result Asked WordsFault
+asked_of_self words = let t = self_texts (matches_of self_app words) in
+    answered_by (first_of_tests (refused_by_clap self_app words ∷ self_tests t)) (generated (self_asked t))
+
+-- what the words ask for: the first is a command, and those after it are its arguments
+abbrev pub asked : List (List ℕ) → Result Asked WordsFault
+asked [] = Err NotUnderstood
+asked (command ∷ words) =
+    if bytes_eq command (codes "run") then asked_of_run words
+    else if bytes_eq command (codes "self") then asked_of_self words
+    else Err NotUnderstood
+
+-- a request of the program as what is asked
+abbrev pub run_of : RunRequest → RunAsked
+run_of r = record {
+  workers = r.workers;
+  order = r.order;
+  size = r.size;
+  topics = r.topics;
+  files = map string_bytes r.files.items;
+}
+
+abbrev pub self_of : SelfRequest → SelfAsked
+self_of r = record { seed = r.seed; lines = r.lines; workers = r.workers }
+
+abbrev pub asked_by : Request → Asked
+asked_by (Run r) = run (run_of r)
+asked_by (SelfRun r) = generated (self_of r)

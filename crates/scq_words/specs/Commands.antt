@@ -1,0 +1,35 @@
+-- The commands as `clap` knows them: `run` and `self` with their options and files.
+use Rattle.std.specs.Prelude.{ℕ, List, Some, true, codes}
+use Rattle.clap.specs.Words.{App, Rule, new_app, new_rule, with_rule}
+use Rattle.clap.specs.declared.builder.action.ArgAction.TheVariants.{Append}
+
+-- a command that reads the words as they are, with neither help nor version
+abbrev pub plain_app : List ℕ → App
+plain_app name = let app = new_app name in
+    record app { top = record app.top { no_binary_name = true; disable_help_flag = true; disable_version_flag = true } }
+
+-- `--name VALUE` or `--name=VALUE`, at most once
+abbrev pub option_rule : List ℕ → Rule
+option_rule name = record (new_rule name) { long = Some name }
+
+-- the same, once
+abbrev pub required_rule : List ℕ → Rule
+required_rule name = record (option_rule name) { required = true }
+
+-- one or more files
+abbrev pub files_rule : Rule
+files_rule = record (new_rule (codes "files")) { required = true; action = Some Append }
+
+-- `run` with the options that are numbers
+abbrev pub run_numbers_app : App
+run_numbers_app =
+    with_rule (with_rule (with_rule (plain_app (codes "run")) (option_rule (codes "workers")))
+    (option_rule (codes "order"))) (option_rule (codes "size"))
+
+abbrev pub run_app : App
+run_app = with_rule (with_rule run_numbers_app (option_rule (codes "topics"))) files_rule
+
+abbrev pub self_app : App
+self_app =
+    with_rule (with_rule (with_rule (plain_app (codes "self")) (required_rule (codes "seed"))) (required_rule (codes "lines")))
+    (option_rule (codes "workers"))

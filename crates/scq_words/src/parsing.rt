@@ -1,0 +1,103 @@
+ghost use Rattle.std.specs.Prelude.{◌≡◌, ◌≢◌, IfOk, IfErr, map, string_bytes, false};
+ghost use Rattle.clap.specs.Words.{app_of, found_of, kind_of, matches_of, rows_of, rule_of, takes};
+ghost use Rattle.scq_words.specs.Asked.{refused_by_clap};
+ghost use Rattle.scq_words.specs.Commands.{files_rule, option_rule, plain_app, run_app, run_numbers_app, self_app};
+
+use crate::{WordsError, WordsFault};
+use clap::error::ErrorKind;
+use clap::{Arg, ArgAction, ArgMatches, Command, Error};
+use std::alloc::{AllocError, Global};
+
+/// The matches of `run`'s words, or the one fault of words that `clap` refuses.
+pub fn run_matches<'a>(alloc: Global, words: &'a [String]) -> Result<ArgMatches<'a>, WordsError>
+    ensures rows { IfOk result (λ m. rows_of (found_of m) ≡ matches_of run_app (map string_bytes words.entry.now)) }
+    ensures passes { IfOk result (λ m. refused_by_clap run_app (map string_bytes words.entry.now) ≡ None) }
+    ensures refused { IfErr result (λ error. (error ≢ WordsError.NoMemory) → (error ≡ WordsError.Refused WordsFault.NotUnderstood)
+        × (refused_by_clap run_app (map string_bytes words.entry.now) ≡ Some WordsFault.NotUnderstood)
+        × (takes run_app (map string_bytes words.entry.now) ≡ false)) }
+{
+    let command = run_command(alloc)?;
+    match command.try_get_matches_from(words) {
+        Ok(matches) => Ok(matches),
+        Err(error) => Err(error_of(&error)),
+    }
+}
+
+fn run_command<'a>(alloc: Global) -> Result<Command<'a>, AllocError>
+    ensures { IfOk result (λ command. app_of command ≡ run_app) }
+{
+    run_options(alloc)?
+        .arg(option(alloc, "topics"))?
+        .arg(files(alloc))
+}
+
+/// `run` with the options that are numbers.
+fn run_options<'a>(alloc: Global) -> Result<Command<'a>, AllocError>
+    ensures { IfOk result (λ command. app_of command ≡ run_numbers_app) }
+{
+    plain_command(alloc, "run")
+        .arg(option(alloc, "workers"))?
+        .arg(option(alloc, "order"))?
+        .arg(option(alloc, "size"))
+}
+
+fn files<'a>(alloc: Global) -> Arg<'a>
+    ensures rule { rule_of result ≡ files_rule }
+    ensures local { result.global ≡ false }
+{
+    Arg::new(alloc, "files")
+        .required(true)
+        .action(ArgAction::Append)
+}
+
+/// The matches of `self`'s words, or the one fault of words that `clap` refuses.
+pub fn self_matches<'a>(alloc: Global, words: &'a [String]) -> Result<ArgMatches<'a>, WordsError>
+    ensures rows { IfOk result (λ m. rows_of (found_of m) ≡ matches_of self_app (map string_bytes words.entry.now)) }
+    ensures passes { IfOk result (λ m. refused_by_clap self_app (map string_bytes words.entry.now) ≡ None) }
+    ensures refused { IfErr result (λ error. (error ≢ WordsError.NoMemory) → (error ≡ WordsError.Refused WordsFault.NotUnderstood)
+        × (refused_by_clap self_app (map string_bytes words.entry.now) ≡ Some WordsFault.NotUnderstood)
+        × (takes self_app (map string_bytes words.entry.now) ≡ false)) }
+{
+    let command = self_command(alloc)?;
+    match command.try_get_matches_from(words) {
+        Ok(matches) => Ok(matches),
+        Err(error) => Err(error_of(&error)),
+    }
+}
+
+fn self_command<'a>(alloc: Global) -> Result<Command<'a>, AllocError>
+    ensures { IfOk result (λ command. app_of command ≡ self_app) }
+{
+    plain_command(alloc, "self")
+        .arg(option(alloc, "seed").required(true))?
+        .arg(option(alloc, "lines").required(true))?
+        .arg(option(alloc, "workers"))
+}
+
+/// A command that reads the words as they are, with neither help nor version.
+fn plain_command<'a>(alloc: Global, name: &'a str) -> Command<'a>
+    ensures { app_of result ≡ plain_app name.entry.now }
+{
+    Command::new(alloc, name)
+        .no_binary_name(true)
+        .disable_help_flag(true)
+        .disable_version_flag(true)
+}
+
+/// `--name VALUE` or `--name=VALUE`.
+fn option<'a>(alloc: Global, name: &'a str) -> Arg<'a>
+    ensures rule { rule_of result ≡ option_rule name.entry.now }
+    ensures local { result.global ≡ false }
+{
+    Arg::new(alloc, name).long(name)
+}
+
+/// Want of memory stays one; every other error is that the words are not understood.
+fn error_of(error: &Error) -> WordsError
+    ensures { result ≢ WordsError.NoMemory → (result ≡ WordsError.Refused WordsFault.NotUnderstood) × (kind_of error.now ≢ ErrorKind.OutOfMemory) }
+{
+    match error.kind() {
+        ErrorKind::OutOfMemory => WordsError::NoMemory,
+        _ => WordsError::Refused(WordsFault::NotUnderstood),
+    }
+}

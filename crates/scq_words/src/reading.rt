@@ -1,0 +1,25 @@
+ghost use Rattle.std.specs.Prelude.{◌≡◌, Ok, Err, map, string_bytes, IfOk, IsErrOf};
+ghost use Rattle.scq_words.specs.declared.fault.WordsFault.{WordsFault as TheFault};
+ghost use Rattle.scq_words.specs.Asked.{asked, asked_by};
+
+use crate::run::read_run;
+use crate::self_words::read_self;
+use crate::{Request, WordsError, WordsFault};
+use std::alloc::Global;
+
+/// What the words ask for, which are the program's arguments without its own name. They are refused by
+/// the first test that holds, in the order of `WordsFault`'s table in docs/FORMATS.md; want of memory may
+/// come at any time.
+pub fn read_words(alloc: Global, words: &[String]) -> Result<Request, WordsError>
+    ensures request { IfOk result (λ request. asked (map string_bytes words.now) ≡ Ok (asked_by request)) }
+    ensures refused { (fault : TheFault) → IsErrOf result (WordsError.Refused fault) → asked (map string_bytes words.now) ≡ Err fault }
+{
+    match words {
+        [command, rest @ ..] => match command.as_str() {
+            "run" => Ok(Request::Run(read_run(alloc, rest)?)),
+            "self" => Ok(Request::SelfRun(read_self(alloc, rest)?)),
+            _ => Err(WordsError::Refused(WordsFault::NotUnderstood)),
+        },
+        [] => Err(WordsError::Refused(WordsFault::NotUnderstood)),
+    }
+}

@@ -1,0 +1,28 @@
+use scq_topics::Topics;
+
+/// What is asked of files. Workers are in `1..=4096` and at most `2^order`, the order in `1..=12`, the
+/// size of a payload in `1..=65536`, and there are 1 to 64 files, each with a name.
+#[derive(Debug, Drop)]
+pub struct RunRequest {
+    pub workers: u32,
+    pub order: u32,
+    pub size: u32,
+    pub topics: Topics,
+    pub files: Vec<String>,
+}
+
+/// What is asked of a generated file: the seed is in `0..=2147483647`, the lines in `1..=1000000`, the
+/// workers in `1..=64`.
+#[derive(Clone, Copy, Debug, PartialEq, Eq)]
+pub struct SelfRequest {
+    pub seed: u32,
+    pub lines: u32,
+    pub workers: u32,
+}
+
+/// What the words of a command line ask for.
+#[derive(Debug, Drop)]
+pub enum Request {
+    Run(RunRequest),
+    SelfRun(SelfRequest),
+}

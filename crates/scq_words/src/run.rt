@@ -1,0 +1,74 @@
+ghost use Rattle.std.specs.Prelude.{◌≡◌, Ok, Err, None, Some, map, string_bytes, IfOk, IsErrOf};
+ghost use Rattle.std.specs.Result.{result_err};
+ghost use Rattle.scq_words.specs.declared.fault.WordsFault.{WordsFault as TheFault};
+ghost use Rattle.scq_words.specs.Asked.{asked_of_run, first_of_tests, refused_topics, run, run_asked, run_of, run_tests, texts_of_run, topics_or_none};
+ghost use Rattle.scq_words.specs.Numbers.{text_in};
+
+use crate::files::{few_files, named_files, own_files};
+use crate::number::optional_number;
+use crate::parsing::run_matches;
+use crate::workers::workers_of;
+use crate::{RunRequest, WordsError, WordsFault};
+use scq_topics::Topics;
+use std::alloc::Global;
+
+/// What the words after `run` ask for.
+pub fn read_run(alloc: Global, words: &[String]) -> Result<RunRequest, WordsError>
+    ensures request { IfOk result (λ request. asked_of_run (map string_bytes words.now) ≡ Ok (run (run_of request))) }
+    ensures refused { (fault : TheFault) → IsErrOf result (WordsError.Refused fault) → asked_of_run (map string_bytes words.now) ≡ Err fault }
+{
+    let matches = run_matches(alloc, words)?;
+    let workers = matches.get_str("workers");
+    let order = matches.get_str("order");
+    let size = matches.get_str("size");
+    let topics = matches.get_str("topics");
+    match matches.get_strs("files") {
+        Some(files) => check_run(alloc, workers, order, size, topics, files),
+        None => check_run(alloc, workers, order, size, topics, &[]),
+    }
+}
+
+/// Makes the tests in their order.
+fn check_run(
+    alloc: Global,
+    workers: Option<&str>,
+    order: Option<&str>,
+    size: Option<&str>,
+    topics: Option<&str>,
+    files: &[&str],
+) -> Result<RunRequest, WordsError>
+    ensures request { let texts = texts_of_run (text_in workers.entry) (text_in order.entry) (text_in size.entry) (text_in topics.entry) (map (λ name. name.now) files.now) in
+        IfOk result (λ request. (first_of_tests (run_tests texts) ≡ None) × (run_asked texts ≡ run_of request)) }
+    ensures refused { let texts = texts_of_run (text_in workers.entry) (text_in order.entry) (text_in size.entry) (text_in topics.entry) (map (λ name. name.now) files.now) in
+        (fault : TheFault) → IsErrOf result (WordsError.Refused fault) → first_of_tests (run_tests texts) ≡ Some fault }
+{
+    let given = optional_number(workers, 0, 1, 4096, WordsFault::Workers)?;
+    let order = optional_number(order, 6, 1, 12, WordsFault::Order)?;
+    let size = optional_number(size, 65536, 1, 65536, WordsFault::Size)?;
+    let topics = topics_of(topics)?;
+    few_files(files)?;
+    named_files(files)?;
+    let workers = workers_of(workers, given, order)?;
+    let files = own_files(alloc, files)?;
+    Ok(RunRequest {
+        workers,
+        order,
+        size,
+        topics,
+        files,
+    })
+}
+
+/// The declared topics, or none where no text is given.
+fn topics_of(text: Option<&str>) -> Result<Topics, WordsFault>
+    ensures refused { result_err result ≡ refused_topics (text_in text.entry) }
+    ensures topics { IfOk result (λ topics. topics ≡ topics_or_none (text_in text.entry)) }
+{
+    match text {
+        Some(text) => match Topics::read(text) {
+            Ok(topics) => Ok(topics),
+            Err(fault) => Err(WordsFault::Topics(fault)),
+        },
+        None => Ok(Topics::none()),
+    }
+}

@@ -1,0 +1,49 @@
+ghost use Rattle.std.specs.Prelude.{◌≡◌, Ok, Err, None, Some, map, string_bytes, IfOk, IsErrOf};
+ghost use Rattle.std.specs.Result.{result_err};
+ghost use Rattle.scq_words.specs.declared.fault.WordsFault.{WordsFault as TheFault};
+ghost use Rattle.scq_words.specs.Asked.{asked_of_self, first_of_tests, generated, self_asked, self_of, self_tests, texts_of_self};
+ghost use Rattle.scq_words.specs.Numbers.{text_in};
+
+use crate::number::optional_number;
+use crate::parsing::self_matches;
+use crate::workers::workers_of;
+use crate::{SelfRequest, WordsError, WordsFault};
+use std::alloc::Global;
+
+/// The order of the rings that a generated file goes through.
+const ORDER: u32 = 6;
+
+/// What the words after `self` ask for.
+pub fn read_self(alloc: Global, words: &[String]) -> Result<SelfRequest, WordsError>
+    ensures request { IfOk result (λ request. asked_of_self (map string_bytes words.now) ≡ Ok (generated (self_of request))) }
+    ensures refused { (fault : TheFault) → IsErrOf result (WordsError.Refused fault) → asked_of_self (map string_bytes words.now) ≡ Err fault }
+{
+    let matches = self_matches(alloc, words)?;
+    let seed = matches.get_str("seed");
+    let lines = matches.get_str("lines");
+    let workers = matches.get_str("workers");
+    match check_self(seed, lines, workers) {
+        Ok(request) => Ok(request),
+        Err(fault) => Err(WordsError::Refused(fault)),
+    }
+}
+
+/// Makes the tests in their order.
+fn check_self(
+    seed: Option<&str>,
+    lines: Option<&str>,
+    workers: Option<&str>,
+) -> Result<SelfRequest, WordsFault>
+    ensures request { IfOk result (λ request. self_asked (texts_of_self (text_in seed.entry) (text_in lines.entry) (text_in workers.entry)) ≡ self_of request) }
+    ensures refused { result_err result ≡ first_of_tests (self_tests (texts_of_self (text_in seed.entry) (text_in lines.entry) (text_in workers.entry))) }
+{
+    let seed = optional_number(seed, 0, 0, 2147483647, WordsFault::Seed)?;
+    let lines = optional_number(lines, 1, 1, 1000000, WordsFault::Lines)?;
+    let given = optional_number(workers, 0, 1, 4096, WordsFault::Workers)?;
+    let workers = workers_of(workers, given, ORDER)?;
+    Ok(SelfRequest {
+        seed,
+        lines,
+        workers,
+    })
+}
