@@ -19,6 +19,6 @@ mod tests;
 pub use emptiness::empty_right;
 pub use events::{Call, Event, PutName, Reply};
 pub use freshness::fresh;
-pub use lawful::lawful_calls;
+pub use lawful::{is_lawful_at, lawful_calls};
 pub use names::once;
 pub use order::in_order;
