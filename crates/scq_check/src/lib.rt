@@ -7,5 +7,7 @@
 
 mod history;
 mod line;
+mod verdicts;
 
 pub use history::{History, HistoryFault, read_history};
+pub use verdicts::{Verdict, judge, verdict_text};

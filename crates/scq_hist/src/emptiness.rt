@@ -51,7 +51,7 @@ fn empty_at(events: &[Event], e: usize) -> Option<(usize, u32)>
 }
 
 /// Whether an Empty that ends at this position, if one does, is right.
-fn is_empty_right_at(tokens: Tally, events: &[Event], e: usize) -> bool
+pub(crate) fn is_empty_right_at(tokens: Tally, events: &[Event], e: usize) -> bool
     requires lawful { IsLawful events.now }
     requires within { e < length events.now }
     requires room { tokens.ungot + length events.now < 2 ^ 64 }

@@ -54,7 +54,7 @@ fn is_begun(
 }
 
 /// Whether the Got that stands at this position, if one does, names such a put.
-fn is_fresh_at(opening: &[Bytes], events: &[Event], e: usize) -> bool
+pub(crate) fn is_fresh_at(opening: &[Bytes], events: &[Event], e: usize) -> bool
     requires { e < length events.now }
     ensures { IsTrue result ↔ IsFreshAt opening.now events.now e }
 {

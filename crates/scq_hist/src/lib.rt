@@ -7,6 +7,7 @@
 mod calls;
 mod emptiness;
 mod events;
+mod firsts;
 mod freshness;
 mod gets;
 mod lawful;
@@ -18,6 +19,7 @@ mod tests;
 
 pub use emptiness::empty_right;
 pub use events::{Call, Event, PutName, Reply};
+pub use firsts::{first_out_of_order, first_repeated, first_unfresh, first_wrong_empty};
 pub use freshness::fresh;
 pub use lawful::{is_lawful_at, lawful_calls};
 pub use names::once;

@@ -7,7 +7,7 @@ use crate::events::Event;
 use crate::gets::{first_named, got_name};
 
 /// Whether no Got before this one names the same put, if one stands at this position.
-fn is_once_at(events: &[Event], e: usize) -> bool
+pub(crate) fn is_once_at(events: &[Event], e: usize) -> bool
     requires { e < length events.now }
     ensures { IsTrue result ↔ IsOnceAt events.now e }
 {

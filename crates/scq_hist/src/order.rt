@@ -31,7 +31,7 @@ fn put_got_at(events: &[Event], e: usize) -> Option<(usize, u32)>
 }
 
 /// Whether all that precede the put which the get that ends at this position has got are claimed by then.
-fn is_in_order_at(tokens: Tally, events: &[Event], e: usize) -> bool
+pub(crate) fn is_in_order_at(tokens: Tally, events: &[Event], e: usize) -> bool
     requires lawful { IsLawful events.now }
     requires within { e < length events.now }
     requires room { tokens.ungot + length events.now < 2 ^ 64 }
