@@ -7,6 +7,8 @@
 
 mod history;
 mod line;
+#[cfg(test)]
+mod tests;
 mod verdicts;
 
 pub use history::{History, HistoryFault, read_history};

@@ -36,6 +36,12 @@ pub fn judge(_alloc: Global, opening: &[Bytes], events: &[Event]) -> Result<Verd
     ensures once { IfOk result (λ verdict. IsVerdict (NamesNew events.now) verdict.once) }
     ensures in_order { IfOk result (λ verdict. IsVerdict (IsInOrderAt opening.now events.now) verdict.in_order) }
     ensures empty_right { IfOk result (λ verdict. IsVerdict (IsRightAt opening.now events.now) verdict.empty_right) }
+
+    // There is none exactly where the aspect holds.
+    ensures is_fresh { IfOk result (λ verdict. (verdict.fresh ≡ None) ↔ IsFresh opening.now events.now) }
+    ensures is_once { IfOk result (λ verdict. (verdict.once ≡ None) ↔ IsOnce events.now) }
+    ensures is_in_order { IfOk result (λ verdict. (verdict.in_order ≡ None) ↔ IsInOrder opening.now events.now) }
+    ensures is_empty_right { IfOk result (λ verdict. (verdict.empty_right ≡ None) ↔ IsEmptyRight opening.now events.now) }
 {
     Ok(Verdict {
         fresh: first_unfresh(opening, events).map(number_of),
