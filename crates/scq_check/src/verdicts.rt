@@ -2,9 +2,7 @@
 
 ghost use Rattle.std.specs.Prelude.{◌≡◌, ◌+◌, ◌++◌, ◌<◌, ◌^◌, ◌↔◌, None, IfOk, IfSome, OnOk};
 ghost use Rattle.std.specs.Option.{option_map};
-ghost use Rattle.scq_hist.specs.Aspects.{IsLawful, IsFresh, IsOnce, IsInOrderAt, IsInOrder, IsEmptyRight};
-ghost use Rattle.scq_hist.specs.Lookups.{IsFreshAt, NamesNew};
-ghost use Rattle.scq_hist.specs.Tallies.{IsRightAt};
+ghost use Rattle.scq_hist.specs.Aspects.{IsLawful, IsFreshAt, IsFresh, IsOnceAt, IsOnce, IsInOrderAt, IsInOrder, IsEmptyRightAt, IsEmptyRight};
 ghost use Rattle.scq_check.specs.Verdicts.{IsVerdict, aspect_line, verdict_lines};
 
 use itoa::Buffer;
@@ -33,9 +31,9 @@ pub fn judge(_alloc: Global, opening: &[Bytes], events: &[Event]) -> Result<Verd
 
     // The first event that breaks the aspect.
     ensures fresh { IfOk result (λ verdict. IsVerdict (IsFreshAt opening.now events.now) verdict.fresh) }
-    ensures once { IfOk result (λ verdict. IsVerdict (NamesNew events.now) verdict.once) }
+    ensures once { IfOk result (λ verdict. IsVerdict (IsOnceAt events.now) verdict.once) }
     ensures in_order { IfOk result (λ verdict. IsVerdict (IsInOrderAt opening.now events.now) verdict.in_order) }
-    ensures empty_right { IfOk result (λ verdict. IsVerdict (IsRightAt opening.now events.now) verdict.empty_right) }
+    ensures empty_right { IfOk result (λ verdict. IsVerdict (IsEmptyRightAt opening.now events.now) verdict.empty_right) }
 
     // There is none exactly where the aspect holds.
     ensures is_fresh { IfOk result (λ verdict. (verdict.fresh ≡ None) ↔ IsFresh opening.now events.now) }

@@ -9,4 +9,4 @@ pub mod Tokens
 pub mod OrderLemmas
 pub mod Overtaken
 pub mod Longer
-pub mod Past
+pub mod Firsts

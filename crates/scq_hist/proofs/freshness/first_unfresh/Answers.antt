@@ -1,7 +1,7 @@
 use Rattle.std.proofs.Common.{below_more}
 use Rattle.std.proofs.lemmas.Bool.{iff_false}
-use Rattle.scq_hist.proofs.Past.{everywhere, fresh_past}
-use Rattle.scq_hist.proofs.firsts.first_unfresh.Goals as goal
+use Rattle.scq_hist.proofs.Firsts.{everywhere, fresh_past}
+use Rattle.scq_hist.proofs.freshness.first_unfresh.Goals as goal
 
 pub loop-e-preserved : goal.loop-e-preserved
 loop-e-preserved c = below_more _ _ c.loop-e.invariant (c.is_fresh_at.ensures.0 c.if-not-is_fresh_at.false)

@@ -1,7 +1,7 @@
 use Rattle.std.proofs.Common.{below_more}
 use Rattle.std.proofs.lemmas.Bool.{iff_false}
-use Rattle.scq_hist.proofs.Past.{everywhere, in_order_past}
-use Rattle.scq_hist.proofs.firsts.first_out_of_order.Goals as goal
+use Rattle.scq_hist.proofs.Firsts.{everywhere, in_order_past}
+use Rattle.scq_hist.proofs.order.first_out_of_order.Goals as goal
 
 pub loop-e-preserved : goal.loop-e-preserved
 loop-e-preserved c = below_more _ _ c.loop-e.invariant ((c.is_in_order_at.ensures c.args.opening.now c.opening_tally-tokens.ensures.tally).0 c.if-not-is_in_order_at.false)

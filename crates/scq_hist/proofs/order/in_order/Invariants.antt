@@ -1,6 +1,0 @@
-use Rattle.std.proofs.Common.{ℕ, ◌<◌}
-use Rattle.scq_hist.specs.Aspects.{IsInOrderAt}
-use Rattle.scq_hist.proofs.order.in_order.Given as goal
-
-abbrev pub invariant-loop-e : goal.invariant-loop-e
-invariant-loop-e l = (e : ℕ) → e < l.e → IsInOrderAt l.opening l.events e
