@@ -9,3 +9,4 @@ pub mod Tokens
 pub mod OrderLemmas
 pub mod Overtaken
 pub mod Longer
+pub mod Firsts

@@ -1,6 +1,8 @@
 -- A longer list says the same of its first events, and is lawful where its last event is lawful there
-use Rattle.std.proofs.Common.{◌≡◌, ℕ, zero, suc, ◌<◌, ◌≤◌, List, [], ◌∷◌, ◌++◌, length, slice_get, Some, refl, ◌∙◌, arith}
-use Rattle.std.proofs.lemmas.Option.{slice_get_within}
+use Rattle.std.proofs.Common.{◌≡◌, ℕ, zero, suc, ◌<◌, ◌≤◌, inl, inr, List, [], ◌∷◌, ◌++◌, length, length-append, slice_get, Option, Some, None, refl, sym, ◌∙◌, subst, arith}
+use Rattle.std.proofs.lemmas.Bool.{cases_lt}
+use Rattle.std.proofs.lemmas.Option.{slice_get_within, slice_get_past}
+use Rattle.scq_hist.specs.Aspects.{IsLawfulAt, IsLawful}
 use Rattle.scq_hist.specs.Calls.{under_way, puts_before, IsCall}
 use Rattle.scq_hist.specs.declared.events.Call.{Call}
 use Rattle.scq_hist.specs.declared.events.Event.{Event}
@@ -36,3 +38,29 @@ same_call events more seat s e call reply c =
       under_way_till = same_under_way events more seat e (omega arith) ∙ c.under_way_till;
       ends = same_event events more e here ∙ c.ends;
     }
+
+-- an event that is lawful there is so in the longer list
+same_lawful_at : (events more : List Event) (i : ℕ) (at : Option Event) → i < length events → IsLawfulAt events i at → IsLawfulAt (events ++ more) i at
+same_lawful_at events more i None lt is = tt
+same_lawful_at events more i (Some (Start seat call)) lt is = same_under_way events more seat i (omega arith) ∙ is
+same_lawful_at events more i (Some (End seat reply)) lt is =
+    record { s = is.s; call = is.call; is_call = same_call events more seat is.s i is.call reply is.is_call; suits = is.suits }
+
+-- a lawful list stays lawful with one event more that is lawful there
+pub lawful_longer : (events : List Event) (event : Event) → IsLawful events → IsLawfulAt (events ++ event ∷ []) (length events) (Some event)
+    → IsLawful (events ++ event ∷ [])
+lawful_longer events event lawful last i =
+    elim (cases_lt i (length events)) [
+      | inl old ↦
+          subst (λ at. IsLawfulAt (events ++ event ∷ []) i at) (sym (same_event events (event ∷ []) i old))
+          (same_lawful_at events (event ∷ []) i (slice_get events i) old (lawful i))
+      | inr new ↦ elim (cases_lt (length events) i) [
+        | inl past ↦
+            subst (λ at. IsLawfulAt (events ++ event ∷ []) i at)
+            (sym (slice_get_past (events ++ event ∷ []) i (omega (arith, length-append events (event ∷ []))))) tt
+        | inr here ↦
+            let e : length events ≡ i = omega arith in
+            subst (λ k. IsLawfulAt (events ++ event ∷ []) k (slice_get (events ++ event ∷ []) k)) e
+            (subst (λ at. IsLawfulAt (events ++ event ∷ []) (length events) at) (sym (last_event events event)) last)
+      ]
+    ]

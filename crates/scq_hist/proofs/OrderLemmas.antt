@@ -1,14 +1,11 @@
 -- In order at one get. A get that ends at a position has got one put, which starts at one position, so what is decided for these
 -- two positions is decided for all
-use Rattle.std.proofs.Common.{Bool, ◌≡◌, ℕ, ◌<◌, ◌≤◌, ◌↔◌, List, length, IsTrue, subst, arith}
-use Rattle.std.proofs.lemmas.Option.{slice_get_within}
+use Rattle.std.proofs.Common.{Bool, ◌≡◌, ℕ, ◌↔◌, List, IsTrue, subst}
 use Rattle.scq_hist.specs.Calls.{IsPut, IsFinishedAt, IsGetOf}
-use Rattle.scq_hist.specs.Aspects.{AllClaimed, Precedes, IsInOrderAt, IsInOrder}
+use Rattle.scq_hist.specs.Aspects.{AllClaimed, Precedes, IsInOrderAt}
 use Rattle.scq_hist.specs.Tallies.{IsPutGotAt, NoPutGotAt}
 use Rattle.scq_hist.specs.declared.events.Event.{Event}
-use Rattle.scq_hist.specs.declared.events.Event.TheVariants.{End}
 use Rattle.scq_hist.specs.declared.events.PutName.TheVariants.{Of}
-use Rattle.scq_hist.specs.declared.events.Reply.TheVariants.{Got}
 use Rattle.scq_hist.proofs.NamesLemmas.{same_name}
 use Rattle.scq_hist.proofs.Puts.{SamePut, same_put}
 use Rattle.scq_hist.proofs.TallyLemmas.{names_from_get}
@@ -46,9 +43,3 @@ claims_decide opening events e queue start b put test = (
 
 pub no_put_in_order : (opening : List (List ℕ)) (events : List Event) (e : ℕ) → NoPutGotAt events e → IsInOrderAt opening events e
 no_put_in_order opening events e free s seat number queue start content get put = absurd (free.none s seat number queue start content get put)
-
-pub in_order_from_all : (opening : List (List ℕ)) (events : List Event) (i : ℕ) → length events ≤ i → ((e : ℕ) → e < i → IsInOrderAt opening events e)
-    → IsInOrder opening events
-in_order_from_all opening events i past each e s seat number queue start content get put =
-    each e (let lt = slice_get_within events e (End get.seat (Got (Of seat number) get.content)) get.call.ends in omega arith) s seat number queue start
-    content get put

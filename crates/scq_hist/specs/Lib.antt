@@ -3,3 +3,4 @@ pub mod Counts
 pub mod Aspects
 pub mod Lookups
 pub mod Tallies
+pub mod First

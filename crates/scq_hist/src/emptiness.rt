@@ -1,8 +1,9 @@
 //! Empty is right: at a moment inside its call each finished put was claimed.
 
-ghost use Rattle.std.specs.Prelude.{◌≡◌, ◌+◌, ◌<◌, ◌≤◌, ◌^◌, ◌↔◌, ℕ, List, IsTrue, MatchOption, length};
+ghost use Rattle.std.specs.Prelude.{◌≡◌, ◌+◌, ◌<◌, ◌≤◌, ◌^◌, ◌↔◌, ℕ, List, IsTrue, MatchOption, length, IfSome};
 ghost use Rattle.scq_hist.specs.Calls.{IsFinishedAt};
 ghost use Rattle.scq_hist.specs.Aspects.{IsLawful, IsRightWithin, IsEmptyRightAt, IsEmptyRight};
+ghost use Rattle.scq_hist.specs.First.{IsFirstFailing};
 ghost use Rattle.scq_hist.specs.Tallies.{IsTally, IsEmptyAt, NoEmptyAt};
 
 use crate::calls::call_under_way;
@@ -65,6 +66,21 @@ fn is_empty_right_at(tokens: Tally, events: &[Event], e: usize) -> bool
     }
 }
 
+/// The position of the first Empty that isn't right.
+pub fn first_wrong_empty(opening: &[Bytes], events: &[Event]) -> Option<usize>
+    requires { IsLawful events.now }
+    ensures first { IsFirstFailing (IsEmptyRightAt opening.now events.now) result }
+    ensures within { IfSome result (λ e. e < length events.now) }
+{
+    let tokens = opening_tally(opening, events);
+    for e in 0..events.len() {
+        if !is_empty_right_at(tokens, events, e) {
+            return Some(e);
+        }
+    }
+    None
+}
+
 /// Empty is right: whether each Empty has a moment inside its call at which every finished put of its
 /// queue is claimed, by a get that has started or, if no End has got it, by one that never ends.
 /// `opening` has the contents of the tokens that stand in queue 0 before the list.
@@ -72,11 +88,5 @@ pub fn empty_right(opening: &[Bytes], events: &[Event]) -> bool
     requires { IsLawful events.now }
     ensures { IsTrue result ↔ IsEmptyRight opening.now events.now }
 {
-    let tokens = opening_tally(opening, events);
-    for e in 0..events.len() {
-        if !is_empty_right_at(tokens, events, e) {
-            return false;
-        }
-    }
-    true
+    first_wrong_empty(opening, events).is_none()
 }

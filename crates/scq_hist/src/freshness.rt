@@ -1,8 +1,9 @@
 //! Fresh: nothing is taken that was never put.
 
-ghost use Rattle.std.specs.Prelude.{◌≡◌, ◌<◌, ◌↔◌, ℕ, IsTrue, Some, length, slice_get};
+ghost use Rattle.std.specs.Prelude.{◌≡◌, ◌<◌, ◌↔◌, ℕ, IsTrue, Some, length, slice_get, IfSome};
 ghost use Rattle.scq_hist.specs.Calls.{IsPut};
 ghost use Rattle.scq_hist.specs.Aspects.{IsLawful, IsBegun, IsFreshAt, IsFresh};
+ghost use Rattle.scq_hist.specs.First.{IsFirstFailing};
 
 use crate::calls::{call_under_way, put_named};
 use crate::events::{Call, Event, PutName, Reply};
@@ -74,6 +75,21 @@ fn is_fresh_at(opening: &[Bytes], events: &[Event], e: usize) -> bool
     }
 }
 
+/// The position of the first Got that isn't fresh. `opening` has the contents of the tokens that stand
+/// in queue 0 before the list.
+pub fn first_unfresh(opening: &[Bytes], events: &[Event]) -> Option<usize>
+    requires { IsLawful events.now }
+    ensures first { IsFirstFailing (IsFreshAt opening.now events.now) result }
+    ensures within { IfSome result (λ e. e < length events.now) }
+{
+    for e in 0..events.len() {
+        if !is_fresh_at(opening, events, e) {
+            return Some(e);
+        }
+    }
+    None
+}
+
 /// Fresh: whether each Got names a put of the same queue and content that is an opening token or
 /// started before, so that nothing is taken that was never put. `opening` has the contents of the
 /// tokens that stand in queue 0 before the list.
@@ -81,10 +97,5 @@ pub fn fresh(opening: &[Bytes], events: &[Event]) -> bool
     requires { IsLawful events.now }
     ensures { IsTrue result ↔ IsFresh opening.now events.now }
 {
-    for e in 0..events.len() {
-        if !is_fresh_at(opening, events, e) {
-            return false;
-        }
-    }
-    true
+    first_unfresh(opening, events).is_none()
 }

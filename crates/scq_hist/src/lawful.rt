@@ -18,7 +18,7 @@ fn suits(call: &Call, reply: &Reply) -> bool
 
 /// Whether a seat that starts a call here has none under way, and one that ends a call here has one that the
 /// reply suits.
-fn is_lawful_at(events: &[Event], i: usize) -> bool
+pub fn is_lawful_at(events: &[Event], i: usize) -> bool
     requires { i < length events.now }
     ensures { IsTrue result ↔ IsLawfulAt events.now i (slice_get events.now i) }
 {

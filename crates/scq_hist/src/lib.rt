@@ -16,9 +16,9 @@ mod tallies;
 #[cfg(test)]
 mod tests;
 
-pub use emptiness::empty_right;
+pub use emptiness::{empty_right, first_wrong_empty};
 pub use events::{Call, Event, PutName, Reply};
-pub use freshness::fresh;
-pub use lawful::lawful_calls;
-pub use names::once;
-pub use order::in_order;
+pub use freshness::{first_unfresh, fresh};
+pub use lawful::{is_lawful_at, lawful_calls};
+pub use names::{first_repeated, once};
+pub use order::{first_out_of_order, in_order};

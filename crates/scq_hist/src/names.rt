@@ -1,7 +1,8 @@
 //! Once: nothing is taken twice.
 
-ghost use Rattle.std.specs.Prelude.{◌<◌, ◌↔◌, IsTrue, length};
+ghost use Rattle.std.specs.Prelude.{◌<◌, ◌↔◌, IsTrue, length, IfSome};
 ghost use Rattle.scq_hist.specs.Aspects.{IsLawful, IsOnceAt, IsOnce};
+ghost use Rattle.scq_hist.specs.First.{IsFirstFailing};
 
 use crate::events::Event;
 use crate::gets::{first_named, got_name};
@@ -17,15 +18,24 @@ fn is_once_at(events: &[Event], e: usize) -> bool
     }
 }
 
+/// The position of the first Got that names the put of an earlier one.
+pub fn first_repeated(events: &[Event]) -> Option<usize>
+    requires { IsLawful events.now }
+    ensures first { IsFirstFailing (IsOnceAt events.now) result }
+    ensures within { IfSome result (λ e. e < length events.now) }
+{
+    for e in 0..events.len() {
+        if !is_once_at(events, e) {
+            return Some(e);
+        }
+    }
+    None
+}
+
 /// Once: whether no two Gots name the same put, so that nothing is taken twice.
 pub fn once(events: &[Event]) -> bool
     requires { IsLawful events.now }
     ensures { IsTrue result ↔ IsOnce events.now }
 {
-    for e in 0..events.len() {
-        if !is_once_at(events, e) {
-            return false;
-        }
-    }
-    true
+    first_repeated(events).is_none()
 }

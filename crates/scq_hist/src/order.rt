@@ -1,8 +1,9 @@
 //! In order: nothing is taken before what was put wholly before it.
 
-ghost use Rattle.std.specs.Prelude.{◌≡◌, ◌+◌, ◌<◌, ◌≤◌, ◌^◌, ◌↔◌, ℕ, List, IsTrue, MatchOption, length};
+ghost use Rattle.std.specs.Prelude.{◌≡◌, ◌+◌, ◌<◌, ◌≤◌, ◌^◌, ◌↔◌, ℕ, List, IsTrue, MatchOption, length, IfSome};
 ghost use Rattle.scq_hist.specs.Calls.{IsFinishedAt};
 ghost use Rattle.scq_hist.specs.Aspects.{IsLawful, IsInOrderAt, IsInOrder};
+ghost use Rattle.scq_hist.specs.First.{IsFirstFailing};
 ghost use Rattle.scq_hist.specs.Tallies.{IsTally, IsPutGotAt, NoPutGotAt};
 
 use crate::calls::put_named;
@@ -48,6 +49,22 @@ fn is_in_order_at(tokens: Tally, events: &[Event], e: usize) -> bool
     }
 }
 
+/// The position of the first Got that is the get of a put before which others had to be claimed, and
+/// weren't.
+pub fn first_out_of_order(opening: &[Bytes], events: &[Event]) -> Option<usize>
+    requires { IsLawful events.now }
+    ensures first { IsFirstFailing (IsInOrderAt opening.now events.now) result }
+    ensures within { IfSome result (λ e. e < length events.now) }
+{
+    let tokens = opening_tally(opening, events);
+    for e in 0..events.len() {
+        if !is_in_order_at(tokens, events, e) {
+            return Some(e);
+        }
+    }
+    None
+}
+
 /// In order: whether no put is got before one that precedes it, unless a get that is under way at the
 /// end of the list may have that one. A put precedes those of its queue that start after its End with
 /// Done; an opening token precedes every put of queue 0. `opening` has the tokens' contents.
@@ -55,11 +72,5 @@ pub fn in_order(opening: &[Bytes], events: &[Event]) -> bool
     requires { IsLawful events.now }
     ensures { IsTrue result ↔ IsInOrder opening.now events.now }
 {
-    let tokens = opening_tally(opening, events);
-    for e in 0..events.len() {
-        if !is_in_order_at(tokens, events, e) {
-            return false;
-        }
-    }
-    true
+    first_out_of_order(opening, events).is_none()
 }

@@ -1,0 +1,86 @@
+//! The four aspects of a history judged, and the verdict printed.
+
+ghost use Rattle.std.specs.Prelude.{◌≡◌, ◌+◌, ◌++◌, ◌<◌, ◌^◌, ◌↔◌, None, IfOk, IfSome, OnOk};
+ghost use Rattle.std.specs.Option.{option_map};
+ghost use Rattle.scq_hist.specs.Aspects.{IsLawful, IsFreshAt, IsFresh, IsOnceAt, IsOnce, IsInOrderAt, IsInOrder, IsEmptyRightAt, IsEmptyRight};
+ghost use Rattle.scq_check.specs.Verdicts.{IsVerdict, aspect_line, verdict_lines};
+
+use itoa::Buffer;
+use scq_hist::{Event, first_out_of_order, first_repeated, first_unfresh, first_wrong_empty};
+use scq_word::{Bytes, NoMemory};
+use std::alloc::Global;
+
+/// What is judged of a history: for each aspect none where it holds, else the number, from 1, of the
+/// first event that breaks it.
+#[derive(Clone, Copy, Debug, PartialEq, Eq)]
+pub struct Verdict {
+    /// The first Got that names no put of its queue and content that is an opening token or began before.
+    pub fresh: Option<u64>,
+    /// The first Got that names the put of an earlier one.
+    pub once: Option<u64>,
+    /// The first Got that is the get of a put before which others had to be claimed, and weren't.
+    pub in_order: Option<u64>,
+    /// The first Empty in whose call there is no moment at which all finished puts were claimed.
+    pub empty_right: Option<u64>,
+}
+
+/// Judges a lawful history. `opening` has the contents of the tokens that stand in queue 0 before it.
+/// It takes no memory yet.
+pub fn judge(_alloc: Global, opening: &[Bytes], events: &[Event]) -> Result<Verdict, NoMemory>
+    requires { IsLawful events.now }
+
+    // The first event that breaks the aspect.
+    ensures fresh { IfOk result (λ verdict. IsVerdict (IsFreshAt opening.now events.now) verdict.fresh) }
+    ensures once { IfOk result (λ verdict. IsVerdict (IsOnceAt events.now) verdict.once) }
+    ensures in_order { IfOk result (λ verdict. IsVerdict (IsInOrderAt opening.now events.now) verdict.in_order) }
+    ensures empty_right { IfOk result (λ verdict. IsVerdict (IsEmptyRightAt opening.now events.now) verdict.empty_right) }
+
+    // There is none exactly where the aspect holds.
+    ensures is_fresh { IfOk result (λ verdict. (verdict.fresh ≡ None) ↔ IsFresh opening.now events.now) }
+    ensures is_once { IfOk result (λ verdict. (verdict.once ≡ None) ↔ IsOnce events.now) }
+    ensures is_in_order { IfOk result (λ verdict. (verdict.in_order ≡ None) ↔ IsInOrder opening.now events.now) }
+    ensures is_empty_right { IfOk result (λ verdict. (verdict.empty_right ≡ None) ↔ IsEmptyRight opening.now events.now) }
+{
+    Ok(Verdict {
+        fresh: first_unfresh(opening, events).map(number_of),
+        once: first_repeated(events).map(number_of),
+        in_order: first_out_of_order(opening, events).map(number_of),
+        empty_right: first_wrong_empty(opening, events).map(number_of),
+    })
+}
+
+// Events are numbered from 1.
+fn number_of(position: usize) -> u64
+    requires { position + 1 < 2 ^ 64 }
+    ensures { result ≡ position + 1 }
+{
+    position as u64 + 1
+}
+
+/// A verdict as text: a line for each aspect, `NAME holds` or `NAME fails at E`. The names are `fresh`,
+/// `once`, `in order` and `empty`.
+pub fn verdict_text(alloc: Global, verdict: &Verdict) -> Result<Bytes, NoMemory>
+    ensures { IfOk result (λ text. text ≡ verdict_lines verdict.now) }
+{
+    let mut text = Vec::new(alloc);
+    add_aspect(&mut text, b"fresh", verdict.fresh)?;
+    add_aspect(&mut text, b"once", verdict.once)?;
+    add_aspect(&mut text, b"in order", verdict.in_order)?;
+    add_aspect(&mut text, b"empty", verdict.empty_right)?;
+    Ok(Bytes::from(text))
+}
+
+fn add_aspect(text: &mut Vec<u8>, name: &[u8], number: Option<u64>) -> Result<(), NoMemory>
+    ensures { OnOk result (text.new.items ≡ text.old.items ++ aspect_line name.now number) }
+{
+    text.extend_from_slice(name)?;
+    match number {
+        None => text.extend_from_slice(b" holds\n")?,
+        Some(number) => {
+            text.extend_from_slice(b" fails at ")?;
+            text.extend_from_slice(Buffer::new().format(number).as_bytes())?;
+            text.extend_from_slice(b"\n")?;
+        }
+    }
+    Ok(())
+}

@@ -1,0 +1,2 @@
+pub mod StepsRun
+pub mod Rings

@@ -1,0 +1,4 @@
+pub mod Schedule
+pub mod Printed
+pub mod Replay
+pub mod Steps
