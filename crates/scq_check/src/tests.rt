@@ -54,7 +54,11 @@ fn histories_are_judged(rt: HostRuntime) -> Result<(), Fail> {
         ),
     ];
     for (text, want) in rows {
-        assert_eq!(rt; shown(rt.alloc(), text.as_bytes())?.as_slice(), want.as_bytes(), "{text}");
+        assert_eq!(rt;
+            shown(rt.alloc(), text.as_bytes())?.as_slice(),
+            want.as_bytes(),
+            "{text}"
+        );
     }
     Ok(())
 }
@@ -63,11 +67,23 @@ fn histories_are_judged(rt: HostRuntime) -> Result<(), Fail> {
 fn the_first_line_with_a_fault_is_refused(rt: HostRuntime) -> Result<(), Fail> {
     let rows = [
         ("end 0 done\n", "line 1: event out of place"),
-        ("start 0 get 1\nstart 0 get 1\n", "line 2: event out of place"),
-        ("opening -\nstart 0 get 1\nend 0 done\nnone", "line 3: event out of place"),
-        ("start 0 get 1\nend 0 nothing\n\nend 0 done\n", "line 3: not understood"),
+        (
+            "start 0 get 1\nstart 0 get 1\n",
+            "line 2: event out of place",
+        ),
+        (
+            "opening -\nstart 0 get 1\nend 0 done\nnone",
+            "line 3: event out of place",
+        ),
+        (
+            "start 0 get 1\nend 0 nothing\n\nend 0 done\n",
+            "line 3: not understood",
+        ),
         ("start +1 get 1\n", "line 1: not understood"),
-        ("start 00000000000000000001 get 1\n", "line 1: not understood"),
+        (
+            "start 00000000000000000001 get 1\n",
+            "line 1: not understood",
+        ),
         ("start  0 get 1\n", "line 1: not understood"),
         ("start 0 get 1 \n", "line 1: not understood"),
         ("start 0 get 1\r\n", "line 1: not understood"),
@@ -76,12 +92,19 @@ fn the_first_line_with_a_fault_is_refused(rt: HostRuntime) -> Result<(), Fail> {
         ("start 0 put 1\n", "line 1: not understood"),
         ("start 4096 get 1\n", "line 1: not understood"),
         ("start 0 get 18\n", "line 1: not understood"),
-        ("start 0 get 1\nend 0 got o 4096 -\n", "line 2: not understood"),
+        (
+            "start 0 get 1\nend 0 got o 4096 -\n",
+            "line 2: not understood",
+        ),
         ("start 0 get 1\nend 0 got 0 1\n", "line 2: not understood"),
         ("start 0 get 1\nopening -\n", "line 2: not understood"),
     ];
     for (text, want) in rows {
-        assert_eq!(rt; shown(rt.alloc(), text.as_bytes())?.as_slice(), want.as_bytes(), "{text}");
+        assert_eq!(rt;
+            shown(rt.alloc(), text.as_bytes())?.as_slice(),
+            want.as_bytes(),
+            "{text}"
+        );
     }
     Ok(())
 }
@@ -108,13 +131,21 @@ fn lines_and_contents_have_limits(rt: HostRuntime) -> Result<(), Fail> {
         add_lines(&mut text, "opening 61\n", tokens).map_err(|_| "memory")?;
         add_lines(&mut text, call, calls).map_err(|_| "memory")?;
         add_lines(&mut text, last, 1).map_err(|_| "memory")?;
-        assert_eq!(rt; shown(rt.alloc(), &text)?.as_slice(), want.as_bytes(), "{tokens} tokens");
+        assert_eq!(rt;
+            shown(rt.alloc(), &text)?.as_slice(),
+            want.as_bytes(),
+            "{tokens} tokens"
+        );
     }
     for (bytes, want) in [(64, HOLDS), (65, "line 1: not understood")] {
         let mut text = Vec::new(rt.alloc());
         add_lines(&mut text, "opening ", 1).map_err(|_| "memory")?;
         add_lines(&mut text, "61", bytes).map_err(|_| "memory")?;
-        assert_eq!(rt; shown(rt.alloc(), &text)?.as_slice(), want.as_bytes(), "{bytes} bytes");
+        assert_eq!(rt;
+            shown(rt.alloc(), &text)?.as_slice(),
+            want.as_bytes(),
+            "{bytes} bytes"
+        );
     }
     Ok(())
 }
