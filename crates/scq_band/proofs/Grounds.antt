@@ -25,6 +25,7 @@ use Rattle.scq_law.proofs.Places.PlaceLaws.{places_once}
 use Rattle.scq_law.proofs.Places.EntryLaws.{takes_phase, stands_at_turn}
 use Rattle.scq_law.proofs.Places.LaterLaws.{finished_stays}
 use Rattle.scq_law.proofs.Tickets.TicketLaws.{threshold_covers}
+use Rattle.scq_law.proofs.Balance.KeptLaws.{hand_fits}
 use Rattle.scq_band.specs.Layout.{ring_at, IsSlotAt, IsLocation, entry_at}
 use Rattle.scq_band.specs.Turns.{Finds}
 use Rattle.scq_band.proofs.Moves.{Ground}
@@ -119,6 +120,7 @@ ground c m k s t reach low enabled =
       stay = λ r p is. finished_stays c m (moved c m k t) r p
           (later.by_step {n' = moved c m k t} k s (later.at_once) low (ap (option_map (moved c m k)) enabled)) is;
       reach = next;
+      fits = hand_fits c (moved c m k t) k next;
     }
 
 -- the locations of a ring of the setup

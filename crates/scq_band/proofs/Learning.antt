@@ -1,9 +1,11 @@
 -- What a turn tells of its ring is true of the state after it. One case for each turn that tells something: a put that has
 -- ended, a place that was got, a head that was drawn, and the three steps that find nothing finished left.
-use Rattle.std.proofs.Common.{◌≡◌, ◌≢◌, ◌⊎◌, ℕ, zero, suc, ◌+◌, ◌<◌, ◌≤◌, Bool, true, false, ◌==◌, List, [], ◌∷◌, ◌++◌, length, refl, sym, ◌∙◌, ap, subst, inl, inr, arith, ltb-true, eqb-true}
+use Rattle.std.proofs.Common.{◌≡◌, ◌≢◌, ◌⊎◌, ℕ, zero, suc, ◌+◌, ◌<◌, ◌≤◌, Bool, true, false, ◌==◌, List, [], ◌∷◌, ◌++◌, length, refl, sym, ◌∙◌, ap, subst, inl, inr, arith, ltb-true, eqb-true, ◌-◌, eq-eqb, ne_eqb}
 use Rattle.std.specs.Prelude.{Some, None, max, slice_get, nat_lt, nat_le}
 use Rattle.std.specs.List.{Contains}
-use Rattle.std.proofs.lemmas.Bool.{cases_Bool, cases_lt}
+use Rattle.std.proofs.lemmas.Bool.{cases_Bool, cases_eq, cases_lt}
+use Rattle.scq_word.specs.Sizes.{n_of}
+use Rattle.scq_core.proofs.Entries.{some_indices, some_slots}
 use Rattle.std.proofs.lemmas.List.Elements.{Contains-append_right}
 use Rattle.std.proofs.Common.{leb-true}
 use Rattle.scq_word.specs.declared.setup.Setup.{Setup}
@@ -15,6 +17,8 @@ use Rattle.scq_core.specs.Machine.{Machine, read}
 use Rattle.scq_core.specs.Table.{ring_slots, zero_level, reset_level, location_of, moved}
 use Rattle.scq_core.specs.Laws.{CountersRise, Busy}
 use Rattle.scq_core.proofs.UpdatedLemmas.{updated_here}
+use Rattle.scq_core.proofs.Steady.{either_way}
+use Rattle.std.proofs.lemmas.List.{length-set}
 use Rattle.scq_law.specs.Bounds.{IsFinished, IsDone, ThresholdCovers}
 use Rattle.scq_band.specs.declared.numbers.Numbers.{Numbers}
 use Rattle.scq_band.specs.Numbers.{IsTrue, changed, finishes, sees, passes, empties}
@@ -22,17 +26,27 @@ use Rattle.scq_band.specs.Turns.{learned}
 use Rattle.scq_band.proofs.Knowledge.{AllTrue, FinishedStay, true_stays, all_stay, changed_true, finishes_true, sees_true, passes_true}
 
 module _ (c : Setup) (m : Machine) (k : ℕ) where
+  -- Head is past a finished place where Threshold is too low for one at or past it
+  past_done : (r : ℕ) (x : Numbers) → ThresholdCovers c m → m.cells.threshold r ≤ zero_level → IsFinished c m r x.finished → x.finished + 1 ≤ m.cells.head r
+  past_done r x covers low done =
+      elim (cases_lt x.finished (m.cells.head r)) [
+        | inl below ↦ omega arith
+        | inr past ↦ let over = covers.covers r x.finished done past in absurd (omega arith)
+      ]
+
   -- a state in which Threshold is too low for a finished place at or past Head: what is known as finished is below it
   low_threshold : (r : ℕ) (x : Numbers) → ThresholdCovers c m → ring_slots c ≤ m.cells.head r → m.cells.threshold r ≤ zero_level → IsTrue c m r x
       → x.finished + 1 ≤ m.cells.head r
   low_threshold r x covers first low t =
       elim (t.finished) [
-        | inl start ↦ omega arith
-        | inr done ↦
-            elim (cases_lt x.finished (m.cells.head r)) [
-              | inl below ↦ omega arith
-              | inr past ↦ let over = covers.covers r x.finished done past in absurd (omega arith)
+        | inl start ↦
+            elim (cases_eq r 0) [
+              | inl zeroth ↦
+                  let is : x.finished ≡ ring_slots c + n_of c.order - 1 = rw (eq-eqb r 0 zeroth) at start in
+                  past_done r x covers low (inr (record { ring = zeroth; first = omega (arith, is, some_indices c); last = omega (arith, is, some_indices c) }))
+              | inr other ↦ let is : x.finished ≡ ring_slots c - 1 = rw (ne_eqb r 0 other) at start in omega (arith, is, some_slots c)
             ]
+        | inr done ↦ past_done r x covers low done
       ]
 
   -- the numbers of the ring before the turn, changed to what is true already
@@ -127,3 +141,28 @@ module _ (c : Setup) (m : Machine) (k : ℕ) where
         | inr goes ↦ same_list _ (learned c (AtD10 r h false) (m.cells.threshold r) numbers) _ (rw goes refl)
             (all_stay c m (moved c m k (AtD10 r h false)) numbers up stay all)
       ]
+
+-- a turn tells of no ring more than there are
+changed_length : (f : Numbers → Numbers) (r : ℕ) (numbers : List Numbers) → length (changed f r numbers) ≡ length numbers
+changed_length f r numbers = length-set numbers r _
+
+pub learned_length : (c : Setup) (t : Phase) (x : ℕ) (numbers : List Numbers) → length (learned c t x numbers) ≡ length numbers
+learned_length c Idle x numbers = refl
+learned_length c (AtE1 r i w l) x numbers = refl
+learned_length c (AtE2 r i w t l) x numbers = refl
+learned_length c (AtE3 r i w t e) x numbers = refl
+learned_length c (AtE4 r i w t e) x numbers = refl
+learned_length c (AtE5 r i w t) x numbers =
+    either_way (λ (ns : List Numbers). length ns ≡ length numbers) (x == reset_level c) _ _ (changed_length (finishes t) r numbers) refl
+learned_length c (AtE6 r i w t) x numbers = changed_length (finishes t) r numbers
+learned_length c (AtD1 r) x numbers = either_way (λ (ns : List Numbers). length ns ≡ length numbers) (nat_lt x zero_level) _ _ (changed_length empties r numbers) refl
+learned_length c (AtD2 r l) x numbers = changed_length (passes (x + 1)) r numbers
+learned_length c (AtD3 r h l) x numbers = refl
+learned_length c (AtD4 r h) x numbers = changed_length (sees h) r numbers
+learned_length c (AtD5 r h e) x numbers = refl
+learned_length c (AtD6 r h) x numbers = either_way (λ (ns : List Numbers). length ns ≡ length numbers) (nat_le x (h + 1)) _ _ (changed_length empties r numbers) refl
+learned_length c (AtD7 r h from to) x numbers = refl
+learned_length c (AtD8 r h from) x numbers = refl
+learned_length c (AtD9 r h from to) x numbers = refl
+learned_length c (AtD10 r h true) x numbers = refl
+learned_length c (AtD10 r h false) x numbers = either_way (λ (ns : List Numbers). length ns ≡ length numbers) (nat_le x zero_level) _ _ (changed_length empties r numbers) refl

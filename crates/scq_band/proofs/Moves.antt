@@ -30,7 +30,10 @@ use Rattle.scq_band.specs.Turns.{learned, turned_member, made, Finds, Draws, May
 use Rattle.scq_band.proofs.WordLemmas.{written_shown, gate_kept}
 use Rattle.scq_band.proofs.Handles.{Handles, handles}
 use Rattle.scq_band.proofs.Knowledge.{AllTrue, FinishedStay, all_stay}
-use Rattle.scq_band.proofs.Learning.{learned_true}
+use Rattle.scq_core.proofs.Records.{calls_after}
+use Rattle.std.proofs.lemmas.List.{length-append}
+use Rattle.scq_band.specs.Steps.{my, my_of}
+use Rattle.scq_band.proofs.Learning.{learned_true, learned_length}
 
 -- what the laws of the machine give for a turn of a seat
 pub record Ground (c : Setup) (m : Machine) (k : ℕ) (t : Phase) : Type 0 where
@@ -46,12 +49,32 @@ pub record Ground (c : Setup) (m : Machine) (k : ℕ) (t : Phase) : Type 0 where
   pub up : CountersRise m.cells (moved c m k t).cells
   pub stay : FinishedStay c m (moved c m k t)
   pub reach : IsReachable c (moved c m k t)
+  pub fits : length ((moved c m k t).part k).hand ≤ n_of c.order
 
 -- a ticket is above what is known of its counter
 draws_above : (c : Setup) (m : Machine) (t : Phase) (numbers : List Numbers) → AllTrue c m numbers → Draws t (read m.cells (location_of c t)) numbers
 draws_above c m (AtE1 r i w l) numbers all = λ x e. (all r x e).seen
 draws_above c m (AtD2 r l) numbers all = λ x e. (all r x e).head
 draws_above c m t numbers all = tt
+
+-- a turn leaves its seat's record no shorter
+calls_longer : (c : Setup) (t : Phase) (x : ℕ) (y : List ℕ) (p : Part) → length p.calls ≤ length (after c t x y p).calls
+calls_longer c t x y p =
+    let grown = calls_after c t x y p in
+    let same : length (after c t x y p).calls ≡ length p.calls + length grown.more = ap length grown.appended ∙ length-append p.calls grown.more in
+    omega arith
+
+-- a view with a seat keeps numbers of each ring
+rings_told : (c : Setup) (t : Phase) (x : ℕ) (y : List ℕ) (v : Known) → (v.seats ≡ []) ⊎ (length v.numbers ≡ c.rings)
+    → (map (turned_member c t x y) v.seats ≡ []) ⊎ (length (learned c t x v.numbers) ≡ c.rings)
+rings_told c t x y v (inl none) = inl (ap (map (turned_member c t x y)) none)
+rings_told c t x y v (inr all) = inr (learned_length c t x v.numbers ∙ all)
+
+-- the hand of the one seat of the view that a turn makes
+hand_of_made : (c : Setup) (t : Phase) (x : ℕ) (y : List ℕ) (v : Known) (m : Member) → v.seats ≡ m ∷ [] → length (after c t x y m.part).hand ≤ n_of c.order
+    → length (my (made c t x y v)).part.hand ≤ n_of c.order
+hand_of_made c t x y v m alone fits =
+    subst (λ (xs : List Member). length (my_of (map (turned_member c t x y) xs)).part.hand ≤ n_of c.order) (sym alone) fits
 
 module _ {S : Type 0} (Lies : ℕ → S → List ℕ → Type 0) where
   -- the seats of another view, after a turn
@@ -67,6 +90,7 @@ module _ {S : Type 0} (Lies : ℕ → S → List ℕ → Type 0) where
           owner = x_is.owner;
           part = updated_else z.state.part k _ x.number other ∙ x_is.part;
           gone = x_is.gone;
+          retired = x_is.retired;
           brought =
               λ i there.
               let b = x_is.brought i there in
@@ -86,6 +110,9 @@ module _ {S : Type 0} (Lies : ℕ → S → List ℕ → Type 0) where
       part = updated_here z.state.part x.number _
           ∙ ap (after c t (read z.state.cells (location_of c t)) (beside z.state.cells (location_of c t))) x_is.part;
       gone = x_is.gone;
+      retired = λ n e.
+          let old = x_is.retired n e in
+          let more = calls_longer c t (read z.state.cells (location_of c t)) (beside z.state.cells (location_of c t)) x.part in omega arith;
       brought = λ i there. let e : Contains [] i = subst (λ (l : List ℕ). Contains l i) none there in absurd (omega (arith, e.1));
     },
     tt,
@@ -122,6 +149,7 @@ module _ {S : Type 0} (Lies : ℕ → S → List ℕ → Type 0) where
                         (map (turned_member c t (read m.cells l) (beside m.cells l)) xs)) (sym may.alone)
                         (owns_own c sh.scene s.homes (homes_after s.homes me.1 h.act) id t may.member may.out x_is);
                     numbers = learned_true c m k t me.0.numbers g.busy g.up g.stay g.covers g.first g.got mine.numbers;
+                    rings = rings_told c t (read m.cells l) (beside m.cells l) me.0 mine.rings;
                     last_gate = mine.last_gate;
                   } in
                   rw (gate, same.0) (subst
@@ -132,6 +160,7 @@ module _ {S : Type 0} (Lies : ℕ → S → List ℕ → Type 0) where
                   rw gate (record {
                     seats = owns_else c sh.scene s.homes (homes_after s.homes me.1 h.act) id j k t x_is.owner other.0 h.stays v.seats old.seats;
                     numbers = all_stay c m (moved c m k t) v.numbers g.up g.stay old.numbers;
+                    rings = old.rings;
                     last_gate = old.last_gate;
                   })
             ];
@@ -169,5 +198,9 @@ module _ {S : Type 0} (Lies : ℕ → S → List ℕ → Type 0) where
         found = g.finds;
         ready = g.ready;
         draws = draws_above c m t me.0.numbers mine.numbers;
+        fits =
+            hand_of_made c t (read m.cells l) (beside m.cells l) me.0 may.member may.alone
+            (subst (λ (p : Part). length (after c t (read m.cells l) (beside m.cells l) p).hand ≤ n_of c.order) x_is.part
+            (subst (λ (p : Part). length p.hand ≤ n_of c.order) (updated_here m.part k _) g.fits));
       } in
       (w, h.act, h.valid, shown, subst (λ n. Turned Lies c t me n (w, carried_after me.1 h.act)) (sym found) tells)

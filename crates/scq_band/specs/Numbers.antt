@@ -27,7 +27,7 @@ known_of numbers r = slice_index_or numbers r (record { finished = 0; seen = 0; 
 -- `finished` is the place of a put that has ended, or what was known at the start; Tail is above `seen`, Head is at or
 -- past `head`
 pub record IsTrue (c : Setup) (m : Machine) (r : ℕ) (x : Numbers) : Type 0 where
-  pub finished : (x.finished < ring_slots c) ⊎ IsFinished c m r x.finished
+  pub finished : (x.finished ≡ first_place c r) ⊎ IsFinished c m r x.finished
   pub order : x.finished ≤ x.seen
   pub seen : x.seen < m.cells.tail r
   pub head : x.head ≤ m.cells.head r

@@ -1,6 +1,6 @@
 -- The rule of the table: the running words and views show a state of the machine that steps reach. Slot i of the table is the
 -- place of the buffer of index i: at home while the index stands in an entry, else out with the seat whose hand has it.
-use Rattle.std.specs.Prelude.{◌≡◌, ℕ, zero, suc, ◌+◌, ◌*◌, ◌<◌, ◌≤◌, false, if◌then◌else◌, is_none, List, [], ◌∷◌, length, Option, Some, None, slice_index, slice_get}
+use Rattle.std.specs.Prelude.{◌≡◌, ◌⊎◌, ℕ, zero, suc, ◌+◌, ◌*◌, ◌<◌, ◌≤◌, false, if◌then◌else◌, is_none, List, [], ◌∷◌, length, Option, Some, None, slice_index, slice_get}
 use Rattle.std.specs.List.{Contains}
 use mathlib.Core.Option.{some}
 use mathlib.Core.Option as maybe
@@ -56,6 +56,7 @@ module _ {S : Type 0} (Lies : ℕ → S → List ℕ → Type 0) where
     pub owner : z.owner x.number ≡ (id, behind)
     pub part : z.state.part x.number ≡ x.part
     pub gone : z.gone x.number ≡ x.retired
+    pub retired : (n : ℕ) → x.retired ≡ Some n → n ≤ length x.part.calls
     pub brought : (i : ℕ) → Contains x.home i → (0 < times i x.part.hand) × ((w : List ℕ) × Has homes i w)
 
   abbrev pub Owns : Setup → Scene → List (maybe.Option S) → ℕ → List Member → Type 0
@@ -65,6 +66,7 @@ module _ {S : Type 0} (Lies : ℕ → S → List ℕ → Type 0) where
   -- what a view knows is true, where `word` is word 0
   pub record IsView (c : Setup) (z : Scene) (homes : List (maybe.Option S)) (word id : ℕ) (v : Known) : Type 0 where
     pub seats : Owns c z homes id v.seats
+    pub rings : (v.seats ≡ []) ⊎ (length v.numbers ≡ c.rings)
     pub numbers : (r : ℕ) (x : Numbers) → slice_get v.numbers r ≡ Some x → IsTrue c z.state r x
     pub last_gate : (n : ℕ) → v.gate ≡ Some n → word ≤ n
 
@@ -83,4 +85,4 @@ first_members zero = []
 first_members (suc k) = record { number = k; part = idle_part; retired = None; home = [] } ∷ first_members k
 
 abbrev pub first_view : Setup → Known
-first_view c = record { seats = first_members c.seats; numbers = first_numbers c c.rings; gates = 0; gate = None }
+first_view c = record { seats = first_members c.seats; numbers = first_numbers c c.rings; gates = 0; gate = Some c.seats }

@@ -13,6 +13,7 @@ use Rattle.scq_core.specs.Turn.{IsReady}
 use Rattle.scq_core.specs.Laws.{IsAbove}
 use Rattle.scq_band.specs.declared.numbers.Numbers.{Numbers}
 use Rattle.scq_band.specs.Known.{Member, Known}
+use Rattle.scq_band.specs.Steps.{my}
 use Rattle.scq_band.specs.Numbers.{known_of, changed, finishes, sees, passes, empties}
 
 -- what a turn that found the word x tells of its ring
@@ -90,3 +91,5 @@ module _ {S : Type 0} (Lies : ℕ → S → List ℕ → Type 0) where
     pub found : Finds c t x
     pub ready : IsReady c t x
     pub draws : Draws t x me.0.numbers
+    -- its hand has room for no more than all indices
+    pub fits : length (my later.0).part.hand ≤ n_of c.order
