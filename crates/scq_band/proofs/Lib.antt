@@ -15,3 +15,4 @@ pub mod Drawing
 pub mod Seeking
 pub mod Leaving
 pub mod Drawn
+pub mod Gates

@@ -218,7 +218,7 @@ consume_carries Lies (AtD9 r h from to) slots is = absurd is
 consume_carries Lies (AtD10 r h leaving) slots is = absurd is
 
 -- a count takes one off a word that is not 0
-less_one : (x : ℕ) → 0 < x → x < 2 ^ 64 → (x + (2 ^ 64 - 1)) % 2 ^ 64 ≡ x - 1
+pub less_one : (x : ℕ) → 0 < x → x < 2 ^ 64 → (x + (2 ^ 64 - 1)) % 2 ^ 64 ≡ x - 1
 less_one x some small =
     let e : x + (2 ^ 64 - 1) ≡ (x - 1) + 1 * 2 ^ 64 = omega arith in
     ap (λ n. n % 2 ^ 64) e ∙ add-mul-mod_self_right (x - 1) 1 (2 ^ 64) ∙ mod-eq_of_lt (omega arith)

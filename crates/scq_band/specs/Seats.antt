@@ -1,5 +1,5 @@
 -- For private calls: the view of one seat that stands alone, and what becomes of it.
-use Rattle.std.specs.Prelude.{◌≡◌, ◌⊎◌, ◌+◌, ℕ, Bool, false, List, [], ◌∷◌, ◌++◌}
+use Rattle.std.specs.Prelude.{◌≡◌, ◌⊎◌, ◌+◌, ℕ, Bool, false, List, [], ◌∷◌, ◌++◌, length, Some}
 use Rattle.scq_core.specs.declared.phase.Phase.{Phase}
 use Rattle.scq_core.specs.declared.phase.Phase.TheVariants.{Idle, AtE1, AtE2, AtE3, AtE4, AtE5, AtE6, AtD1, AtD2, AtD3, AtD4, AtD5, AtD6, AtD7, AtD8, AtD9, AtD10}
 use Rattle.scq_core.specs.Machine.{Part}
@@ -87,15 +87,9 @@ least_of (AtD2 r l) = l
 least_of (AtD3 r h l) = l
 least_of phase = 0
 
--- a put is about to draw, to look at its slot, to exchange the entry that it found there, and to reset Threshold
-abbrev pub IsDrawing : ℕ → Phase → Type 0
-IsDrawing r phase = phase ≡ AtE1 r (index_of phase) (content_of phase) (least_of phase)
-
+-- a put is about to look at its ticket's slot, and to reset Threshold
 abbrev pub IsLooking : ℕ → ℕ → Phase → Type 0
 IsLooking r t phase = phase ≡ AtE2 r (index_of phase) (content_of phase) t (least_of phase)
-
-abbrev pub IsPlacing : ℕ → ℕ → ℕ → Phase → Type 0
-IsPlacing r t e phase = phase ≡ AtE4 r (index_of phase) (content_of phase) t e
 
 abbrev pub IsEnding : ℕ → ℕ → Phase → Type 0
 IsEnding r t phase = phase ≡ AtE5 r (index_of phase) (content_of phase) t
@@ -104,7 +98,7 @@ IsEnding r t phase = phase ≡ AtE5 r (index_of phase) (content_of phase) t
 abbrev pub IsToDraw : ℕ → ℕ → List ℕ → Phase → Type 0
 IsToDraw r i w phase = (phase ≡ Idle) ⊎ (phase ≡ AtE1 r i w (least_of phase))
 
--- a get is about to look at its ticket's slot, or to look at Tail
+-- a get is about to look at its ticket's slot
 abbrev pub IsSeeking : ℕ → ℕ → Phase → Type 0
 IsSeeking r h phase = phase ≡ AtD3 r h (least_of phase)
 
@@ -126,10 +120,6 @@ drew_head r h v = seated (my v) (changed (passes (h + 1)) r v.numbers) v
 abbrev pub HasGotAfter : {S : Type 0} → (ℕ → S → List ℕ → Type 0) → ℕ → ℕ → ℕ → Me S Known → Me S Known → Type 0
 HasGotAfter Lies r h i me later = HasGot Lies r h i (drew_head r h me.0, me.1) later
 
--- a get has found nothing, at once or with the last ticket that it drew
-abbrev pub HasNothing : ℕ → Known → Known → Type 0
-HasNothing r v later = (later ≡ nothing_at r v) ⊎ ((h : ℕ) × (later ≡ nothing_at r (drew_head r h v)))
-
 -- the view of a seat whose get drew a ticket at or past the limit
 abbrev pub drawn_spent : ℕ → ℕ → Known → Known
 drawn_spent r ticket v = spent_at r ticket false (drew_head r ticket v)
@@ -137,3 +127,11 @@ drawn_spent r ticket v = spent_at r ticket false (drew_head r ticket v)
 -- the view of a get that is to draw: it has drawn the tickets below a number
 abbrev pub to_draw : ℕ → ℕ → Known → Known
 to_draw r l v = seated (at_phase (AtD2 r l) (my v)) (changed (passes l) r v.numbers) v
+
+-- the view of a seat that has read the gate
+abbrev pub looked : ℕ → Known → Known
+looked x v = record v { gates = v.gates + 1; gate = Some x }
+
+-- the view of a seat that has retired
+abbrev pub retired_at : Known → Known
+retired_at v = record v { seats = record (my v) { retired = Some (length (my v).part.calls) } ∷ [] }

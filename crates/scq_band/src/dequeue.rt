@@ -1,5 +1,5 @@
 //! A dequeue, step by step.
-ghost use Rattle.std.specs.Prelude.{◌≡◌, ℕ, ◌+◌, ◌/◌, ◌^◌, ◌<◌, ◌≤◌, IfSome, IfNone, IfOk, IfErr, IsTrue, IsFalse, Some, None, Err, slice_get, true, false};
+ghost use Rattle.std.specs.Prelude.{◌≡◌, ℕ, ◌+◌, ◌/◌, ◌^◌, ◌<◌, ◌≤◌, IfSome, IfNone, IfOk, IfErr, IsTrue, IsFalse, Some, None, Err, slice_get, length, true, false};
 ghost use Rattle.scq_word.specs.Sizes.{n_of, slots_of};
 ghost use Rattle.scq_word.specs.Tickets.{cycle_of};
 ghost use Rattle.scq_word.specs.Entries.{IsIndexOrMark};
@@ -11,7 +11,7 @@ ghost use Rattle.scq_band.specs.Layout.{at, word_count, entry_at};
 ghost use Rattle.scq_band.specs.Rings.{IsRing};
 ghost use Rattle.scq_band.specs.Buffers.{LiesIn};
 ghost use Rattle.scq_band.specs.Steps.{my, my_phase};
-ghost use Rattle.scq_band.specs.Seats.{IsAlone, IsSeeking, IsBehind, HasGot, HasGotAfter, HasNothing, drawn_spent, goes_to, nothing_at};
+ghost use Rattle.scq_band.specs.Seats.{IsAlone, IsSeeking, IsBehind, HasGot, HasGotAfter, drew_head, drawn_spent, goes_to, nothing_at};
 
 use crate::ring::Ring;
 use crate::rule::{Token, Words};
@@ -53,6 +53,7 @@ fn takes<B: Buffer>(words: &Words<B>, token: &mut Token<B>, ring: Ring, ticket: 
     ensures got { IfSome result
         (λ index. HasGot (LiesIn B.contents B.IsSameBuffer words.now.key.given.value.items) ring.number ticket index token.old.me token.new.me) }
     ensures small { IfSome result (λ index. index < n_of words.now.key.setup.order) }
+    ensures fits { IfSome result (λ index. length (my token.new.me.0).part.hand ≤ n_of words.now.key.setup.order) }
     ensures given_up { IfNone result (token.new.me.0 ≡ goes_to (AtD6 ring.number ticket) token.old.me.0) }
     ensures slots { IfNone result (token.new.me.1 ≡ token.old.me.1) }
 {
@@ -131,9 +132,10 @@ fn is_over<B: Buffer>(words: &Words<B>, token: &mut Token<B>, ring: Ring, ticket
     count_down(words, token, ring.threshold()) <= ZERO_LEVEL
 }
 
-/// How a dequeue ends without an index: with nothing, or with the ticket that it drew at or past the limit.
+/// How a dequeue ends without an index: with nothing, after the last ticket that it drew, if any; or with the ticket that it
+/// drew at or past the limit.
 pub enum Without {
-    Nothing,
+    Nothing(Option<u64>),
     Spent(u64),
 }
 
@@ -151,14 +153,17 @@ pub fn dequeue<B: Buffer>(
     ensures got { IfOk result
         (λ r. HasGotAfter (LiesIn B.contents B.IsSameBuffer words.now.key.given.value.items) ring.number r.0 r.1 token.old.me token.new.me) }
     ensures small { IfOk result (λ r. (r.0 < words.now.key.setup.limit) × (r.1 < n_of words.now.key.setup.order)) }
+    ensures fits { IfOk result (λ r. length (my token.new.me.0).part.hand ≤ n_of words.now.key.setup.order) }
     ensures above { IfOk result (λ r. (known : Numbers) → slice_get token.old.me.0.numbers ring.number ≡ Some known → known.head ≤ r.0) }
-    ensures nothing { result ≡ Err Without.Nothing → HasNothing ring.number token.old.me.0 token.new.me.0 }
+    ensures nothing { result ≡ Err (Without.Nothing None) → token.new.me.0 ≡ nothing_at ring.number token.old.me.0 }
+    ensures nothing_left { (ticket : ℕ) → result ≡ Err (Without.Nothing (Some ticket)) → (token.new.me.0 ≡ nothing_at ring.number (drew_head ring.number ticket token.old.me.0))
+        × (ticket < words.now.key.setup.limit) }
     ensures spent { (ticket : ℕ) → result ≡ Err (Without.Spent ticket)
         → (token.new.me.0 ≡ drawn_spent ring.number ticket token.old.me.0) × (words.now.key.setup.limit ≤ ticket) }
     ensures kept { IfErr result (λ e. token.new.me.1 ≡ token.old.me.1) }
 {
     if load(words, token, ring.threshold()) < ZERO_LEVEL {
-        return Err(Without::Nothing);
+        return Err(Without::Nothing(None));
     }
     'draws: loop {
         let ticket = draw(words, token, ring.head());
@@ -169,7 +174,7 @@ pub fn dequeue<B: Buffer>(
             return Ok((ticket, index));
         }
         if is_over(words, token, ring, ticket) {
-            return Err(Without::Nothing);
+            return Err(Without::Nothing(Some(ticket)));
         }
     }
 }

@@ -55,7 +55,7 @@ returns-then-load-lt-ZERO_LEVEL-clause-nothing g c is =
     let turn = ap (loading (ring_of_word k c.threshold.result)) c.requires.idle.0 ∙ ap AtD1 ring in
     let low = c.if-load-lt-ZERO_LEVEL.true in
     let level = zero_level_is in
-    inl (saw_empty Lie k c.args.token.now.me.0 c.args.token.now.me c.load.new.token.me _ c.load.result r turn c.requires.alone (omega arith)
+    (saw_empty Lie k c.args.token.now.me.0 c.args.token.now.me c.load.new.token.me _ c.load.result r turn c.requires.alone (omega arith)
     c.load.ensures.turned)
 
 pub draws-init : goal.draws-init
@@ -152,8 +152,8 @@ returns-in-Some-clause-above g c =
     (ap my_phase here) in
     drew_above_head Lie k v c.draws.token.me c.draw-ticket.new.token.me _ c.draw-ticket.result r l turn here c.draw-ticket.ensures.turned
 
-pub returns-then-is_over-clause-nothing : goal.returns-then-is_over-clause-nothing
-returns-then-is_over-clause-nothing g c is =
+pub returns-then-is_over-clause-nothing_left : goal.returns-then-is_over-clause-nothing_left
+returns-then-is_over-clause-nothing_left g c ticket is =
     let k = c.args.words.now.key.setup in
     let r = c.args.ring.number in
     let Lie = LiesIn g.B.Buffer.contents g.B.Buffer.IsSameBuffer c.args.words.now.key.given.value.items in
@@ -168,7 +168,8 @@ returns-then-is_over-clause-nothing g c is =
     let low = c.if-ticket-ring.false in
     let h = c.draw-ticket.result in
     let now = drew_one Lie k v c.draws.token.me c.draw-ticket.new.token.me _ h r l turn alone here (omega arith) c.draw-ticket.ensures.turned in
-    inr (h, c.if-is_over.ensures.over refl ∙ ap (nothing_at r) (c.in_default.ensures.given_up) ∙ ap (λ u. nothing_at r (goes_to (AtD6 r h) u)) now)
+    let same : h ≡ ticket = cc in
+    rw (← same) (c.if-is_over.ensures.over refl ∙ ap (nothing_at r) (c.in_default.ensures.given_up) ∙ ap (λ u. nothing_at r (goes_to (AtD6 r h) u)) now, omega arith)
 
 pub draws-preserved : goal.draws-preserved
 draws-preserved g c =
