@@ -2,7 +2,7 @@
 use Rattle.std.proofs.Common.{◌≡◌, ◌≢◌, ◌⊎◌, ℕ, zero, suc, ◌+◌, ◌-◌, ◌*◌, ◌%◌, ◌^◌, ◌<◌, ◌≤◌, true, false, ◌==◌, List, [], ◌∷◌, length, refl, sym, ◌∙◌, ap, subst, inl, inr, arith, eq-eqb, ne_eqb}
 use Rattle.std.specs.Prelude.{Some, None, Option, is_none, if◌then◌else◌, slice_get, slice_set, slice_index}
 use Rattle.std.proofs.lemmas.Bool.{cases_eq}
-use Rattle.std.proofs.lemmas.List.{set-get_or}
+use Rattle.std.proofs.lemmas.List.{set-get_or, get_or-set_same}
 use mathlib.Core.Option.{some}
 use mathlib.Core.Option as maybe
 use lib.ListN.{get_elem?}
@@ -80,3 +80,83 @@ module _ {S : Type 0} (Lies : ℕ → S → List ℕ → Type 0) where
         stored = sh.stored;
       }) in
       (looked (slice_index s.words 0) me.0, keeps, tt, shown, (refl, refl))
+
+  -- the seats of another view, after a seat has retired
+  gone_else : (c : Setup) (z : Scene) (homes : List (maybe.Option S)) (id j k n : ℕ) → z.owner k ≡ (id, 0) → j ≢ id → (xs : List Member) → Owns Lies c z homes j xs
+      → Owns Lies c (record z { gone = updated z.gone k (Some n) }) homes j xs
+  gone_else c z homes id j k n mine apart [] owns = tt
+  gone_else c z homes id j k n mine apart (x ∷ xs) owns =
+      let x_is = owns.0 in
+      let other : x.number ≢ k = λ e. let both = sym x_is.owner ∙ ap z.owner e ∙ mine in apart (ap (λ (q : ℕ × ℕ). q.0) both) in (
+        record {
+          low = x_is.low;
+          owner = x_is.owner;
+          part = x_is.part;
+          gone = updated_else z.gone k (Some n) x.number other ∙ x_is.gone;
+          retired = x_is.retired;
+          brought = x_is.brought;
+        },
+        gone_else c z homes id j k n mine apart xs owns.1,
+      )
+
+  -- a seat that has not retired may retire
+  pub retires : (c : Setup) (slots id : ℕ) (me : Me S Known) → IsAlone me.0 → (my me.0).retired ≡ None
+      → Allows (Shown Lies c) slots id me 0 (λ n. (n + (2 ^ 64 - 1)) % 2 ^ 64) (λ n later. (later.0 ≡ retired_at me.0) × (later.1 ≡ me.1))
+  retires c slots id me alone stays s sh many here small =
+      let z = sh.scene in
+      let x = my me.0 in
+      let k = x.number in
+      let calls = length x.part.calls in
+      let mine = sh.views id me.0 here in
+      let owns : Owns Lies c z s.homes id (x ∷ []) = subst (λ (xs : List Member). Owns Lies c z s.homes id xs) alone.seats mine.seats in
+      let x_is = owns.0 in
+      let less = awake_less z.gone k calls c.seats x_is.low (x_is.gone ∙ stays) in
+      let word = slice_index s.words 0 in
+      let is = sh.awake_seats in
+      let wrote : (word + (2 ^ 64 - 1)) % 2 ^ 64 ≡ word - 1 = less_one word (omega (arith, less, is)) small in
+      let few : 0 < length s.words = omega (arith, sh.words.count) in
+      let gate : slice_index (slice_set s.words 0 (word - 1)) 0 ≡ word - 1 = get_or-set_same s.words 0 (word - 1) 0 few in
+      let zz : Scene = record z { gone = updated z.gone k (Some calls) } in
+      let shown : Shown Lies c (stepped s 0 (word - 1) id me.1 (retired_at me.0) keeps) = record {
+        scene = zz;
+        reachable = sh.reachable;
+        words = gate_shown c s.words z.state.cells (word - 1) sh.words;
+        awake_seats = gate ∙ omega (arith, less, is);
+        room = sh.room;
+        views =
+            λ j v e.
+            elim (at_set s.views id j (retired_at me.0) v e) [
+              | inl at ↦
+                  let view : IsView Lies c zz s.homes (word - 1) id (retired_at me.0) = record {
+                    seats = (
+                      record {
+                        low = x_is.low;
+                        owner = x_is.owner;
+                        part = x_is.part;
+                        gone = updated_here z.gone k (Some calls);
+                        retired = λ n eq. let same : calls ≡ n = cc in omega (arith, same);
+                        brought = x_is.brought;
+                      },
+                      tt,
+                    );
+                    rings = rings_of me.0 alone mine.rings;
+                    numbers = mine.numbers;
+                    last_gate = λ n eq. let le = mine.last_gate n eq in omega (arith, le);
+                  } in
+                  rw (gate, at.0) (subst (λ (u : Known). IsView Lies c zz s.homes (word - 1) id u) at.1 view)
+              | inr other ↦
+                  let old = sh.views j v other.1 in
+                  rw gate (record {
+                    seats = gone_else c z s.homes id j k calls x_is.owner other.0 v.seats old.seats;
+                    rings = old.rings;
+                    numbers = old.numbers;
+                    last_gate = λ n eq. let le = old.last_gate n eq in omega (arith, le);
+                  })
+            ];
+        stored = sh.stored;
+      } in
+      (retired_at me.0, keeps, tt, subst (λ (v : ℕ). Shown Lies c (stepped s 0 v id me.1 (retired_at me.0) keeps)) (sym wrote) shown, (refl, refl))
+    where
+      rings_of : (v : Known) → IsAlone v → (v.seats ≡ []) ⊎ (length v.numbers ≡ c.rings) → ((retired_at v).seats ≡ []) ⊎ (length (retired_at v).numbers ≡ c.rings)
+      rings_of v one (inl none) = let no : my v ∷ [] ≡ [] = sym one.seats ∙ none in absurd (cc)
+      rings_of v one (inr all) = inr all
