@@ -7,6 +7,7 @@
 
 mod dequeue;
 mod enqueue;
+mod gate;
 mod numbers;
 mod ring;
 mod rule;

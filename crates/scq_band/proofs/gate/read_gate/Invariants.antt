@@ -1,0 +1,6 @@
+use Rattle.std.proofs.Common.{◌≡◌}
+use Rattle.scq_band.specs.Seats.{looked, retired_at}
+use Rattle.scq_band.proofs.gate.read_gate.Given as goal
+
+abbrev pub ghosts-load : goal.ghosts-load
+ghosts-load g a = record { then = λ st me n later. (later.0 ≡ looked n me.0) × (later.1 ≡ me.1) }
