@@ -16,3 +16,4 @@ pub mod Seeking
 pub mod Leaving
 pub mod Drawn
 pub mod Gates
+pub mod Views

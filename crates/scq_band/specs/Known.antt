@@ -1,9 +1,10 @@
 -- What a seat of the table knows, its view: the seats of the machine that stand in it with their parts, a lower bound of each
 -- ring's counters, and what it read at the gate. A note is a view in which no seat stands.
-use Rattle.std.specs.Prelude.{ℕ, List, [], ◌∷◌, Option, Some, None}
+use Rattle.std.specs.Prelude.{ℕ, List, [], ◌∷◌, ◌++◌, Option, Some, None}
 use Rattle.scq_word.specs.declared.setup.Setup.{Setup}
 use Rattle.scq_core.specs.Machine.{Part}
 use Rattle.scq_band.specs.declared.numbers.Numbers.{Numbers}
+use Rattle.scq_band.specs.Numbers.{joined}
 
 -- a seat: its number, its part, how many calls stood in its record when it retired, and the indices in its hand whose slots
 -- were brought home before the table closes
@@ -23,3 +24,27 @@ pub record Known : Type 0 where
 -- the view that knows nothing: what a seat is left with that was joined to another
 abbrev pub nobody : Known
 nobody = record { seats = []; numbers = []; gates = 0; gate = None }
+
+-- a note of a view: what it knows of the rings
+abbrev pub note_of : Known → Known
+note_of v = record { seats = []; numbers = v.numbers; gates = 0; gate = None }
+
+-- the seats behind the first, and the first alone
+abbrev pub behind_first : List Member → List Member
+behind_first [] = []
+behind_first (x ∷ xs) = xs
+
+abbrev pub first_alone : List Member → List Member
+first_alone [] = []
+first_alone (x ∷ xs) = x ∷ []
+
+-- a view without its first seat, and the view of that seat
+abbrev pub others_of : Known → Known
+others_of v = record v { seats = behind_first v.seats }
+
+abbrev pub first_of : Known → Known
+first_of v = record v { seats = first_alone v.seats }
+
+-- a view that has taken in another: the other's seats stand first, and each number is the larger
+abbrev pub both_of : Known → Known → Known
+both_of v w = record v { seats = w.seats ++ v.seats; numbers = joined v.numbers w.numbers }

@@ -56,8 +56,8 @@ larger x y = record { finished = max x.finished y.finished; seen = max x.seen y.
 abbrev pub changed : (Numbers → Numbers) → ℕ → List Numbers → List Numbers
 changed f r numbers = slice_set numbers r (f (known_of numbers r))
 
--- two lists of them, ring by ring
+-- the first list, each number raised by that of the second
 abbrev pub joined : List Numbers → List Numbers → List Numbers
-joined [] ys = ys
+joined [] ys = []
 joined (x ∷ xs) [] = x ∷ xs
 joined (x ∷ xs) (y ∷ ys) = larger x y ∷ joined xs ys
