@@ -8,6 +8,7 @@
 mod dequeue;
 mod enqueue;
 mod gate;
+mod notes;
 mod numbers;
 mod ring;
 mod rule;
