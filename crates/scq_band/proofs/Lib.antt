@@ -17,3 +17,4 @@ pub mod Leaving
 pub mod Drawn
 pub mod Gates
 pub mod Views
+pub mod Opening

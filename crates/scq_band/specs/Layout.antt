@@ -1,8 +1,9 @@
 -- Where the words of the rings stand in the table: word 0 counts the seats that have not retired, and each ring has Tail,
 -- Head, Threshold and its entries by slot, ring after ring. Nothing else knows the number of a word.
-use Rattle.std.specs.Prelude.{ℕ, zero, suc, ◌+◌, ◌*◌, ◌/◌, ◌%◌, ◌<◌}
+use Rattle.std.specs.Prelude.{ℕ, [], zero, suc, ◌+◌, ◌*◌, ◌/◌, ◌%◌, ◌<◌}
 use Rattle.scq_word.specs.declared.setup.Setup.{Setup}
-use Rattle.scq_core.specs.Machine.{Location, tail_of, head_of, threshold_of, entry_of}
+use Rattle.scq_core.specs.Machine.{Location, tail_of, head_of, threshold_of, entry_of, read}
+use Rattle.scq_core.specs.Start.{start_cells}
 use Rattle.scq_core.specs.Table.{ring_slots, slot}
 
 -- where the entry of a ticket's slot stands
@@ -55,3 +56,8 @@ IsSlotAt c l = Unit {0}
 -- a location of this setup
 abbrev pub IsLocation : Setup → Location → Type 0
 IsLocation c l = (ring_at l < c.rings) × IsSlotAt c l
+
+-- the word of a number at the start
+unfoldable pub first_word : Setup → ℕ → ℕ
+first_word c zero = c.seats
+first_word c (suc i) = read (start_cells c []) (location_in (i / ring_words c) (i % ring_words c))
