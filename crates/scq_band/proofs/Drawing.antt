@@ -1,16 +1,14 @@
 -- A put draws a ticket: the first one where it begins, and another after each that failed.
-use Rattle.std.proofs.Common.{◌≡◌, ◌≢◌, ◌⊎◌, ℕ, ◌<◌, ◌≤◌, Bool, true, false, ◌&&◌, List, refl, sym, ◌∙◌, ap, subst, inl, inr, arith, lt-ltb, le-leb, leb-true}
-use Rattle.std.specs.Prelude.{Some, None, Option, nat_lt, nat_le, is_none, slice_get}
-use Rattle.std.specs.Cmp.Derive.{both_true}
+use Rattle.std.proofs.Common.{◌≡◌, ℕ, ◌<◌, ◌≤◌, true, false, List, refl, sym, ◌∙◌, ap, subst, inl, inr, arith, lt-ltb, le-leb, leb-true}
+use Rattle.std.specs.Prelude.{Some, None, Option, nat_le, slice_get}
 use Rattle.std.proofs.lemmas.Bool.{cases_Bool}
 use Rattle.atomic_table.specs.Table.{Me}
 use Rattle.scq_word.specs.declared.setup.Setup.{Setup}
 use Rattle.scq_word.specs.Sizes.{n_of}
 use Rattle.scq_core.specs.declared.phase.Phase.{Phase}
 use Rattle.scq_core.specs.declared.phase.Phase.TheVariants.{Idle, AtE1, AtE2}
-use Rattle.scq_core.specs.declared.step.Step.{Step}
 use Rattle.scq_core.specs.declared.step.Step.TheVariants.{E1, E1Again}
-use Rattle.scq_core.specs.Table.{holds_index, turn_at, turn_of, goes_on, spends}
+use Rattle.scq_core.specs.Table.{holds_index, turn_at, goes_on, spends}
 use Rattle.scq_core.specs.Machine.{tail_of}
 use Rattle.scq_band.specs.declared.numbers.Numbers.{Numbers}
 use Rattle.scq_band.specs.declared.ring.Ring.{Ring}

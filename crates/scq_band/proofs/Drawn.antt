@@ -1,8 +1,7 @@
 -- A get draws tickets: what it knows of Head after the last one is what it knew before, and that one.
-use Rattle.std.proofs.Common.{◌≡◌, ◌≢◌, ◌⊎◌, ℕ, zero, suc, ◌+◌, ◌<◌, ◌≤◌, Bool, true, false, List, [], ◌∷◌, length, refl, sym, ◌∙◌, ap, subst, inl, inr, arith, le-leb, leb-true, lt-ltb, ltb-true}
-use Rattle.std.specs.Prelude.{Some, None, Option, if◌then◌else◌, nat_le, nat_lt, is_none, max, slice_set, slice_get}
-use Rattle.std.specs.Cmp.Derive.{both_true}
-use Rattle.std.proofs.Math.Nat.{max-eq_left, max-eq_right}
+use Rattle.std.proofs.Common.{◌≡◌, ℕ, zero, suc, ◌+◌, ◌<◌, ◌≤◌, false, List, [], ◌∷◌, refl, sym, ◌∙◌, ap, subst, inl, inr, arith, le-leb, leb-true, lt-ltb, ltb-true}
+use Rattle.std.specs.Prelude.{Some, None, nat_le, nat_lt, max, slice_get}
+use Rattle.std.proofs.Math.Nat.{max-eq_left}
 use Rattle.std.proofs.lemmas.Bool.{cases_Bool}
 use Rattle.atomic_table.specs.Table.{Me}
 use Rattle.scq_word.specs.declared.setup.Setup.{Setup}
@@ -11,12 +10,11 @@ use Rattle.scq_core.specs.declared.phase.Phase.{Phase}
 use Rattle.scq_core.specs.declared.phase.Phase.TheVariants.{Idle, AtD1, AtD2, AtD3}
 use Rattle.scq_core.specs.declared.step.Step.TheVariants.{D1}
 use Rattle.scq_core.specs.Table.{zero_level, turn_at, goes_on, ends, spends}
-use Rattle.scq_core.proofs.Entries.{zero_level_is}
 use Rattle.scq_band.specs.declared.numbers.Numbers.{Numbers}
-use Rattle.scq_band.specs.Numbers.{known_of, changed, passes, empties}
+use Rattle.scq_band.specs.Numbers.{changed, passes}
 use Rattle.scq_band.specs.Layout.{ring_of_word}
 use Rattle.scq_band.specs.Known.{Known}
-use Rattle.scq_band.specs.Turns.{MayTurn, Takes, Turned, learned}
+use Rattle.scq_band.specs.Turns.{MayTurn, Takes, Turned}
 use Rattle.scq_band.specs.Steps.{my, my_phase, loading, load_turn}
 use Rattle.scq_band.specs.Seats.{IsAlone, with_part, at_phase, seated, goes_to, nothing_at, got_at, HasGot, HasGotAfter, drew_head, drawn_spent, to_draw}
 use Rattle.scq_band.proofs.Outcomes.{goes_as, turned_as}

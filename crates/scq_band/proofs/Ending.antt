@@ -1,6 +1,5 @@
 -- A put ends with Done, by E5 alone or by E5 and E6.
-use Rattle.std.proofs.Common.{◌≡◌, ◌≢◌, ℕ, Bool, true, false, ◌==◌, List, refl, sym, ◌∙◌, ap, subst, eq-eqb, ne_eqb}
-use Rattle.std.specs.Prelude.{if◌then◌else◌}
+use Rattle.std.proofs.Common.{◌≡◌, ◌≢◌, ℕ, List, refl, ◌∙◌, ap, eq-eqb, ne_eqb}
 use Rattle.atomic_table.specs.Table.{Me}
 use Rattle.scq_word.specs.declared.setup.Setup.{Setup}
 use Rattle.scq_core.specs.declared.ended.Ended.TheVariants.{Done}
@@ -9,8 +8,8 @@ use Rattle.scq_core.specs.declared.phase.Phase.TheVariants.{AtE5, AtE6}
 use Rattle.scq_core.specs.Table.{goes_on, ends, reset_level}
 use Rattle.scq_band.specs.declared.numbers.Numbers.{Numbers}
 use Rattle.scq_band.specs.Known.{Known}
-use Rattle.scq_band.specs.Turns.{Turned, learned}
-use Rattle.scq_band.specs.Steps.{my, my_phase}
+use Rattle.scq_band.specs.Turns.{Turned}
+use Rattle.scq_band.specs.Steps.{my}
 use Rattle.scq_band.specs.Seats.{IsAlone, with_part, seated, goes_to, done_at}
 use Rattle.scq_band.proofs.Outcomes.{goes_as}
 

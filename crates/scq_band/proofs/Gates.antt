@@ -1,20 +1,17 @@
 -- The gate, word 0, is read and lowered: reading it changes one view's own two numbers, and a seat that retires lowers it by one.
-use Rattle.std.proofs.Common.{◌≡◌, ◌≢◌, ◌⊎◌, ℕ, zero, suc, ◌+◌, ◌-◌, ◌*◌, ◌%◌, ◌^◌, ◌<◌, ◌≤◌, true, false, ◌==◌, List, [], ◌∷◌, length, refl, sym, ◌∙◌, ap, subst, inl, inr, arith, eq-eqb, ne_eqb}
-use Rattle.std.specs.Prelude.{Some, None, Option, is_none, if◌then◌else◌, slice_get, slice_set, slice_index}
+use Rattle.std.proofs.Common.{◌≡◌, ◌≢◌, ◌⊎◌, ℕ, zero, suc, ◌+◌, ◌-◌, ◌%◌, ◌^◌, ◌<◌, ◌≤◌, true, false, List, [], ◌∷◌, length, refl, sym, ◌∙◌, ap, subst, inl, inr, arith}
+use Rattle.std.specs.Prelude.{Some, None, Option, is_none, if◌then◌else◌, slice_set, slice_index}
 use Rattle.std.proofs.lemmas.Bool.{cases_eq}
 use Rattle.std.proofs.lemmas.List.{set-get_or, get_or-set_same}
 use mathlib.Core.Option.{some}
 use mathlib.Core.Option as maybe
-use lib.ListN.{get_elem?}
-use Rattle.atomic_table.specs.Table.{State, Me, Allows, stepped, keeps}
+use Rattle.atomic_table.specs.Table.{Me, Allows, stepped, keeps}
 use Rattle.atomic_table.proofs.Lists.{at_set}
 use Rattle.scq_word.specs.declared.setup.Setup.{Setup}
 use Rattle.scq_core.specs.Updated.{updated}
-use Rattle.scq_core.specs.Machine.{Machine}
-use Rattle.scq_core.proofs.Entries.{few_seats}
 use Rattle.scq_core.proofs.UpdatedLemmas.{updated_here, updated_else}
 use Rattle.scq_band.specs.Known.{Member, Known}
-use Rattle.scq_band.specs.Shown.{Scene, ShowsWords, Has, IsMember, Owns, IsView, Shown, awake}
+use Rattle.scq_band.specs.Shown.{Scene, Owns, IsView, Shown, awake}
 use Rattle.scq_band.specs.Steps.{my}
 use Rattle.scq_band.specs.Seats.{IsAlone, looked, retired_at}
 use Rattle.scq_band.proofs.WordLemmas.{gate_shown}
@@ -34,7 +31,8 @@ awake_few gone (suc n) =
 -- one seat fewer is awake
 awake_beyond : (gone : ℕ → Option ℕ) (k n : ℕ) (x : Option ℕ) → n ≤ k → awake (updated gone k x) n ≡ awake gone n
 awake_beyond gone k zero x le = refl
-awake_beyond gone k (suc n) x le = rw (updated_else gone k x n (λ e. omega (arith, e, le))) (ap (λ a. (if is_none (gone n) then 1 else 0) + a) (awake_beyond gone k n x (omega arith)))
+awake_beyond gone k (suc n) x le =
+    rw (updated_else gone k x n (λ e. omega (arith, e, le))) (ap (λ a. (if is_none (gone n) then 1 else 0) + a) (awake_beyond gone k n x (omega arith)))
 
 pub awake_less : (gone : ℕ → Option ℕ) (k calls n : ℕ) → k < n → gone k ≡ None → awake (updated gone k (Some calls)) n + 1 ≡ awake gone n
 awake_less gone k calls zero low none = absurd (omega arith)
@@ -52,11 +50,13 @@ awake_less gone k calls (suc n) low none =
 
 module _ {S : Type 0} (Lies : ℕ → S → List ℕ → Type 0) where
   -- the gate may be read
-  pub looks : (c : Setup) (slots id : ℕ) (me : Me S Known) → Allows (Shown Lies c) slots id me 0 (λ n. n) (λ n later. (later.0 ≡ looked n me.0) × (later.1 ≡ me.1))
+  pub looks : (c : Setup) (slots id : ℕ) (me : Me S Known)
+      → Allows (Shown Lies c) slots id me 0 (λ n. n) (λ n later. (later.0 ≡ looked n me.0) × (later.1 ≡ me.1))
   looks c slots id me s sh many here small =
       let same : slice_set s.words 0 (slice_index s.words 0) ≡ s.words = set-get_or s.words 0 0 in
       let shown : Shown Lies c (stepped s 0 (slice_index s.words 0) id me.1 (looked (slice_index s.words 0) me.0) keeps) =
-      subst (λ (ws : List ℕ). Shown Lies c (record { words = ws; homes = s.homes; views = slice_set s.views id (looked (slice_index s.words 0) me.0) })) (sym same)
+      subst (λ (ws : List ℕ). Shown Lies c (record { words = ws; homes = s.homes; views = slice_set s.views id (looked (slice_index s.words 0) me.0) }))
+      (sym same)
       (record {
         scene = sh.scene;
         reachable = sh.reachable;
@@ -82,7 +82,8 @@ module _ {S : Type 0} (Lies : ℕ → S → List ℕ → Type 0) where
       (looked (slice_index s.words 0) me.0, keeps, tt, shown, (refl, refl))
 
   -- the seats of another view, after a seat has retired
-  gone_else : (c : Setup) (z : Scene) (homes : List (maybe.Option S)) (id j k n : ℕ) → z.owner k ≡ (id, 0) → j ≢ id → (xs : List Member) → Owns Lies c z homes j xs
+  gone_else : (c : Setup) (z : Scene) (homes : List (maybe.Option S)) (id j k n : ℕ) → z.owner k ≡ (id, 0) → j ≢ id → (xs : List Member)
+      → Owns Lies c z homes j xs
       → Owns Lies c (record z { gone = updated z.gone k (Some n) }) homes j xs
   gone_else c z homes id j k n mine apart [] owns = tt
   gone_else c z homes id j k n mine apart (x ∷ xs) owns =
@@ -157,6 +158,7 @@ module _ {S : Type 0} (Lies : ℕ → S → List ℕ → Type 0) where
       } in
       (retired_at me.0, keeps, tt, subst (λ (v : ℕ). Shown Lies c (stepped s 0 v id me.1 (retired_at me.0) keeps)) (sym wrote) shown, (refl, refl))
     where
-      rings_of : (v : Known) → IsAlone v → (v.seats ≡ []) ⊎ (length v.numbers ≡ c.rings) → ((retired_at v).seats ≡ []) ⊎ (length (retired_at v).numbers ≡ c.rings)
+      rings_of : (v : Known) → IsAlone v → (v.seats ≡ []) ⊎ (length v.numbers ≡ c.rings)
+          → ((retired_at v).seats ≡ []) ⊎ (length (retired_at v).numbers ≡ c.rings)
       rings_of v one (inl none) = let no : my v ∷ [] ≡ [] = sym one.seats ∙ none in absurd (cc)
       rings_of v one (inr all) = inr all

@@ -1,5 +1,5 @@
 -- What the laws of the machine give for each enabled turn of a seat, in the form that the rule's steps use.
-use Rattle.std.proofs.Common.{◌≡◌, ◌≢◌, ℕ, ◌<◌, ◌≤◌, false, List, refl, sym, ◌∙◌, ap, subst, arith}
+use Rattle.std.proofs.Common.{◌≡◌, ℕ, ◌<◌, false, List, refl, sym, ◌∙◌, ap, subst}
 use Rattle.std.specs.Prelude.{Some}
 use Rattle.std.specs.Option.{option_map}
 use Rattle.scq_word.specs.declared.setup.Setup.{Setup}
@@ -12,7 +12,6 @@ use Rattle.scq_core.specs.Machine.{Cells, Machine, tail_of, head_of, threshold_o
 use Rattle.scq_core.specs.Table.{ring_slots, ring_of, turn_of, location_of, moved}
 use Rattle.scq_core.specs.Reach.{IsReachable, by_step}
 use Rattle.scq_core.specs.Laws.{Busy, word_at}
-use Rattle.scq_core.proofs.Entries.{some_slots}
 use Rattle.scq_core.proofs.Turns.{awake}
 use Rattle.scq_core.proofs.Steady.{has, steady}
 use Rattle.scq_core.proofs.Ranks.{counters_rise}

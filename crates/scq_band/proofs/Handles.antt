@@ -1,30 +1,29 @@
 -- What a turn does with slots. A put's exchange that succeeds takes the slot of its index home, a get brings the slot of the
 -- index that it takes, and no other turn moves one. So the slots at home stay those of the indices in entries.
-use Rattle.std.proofs.Common.{◌≡◌, ◌≢◌, ◌⊎◌, ℕ, zero, suc, ◌<◌, true, false, ◌==◌, List, [], ◌∷◌, length, refl, sym, ◌∙◌, ap, subst, inl, inr, arith, eq-eqb, ne_eqb, eqb-true}
-use Rattle.std.specs.Prelude.{slice_set, if◌then◌else◌}
+use Rattle.std.proofs.Common.{◌≡◌, ◌≢◌, ◌⊎◌, ℕ, ◌<◌, true, false, ◌==◌, List, [], ◌∷◌, length, refl, sym, ◌∙◌, ap, subst, inl, inr, arith, eq-eqb, ne_eqb}
+use Rattle.std.specs.Prelude.{slice_set}
 use Rattle.std.proofs.lemmas.List.{length-set}
 use Rattle.std.proofs.lemmas.Bool.{cases_eq, cases_Bool}
 use mathlib.Core.Option.{some}
 use mathlib.Core.Option as maybe
-use lib.ListN.{get_elem?}
-use Rattle.atomic_table.specs.Table.{Act, keeps, takes, gives, Valid, carried_after, homes_after, rest}
+use Rattle.atomic_table.specs.Table.{Act, keeps, takes, gives, Valid, carried_after, homes_after}
 use Rattle.atomic_table.proofs.Lists.{set_here, set_else}
 use Rattle.scq_word.specs.declared.setup.Setup.{Setup}
 use Rattle.scq_word.specs.Sizes.{n_of}
-use Rattle.scq_word.specs.Words.{packed, mark_of, index_in, cycle_in, safe_in, is_none_in}
+use Rattle.scq_word.specs.Words.{packed, index_in, cycle_in, safe_in, is_none_in}
 use Rattle.scq_word.proofs.TicketLemmas.{slot_of_small}
 use Rattle.scq_word.proofs.WordLemmas.{index_in-packed, index_in_small}
 use Rattle.scq_core.specs.declared.phase.Phase.{Phase}
 use Rattle.scq_core.specs.declared.phase.Phase.TheVariants.{Idle, AtE1, AtE2, AtE3, AtE4, AtE5, AtE6, AtD1, AtD2, AtD3, AtD4, AtD5, AtD6, AtD7, AtD8, AtD9, AtD10}
-use Rattle.scq_core.specs.Machine.{Cells, Entries, Machine, Location, entry_of, read, beside, written}
+use Rattle.scq_core.specs.Machine.{Cells, Entries, Machine, entry_of, read, beside, written}
 use Rattle.scq_core.specs.Table.{ring_slots, cycle, slot, passed, location_of, writes, stores, cells_after}
 use Rattle.scq_core.specs.Laws.{Busy, word_at}
 use Rattle.scq_core.proofs.UpdatedLemmas.{written_same, updated_entry_or}
-use Rattle.scq_core.proofs.Entries.{some_slots, some_indices, below_mark, none_in-marked, none_in-filled, index_below}
-use Rattle.scq_law.specs.Hands.{times, Home, hand_of, in_slot, OneHand}
+use Rattle.scq_core.proofs.Entries.{some_slots, none_in-marked}
+use Rattle.scq_law.specs.Hands.{times, hand_of, in_slot, OneHand}
 use Rattle.scq_law.proofs.Places.HandLemmas.{seen_times}
 use Rattle.scq_band.specs.Shown.{Has, Stored}
-use Rattle.scq_band.specs.Turns.{Carries, Fronts, Takes, SlotsAfter}
+use Rattle.scq_band.specs.Turns.{Carries, SlotsAfter}
 
 -- an entry that is written, told from all others
 entry_either : (m : Cells) (r s x : ℕ) (y : List ℕ) (q z : ℕ)

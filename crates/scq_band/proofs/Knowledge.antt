@@ -1,17 +1,15 @@
 -- What a view knows of the rings stays true, and what a turn tells of them is true. Plan: numbers stay true since counters
 -- rise and finished places stay; then one case for each turn that tells something.
-use Rattle.std.proofs.Common.{◌≡◌, ◌≢◌, ◌⊎◌, ℕ, zero, suc, ◌+◌, ◌<◌, ◌≤◌, Bool, true, false, List, [], ◌∷◌, ◌++◌, length, refl, sym, ◌∙◌, ap, subst, inl, inr, arith}
-use Rattle.std.specs.Prelude.{Some, None, max, slice_get, slice_set, slice_index_or}
-use Rattle.std.specs.List.{Contains}
+use Rattle.std.proofs.Common.{◌≡◌, ◌≢◌, ◌⊎◌, ℕ, zero, suc, ◌<◌, ◌≤◌, List, [], ◌∷◌, length, refl, sym, ap, subst, inl, inr, arith}
+use Rattle.std.specs.Prelude.{Some, max, slice_get, slice_set}
 use Rattle.std.proofs.lemmas.Bool.{cases_lt}
 use Rattle.std.proofs.Math.Nat.{max-eq_left, max-eq_right}
 use Rattle.scq_word.specs.declared.setup.Setup.{Setup}
 use Rattle.scq_core.specs.Machine.{Machine}
-use Rattle.scq_core.specs.Table.{ring_slots}
 use Rattle.scq_core.specs.Laws.{CountersRise}
 use Rattle.scq_law.specs.Bounds.{IsFinished}
 use Rattle.scq_band.specs.declared.numbers.Numbers.{Numbers}
-use Rattle.scq_band.specs.Numbers.{first_place, IsTrue, known_of, changed, finishes, sees, passes, empties}
+use Rattle.scq_band.specs.Numbers.{first_place, IsTrue, known_of, changed, finishes, sees, passes}
 
 -- all that a list of numbers says of the rings is true
 abbrev pub AllTrue : Setup → Machine → List Numbers → Type 0
@@ -21,7 +19,8 @@ AllTrue c m numbers = (r : ℕ) (x : Numbers) → slice_get numbers r ≡ Some x
 abbrev pub FinishedStay : Setup → Machine → Machine → Type 0
 FinishedStay c m n = (r p : ℕ) → IsFinished c m r p → IsFinished c n r p
 
-either_stays : (c : Setup) (m n : Machine) (r p : ℕ) → FinishedStay c m n → (p ≡ first_place c r) ⊎ IsFinished c m r p → (p ≡ first_place c r) ⊎ IsFinished c n r p
+either_stays : (c : Setup) (m n : Machine) (r p : ℕ) → FinishedStay c m n → (p ≡ first_place c r) ⊎ IsFinished c m r p
+    → (p ≡ first_place c r) ⊎ IsFinished c n r p
 either_stays c m n r p stay (inl low) = inl low
 either_stays c m n r p stay (inr done) = inr (stay r p done)
 

@@ -1,9 +1,8 @@
 -- The words of two locations are two words, none of them is the gate, and all of them are the table's.
-use Rattle.std.proofs.Common.{◌≡◌, ◌≢◌, ℕ, zero, suc, ◌+◌, ◌*◌, ◌<◌, refl, sym, ◌∙◌, ap, arith}
+use Rattle.std.proofs.Common.{◌≡◌, ◌≢◌, ◌+◌, ◌*◌, ◌<◌, refl, sym, ◌∙◌, ap, arith}
 use Rattle.std.proofs.lemmas.Nat.{mul-add-lt, div-mul-add, same_from_place}
 use Rattle.scq_word.specs.declared.setup.Setup.{Setup}
 use Rattle.scq_core.specs.Machine.{Location, tail_of, head_of, threshold_of, entry_of}
-use Rattle.scq_core.specs.Table.{ring_slots}
 use Rattle.scq_band.specs.Layout.{ring_words, word_count, ring_at, offset_of, at, location_in, ring_of_word, IsSlotAt, IsLocation}
 
 pub offset_low : (c : Setup) (l : Location) → IsSlotAt c l → offset_of l < ring_words c

@@ -1,7 +1,7 @@
 -- What a turn tells of its ring is true of the state after it. One case for each turn that tells something: a put that has
 -- ended, a place that was got, a head that was drawn, and the three steps that find nothing finished left.
-use Rattle.std.proofs.Common.{◌≡◌, ◌≢◌, ◌⊎◌, ℕ, zero, suc, ◌+◌, ◌<◌, ◌≤◌, Bool, true, false, ◌==◌, List, [], ◌∷◌, ◌++◌, length, refl, sym, ◌∙◌, ap, subst, inl, inr, arith, ltb-true, eqb-true, ◌-◌, eq-eqb, ne_eqb}
-use Rattle.std.specs.Prelude.{Some, None, max, slice_get, nat_lt, nat_le}
+use Rattle.std.proofs.Common.{◌≡◌, ℕ, ◌+◌, ◌<◌, ◌≤◌, true, false, ◌==◌, List, [], ◌∷◌, ◌++◌, length, refl, sym, subst, inl, inr, arith, ltb-true, ◌-◌, eq-eqb, ne_eqb}
+use Rattle.std.specs.Prelude.{nat_lt, nat_le}
 use Rattle.std.specs.List.{Contains}
 use Rattle.std.proofs.lemmas.Bool.{cases_Bool, cases_eq, cases_lt}
 use Rattle.scq_word.specs.Sizes.{n_of}
@@ -19,11 +19,11 @@ use Rattle.scq_core.specs.Laws.{CountersRise, Busy}
 use Rattle.scq_core.proofs.UpdatedLemmas.{updated_here}
 use Rattle.scq_core.proofs.Steady.{either_way}
 use Rattle.std.proofs.lemmas.List.{length-set}
-use Rattle.scq_law.specs.Bounds.{IsFinished, IsDone, ThresholdCovers}
+use Rattle.scq_law.specs.Bounds.{IsFinished, ThresholdCovers}
 use Rattle.scq_band.specs.declared.numbers.Numbers.{Numbers}
 use Rattle.scq_band.specs.Numbers.{IsTrue, changed, finishes, sees, passes, empties}
 use Rattle.scq_band.specs.Turns.{learned}
-use Rattle.scq_band.proofs.Knowledge.{AllTrue, FinishedStay, true_stays, all_stay, changed_true, finishes_true, sees_true, passes_true}
+use Rattle.scq_band.proofs.Knowledge.{AllTrue, FinishedStay, all_stay, changed_true, finishes_true, sees_true, passes_true}
 
 module _ (c : Setup) (m : Machine) (k : ℕ) where
   -- Head is past a finished place where Threshold is too low for one at or past it
@@ -155,14 +155,17 @@ learned_length c (AtE4 r i w t e) x numbers = refl
 learned_length c (AtE5 r i w t) x numbers =
     either_way (λ (ns : List Numbers). length ns ≡ length numbers) (x == reset_level c) _ _ (changed_length (finishes t) r numbers) refl
 learned_length c (AtE6 r i w t) x numbers = changed_length (finishes t) r numbers
-learned_length c (AtD1 r) x numbers = either_way (λ (ns : List Numbers). length ns ≡ length numbers) (nat_lt x zero_level) _ _ (changed_length empties r numbers) refl
+learned_length c (AtD1 r) x numbers =
+    either_way (λ (ns : List Numbers). length ns ≡ length numbers) (nat_lt x zero_level) _ _ (changed_length empties r numbers) refl
 learned_length c (AtD2 r l) x numbers = changed_length (passes (x + 1)) r numbers
 learned_length c (AtD3 r h l) x numbers = refl
 learned_length c (AtD4 r h) x numbers = changed_length (sees h) r numbers
 learned_length c (AtD5 r h e) x numbers = refl
-learned_length c (AtD6 r h) x numbers = either_way (λ (ns : List Numbers). length ns ≡ length numbers) (nat_le x (h + 1)) _ _ (changed_length empties r numbers) refl
+learned_length c (AtD6 r h) x numbers =
+    either_way (λ (ns : List Numbers). length ns ≡ length numbers) (nat_le x (h + 1)) _ _ (changed_length empties r numbers) refl
 learned_length c (AtD7 r h from to) x numbers = refl
 learned_length c (AtD8 r h from) x numbers = refl
 learned_length c (AtD9 r h from to) x numbers = refl
 learned_length c (AtD10 r h true) x numbers = refl
-learned_length c (AtD10 r h false) x numbers = either_way (λ (ns : List Numbers). length ns ≡ length numbers) (nat_le x zero_level) _ _ (changed_length empties r numbers) refl
+learned_length c (AtD10 r h false) x numbers =
+    either_way (λ (ns : List Numbers). length ns ≡ length numbers) (nat_le x zero_level) _ _ (changed_length empties r numbers) refl

@@ -1,6 +1,6 @@
 -- A get that has given its ticket up: it catches Tail up and leaves, or counts a failed attempt and goes on or ends.
-use Rattle.std.proofs.Common.{◌≡◌, ◌≢◌, ◌⊎◌, ℕ, ◌+◌, ◌<◌, ◌≤◌, Bool, true, false, ◌==◌, List, [], ◌∷◌, refl, sym, ◌∙◌, ap, subst, inl, inr, arith, eq-eqb, ne_eqb, le-leb, leb-true}
-use Rattle.std.specs.Prelude.{if◌then◌else◌, nat_le, max, slice_set}
+use Rattle.std.proofs.Common.{◌≡◌, ◌≢◌, ℕ, ◌+◌, ◌<◌, ◌≤◌, true, false, List, refl, ◌∙◌, ap, inl, inr, arith, eq-eqb, ne_eqb, le-leb, leb-true}
+use Rattle.std.specs.Prelude.{nat_le}
 use Rattle.std.proofs.lemmas.Bool.{cases_Bool}
 use Rattle.atomic_table.specs.Table.{Me}
 use Rattle.scq_word.specs.declared.setup.Setup.{Setup}
@@ -11,8 +11,8 @@ use Rattle.scq_core.specs.Table.{zero_level, goes_on, ends}
 use Rattle.scq_band.specs.declared.numbers.Numbers.{Numbers}
 use Rattle.scq_band.specs.Numbers.{changed, empties}
 use Rattle.scq_band.specs.Known.{Known}
-use Rattle.scq_band.specs.Turns.{Turned, learned}
-use Rattle.scq_band.specs.Steps.{my, my_phase}
+use Rattle.scq_band.specs.Turns.{Turned}
+use Rattle.scq_band.specs.Steps.{my}
 use Rattle.scq_band.specs.Seats.{IsAlone, with_part, at_phase, seated, goes_to, nothing_at}
 use Rattle.scq_band.proofs.Outcomes.{goes_as, turned_as}
 

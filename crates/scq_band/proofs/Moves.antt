@@ -1,12 +1,12 @@
 -- A turn that a seat may make keeps the rule, and tells what it should. Plan: the turn's word and its slot are those of the
 -- machine's step, so the next state is shown; the seat's own view is the one that the turn makes, and all others stay true.
-use Rattle.std.proofs.Common.{◌≡◌, ◌≢◌, ◌⊎◌, ℕ, zero, suc, ◌+◌, ◌<◌, ◌≤◌, false, List, [], ◌∷◌, map, length, refl, sym, ◌∙◌, ap, subst, inl, inr, arith}
-use Rattle.std.specs.Prelude.{Some, slice_get, slice_set, slice_index, Option}
+use Rattle.std.proofs.Common.{◌≡◌, ◌≢◌, ◌⊎◌, ℕ, ◌+◌, ◌<◌, ◌≤◌, false, List, [], ◌∷◌, map, length, refl, sym, ◌∙◌, ap, subst, inl, inr, arith}
+use Rattle.std.specs.Prelude.{Some, slice_index}
 use Rattle.std.specs.List.{Contains}
 use mathlib.Core.Option.{some}
 use mathlib.Core.Option as maybe
 use lib.ListN.{get_elem?}
-use Rattle.atomic_table.specs.Table.{State, Me, Allows, stepped, Act, Valid, carried_after, homes_after}
+use Rattle.atomic_table.specs.Table.{State, Me, Allows, stepped, carried_after, homes_after}
 use Rattle.atomic_table.proofs.Lists.{at_set}
 use Rattle.scq_word.specs.declared.setup.Setup.{Setup}
 use Rattle.scq_word.specs.Sizes.{n_of}
@@ -14,7 +14,7 @@ use Rattle.scq_word.specs.Words.{is_none_in}
 use Rattle.scq_core.specs.declared.phase.Phase.{Phase}
 use Rattle.scq_core.specs.declared.phase.Phase.TheVariants.{AtE1, AtD2, AtD4}
 use Rattle.scq_core.specs.declared.step.Step.{Step}
-use Rattle.scq_core.specs.Machine.{Cells, Part, Machine, read, beside}
+use Rattle.scq_core.specs.Machine.{Part, Machine, read, beside}
 use Rattle.scq_core.specs.Table.{ring_slots, turn_of, location_of, writes, stores, after, moved}
 use Rattle.scq_core.specs.Turn.{IsReady}
 use Rattle.scq_core.specs.Reach.{IsReachable}
@@ -25,8 +25,8 @@ use Rattle.scq_law.specs.Bounds.{ThresholdCovers}
 use Rattle.scq_band.specs.declared.numbers.Numbers.{Numbers}
 use Rattle.scq_band.specs.Layout.{at, IsLocation}
 use Rattle.scq_band.specs.Known.{Member, Known}
-use Rattle.scq_band.specs.Shown.{Scene, ShowsWords, Has, Stored, IsMember, Owns, IsView, Shown, awake}
-use Rattle.scq_band.specs.Turns.{learned, turned_member, made, Finds, Draws, MayTurn, Carries, SlotsAfter, Turned}
+use Rattle.scq_band.specs.Shown.{Scene, Has, IsMember, Owns, IsView, Shown}
+use Rattle.scq_band.specs.Turns.{learned, turned_member, made, Finds, Draws, MayTurn, Carries, Turned}
 use Rattle.scq_band.proofs.WordLemmas.{written_shown, gate_kept}
 use Rattle.scq_band.proofs.Handles.{Handles, handles}
 use Rattle.scq_band.proofs.Knowledge.{AllTrue, FinishedStay, all_stay}

@@ -1,29 +1,29 @@
 -- The table at the start shows the start of the machine. Plan: each word is the one that the layout puts there; all seats stand in
 -- the first view, idle; and the slot of an index in ring 0 has the opening content.
-use Rattle.std.proofs.Common.{◌≡◌, ◌≢◌, ◌⊎◌, ℕ, zero, suc, ◌+◌, ◌-◌, ◌*◌, ◌/◌, ◌%◌, ◌<◌, ◌≤◌, true, false, ◌==◌, List, [], ◌∷◌, ◌++◌, map, length, refl, sym, ◌∙◌, ap, subst, inl, inr, arith, eq-eqb, ne_eqb}
-use Rattle.std.specs.Prelude.{Some, None, Option, if◌then◌else◌, is_none, slice_get, slice_index, slice_index_or}
+use Rattle.std.proofs.Common.{◌≡◌, ◌⊎◌, ℕ, zero, suc, ◌+◌, ◌*◌, ◌%◌, ◌<◌, ◌≤◌, true, false, ◌==◌, List, [], ◌∷◌, ◌++◌, map, length, refl, sym, ◌∙◌, ap, subst, inl, inr, arith, eq-eqb, ne_eqb}
+use Rattle.std.specs.Prelude.{Some, None, Option, slice_get, slice_index, slice_index_or}
 use Rattle.std.proofs.lemmas.Bool.{cases_eq}
 use Rattle.std.proofs.lemmas.Nat.{div-mul-add, mod-mul-add}
 use Rattle.std.proofs.lemmas.List.{length-append}
 use mathlib.Core.Option.{some, some-injective, some-ne-none}
 use mathlib.Core.Option as maybe
 use lib.ListN.{get_elem?}
-use Rattle.atomic_table.specs.Table.{State, opening}
+use Rattle.atomic_table.specs.Table.{opening}
 use Rattle.scq_word.specs.declared.setup.Setup.{Setup}
 use Rattle.scq_word.specs.Sizes.{n_of}
-use Rattle.scq_word.specs.Words.{packed, mark_of, index_in, is_none_in}
+use Rattle.scq_word.specs.Words.{index_in, is_none_in}
 use Rattle.scq_word.proofs.WordLemmas.{index_in-packed}
-use Rattle.scq_core.specs.Machine.{Cells, Machine, Location, tail_of, head_of, threshold_of, entry_of, read}
+use Rattle.scq_core.specs.Machine.{Location, tail_of, head_of, threshold_of, entry_of, read}
 use Rattle.scq_core.specs.Table.{ring_slots}
-use Rattle.scq_core.specs.Start.{filled, filled_contents, unused, idle_part, start_cells, start_of}
+use Rattle.scq_core.specs.Start.{unused, idle_part, start_cells, start_of}
 use Rattle.scq_core.specs.Reach.{at_start}
 use Rattle.scq_core.proofs.Entries.{some_indices, some_slots, none_in-marked}
 use Rattle.scq_core.proofs.Starts.{fills}
 use Rattle.scq_band.specs.declared.numbers.Numbers.{Numbers}
 use Rattle.scq_band.specs.Layout.{ring_words, word_count, ring_at, offset_of, at, location_in, first_word, IsLocation}
-use Rattle.scq_band.specs.Numbers.{first_place, first_numbers_of, first_numbers, IsTrue}
-use Rattle.scq_band.specs.Known.{Member, Known}
-use Rattle.scq_band.specs.Shown.{Scene, ShowsWords, Has, IsMember, Owns, IsView, Shown, awake, first_members, first_view}
+use Rattle.scq_band.specs.Numbers.{first_numbers_of, first_numbers, IsTrue}
+use Rattle.scq_band.specs.Known.{Known}
+use Rattle.scq_band.specs.Shown.{Scene, Has, Owns, IsView, Shown, awake, first_members, first_view}
 use Rattle.scq_band.proofs.Layouts.{offset_low, location_in-at, at_low}
 
 -- the first word of a location is what the start has there
@@ -31,7 +31,8 @@ first_word-at : (c : Setup) (l : Location) → IsLocation c l → first_word c (
 unfolding at first_word
 first_word-at c l here =
     let low = offset_low c l here.1 in
-    ap (λ r. read (start_cells c []) (location_in r ((ring_at l * ring_words c + offset_of l) % ring_words c))) (div-mul-add (ring_at l) (ring_words c) (offset_of l) low)
+    ap (λ r. read (start_cells c []) (location_in r ((ring_at l * ring_words c + offset_of l) % ring_words c)))
+    (div-mul-add (ring_at l) (ring_words c) (offset_of l) low)
     ∙ ap (λ o. read (start_cells c []) (location_in (ring_at l) o)) (mod-mul-add (ring_at l) (ring_words c) (offset_of l) low)
     ∙ ap (read (start_cells c [])) (location_in-at l)
 
@@ -64,7 +65,7 @@ snoc_get [] a x zero e = inr (refl, cc)
 snoc_get [] a x (suc r) e = absurd (cc)
 snoc_get (y ∷ ys) a x zero e = inl e
 snoc_get (y ∷ ys) a x (suc r) e =
-    elim (snoc_get ys a x r e) [ | inl old ↦ inl old | inr last ↦ inr ((let same = last.0 in omega (arith, same)), last.1) ]
+    elim (snoc_get ys a x r e) [ inl old ↦ inl old | inr last ↦ inr ((let same = last.0 in omega (arith, same)), last.1) ]
 
 -- what is known of the rings at the start
 numbers_are : (c : Setup) (n r : ℕ) (x : Numbers) → slice_get (first_numbers c n) r ≡ Some x → x ≡ first_numbers_of c r
@@ -88,7 +89,8 @@ first_true c contents r =
 
 module _ {S : Type 0} (Lies : ℕ → S → List ℕ → Type 0) where
   -- the seats below a number stand in the first view
-  owns_first : (c : Setup) (z : Scene) (homes : List (maybe.Option S)) (n : ℕ) → n ≤ c.seats → z.owner ≡ (λ k. (0, k)) → z.gone ≡ (λ k. None) → ((k : ℕ) → z.state.part k ≡ idle_part)
+  owns_first : (c : Setup) (z : Scene) (homes : List (maybe.Option S)) (n : ℕ) → n ≤ c.seats → z.owner ≡ (λ k. (0, k)) → z.gone ≡ (λ k. None)
+      → ((k : ℕ) → z.state.part k ≡ idle_part)
       → Owns Lies c z homes 0 (first_members n)
   owns_first c z homes zero le owner gone part = tt
   owns_first c z homes (suc n) le owner gone part = (
@@ -104,7 +106,8 @@ module _ {S : Type 0} (Lies : ℕ → S → List ℕ → Type 0) where
   )
 
   -- the table at the start
-  pub opens : (c : Setup) (ws : List ℕ) (xs : List S) (contents : List (List ℕ)) → length ws ≡ word_count c → ((i : ℕ) → i < word_count c → slice_index ws i ≡ first_word c i)
+  pub opens : (c : Setup) (ws : List ℕ) (xs : List S) (contents : List (List ℕ)) → length ws ≡ word_count c
+      → ((i : ℕ) → i < word_count c → slice_index ws i ≡ first_word c i)
       → length xs ≡ n_of c.order → length contents ≡ n_of c.order → ((j : ℕ) → j < n_of c.order → Has Lies (map some xs) j (slice_index_or contents j []))
       → Shown Lies c (opening ws xs (first_view c))
   opens c ws xs contents count each many all has =
@@ -124,15 +127,20 @@ module _ {S : Type 0} (Lies : ℕ → S → List ℕ → Type 0) where
       length_map [] = refl
       length_map (y ∷ ys) = ap suc (length_map ys)
 
-      only : (j : ℕ) (v : Known) → get_elem? (first_view c ∷ []) j ≡ some v → IsView Lies c (record { state = start_of c contents; gone = λ k. None; owner = λ k. (0, k) }) (map some xs) (slice_index ws 0) 0 (first_view c)
+      only : (j : ℕ) (v : Known) → get_elem? (first_view c ∷ []) j ≡ some v
+          → IsView Lies c (record { state = start_of c contents; gone = λ k. None; owner = λ k. (0, k) }) (map some xs) (slice_index ws 0) 0 (first_view c)
           → IsView Lies c (record { state = start_of c contents; gone = λ k. None; owner = λ k. (0, k) }) (map some xs) (slice_index ws 0) j v
-      only zero v e view = subst (λ (u : Known). IsView Lies c (record { state = start_of c contents; gone = λ k. None; owner = λ k. (0, k) }) (map some xs) (slice_index ws 0) 0 u) (some-injective (first_view c) v e) view
+      only zero v e view =
+          subst (λ (u : Known). IsView Lies c (record { state = start_of c contents; gone = λ k. None; owner = λ k. (0, k) }) (map some xs) (slice_index ws 0)
+          0 u) (some-injective (first_view c) v e) view
       only (suc j) v e view = absurd (some-ne-none v (sym e))
 
-      first_is : (z : Scene) → slice_index ws 0 ≡ c.seats → IsView Lies c (record { state = start_of c contents; gone = λ k. None; owner = λ k. (0, k) }) (map some xs) (slice_index ws 0) 0 (first_view c)
+      first_is : (z : Scene) → slice_index ws 0 ≡ c.seats
+          → IsView Lies c (record { state = start_of c contents; gone = λ k. None; owner = λ k. (0, k) }) (map some xs) (slice_index ws 0) 0 (first_view c)
       first_is z gate =
           record {
-            seats = owns_first c (record { state = start_of c contents; gone = λ k. None; owner = λ k. (0, k) }) (map some xs) c.seats (omega arith) refl refl (λ k. refl);
+            seats = owns_first c (record { state = start_of c contents; gone = λ k. None; owner = λ k. (0, k) }) (map some xs) c.seats (omega arith) refl refl
+                (λ k. refl);
             rings = inr (numbers_length c c.rings);
             numbers = λ r x e. rw (numbers_are c c.rings r x e) (first_true c contents r);
             last_gate = λ n is. let same : c.seats ≡ n = cc in omega (arith, gate, same);

@@ -1,8 +1,7 @@
 -- What each operation of the table writes is what its turns write, and no turn but a put's exchange carries a slot.
-use Rattle.std.proofs.Common.{◌≡◌, ℕ, ◌+◌, ◌-◌, ◌*◌, ◌%◌, ◌^◌, ◌<◌, ◌==◌, Bool, true, false, List, refl, sym, ◌∙◌, ap, arith}
+use Rattle.std.proofs.Common.{◌≡◌, ℕ, ◌+◌, ◌-◌, ◌*◌, ◌%◌, ◌^◌, ◌<◌, ◌==◌, List, refl, ◌∙◌, ap, arith}
 use Rattle.std.specs.Prelude.{bit_or, if◌then◌else◌}
 use Rattle.std.proofs.Math.Nat.{mod-eq_of_lt, add-mul-mod_self_right}
-use Rattle.std.proofs.lemmas.Bool.{cases_Bool}
 use prog.Atomic.{either}
 use Rattle.atomic_table.specs.Table.{State, Me, Allows}
 use Rattle.scq_word.specs.declared.setup.Setup.{Setup}

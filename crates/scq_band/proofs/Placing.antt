@@ -1,22 +1,19 @@
 -- The loop of E2 to E4: the exchange hits, or the entry has a higher rank than any that was found before.
-use Rattle.std.proofs.Common.{◌≡◌, ◌≢◌, ◌⊎◌, ℕ, ◌+◌, ◌-◌, ◌*◌, ◌/◌, ◌^◌, ◌<◌, ◌≤◌, Bool, true, false, ◌==◌, List, [], ◌∷◌, refl, sym, ◌∙◌, ap, subst, inl, inr, arith, eq-eqb, ne_eqb}
-use Rattle.std.specs.Prelude.{if◌then◌else◌}
+use Rattle.std.proofs.Common.{◌≡◌, ◌≢◌, ◌⊎◌, ℕ, ◌-◌, ◌/◌, ◌^◌, ◌<◌, ◌≤◌, List, refl, ◌∙◌, subst, inl, inr, arith, eq-eqb, ne_eqb}
 use Rattle.std.proofs.Math.Nat.{div-le_self}
 use Rattle.atomic_table.specs.Table.{Me, rest}
 use Rattle.scq_word.specs.declared.setup.Setup.{Setup}
-use Rattle.scq_word.specs.Sizes.{n_of, slots_of}
-use Rattle.scq_word.specs.Words.{cycle_in, rank_in}
+use Rattle.scq_word.specs.Sizes.{n_of}
+use Rattle.scq_word.specs.Words.{rank_in}
 use Rattle.scq_word.proofs.WordLemmas.{rank_in_range}
 use Rattle.scq_word.proofs.EntryLemmas.{cycle_in_fits}
 use Rattle.scq_core.specs.declared.phase.Phase.{Phase}
 use Rattle.scq_core.specs.declared.phase.Phase.TheVariants.{AtE2, AtE4, AtE5}
-use Rattle.scq_core.specs.Machine.{Part}
 use Rattle.scq_core.specs.Table.{ring_slots, goes_on, hand_without}
-use Rattle.scq_core.specs.Laws.{IsAbove}
 use Rattle.scq_band.specs.Known.{Known}
 use Rattle.scq_band.specs.Turns.{Turned}
 use Rattle.scq_band.specs.Steps.{my, my_phase}
-use Rattle.scq_band.specs.Seats.{IsAlone, goes_to, placed_to, index_of, content_of, least_of}
+use Rattle.scq_band.specs.Seats.{IsAlone, goes_to, placed_to, index_of, content_of}
 use Rattle.scq_band.proofs.Outcomes.{goes_as, turned_as}
 
 module _ {S : Type 0} (Lies : ℕ → S → List ℕ → Type 0) (c : Setup) (me later : Me S Known) (turn : Phase) (x r i : ℕ) (w : List ℕ) (t e : ℕ) where

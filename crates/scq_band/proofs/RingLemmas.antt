@@ -1,9 +1,8 @@
 -- The words of a ring are those of its locations, and their numbers are small.
-use Rattle.std.proofs.Common.{◌≡◌, ℕ, suc, ◌+◌, ◌*◌, ◌^◌, ◌<◌, ◌≤◌, refl, sym, ◌∙◌, ap, arith}
-use Rattle.std.proofs.Math.Nat.{mul-le-mul_right, mul-le-mul_left}
+use Rattle.std.proofs.Common.{◌≡◌, ℕ, ◌+◌, ◌*◌, ◌^◌, ◌<◌, ◌≤◌, arith}
+use Rattle.std.proofs.Math.Nat.{mul-le-mul_right}
 use Rattle.scq_word.specs.declared.setup.Setup.{Setup}
-use Rattle.scq_core.specs.Machine.{Location, tail_of, head_of, threshold_of, entry_of}
-use Rattle.scq_core.specs.Table.{ring_slots}
+use Rattle.scq_core.specs.Machine.{Location, tail_of}
 use Rattle.scq_core.proofs.Entries.{few_indices}
 use Rattle.scq_band.specs.declared.ring.Ring.{Ring}
 use Rattle.scq_band.specs.Layout.{ring_words, word_count, ring_at, offset_of, at, IsLocation}

@@ -1,6 +1,6 @@
 -- The loop of D3 to D5: an index is taken, the ticket is given up, or the entry has a higher rank than any that was found.
-use Rattle.std.proofs.Common.{◌≡◌, ◌≢◌, ◌⊎◌, ℕ, ◌<◌, ◌≤◌, Bool, true, false, ◌==◌, List, [], ◌∷◌, ◌++◌, refl, sym, ◌∙◌, ap, subst, inl, inr, arith, eq-eqb, ne_eqb, lt-ltb, ltb-true}
-use Rattle.std.specs.Prelude.{if◌then◌else◌, nat_lt}
+use Rattle.std.proofs.Common.{◌≡◌, ◌≢◌, ◌⊎◌, ℕ, ◌<◌, ◌≤◌, false, List, refl, ◌∙◌, ap, subst, inl, inr, arith, eq-eqb, ne_eqb, lt-ltb, ltb-true}
+use Rattle.std.specs.Prelude.{nat_lt}
 use Rattle.std.proofs.lemmas.Bool.{cases_Bool, cases_eq}
 use Rattle.scq_word.specs.declared.entry.Entry.{Entry}
 use Rattle.scq_word.specs.Sizes.{slots_of}
@@ -9,15 +9,14 @@ use Rattle.scq_word.specs.Entries.{entry_in}
 use Rattle.atomic_table.specs.Table.{Me}
 use Rattle.scq_word.specs.declared.setup.Setup.{Setup}
 use Rattle.scq_word.specs.Words.{index_in, cycle_in, rank_in}
-use Rattle.scq_core.specs.declared.ended.Ended.TheVariants.{Got}
 use Rattle.scq_core.specs.declared.phase.Phase.{Phase}
 use Rattle.scq_core.specs.declared.phase.Phase.TheVariants.{AtD3, AtD4, AtD5, AtD6}
-use Rattle.scq_core.specs.Table.{ring_slots, cycle, goes_on, ends}
+use Rattle.scq_core.specs.Table.{ring_slots, cycle, goes_on}
 use Rattle.scq_band.specs.Known.{Known}
 use Rattle.scq_band.specs.Turns.{Turned, Takes, made}
-use Rattle.scq_band.specs.Steps.{my, my_phase}
-use Rattle.scq_band.specs.Seats.{IsAlone, goes_to, got_at, HasGot, least_of}
-use Rattle.scq_band.proofs.Outcomes.{goes_as, turned_as, then_goes}
+use Rattle.scq_band.specs.Steps.{my}
+use Rattle.scq_band.specs.Seats.{IsAlone, goes_to, HasGot}
+use Rattle.scq_band.proofs.Outcomes.{goes_as, turned_as}
 
 apart_low : {a b : ℕ} → a < b → a ≢ b
 apart_low less e = absurd (omega arith)

@@ -1,13 +1,13 @@
 -- Views are cut and joined: a note is copied off a view, a seat is split off the first view, and a view takes in another.
-use Rattle.std.proofs.Common.{◌≡◌, ◌≢◌, ◌⊎◌, ℕ, zero, suc, ◌+◌, ◌-◌, ◌<◌, ◌≤◌, true, false, ◌==◌, List, [], ◌∷◌, ◌++◌, length, refl, sym, ◌∙◌, ap, subst, inl, inr, arith, eq-eqb, ne_eqb}
-use Rattle.std.specs.Prelude.{Some, None, Option, max, if◌then◌else◌, slice_get, slice_set, slice_index}
-use Rattle.std.proofs.lemmas.Bool.{cases_eq, cases_lt}
+use Rattle.std.proofs.Common.{◌≡◌, ◌≢◌, ◌⊎◌, ℕ, zero, suc, ◌+◌, ◌<◌, true, false, ◌==◌, List, [], ◌∷◌, ◌++◌, length, refl, sym, ◌∙◌, ap, subst, inl, inr, arith, eq-eqb, ne_eqb}
+use Rattle.std.specs.Prelude.{Some, max, if◌then◌else◌, slice_get, slice_set, slice_index}
+use Rattle.std.proofs.lemmas.Bool.{cases_lt}
 use Rattle.std.proofs.lemmas.List.{length-append, length-set}
 use Rattle.std.proofs.Math.Nat.{max-eq_left, max-eq_right}
 use mathlib.Core.Option.{some, some-injective, some-ne-none}
 use mathlib.Core.Option as maybe
 use lib.ListN.{get_elem?}
-use Rattle.atomic_table.specs.Table.{State, Splits, Joins}
+use Rattle.atomic_table.specs.Table.{Splits, Joins}
 use Rattle.atomic_table.proofs.Lists.{at_set, at_snoc, set_again, set_else}
 use Rattle.scq_word.specs.declared.setup.Setup.{Setup}
 use Rattle.scq_core.specs.Updated.{updated}
@@ -17,7 +17,7 @@ use Rattle.scq_law.specs.Bounds.{IsFinished}
 use Rattle.scq_band.specs.declared.numbers.Numbers.{Numbers}
 use Rattle.scq_band.specs.Numbers.{first_place, IsTrue, larger, joined}
 use Rattle.scq_band.specs.Known.{Member, Known, nobody, note_of, behind_first, first_alone, others_of, first_of, both_of}
-use Rattle.scq_band.specs.Shown.{Scene, IsMember, Owns, IsView, Shown}
+use Rattle.scq_band.specs.Shown.{Scene, Owns, IsView, Shown}
 use Rattle.scq_band.proofs.Knowledge.{AllTrue}
 
 -- the larger of two true numbers is true
@@ -87,7 +87,8 @@ module _ {S : Type 0} (Lies : ℕ → S → List ℕ → Type 0) where
   joined_scene id other n z = record z { owner = joined_owner id other n z.owner }
 
   -- the seats of a view that is not the other's stay
-  stay_there : (c : Setup) (z : Scene) (homes : List (maybe.Option S)) (id other n j : ℕ) → j ≢ other → (xs : List Member) → Owns Lies c z homes j xs → Owns Lies c (joined_scene id other n z) homes j xs
+  stay_there : (c : Setup) (z : Scene) (homes : List (maybe.Option S)) (id other n j : ℕ) → j ≢ other → (xs : List Member) → Owns Lies c z homes j xs
+      → Owns Lies c (joined_scene id other n z) homes j xs
   stay_there c z homes id other n j apart [] owns = tt
   stay_there c z homes id other n j apart (x ∷ xs) owns =
       let x_is = owns.0 in
@@ -104,7 +105,8 @@ module _ {S : Type 0} (Lies : ℕ → S → List ℕ → Type 0) where
       )
 
   -- those of the other view come over
-  come_over : (c : Setup) (z : Scene) (homes : List (maybe.Option S)) (id other : ℕ) (vs xs : List Member) → Owns Lies c z homes other xs → Owns Lies c (joined_scene id other (length vs) z) homes id vs
+  come_over : (c : Setup) (z : Scene) (homes : List (maybe.Option S)) (id other : ℕ) (vs xs : List Member) → Owns Lies c z homes other xs
+      → Owns Lies c (joined_scene id other (length vs) z) homes id vs
       → Owns Lies c (joined_scene id other (length vs) z) homes id (xs ++ vs)
   come_over c z homes id other vs [] owns behind = behind
   come_over c z homes id other vs (x ∷ xs) owns behind =
@@ -172,14 +174,15 @@ module _ {S : Type 0} (Lies : ℕ → S → List ℕ → Type 0) where
       all_rings c v seated (inr all) = all
 
   -- a seat is split off a view: it stands alone in a new one
-  split_owner_else : (c : Setup) (z : Scene) (homes : List (maybe.Option S)) (k at_view j : ℕ) (n : ℕ) → z.owner k ≡ (at_view, n) → (xs : List Member) → Owns Lies c z homes j xs
+  split_owner_else : (c : Setup) (z : Scene) (homes : List (maybe.Option S)) (k at_view j : ℕ) (n : ℕ) → z.owner k ≡ (at_view, n) → (xs : List Member)
+      → Owns Lies c z homes j xs
       → ((b : ℕ) → b < length xs → (j ≡ at_view → b ≢ n)) → (new : ℕ × ℕ) → Owns Lies c (record z { owner = updated z.owner k new }) homes j xs
   split_owner_else c z homes k at_view j n mine [] owns apart new = tt
   split_owner_else c z homes k at_view j n mine (x ∷ xs) owns apart new =
       let x_is = owns.0 in
       let other : x.number ≢ k = λ e.
-          let same = sym x_is.owner ∙ ap z.owner e ∙ mine in
-          apart (length xs) (omega arith) (ap (λ (q : ℕ × ℕ). q.0) same) (ap (λ (q : ℕ × ℕ). q.1) same) in (
+      let same = sym x_is.owner ∙ ap z.owner e ∙ mine in
+      apart (length xs) (omega arith) (ap (λ (q : ℕ × ℕ). q.0) same) (ap (λ (q : ℕ × ℕ). q.1) same) in (
         record {
           low = x_is.low;
           owner = updated_else z.owner k new x.number other ∙ x_is.owner;
@@ -212,8 +215,18 @@ module _ {S : Type 0} (Lies : ℕ → S → List ℕ → Type 0) where
       } in
       let first : IsView Lies c zz s.homes (slice_index s.words 0) new (first_of v) = record {
         seats =
-            subst (λ (ys : List Member). Owns Lies c zz s.homes new (first_alone ys)) (sym seats)
-            (record { low = x_is.low; owner = updated_here z.owner x.number (new, 0); part = x_is.part; gone = x_is.gone; retired = x_is.retired; brought = x_is.brought }, tt);
+            subst (λ (ys : List Member). Owns Lies c zz s.homes new (first_alone ys)) (sym seats) (
+              record {
+                low = x_is.low;
+                owner = updated_here z.owner x.number (new, 0);
+                part = x_is.part;
+                gone = x_is.gone;
+                retired = x_is.retired;
+                brought =
+                    x_is.brought;
+              },
+              tt,
+            );
         rings = inr all;
         numbers = mine.numbers;
         last_gate = mine.last_gate;
@@ -233,7 +246,8 @@ module _ {S : Type 0} (Lies : ℕ → S → List ℕ → Type 0) where
                     | inr elsewhere ↦
                         let was = sh.views j u elsewhere.1 in
                         record {
-                          seats = split_owner_else c z s.homes x.number id j (length xs) x_is.owner u.seats was.seats (λ b less is. absurd (elsewhere.0 is)) (new, 0);
+                          seats = split_owner_else c z s.homes x.number id j (length xs) x_is.owner u.seats was.seats (λ b less is. absurd (elsewhere.0 is))
+                              (new, 0);
                           rings = was.rings;
                           numbers = was.numbers;
                           last_gate = was.last_gate;
@@ -251,7 +265,8 @@ module _ {S : Type 0} (Lies : ℕ → S → List ℕ → Type 0) where
       index_low (y ∷ ys) zero a e = omega arith
       index_low (y ∷ ys) (suc i) a e = let low = index_low ys i a e in omega arith
 
-      all_of : (c : Setup) (v : Known) (x : Member) (xs : List Member) → v.seats ≡ x ∷ xs → (v.seats ≡ []) ⊎ (length v.numbers ≡ c.rings) → length v.numbers ≡ c.rings
+      all_of : (c : Setup) (v : Known) (x : Member) (xs : List Member) → v.seats ≡ x ∷ xs → (v.seats ≡ []) ⊎ (length v.numbers ≡ c.rings)
+          → length v.numbers ≡ c.rings
       all_of c v x xs is (inl empty) = let never : x ∷ xs ≡ [] = sym is ∙ empty in absurd (cc)
       all_of c v x xs is (inr all) = all
 
@@ -260,4 +275,4 @@ module _ {S : Type 0} (Lies : ℕ → S → List ℕ → Type 0) where
       snoc_read [] a b (suc j) e = absurd (some-ne-none b (sym e))
       snoc_read (y ∷ ys) a b zero e = inl e
       snoc_read (y ∷ ys) a b (suc j) e =
-          elim (snoc_read ys a b j e) [ | inl old ↦ inl old | inr last ↦ inr ((let same = last.0 in omega (arith, same)), last.1) ]
+          elim (snoc_read ys a b j e) [ inl old ↦ inl old | inr last ↦ inr ((let same = last.0 in omega (arith, same)), last.1) ]

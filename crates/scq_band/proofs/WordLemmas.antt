@@ -1,12 +1,12 @@
 -- A word that is written in the table is its location written in the machine's cells, and leaves the gate and all other words.
-use Rattle.std.proofs.Common.{◌≡◌, ◌≢◌, ◌⊎◌, ℕ, zero, ◌<◌, List, length, refl, sym, ◌∙◌, ap, inl, inr, arith}
-use Rattle.std.specs.Prelude.{slice_index, slice_set, slice_index_or}
+use Rattle.std.proofs.Common.{◌≡◌, ◌≢◌, ℕ, List, refl, sym, ◌∙◌, ap, inl, inr}
+use Rattle.std.specs.Prelude.{slice_index, slice_set}
 use Rattle.std.proofs.lemmas.List.{length-set, get_or-set_same, get_or-set_other}
 use Rattle.std.proofs.lemmas.Bool.{cases_eq}
 use Rattle.scq_word.specs.declared.setup.Setup.{Setup}
 use Rattle.scq_core.specs.Machine.{Cells, Location, tail_of, head_of, threshold_of, entry_of, read, written}
-use Rattle.scq_core.proofs.UpdatedLemmas.{updated_here, updated_else, updated_entry_here, updated_entry_or, updated_or}
-use Rattle.scq_band.specs.Layout.{at, word_count, IsLocation}
+use Rattle.scq_core.proofs.UpdatedLemmas.{updated_here, updated_else, updated_entry_here, updated_entry_or}
+use Rattle.scq_band.specs.Layout.{at, IsLocation}
 use Rattle.scq_band.specs.Shown.{ShowsWords}
 use Rattle.scq_band.proofs.Layouts.{at_low, at_some, at_apart}
 

@@ -1,7 +1,6 @@
 -- What a seat of the table knows, its view: the seats of the machine that stand in it with their parts, a lower bound of each
 -- ring's counters, and what it read at the gate. A note is a view in which no seat stands.
-use Rattle.std.specs.Prelude.{ℕ, List, [], ◌∷◌, ◌++◌, Option, Some, None}
-use Rattle.scq_word.specs.declared.setup.Setup.{Setup}
+use Rattle.std.specs.Prelude.{ℕ, List, [], ◌∷◌, ◌++◌, Option, None}
 use Rattle.scq_core.specs.Machine.{Part}
 use Rattle.scq_band.specs.declared.numbers.Numbers.{Numbers}
 use Rattle.scq_band.specs.Numbers.{joined}

@@ -1,5 +1,5 @@
 -- For private calls: what the running code keeps of a ring.
-use Rattle.std.specs.Prelude.{◌≡◌, ℕ, ◌<◌, ◌^◌}
+use Rattle.std.specs.Prelude.{◌≡◌, ◌<◌}
 use Rattle.scq_word.specs.declared.setup.Setup.{Setup}
 use Rattle.scq_core.specs.Machine.{tail_of}
 use Rattle.scq_core.specs.Table.{reset_level}

@@ -1,6 +1,6 @@
 -- The rule of the table: the running words and views show a state of the machine that steps reach. Slot i of the table is the
 -- place of the buffer of index i: at home while the index stands in an entry, else out with the seat whose hand has it.
-use Rattle.std.specs.Prelude.{◌≡◌, ◌⊎◌, ℕ, zero, suc, ◌+◌, ◌*◌, ◌<◌, ◌≤◌, false, if◌then◌else◌, is_none, List, [], ◌∷◌, length, Option, Some, None, slice_index, slice_get}
+use Rattle.std.specs.Prelude.{◌≡◌, ◌⊎◌, ℕ, zero, suc, ◌+◌, ◌<◌, ◌≤◌, false, if◌then◌else◌, is_none, List, [], ◌∷◌, length, Option, Some, None, slice_index, slice_get}
 use Rattle.std.specs.List.{Contains}
 use mathlib.Core.Option.{some}
 use mathlib.Core.Option as maybe
@@ -9,7 +9,7 @@ use Rattle.atomic_table.specs.Table.{State}
 use Rattle.scq_word.specs.declared.setup.Setup.{Setup}
 use Rattle.scq_word.specs.Sizes.{n_of}
 use Rattle.scq_word.specs.Words.{index_in, is_none_in}
-use Rattle.scq_core.specs.Machine.{Entries, Cells, Part, Machine, Location, read}
+use Rattle.scq_core.specs.Machine.{Entries, Cells, Machine, Location, read}
 use Rattle.scq_core.specs.Table.{ring_slots}
 use Rattle.scq_core.specs.Start.{idle_part}
 use Rattle.scq_core.specs.Reach.{IsReachable}

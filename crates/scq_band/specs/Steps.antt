@@ -4,8 +4,7 @@ use Rattle.std.specs.Prelude.{◌≡◌, ℕ, List, [], ◌∷◌, Option, Some,
 use Rattle.scq_word.specs.declared.setup.Setup.{Setup}
 use Rattle.scq_core.specs.declared.phase.Phase.{Phase}
 use Rattle.scq_core.specs.declared.phase.Phase.TheVariants.{Idle, AtE1, AtE2, AtE3, AtE4, AtE5, AtE6, AtD1, AtD2, AtD3, AtD4, AtD5, AtD6, AtD7, AtD8, AtD9, AtD10}
-use Rattle.scq_core.specs.Machine.{Part}
-use Rattle.scq_core.specs.Table.{ring_slots, cycle, reset_level, passed}
+use Rattle.scq_core.specs.Table.{ring_slots, cycle, passed}
 use Rattle.scq_core.specs.Start.{idle_part}
 use Rattle.scq_word.specs.Words.{packed}
 use Rattle.scq_band.specs.declared.slot.Slot.{Slot}

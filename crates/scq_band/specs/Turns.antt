@@ -1,20 +1,19 @@
 -- For private calls: what one atomic step of a seat asks, and what it tells.
-use Rattle.std.specs.Prelude.{◌≡◌, ℕ, suc, ◌+◌, ◌<◌, ◌≤◌, Bool, true, false, ◌==◌, if◌then◌else◌, nat_lt, nat_le, List, [], ◌∷◌, length, map, Option, Some, slice_get}
+use Rattle.std.specs.Prelude.{◌≡◌, ℕ, ◌+◌, ◌<◌, ◌≤◌, false, ◌==◌, if◌then◌else◌, nat_lt, nat_le, List, [], ◌∷◌, length, map, Some, slice_get}
 use Rattle.atomic_table.specs.Table.{Me, rest}
 use Rattle.scq_word.specs.declared.setup.Setup.{Setup}
 use Rattle.scq_word.specs.Sizes.{n_of}
 use Rattle.scq_word.specs.Words.{index_in, is_none_in, rank_in}
 use Rattle.scq_core.specs.declared.phase.Phase.{Phase}
-use Rattle.scq_core.specs.declared.phase.Phase.TheVariants.{Idle, AtE1, AtE2, AtE3, AtE4, AtE5, AtE6, AtD1, AtD2, AtD3, AtD4, AtD5, AtD6, AtD7, AtD8, AtD9, AtD10}
+use Rattle.scq_core.specs.declared.phase.Phase.TheVariants.{AtE1, AtE2, AtE4, AtE5, AtE6, AtD1, AtD2, AtD3, AtD4, AtD5, AtD6, AtD7, AtD9, AtD10}
 use Rattle.scq_core.specs.declared.step.Step.{Step}
-use Rattle.scq_core.specs.Machine.{Part}
 use Rattle.scq_core.specs.Table.{ring_slots, zero_level, reset_level, turn_of, after}
 use Rattle.scq_core.specs.Turn.{IsReady}
 use Rattle.scq_core.specs.Laws.{IsAbove}
 use Rattle.scq_band.specs.declared.numbers.Numbers.{Numbers}
 use Rattle.scq_band.specs.Known.{Member, Known}
 use Rattle.scq_band.specs.Steps.{my}
-use Rattle.scq_band.specs.Numbers.{known_of, changed, finishes, sees, passes, empties}
+use Rattle.scq_band.specs.Numbers.{changed, finishes, sees, passes, empties}
 
 -- what a turn that found the word x tells of its ring
 abbrev pub learned : Setup → Phase → ℕ → List Numbers → List Numbers

@@ -1,8 +1,9 @@
 //! The running rings: the words of the machine of `scq_core` in one table of atomic words, which threads step through seats. It
 //! stands on `scq_core` for the steps, on `scq_law` for what holds of every reachable state, and on the kit's `atomic_table`. The
 //! rule of the table (`specs/Shown`) is that words and views show a state that steps reach. What stands so far is the rule, the
-//! sixteen steps by six operations of the table, and an enqueue and a dequeue made of them; the table is not made or closed yet,
-//! so there is no call to make from outside.
+//! sixteen steps by six operations of the table, an enqueue and a dequeue made of them, the two calls that read and close the
+//! gate, and the notes in which a seat keeps what it knows; that the table of the start shows the machine's start is shown, but
+//! no function makes or closes the table yet, so there is no call to make from outside.
 #![tactic(auto)]
 
 mod dequeue;

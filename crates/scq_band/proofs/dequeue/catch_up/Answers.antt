@@ -1,4 +1,4 @@
-use Rattle.std.proofs.Common.{rules, ◌≡◌, ◌<◌, refl, sym, ◌∙◌, ap, ℕ}
+use Rattle.std.proofs.Common.{refl, ap}
 use Rattle.scq_core.specs.Machine.{tail_of, head_of}
 use Rattle.scq_core.specs.declared.phase.Phase.TheVariants.{AtD7, AtD8, AtD9}
 use Rattle.scq_core.specs.declared.step.Step.TheVariants.{D7, D8, D9}

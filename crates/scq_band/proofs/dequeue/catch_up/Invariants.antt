@@ -1,4 +1,4 @@
-use Rattle.std.proofs.Common.{◌≡◌, ◌-◌, ◌^◌, ℕ}
+use Rattle.std.proofs.Common.{◌≡◌, ◌-◌, ◌^◌}
 use Rattle.scq_core.specs.declared.phase.Phase.TheVariants.{AtD7}
 use Rattle.scq_band.specs.Seats.{goes_to}
 use Rattle.scq_band.proofs.dequeue.catch_up.Given as goal

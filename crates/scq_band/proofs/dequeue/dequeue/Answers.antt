@@ -1,8 +1,7 @@
-use Rattle.std.proofs.Common.{rules, ◌≡◌, ◌≢◌, ◌⊎◌, ◌+◌, ◌-◌, ◌<◌, ◌≤◌, refl, sym, ◌∙◌, ap, subst, inl, inr, arith, ℕ}
-use Rattle.std.specs.Prelude.{Err, Some, slice_get}
+use Rattle.std.proofs.Common.{◌≡◌, ◌+◌, refl, sym, ◌∙◌, ap, subst, arith}
 use Rattle.scq_core.specs.Machine.{head_of, threshold_of}
 use Rattle.scq_core.specs.declared.phase.Phase.{Phase}
-use Rattle.scq_core.specs.declared.phase.Phase.TheVariants.{AtD1, AtD2, AtD3, AtD6}
+use Rattle.scq_core.specs.declared.phase.Phase.TheVariants.{AtD1, AtD2, AtD6}
 use Rattle.scq_core.specs.declared.step.Step.TheVariants.{D2}
 use Rattle.scq_core.specs.Table.{location_of}
 use Rattle.scq_core.proofs.Entries.{zero_level_is}
@@ -11,11 +10,11 @@ use Rattle.scq_band.specs.Numbers.{changed, passes}
 use Rattle.scq_band.specs.Buffers.{LiesIn}
 use Rattle.scq_band.specs.Turns.{MayTurn}
 use Rattle.scq_band.specs.Steps.{my, my_phase, front_index, front_bytes, loading, drawing}
-use Rattle.scq_band.specs.Seats.{IsAlone, HasGot, at_phase, seated, goes_to, nothing_at, drew_head, to_draw, least_of}
+use Rattle.scq_band.specs.Seats.{IsAlone, at_phase, goes_to, nothing_at, to_draw, least_of}
 use Rattle.scq_band.proofs.Layouts.{ring_of_word-at}
 use Rattle.scq_band.proofs.RingLemmas.{tail_fits, word_low}
 use Rattle.scq_band.proofs.Grounds.{head_location, threshold_location}
-use Rattle.scq_band.proofs.Outcomes.{may_go, alone_at, alone_seated, turned_as}
+use Rattle.scq_band.proofs.Outcomes.{may_go, alone_seated, turned_as}
 use Rattle.scq_band.proofs.Drawn.{may_get, saw_empty, saw_some, drew_one, drew_past_head, drew_above_head, got_then}
 use Rattle.scq_band.proofs.dequeue.dequeue.Goals as goal
 
@@ -169,7 +168,10 @@ returns-then-is_over-clause-nothing_left g c ticket is =
     let h = c.draw-ticket.result in
     let now = drew_one Lie k v c.draws.token.me c.draw-ticket.new.token.me _ h r l turn alone here (omega arith) c.draw-ticket.ensures.turned in
     let same : h ≡ ticket = cc in
-    rw (← same) (c.if-is_over.ensures.over refl ∙ ap (nothing_at r) (c.in_default.ensures.given_up) ∙ ap (λ u. nothing_at r (goes_to (AtD6 r h) u)) now, omega arith)
+    rw (← same) (
+      c.if-is_over.ensures.over refl ∙ ap (nothing_at r) (c.in_default.ensures.given_up) ∙ ap (λ u. nothing_at r (goes_to (AtD6 r h) u)) now,
+      omega arith,
+    )
 
 pub draws-preserved : goal.draws-preserved
 draws-preserved g c =

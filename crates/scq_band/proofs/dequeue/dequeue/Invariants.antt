@@ -1,4 +1,4 @@
-use Rattle.std.proofs.Common.{◌≡◌, ◌-◌, ℕ}
+use Rattle.std.proofs.Common.{◌≡◌, ◌-◌}
 use Rattle.scq_band.specs.Steps.{my_phase}
 use Rattle.scq_band.specs.Seats.{to_draw, least_of}
 use Rattle.scq_band.proofs.dequeue.dequeue.Given as goal

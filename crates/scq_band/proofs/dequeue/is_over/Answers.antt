@@ -1,4 +1,4 @@
-use Rattle.std.proofs.Common.{rules, ◌≡◌, ◌+◌, ◌<◌, ◌≤◌, refl, sym, ◌∙◌, ap, arith, leb-true, leb-false, true, false, ℕ}
+use Rattle.std.proofs.Common.{◌+◌, refl, ap, arith, leb-true, leb-false, true, false}
 use Rattle.scq_core.specs.Machine.{tail_of, threshold_of}
 use Rattle.scq_core.specs.declared.phase.Phase.TheVariants.{AtD6, AtD7, AtD10}
 use Rattle.scq_core.specs.declared.step.Step.TheVariants.{D6, D10}
@@ -7,7 +7,7 @@ use Rattle.scq_band.specs.Layout.{ring_of_word}
 use Rattle.scq_band.specs.Numbers.{changed, empties}
 use Rattle.scq_band.specs.Buffers.{LiesIn}
 use Rattle.scq_band.specs.Steps.{my, my_phase, loading}
-use Rattle.scq_band.specs.Seats.{IsAlone, at_phase, seated, goes_to}
+use Rattle.scq_band.specs.Seats.{IsAlone, at_phase}
 use Rattle.scq_band.proofs.RingLemmas.{tail_fits, word_low}
 use Rattle.scq_band.proofs.Grounds.{tail_location, threshold_location}
 use Rattle.scq_band.proofs.Outcomes.{may_load, may_phase, alone_at, alone_seated}

@@ -1,4 +1,4 @@
-use Rattle.std.proofs.Common.{rules, ◌≡◌, ◌≢◌, ◌-◌, ◌^◌, ◌<◌, ◌≤◌, refl, sym, ◌∙◌, ap, subst, arith, ℕ}
+use Rattle.std.proofs.Common.{◌≡◌, ◌≤◌, refl, sym, ◌∙◌, ap, subst, arith, ℕ}
 use Rattle.scq_word.specs.declared.entry.Entry.{Entry}
 use Rattle.scq_word.specs.Sizes.{slots_of}
 use Rattle.scq_word.specs.Tickets.{cycle_of}
@@ -10,7 +10,7 @@ use Rattle.scq_core.proofs.Packing.{cycle_fits}
 use Rattle.scq_band.specs.Layout.{ring_of_word, entry_at}
 use Rattle.scq_band.specs.Buffers.{LiesIn}
 use Rattle.scq_band.specs.Steps.{my_phase, loading}
-use Rattle.scq_band.specs.Seats.{goes_to, least_of}
+use Rattle.scq_band.specs.Seats.{least_of}
 use Rattle.scq_band.proofs.RingLemmas.{tail_fits, word_low}
 use Rattle.scq_band.proofs.Grounds.{entry_location}
 use Rattle.scq_band.proofs.Outcomes.{may_load, may_phase, alone_at, turned_as}

@@ -1,4 +1,4 @@
-use Rattle.std.proofs.Common.{◌≡◌, ◌-◌, ◌^◌, ℕ}
+use Rattle.std.proofs.Common.{◌≡◌, ◌-◌, ◌^◌}
 use Rattle.scq_core.specs.declared.phase.Phase.TheVariants.{AtD3}
 use Rattle.scq_band.specs.Steps.{my_phase}
 use Rattle.scq_band.specs.Seats.{goes_to, least_of}

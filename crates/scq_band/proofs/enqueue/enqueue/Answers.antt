@@ -1,13 +1,11 @@
-use Rattle.std.proofs.Common.{rules, ◌≡◌, ◌<◌, refl, sym, ◌∙◌, ap, subst, arith, ℕ}
+use Rattle.std.proofs.Common.{sym, ◌∙◌, ap, subst, arith}
 use Rattle.scq_core.specs.Machine.{tail_of}
 use Rattle.scq_core.specs.declared.phase.Phase.{Phase}
-use Rattle.scq_core.specs.declared.phase.Phase.TheVariants.{AtE2}
 use Rattle.scq_core.specs.Table.{location_of}
 use Rattle.scq_band.specs.Layout.{at}
 use Rattle.scq_band.specs.Buffers.{LiesIn}
 use Rattle.scq_band.specs.Turns.{MayTurn}
 use Rattle.scq_band.specs.Steps.{my_phase, front_bytes}
-use Rattle.scq_band.specs.Seats.{least_of}
 use Rattle.scq_band.proofs.RingLemmas.{word_low}
 use Rattle.scq_band.proofs.Grounds.{tail_location}
 use Rattle.scq_band.proofs.Drawing.{turn_of_draw, may_draw, drew_past, drew, drew_above, looks_as}

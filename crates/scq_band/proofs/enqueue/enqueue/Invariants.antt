@@ -1,5 +1,4 @@
-use Rattle.std.proofs.Common.{◌≡◌, ◌-◌, ◌<◌, ℕ}
-use Rattle.std.specs.Prelude.{Some, slice_get}
+use Rattle.std.proofs.Common.{◌≡◌, ◌-◌}
 use Rattle.scq_band.specs.Steps.{my_phase, front_bytes}
 use Rattle.scq_band.specs.Seats.{IsToDraw, goes_to, least_of}
 use Rattle.scq_band.proofs.enqueue.enqueue.Given as goal

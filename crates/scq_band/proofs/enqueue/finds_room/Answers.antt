@@ -1,4 +1,4 @@
-use Rattle.std.proofs.Common.{rules, ◌≡◌, ◌+◌, ◌<◌, refl, sym, ap, ◌∙◌, ℕ}
+use Rattle.std.proofs.Common.{◌≡◌, refl, sym, ap, ◌∙◌}
 use Rattle.scq_core.specs.Machine.{head_of}
 use Rattle.scq_core.specs.declared.phase.Phase.TheVariants.{AtE2, AtE3}
 use Rattle.scq_core.specs.declared.step.Step.TheVariants.{E2, E3}

@@ -1,13 +1,13 @@
-use Rattle.std.proofs.Common.{rules, ◌≡◌, ◌≢◌, ◌+◌, ◌-◌, ◌^◌, ◌<◌, ◌≤◌, refl, sym, ap, ◌∙◌, arith, ℕ}
+use Rattle.std.proofs.Common.{◌≡◌, refl, ap, arith}
 use Rattle.scq_word.specs.Words.{rank_in}
-use Rattle.scq_core.specs.declared.phase.Phase.TheVariants.{AtE2, AtE4}
+use Rattle.scq_core.specs.declared.phase.Phase.TheVariants.{AtE4}
 use Rattle.scq_core.specs.declared.step.Step.TheVariants.{E4}
 use Rattle.scq_core.specs.Table.{ring_slots}
 use Rattle.scq_core.proofs.Packing.{cycle_fits}
 use Rattle.scq_band.specs.Layout.{entry_at}
 use Rattle.scq_band.specs.Buffers.{LiesIn}
 use Rattle.scq_band.specs.Steps.{my_phase}
-use Rattle.scq_band.specs.Seats.{goes_to, content_of, least_of}
+use Rattle.scq_band.specs.Seats.{content_of, least_of}
 use Rattle.scq_band.proofs.RingLemmas.{tail_fits, word_low}
 use Rattle.scq_band.proofs.Grounds.{entry_location}
 use Rattle.scq_band.proofs.Outcomes.{may_phase, alone_at}

@@ -1,5 +1,5 @@
 use Rattle.scq_band.specs.Buffers.{LiesIn}
-use Rattle.scq_band.proofs.Gates.{looks, retires}
+use Rattle.scq_band.proofs.Gates.{looks}
 use Rattle.scq_band.proofs.gate.read_gate.Goals as goal
 
 pub load-requires : goal.load-requires

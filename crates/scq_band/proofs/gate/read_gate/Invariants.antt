@@ -1,5 +1,5 @@
 use Rattle.std.proofs.Common.{◌≡◌}
-use Rattle.scq_band.specs.Seats.{looked, retired_at}
+use Rattle.scq_band.specs.Seats.{looked}
 use Rattle.scq_band.proofs.gate.read_gate.Given as goal
 
 abbrev pub ghosts-load : goal.ghosts-load

@@ -1,5 +1,5 @@
 use Rattle.std.proofs.Common.{◌≡◌}
-use Rattle.scq_band.specs.Seats.{looked, retired_at}
+use Rattle.scq_band.specs.Seats.{retired_at}
 use Rattle.scq_band.proofs.gate.retire.Given as goal
 
 abbrev pub ghosts-fetch_sub : goal.ghosts-fetch_sub

@@ -1,11 +1,6 @@
-use Rattle.std.proofs.Common.{rules, ◌≡◌, ◌<◌, ℕ, ◌+◌, ◌-◌, ◌%◌, ◌^◌, ◌==◌}
 use Rattle.std.specs.Prelude.{bit_or}
-use prog.Atomic.{either}
-use Rattle.scq_core.specs.Machine.{read}
-use Rattle.scq_core.specs.Table.{location_of}
-use Rattle.scq_core.proofs.Fits.{words_fit}
 use Rattle.scq_band.specs.Buffers.{LiesIn}
-use Rattle.scq_band.specs.Steps.{my_phase, load_turn, draw_turn}
+use Rattle.scq_band.specs.Steps.{my_phase}
 use Rattle.scq_band.proofs.Moves.{moves}
 use Rattle.scq_band.proofs.Grounds.{ground}
 use Rattle.scq_band.proofs.Operations.{consume_says, consume_carries}

@@ -1,11 +1,7 @@
-use Rattle.std.proofs.Common.{rules, ◌≡◌, ◌<◌, ℕ, ◌+◌, ◌-◌, ◌%◌, ◌^◌, ◌==◌}
-use Rattle.std.specs.Prelude.{bit_or}
-use prog.Atomic.{either}
-use Rattle.scq_core.specs.Machine.{read}
-use Rattle.scq_core.specs.Table.{location_of}
+use Rattle.std.proofs.Common.{◌+◌, ◌%◌, ◌^◌}
 use Rattle.scq_core.proofs.Fits.{words_fit}
 use Rattle.scq_band.specs.Buffers.{LiesIn}
-use Rattle.scq_band.specs.Steps.{my_phase, load_turn, draw_turn}
+use Rattle.scq_band.specs.Steps.{draw_turn}
 use Rattle.scq_band.proofs.Moves.{moves}
 use Rattle.scq_band.proofs.Grounds.{ground}
 use Rattle.scq_band.proofs.Operations.{draw_says, draw_carries}
@@ -19,6 +15,7 @@ fetch_add-requires g c =
       c.requires.own,
       c.requires.low,
       moves Lie k.setup c.args.words.now.table_id.slots c.args.token.now.id c.args.token.now.me t c.args.word (λ n. (n + 1) % 2 ^ 64) c.requires.may
-          (draw_carries Lie t c.args.token.now.me.1 c.requires.kind) c.requires.word (λ m r b. draw_says k.setup m.cells t (words_fit k.setup m r) c.requires.kind)
+          (draw_carries Lie t c.args.token.now.me.1 c.requires.kind) c.requires.word
+          (λ m r b. draw_says k.setup m.cells t (words_fit k.setup m r) c.requires.kind)
           (λ m seat s reach low e. ground k.setup m seat s t reach low e),
     )

@@ -1,7 +1,6 @@
-use Rattle.std.proofs.Common.{rules, ℕ}
 use Rattle.scq_band.specs.Buffers.{LiesIn}
 use Rattle.scq_band.specs.Turns.{Turned}
-use Rattle.scq_band.specs.Steps.{my_phase, load_turn, draw_turn}
+use Rattle.scq_band.specs.Steps.{my_phase}
 use Rattle.scq_band.proofs.steps.reset.Given as goal
 
 abbrev pub ghosts-store : goal.ghosts-store

@@ -1,7 +1,5 @@
-use Rattle.std.proofs.Common.{◌≡◌, ◌+◌, suc, refl, sym, ◌∙◌, ap, arith}
-use Rattle.scq_word.specs.Sizes.{slots_of}
+use Rattle.std.proofs.Common.{◌≡◌, suc, refl, ◌∙◌, ap, arith}
 use Rattle.scq_word.specs.Tickets.{slot_of}
-use Rattle.scq_core.specs.Machine.{entry_of}
 use Rattle.scq_band.specs.Layout.{entry_at}
 use Rattle.scq_band.proofs.RingLemmas.{at_offset}
 use Rattle.scq_band.proofs.ring.Ring.entry.Goals as goal

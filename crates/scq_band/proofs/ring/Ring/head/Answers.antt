@@ -1,4 +1,4 @@
-use Rattle.std.proofs.Common.{◌≡◌, ◌+◌, refl, sym, ◌∙◌, ap}
+use Rattle.std.proofs.Common.{◌+◌, refl, sym, ◌∙◌, ap}
 use Rattle.scq_core.specs.Machine.{head_of}
 use Rattle.scq_band.proofs.RingLemmas.{at_offset}
 use Rattle.scq_band.proofs.ring.Ring.head.Goals as goal
