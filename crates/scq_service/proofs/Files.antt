@@ -56,21 +56,20 @@ contents-more table [] name content contents all this =
   where
     none : {cs : List (List ℕ)} → Some [] ≡ Some cs → [] ≡ cs
     none e = cc
-contents-more table (x ∷ xs) name content contents all this = first (table x) refl all where
-  first : (o : Option (List ℕ)) → table x ≡ o → option_and_then (λ c. option_map (λ more. c ∷ more) (contents_of table xs)) o ≡ Some contents
-      → option_and_then (λ c. option_map (λ more. c ∷ more) (contents_of table (xs ++ name ∷ []))) (table x) ≡ Some (contents ++ content ∷ [])
-  first None e all = absurd (cc)
-  first (Some c) e all = rest (contents_of table xs) refl all where
-    rest : (o : Option (List (List ℕ))) → contents_of table xs ≡ o → option_map (λ more. c ∷ more) o ≡ Some contents
-        → option_and_then (λ c. option_map (λ more. c ∷ more) (contents_of table (xs ++ name ∷ []))) (table x) ≡ Some (contents ++ content ∷ [])
-    rest None f all = absurd (cc)
-    rest (Some cs) f all =
+contents-more table (x ∷ xs) name content contents all this =
+    parts (table x) (contents_of table xs) refl all (λ cs f. contents-more table xs name content cs f this)
+  where
+    parts : (o : Option (List ℕ)) (more : Option (List (List ℕ))) → table x ≡ o → option_and_then (λ c. option_map (λ cs. c ∷ cs) more) (table x) ≡ Some contents
+        → ((cs : List (List ℕ)) → more ≡ Some cs → contents_of table (xs ++ name ∷ []) ≡ Some (cs ++ content ∷ []))
+        → option_and_then (λ c. option_map (λ cs. c ∷ cs) (contents_of table (xs ++ name ∷ []))) (table x) ≡ Some (contents ++ content ∷ [])
+    parts None more e all again = let none : None ≡ Some contents = sym (ap (option_and_then (λ c. option_map (λ cs. c ∷ cs) more)) e) ∙ all in absurd (cc)
+    parts (Some c) None e all again = let none : None ≡ Some contents = sym (ap (option_and_then (λ c. option_map (λ cs. c ∷ cs) None)) e) ∙ all in absurd (cc)
+    parts (Some c) (Some cs) e all again =
+        let whole : Some (c ∷ cs) ≡ Some contents = sym (ap (option_and_then (λ c. option_map (λ cs. c ∷ cs) (Some cs))) e) ∙ all in
+        let same : c ∷ cs ≡ contents = cc in
         ap (option_and_then (λ c. option_map (λ more. c ∷ more) (contents_of table (xs ++ name ∷ [])))) e
-        ∙ ap (option_map (λ more. c ∷ more)) (contents-more table xs name content cs f this)
-        ∙ ap (λ (before : List (List ℕ)). Some (before ++ content ∷ [])) (whole all)
-      where
-        whole : Some (c ∷ cs) ≡ Some contents → c ∷ cs ≡ contents
-        whole e = cc
+        ∙ ap (option_map (λ more. c ∷ more)) (again cs refl)
+        ∙ ap (λ (before : List (List ℕ)). Some (before ++ content ∷ [])) same
 
 -- what is visible of the files so far, and of the next one
 pub visible-more : (old now : Option Table) (names : List (List ℕ)) (name : List ℕ) (before : Option (List ℕ)) (P Q : List (List ℕ) → Type 0)

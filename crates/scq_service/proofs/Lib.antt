@@ -1,3 +1,4 @@
 pub mod Files
 pub mod Progress
+pub mod Steps
 pub mod Writings
