@@ -49,6 +49,6 @@ module _ {S : Type 0} (size : ℕ) (faults : S → ℕ) (left : S → Option (Li
     pub within : length sources ≤ length names
     pub left_table : table.new ≡ option_map (without_names (take (length sources) names)) table.old
     pub kept : opens.new ≡ opens.old
-    pub known : All (λ a. a.topic ≤ length topics) answered
+    pub known : met ≡ None → All (λ a. a.topic ≤ length topics) answered
     pub still : IsStill met sources
     pub seen : IfVisible table.old (take (length sources) names) (Sees met sources answered)

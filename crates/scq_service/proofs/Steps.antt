@@ -48,7 +48,7 @@ get-last [] y = refl
 get-last (x ∷ xs) y = get-last xs y
 
 some-and : {X : Type 0} (o other : Option X) (P : X → Type 0) → o ≡ other → IsSomeAnd other P → IsSomeAnd o P
-some-and o other P e p = let Q : Option X → Type 0 = λ o. IsSomeAnd o P in subst Q (sym e) p
+some-and {X = X} o other P e p = let Q : Option X → Type 0 = λ o. IsSomeAnd o P in subst Q (sym e) p
 
 -- one name more left the table
 table-more : (old now new : Option Table) (names : List (List ℕ)) (name : List ℕ) → now ≡ option_map (without_names names) old → new ≡ option_map (without_name name) now
@@ -64,7 +64,7 @@ module _ {S : Type 0} (size : ℕ) (faults : S → ℕ) (left : S → Option (Li
       (name : List ℕ) (new : Option Table) (count : ℕ) (before : Option (List ℕ)) → Progress size faults left topics names table opens met sources answered
       → length sources < length names → name ≡ get_or names (length sources) [] → new ≡ option_map (without_name name) table.new → count ≡ opens.new
       → IfSome table.new (λ files. IsSome (files name) × (before ≡ files name))
-      → All (λ a. a.topic ≤ length topics) answered' → IsStill size faults left topics met' (sources ++ source ∷ [])
+      → (met' ≡ None → All (λ a. a.topic ≤ length topics) answered') → IsStill size faults left topics met' (sources ++ source ∷ [])
       → ((contents : List (List ℕ)) (content : List ℕ) → before ≡ Some content → Sees size faults left topics met sources answered contents
       → Sees size faults left topics met' (sources ++ source ∷ []) answered' (contents ++ content ∷ []))
       → Progress size faults left topics names (record { old = table.old; new = new }) (record { old = opens.old; new = count }) met' (sources ++ source ∷ []) answered'

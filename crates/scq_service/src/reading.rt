@@ -35,7 +35,7 @@ pub fn read_files<F: Files>(
       read = result.read;
     }) result.fault }
     ensures status { result.status ≡ status_of result.fault }
-    ensures known { All (λ a. a.topic ≤ length topics.now) answered.new.items }
+    ensures known { result.fault ≡ None → All (λ a. a.topic ≤ length topics.now) answered.new.items }
     ensures answers { result.fault ≡ None → IfGot (map string_bytes names.now) (record {
       table = record { old = F.table files.old; new = F.table files.new };
       opens = record { old = F.faults files.old; new = F.faults files.new };
