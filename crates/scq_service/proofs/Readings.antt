@@ -42,7 +42,7 @@ missing (Some table) now names i name within is left none =
     let T : ℕ → Type 0 = λ k. (table name ≡ None) ⊎ IsTrue (list_any (bytes_eq name) (take k names)) in
     subst M (sym there) (subst T (sym before) (gone (take i names) table name here))
 
-rose-since : (old now new : ℕ) → now ≡ old → Rose now new → Rose old new
+pub rose-since : (old now new : ℕ) → now ≡ old → Rose now new → Rose old new
 rose-since old now new same rose = let R : ℕ → Type 0 = λ n. Rose n new in subst R same rose
 
 module _ {S : Type 0} (size : ℕ) (faults : S → ℕ) (left : S → Option (List ℕ)) (topics : List (List ℕ × Kind)) where

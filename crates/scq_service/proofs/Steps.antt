@@ -14,6 +14,7 @@ use Rattle.scq_frames.specs.Framing.{NothingLeft}
 use Rattle.scq_frames.specs.Trouble.{Trouble, LongPayload, ManyBytes}
 use Rattle.scq_frames.specs.declared.fault.FrameFault.{FrameFault}
 use Rattle.scq_frames.specs.declared.fault.FrameFault.TheVariants as frame
+use Rattle.scq_outside.specs.Faults.{Rose}
 use Rattle.scq_outside.specs.Table.{Table, without_name}
 use Rattle.scq_collect.specs.Judged.{file_trouble, Judged, Judges}
 use Rattle.scq_collect.specs.Output.{answer_to, answers_to}
@@ -25,6 +26,11 @@ use Rattle.scq_service.specs.Faults.{fault_of_file}
 use Rattle.scq_service.specs.declared.fault.Fault.{Fault}
 use Rattle.scq_service.proofs.Files.{without-more, visible-more, answers-more, fault_of_one, fault-more, rest-more, rest-length}
 use Rattle.scq_service.proofs.Progress.{IsCauseOf, SaysOf, Sees, IsMet, IsStill, Progress}
+
+-- a count that rose is above 0
+pub rose-above : (old new : ℕ) → Rose old new → 0 < new
+rose-above old new (inl more) = omega arith
+rose-above old new (inr last) = omega arith
 
 -- what was visible before a source gave these bytes is they and what is left
 pub split-visible : (content bytes : List ℕ) (after : Option (List ℕ)) → Some content ≡ option_map (λ rest. bytes ++ rest) after

@@ -9,6 +9,7 @@ mod fault;
 mod outcome;
 mod reading;
 mod reporting;
+mod run;
 mod writing;
 
 pub use fault::Fault;
