@@ -89,10 +89,18 @@ module _ {S : Type 0} (size : ℕ) (faults : S → ℕ) (left : S → Option (Li
       (Some (fault_of_file size file fault))
   ends-met names table opens sources answered file frame.ReadFault new count p stopped =
       (refused names table opens sources answered file frame.ReadFault new count 0 p stopped (λ e. cc), refl, p.still.failed refl)
-  ends-met names table opens sources answered file (frame.TooLong line len) new count p stopped =
-      (refused names table opens sources answered file (frame.TooLong line len) new count 0 p stopped (λ e. cc), refl, refl, (p.still.long line len refl).0, (p.still.long line len refl).1,
-      visible-weaker table.old (take (length sources) names) _ _ p.seen (λ contents sees. sees.says.long line len refl))
-  ends-met names table opens sources answered file (frame.TooLarge bytes) new count p stopped =
-      (refused names table opens sources answered file (frame.TooLarge bytes) new count bytes p stopped (λ e. cc), refl, p.still.large bytes refl,
-      visible-weaker table.old (take (length sources) names) _ _ p.seen (λ contents sees. sees.says.large bytes refl))
+  ends-met names table opens sources answered file (frame.TooLong line len) new count p stopped = (
+    refused names table opens sources answered file (frame.TooLong line len) new count 0 p stopped (λ e. cc),
+    refl,
+    refl,
+    (p.still.long line len refl).0,
+    (p.still.long line len refl).1,
+    visible-weaker table.old (take (length sources) names) _ _ p.seen (λ contents sees. sees.says.long line len refl),
+  )
+  ends-met names table opens sources answered file (frame.TooLarge bytes) new count p stopped = (
+    refused names table opens sources answered file (frame.TooLarge bytes) new count bytes p stopped (λ e. cc),
+    refl,
+    p.still.large bytes refl,
+    visible-weaker table.old (take (length sources) names) _ _ p.seen (λ contents sees. sees.says.large bytes refl),
+  )
   ends-met names table opens sources answered file frame.NoMemory new count p stopped = refl

@@ -118,11 +118,11 @@ module _ {S : Type 0} (size : ℕ) (faults : S → ℕ) (left : S → Option (Li
             (split.2 ∙ ap (λ (front : List ℕ). front ++ split.0) (sym (given-is content judged.bytes split.0 split.2)));
         says = (
           fault-more size faults left 1 contents sources content source sees.rest
-          ∙ ap (λ o. option_or o (fault_of_one size faults left (1 + length contents) content source)) sees.says.0
-          ∙ one-fault (1 + length contents) content judged.bytes split.0 source false None (calm source quiet) split.1 split.2 sound,
+              ∙ ap (λ o. option_or o (fault_of_one size faults left (1 + length contents) content source)) sees.says.0
+              ∙ one-fault (1 + length contents) content judged.bytes split.0 source false None (calm source quiet) split.1 split.2 sound,
           more ∙ ap (λ (front : List Answered). front ++ map (answer_to topics (length sources + 1)) (messages_of content)) sees.says.1
-          ∙ ap (λ n. answers_to topics 1 contents ++ map (answer_to topics n) (messages_of content)) (sym count)
-          ∙ sym (answers-more topics 1 contents content)
+              ∙ ap (λ n. answers_to topics 1 contents ++ map (answer_to topics n) (messages_of content)) (sym count)
+              ∙ sym (answers-more topics 1 contents content),
         );
       }
 
@@ -146,7 +146,7 @@ module _ {S : Type 0} (size : ℕ) (faults : S → ℕ) (left : S → Option (Li
           large = λ bytes e. (
             some-and _ _ _ at (sees.says.large bytes e).0,
             some-and _ _ (λ content. IsSomeAnd (slice_get (sources ++ source ∷ []) (met.0 - 1)) (λ source. Some (length content) ≡ option_map (λ b. bytes + length b) (left source))) at
-            (each (slice_get contents (met.0 - 1)) bytes (slice_get sources (met.0 - 1)) (slice_get (sources ++ source ∷ []) (met.0 - 1)) by (sees.says.large bytes e).1)
+                (each (slice_get contents (met.0 - 1)) bytes (slice_get sources (met.0 - 1)) (slice_get (sources ++ source ∷ []) (met.0 - 1)) by (sees.says.large bytes e).1),
           );
         };
       }
@@ -210,7 +210,7 @@ module _ {S : Type 0} (size : ℕ) (faults : S → ℕ) (left : S → Option (Li
           long = λ line len e. some-and _ _ _ in_contents (ap (file_trouble size false) split.2 ∙ long_of fault line len e split.0 said);
           large = λ bytes e. (
             some-and _ _ _ in_contents (ap (file_trouble size false) split.2 ∙ large_of fault bytes e split.0 said),
-            some-and _ _ _ in_contents (some-and _ _ _ in_sources (sym (ap (option_map length) is) ∙ large bytes e))
+            some-and _ _ _ in_contents (some-and _ _ _ in_sources (sym (ap (option_map length) is) ∙ large bytes e)),
           );
         };
       }

@@ -6,13 +6,15 @@
 #![tactic(auto)]
 
 mod fault;
+mod generated;
 mod outcome;
 mod reading;
 mod reporting;
 mod run;
+mod serving;
 mod writing;
 
 pub use fault::Fault;
 pub use outcome::Outcome;
-pub use reading::read_files;
-pub use reporting::{report, report_end};
+pub use reporting::report;
+pub use serving::serve;

@@ -22,11 +22,19 @@ pub fn run_files<F: Files, K: Sink>(
     out: &mut K,
 ) -> Outcome<F::Src>
     requires { length names.now ≤ 64 }
-    ensures got { HasGot F.Src.left (map string_bytes names.now) (record { table = record { old = F.table files.old; new = F.table files.new };
-        opens = record { old = F.faults files.old; new = F.faults files.new }; sources = result.sources.items; read = result.read }) }
+    ensures got { HasGot F.Src.left (map string_bytes names.now) (record {
+      table = record { old = F.table files.old; new = F.table files.new };
+      opens = record { old = F.faults files.old; new = F.faults files.new };
+      sources = result.sources.items;
+      read = result.read;
+    }) }
     ensures ends { EndsOver size (one_thread_output topics.now) F.Src.faults F.Src.left (map string_bytes names.now)
-        (record { table = record { old = F.table files.old; new = F.table files.new };
-        opens = record { old = F.faults files.old; new = F.faults files.new }; sources = result.sources.items; read = result.read })
+        (record {
+          table = record { old = F.table files.old; new = F.table files.new };
+          opens = record { old = F.faults files.old; new = F.faults files.new };
+          sources = result.sources.items;
+          read = result.read;
+        })
         (record { written = record { old = K.written out.old; new = K.written out.new }; faults = record { old = K.faults out.old; new = K.faults out.new } }) result.fault }
     ensures status { result.status ≡ status_of result.fault }
 {

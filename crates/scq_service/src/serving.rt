@@ -1,0 +1,77 @@
+ghost use Rattle.std.specs.Prelude.{◌≡◌, ◌⊎◌, map, string_bytes};
+ghost use Rattle.scq_outside.specs.Faults.{Rose};
+ghost use Rattle.scq_words.specs.Asked.{asked};
+ghost use Rattle.scq_service.specs.Ends.{EndsAs};
+ghost use Rattle.scq_service.specs.Faults.{status_of, report_of};
+ghost use Rattle.scq_service.specs.Writing.{written_with, WrotePart};
+
+use crate::generated::run_self;
+use crate::reporting::report_end;
+use crate::run::run_files;
+use crate::{Fault, Outcome};
+use scq_outside::{Files, Sink};
+use scq_words::{Request, WordsError, read_words};
+use std::alloc::Global;
+
+/// Runs what the words ask for: answers the messages of the files that they name, one by one and in
+/// order, or those of a generated file, and writes the output, or the summary, once it is whole. At a
+/// fault it writes one line to `err`, in no memory; a failing `err` changes nothing. It returns over every
+/// source, also one that never ends.
+pub fn serve<F: Files, K: Sink>(
+    alloc: Global,
+    words: &[String],
+    files: &mut F,
+    out: &mut K,
+    err: &mut K,
+) -> Outcome<F::Src>
+    ensures status { result.status ≡ status_of result.fault }
+
+    // How it ended is one of the cases of `EndsAs`, each with what was got, read and written, and why.
+    ensures end { EndsAs F.Src.faults F.Src.left (asked (map string_bytes words.now))
+        (record {
+          table = record { old = F.table files.old; new = F.table files.new };
+          opens = record { old = F.faults files.old; new = F.faults files.new };
+          sources = result.sources.items;
+          read = result.read;
+        })
+        (record { written = record { old = K.written out.old; new = K.written out.new }; faults = record { old = K.faults out.old; new = K.faults out.new } }) result.fault }
+
+    // Err has the fault's line, whole where it didn't fail.
+    ensures reported { Rose (K.faults err.old) (K.faults err.new) ⊎ (K.written err.new ≡ written_with (K.written err.old) (report_of result.fault)) }
+    ensures reported_front { WrotePart (K.written err.old) (K.written err.new) (report_of result.fault) }
+{
+    let outcome = run(alloc, words, files, out);
+    report_end(err, &outcome.fault);
+    outcome
+}
+
+/// Runs what the words ask for, and reports no fault yet.
+fn run<F: Files, K: Sink>(
+    alloc: Global,
+    words: &[String],
+    files: &mut F,
+    out: &mut K,
+) -> Outcome<F::Src>
+    ensures status { result.status ≡ status_of result.fault }
+    ensures end { EndsAs F.Src.faults F.Src.left (asked (map string_bytes words.now))
+        (record {
+          table = record { old = F.table files.old; new = F.table files.new };
+          opens = record { old = F.faults files.old; new = F.faults files.new };
+          sources = result.sources.items;
+          read = result.read;
+        })
+        (record { written = record { old = K.written out.old; new = K.written out.new }; faults = record { old = K.faults out.old; new = K.faults out.new } }) result.fault }
+{
+    match read_words(alloc, words) {
+        Ok(Request::Run(asked)) => {
+            let names = asked.files.as_slice();
+            run_files(alloc, &asked.topics, asked.size, names, files, out)
+        }
+        Ok(Request::SelfRun(asked)) => match run_self(alloc, asked.seed, asked.lines, out) {
+            Ok(()) => Outcome::whole(Vec::new(alloc)),
+            Err(fault) => Outcome::at(Vec::new(alloc), fault),
+        },
+        Err(WordsError::Refused(fault)) => Outcome::at(Vec::new(alloc), Fault::Words(fault)),
+        Err(WordsError::NoMemory) => Outcome::at(Vec::new(alloc), Fault::NoMemory),
+    }
+}
