@@ -1,4 +1,5 @@
 pub mod Files
+pub mod Pieces
 pub mod Progress
 pub mod Readings
 pub mod Steps

@@ -7,11 +7,15 @@
 
 mod fault;
 mod generated;
+#[cfg(test)]
+mod harness;
 mod outcome;
 mod reading;
 mod reporting;
 mod run;
 mod serving;
+#[cfg(test)]
+mod tests;
 mod writing;
 
 pub use fault::Fault;
