@@ -1,3 +1,4 @@
+pub mod Completeness
 pub mod Files
 pub mod Pieces
 pub mod Progress

@@ -1,12 +1,13 @@
 -- How a run ends, up to what is reported of it, case by case. It knows contents, topics and settings
 -- alone, and neither how the work is done nor by whom.
-use Rattle.std.specs.Prelude.{◌≡◌, ◌⊎◌, ℕ, ◌+◌, ◌-◌, ◌^◌, ◌<◌, ◌≤◌, List, [], Option, Some, None, IfSome, IsSomeAnd, Result, Ok, Err, length, take, slice_get}
+use Rattle.std.specs.Prelude.{◌≡◌, ◌⊎◌, false, ℕ, ◌+◌, ◌-◌, ◌^◌, ◌<◌, ◌≤◌, List, [], Option, Some, None, IsSome, IfSome, IsSomeAnd, Result, Ok, Err, length, take, slice_get}
 use Rattle.std.specs.List.{All}
 use Rattle.std.specs.Option.{option_map}
 use Rattle.scq_outside.specs.Faults.{Rose}
 use Rattle.scq_outside.specs.Table.{Table}
 use Rattle.scq_frames.specs.Framing.{NothingLeft}
 use Rattle.scq_frames.specs.Trouble.{LongPayload, ManyBytes}
+use Rattle.scq_collect.specs.Judged.{file_trouble}
 use Rattle.scq_collect.specs.Output.{one_thread_output}
 use Rattle.scq_self.specs.Summary.{self_summary}
 use Rattle.scq_words.specs.Asked.{Asked, run, generated}
@@ -134,3 +135,12 @@ abbrev pub EndsAs : {S : Type 0} → (S → ℕ) → (S → Option (List ℕ)) �
 EndsAs faults left (Err fault) r w end = IsClosed r × IsUnwritten w × ((end ≡ Some (Words fault)) ⊎ (end ≡ Some NoMemory))
 EndsAs faults left (Ok (run a)) r w end = HasGot left a.files r × EndsOver a.size (one_thread_output a.topics) faults left a.files r w end
 EndsAs faults left (Ok (generated a)) r w end = IsClosed r × EndsAlone (self_summary a.seed a.lines) w end
+
+-- nothing stood in the way of a run over these files: each was got, no count rose, and no content has trouble
+pub record IsCalm {S : Type 0} (size : ℕ) (faults : S → ℕ) (names : List (List ℕ)) (r : Left S) (w : Wrote) : Type 0 where
+  pub all : length r.sources ≡ length names
+  pub opens : ¬ Rose r.opens.old r.opens.new
+  pub writes : ¬ Rose w.faults.old w.faults.new
+  pub quiet : All (λ source. faults source ≡ 0) r.sources
+  pub visible : IsSome r.table.old
+  pub sound : IfGot names r (λ contents. All (λ content. file_trouble size false content ≡ None) contents)

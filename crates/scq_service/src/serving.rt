@@ -1,8 +1,9 @@
-ghost use Rattle.std.specs.Prelude.{◌≡◌, ◌⊎◌, map, string_bytes};
+ghost use Rattle.std.specs.Prelude.{◌≡◌, ◌⊎◌, Ok, None, Some, map, string_bytes};
 ghost use Rattle.scq_outside.specs.Faults.{Rose};
-ghost use Rattle.scq_words.specs.Asked.{asked};
-ghost use Rattle.scq_service.specs.Ends.{EndsAs};
+ghost use Rattle.scq_words.specs.Asked.{asked, run, RunAsked};
+ghost use Rattle.scq_service.specs.Ends.{EndsAs, IsCalm};
 ghost use Rattle.scq_service.specs.Faults.{status_of, report_of};
+ghost use Rattle.scq_service.specs.declared.fault.Fault.TheVariants.{NoMemory};
 ghost use Rattle.scq_service.specs.Writing.{written_with, WrotePart};
 
 use crate::generated::run_self;
@@ -35,6 +36,18 @@ pub fn serve<F: Files, K: Sink>(
           read = result.read;
         })
         (record { written = record { old = K.written out.old; new = K.written out.new }; faults = record { old = K.faults out.old; new = K.faults out.new } }) result.fault }
+
+    // Where nothing stood in the way of a run over files, it ends with the output, or for want of memory.
+    ensures complete { (a : RunAsked) → asked (map string_bytes words.now) ≡ Ok (run a)
+        → IsCalm a.size F.Src.faults a.files
+        (record {
+          table = record { old = F.table files.old; new = F.table files.new };
+          opens = record { old = F.faults files.old; new = F.faults files.new };
+          sources = result.sources.items;
+          read = result.read;
+        })
+        (record { written = record { old = K.written out.old; new = K.written out.new }; faults = record { old = K.faults out.old; new = K.faults out.new } })
+        → (result.fault ≡ None) ⊎ (result.fault ≡ Some NoMemory) }
 
     // Err has the fault's line, whole where it didn't fail.
     ensures reported { Rose (K.faults err.old) (K.faults err.new) ⊎ (K.written err.new ≡ written_with (K.written err.old) (report_of result.fault)) }
