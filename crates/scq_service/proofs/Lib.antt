@@ -1,9 +1,7 @@
-pub mod Answered
-pub mod Begun
-pub mod Contents
-pub mod Judging
-pub mod Endings
+pub mod Completeness
+pub mod Files
 pub mod Pieces
-pub mod Seen
-mod Rows
+pub mod Progress
+pub mod Readings
+pub mod Steps
 pub mod Writings

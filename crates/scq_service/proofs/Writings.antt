@@ -1,5 +1,6 @@
 -- What a sink has after one writing and another.
 use Rattle.std.proofs.Common.{arith, min, take, length, sym, ◌∙◌, ◌+◌, ◌≡◌, refl, ap, List, ℕ, ◌++◌, Option, Some, None, append_assoc}
+use Rattle.std.specs.Prelude.{Result, Ok, Err, OnOk}
 use Rattle.std.proofs.Math.Seq.{take-append-add}
 use Rattle.std.proofs.lemmas.Grind.{common_steps}
 use Rattle.std.proofs.lemmas.List.{take-append-le}
@@ -26,3 +27,9 @@ part-second old between new a b whole part = record {
   written = part.written ∙ ap (λ written. written_with written (take part.count b)) whole ∙ written-then old a (take part.count b)
       ∙ ap (written_with old) (sym (take-append-add a b part.count));
 }
+
+-- the first bytes and then all of the second
+pub whole-then : {E : Type 0} (old between new : Option (List ℕ)) (result : Result (Unit {0}) E) (a b : List ℕ) → between ≡ written_with old a
+    → OnOk result (new ≡ written_with between b) → OnOk result (new ≡ written_with old (a ++ b))
+whole-then old between new (Ok done) a b first last = last ∙ ap (λ written. written_with written b) first ∙ written-then old a b
+whole-then old between new (Err fault) a b first last = tt

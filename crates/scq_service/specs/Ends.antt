@@ -1,21 +1,89 @@
--- How a run over files ends, up to what is reported of it.
-use Rattle.std.specs.Prelude.{◌≡◌, ◌≢◌, ◌⊎◌, false, ℕ, ◌+◌, ◌-◌, ◌^◌, ◌<◌, ◌≤◌, List, [], Option, Some, None, IfSome, IsSomeAnd, length, take, slice_get}
+-- How a run ends, up to what is reported of it, case by case. It knows contents, topics and settings
+-- alone, and neither how the work is done nor by whom.
+use Rattle.std.specs.Prelude.{◌≡◌, ◌⊎◌, false, ℕ, ◌+◌, ◌-◌, ◌^◌, ◌<◌, ◌≤◌, List, [], Option, Some, None, IsSome, IfSome, IsSomeAnd, Result, Ok, Err, length, take, slice_get}
 use Rattle.std.specs.List.{All}
 use Rattle.std.specs.Option.{option_map}
 use Rattle.scq_outside.specs.Faults.{Rose}
 use Rattle.scq_outside.specs.Table.{Table}
 use Rattle.scq_frames.specs.Framing.{NothingLeft}
-use Rattle.scq_service.specs.Causes.{first_file_fault, file_trouble, IsCause, IsOfWhole, HaveRest}
+use Rattle.scq_frames.specs.Trouble.{LongPayload, ManyBytes}
+use Rattle.scq_collect.specs.Judged.{file_trouble}
+use Rattle.scq_collect.specs.Output.{one_thread_output}
+use Rattle.scq_self.specs.Summary.{self_summary}
+use Rattle.scq_words.specs.Asked.{Asked, run, generated}
+use Rattle.scq_words.specs.declared.fault.WordsFault.{WordsFault}
+use Rattle.scq_service.specs.Causes.{first_file_fault, IsTroubled, HaveRest}
 use Rattle.scq_service.specs.Contents.{IfVisible, IsMissing, without_names}
-use Rattle.scq_service.specs.Faults.{status_of}
-use Rattle.scq_service.specs.Output.{one_thread_output}
 use Rattle.scq_service.specs.Writing.{written_with, WrotePart}
 use Rattle.scq_service.specs.declared.fault.Fault.{Fault}
-use Rattle.scq_service.specs.declared.fault.Fault.TheVariants.{OpenFault, ReadFault, TooLong, TooLarge, NoMemory}
+use Rattle.scq_service.specs.declared.fault.Fault.TheVariants.{Words, OpenFault, ReadFault, TooLong, TooLarge, WriteFault, NoMemory}
 
--- what one thread writes about files with these contents, where no topic is declared
-abbrev pub output_of : List (List ℕ) → List ℕ
-output_of contents = one_thread_output [] contents
+-- a count or what is visible of an object, before a call and after it
+pub record Change (A : Type 0) : Type 0 where
+  pub old : A
+  pub new : A
+
+-- what a run left: the table of files, the count of faults of files, the sources that were got, and how
+-- many bytes were read of a file that is too large
+pub record Left (S : Type 0) : Type 0 where
+  pub table : Change (Option Table)
+  pub opens : Change ℕ
+  pub sources : List S
+  pub read : ℕ
+
+-- what out has, and its count of faults
+pub record Wrote : Type 0 where
+  pub written : Change (Option (List ℕ))
+  pub faults : Change ℕ
+
+-- nothing changed
+abbrev pub IsUnchanged : {A : Type 0} → Change A → Type 0
+IsUnchanged c = c.new ≡ c.old
+
+-- nothing was written
+abbrev pub IsUnwritten : Wrote → Type 0
+IsUnwritten w = IsUnchanged w.written × IsUnchanged w.faults
+
+-- the contents of the files that were got, where they are visible, meet P
+abbrev pub IfGot : {S : Type 0} → List (List ℕ) → Left S → (List (List ℕ) → Type 0) → Type 0
+IfGot names r P = IfVisible r.table.old (take (length r.sources) names) P
+
+-- sources were got in order; where all were, the count of files was kept
+pub record HasGot {S : Type 0} (left : S → Option (List ℕ)) (names : List (List ℕ)) (r : Left S) : Type 0 where
+  pub within : length r.sources ≤ length names
+  pub table : r.table.new ≡ option_map (without_names (take (length r.sources) names)) r.table.old
+  pub kept : length r.sources ≡ length names → IsUnchanged r.opens
+  pub rest : IfGot names r (λ contents. HaveRest left contents r.sources)
+
+-- of the files that were got this is the first fault
+abbrev pub HasFault : {S : Type 0} → ℕ → (S → ℕ) → (S → Option (List ℕ)) → List (List ℕ) → Left S → Option Fault → Type 0
+HasFault size faults left names r fault = IfGot names r (λ contents. first_file_fault size faults left 1 contents r.sources ≡ fault)
+
+-- every source was got and read to its end, and there is no fault
+pub record IsAllRead {S : Type 0} (size : ℕ) (faults : S → ℕ) (left : S → Option (List ℕ)) (names : List (List ℕ)) (r : Left S) : Type 0 where
+  pub all : length r.sources ≡ length names
+  pub quiet : All (λ source. faults source ≡ 0) r.sources
+  pub ended : All (λ source. NothingLeft (left source)) r.sources
+  pub sound : HasFault size faults left names r None
+  pub read : r.read ≡ 0
+
+-- a source was not got, and those before it have no fault
+pub record IsStopped {S : Type 0} (size : ℕ) (faults : S → ℕ) (left : S → Option (List ℕ)) (names : List (List ℕ)) (r : Left S) (file : ℕ) : Type 0 where
+  pub next : file ≡ length r.sources + 1
+  pub within : length r.sources < length names
+  pub rose : Rose r.opens.old r.opens.new
+  pub missing : IfSome r.table.old (λ files. IsMissing files names file)
+  pub quiet : All (λ source. faults source ≡ 0) r.sources
+  pub sound : HasFault size faults left names r None
+  pub read : r.read ≡ 0
+
+-- this file has the first fault; where not all sources were got, one was not
+pub record IsRefused {S : Type 0} (size : ℕ) (faults : S → ℕ) (left : S → Option (List ℕ)) (names : List (List ℕ)) (r : Left S) (file : ℕ) (fault : Fault) : Type 0 where
+  pub first : 0 < file
+  pub last : file ≤ length r.sources
+  pub stopped : length r.sources < length names → Rose r.opens.old r.opens.new
+  pub quiet : All (λ source. faults source ≡ 0) (take (file - 1) r.sources)
+  pub cause : HasFault size faults left names r (Some fault)
 
 -- so many bytes of this file's content were read, and its source has the others left
 abbrev pub IsReadOf : {S : Type 0} → (S → Option (List ℕ)) → ℕ → List (List ℕ) → List S → ℕ → Type 0
@@ -23,42 +91,56 @@ IsReadOf left read contents sources file =
     IsSomeAnd (slice_get contents (file - 1)) (λ content.
     IsSomeAnd (slice_get sources (file - 1)) (λ source. Some (length content) ≡ option_map (λ bytes. read + length bytes) (left source)))
 
--- how many sources of so many files were got: those before the one that wasn't got, and else all.
--- Want of memory may come before any is.
-abbrev pub HaveGot : Option Fault → ℕ → ℕ → Type 0
-HaveGot (Some (OpenFault file)) files got = (file ≡ got + 1) × (got < files)
-HaveGot (Some NoMemory) files got = got ≤ files
-HaveGot _ files got = got ≡ files
+-- how the reading of files of these names ends
+abbrev pub ReadsOver : {S : Type 0} → ℕ → (S → ℕ) → (S → Option (List ℕ)) → List (List ℕ) → Left S → Option Fault → Type 0
+ReadsOver size faults left names r None = IsAllRead size faults left names r
+ReadsOver size faults left names r (Some (OpenFault file)) = IsStopped size faults left names r file
+ReadsOver size faults left names r (Some (ReadFault file)) =
+    IsRefused size faults left names r file (ReadFault file) × (r.read ≡ 0)
+    × IsSomeAnd (slice_get r.sources (file - 1)) (λ source. 0 < faults source)
+ReadsOver size faults left names r (Some (TooLong file line len limit)) =
+    IsRefused size faults left names r file (TooLong file line len limit) × (r.read ≡ 0) × (limit ≡ size) × (0 < line) × (size < len)
+    × IfGot names r (λ contents. IsTroubled size contents file (LongPayload line len))
+ReadsOver size faults left names r (Some (TooLarge file limit)) =
+    IsRefused size faults left names r file (TooLarge file limit) × (limit ≡ 2 ^ 30) × (2 ^ 30 < r.read)
+    × IfGot names r (λ contents. IsTroubled size contents file ManyBytes × IsReadOf left r.read contents r.sources file)
+ReadsOver size faults left names r (Some NoMemory) = r.read ≡ 0
+ReadsOver size faults left names r (Some WriteFault) = ⊥
+ReadsOver size faults left names r (Some (Words fault)) = ⊥
 
--- a count or what is visible of an object, before a call and after it
-pub record Change (A : Type 0) : Type 0 where
-  pub old : A
-  pub new : A
+-- how a run over files of these names ends: with the text written, with a front of it where out failed,
+-- or with nothing written
+abbrev pub EndsOver : {S : Type 0} → ℕ → (List (List ℕ) → List ℕ) → (S → ℕ) → (S → Option (List ℕ)) → List (List ℕ) → Left S → Wrote → Option Fault → Type 0
+EndsOver size text faults left names r w None =
+    IsAllRead size faults left names r × IsUnchanged w.faults
+    × IfGot names r (λ contents. w.written.new ≡ written_with w.written.old (text contents))
+EndsOver size text faults left names r w (Some WriteFault) =
+    IsAllRead size faults left names r × Rose w.faults.old w.faults.new
+    × IfGot names r (λ contents. WrotePart w.written.old w.written.new (text contents))
+EndsOver size text faults left names r w fault = ReadsOver size faults left names r fault × IsUnwritten w
 
--- the clauses of a run over the files of these names; sources have a count of faults, and what they have left may be visible
-pub record Ends {S : Type 0} (faults : S → ℕ) (left : S → Option (List ℕ)) (names : List (List ℕ)) (table : Change (Option Table))
-    (files_faults out_faults : Change ℕ) (written : Change (Option (List ℕ)))
-    (status : ℕ) (fault : Option Fault) (sources : List S) (read : ℕ) : Type 0 where
-  pub status_is : status ≡ status_of fault
-  pub output : status ≡ 0 → IfVisible table.old names (λ contents. written.new ≡ written_with written.old (output_of contents))
-  pub read_to_end : (status ≡ 0) ⊎ (status ≡ 4) → All (λ source. NothingLeft (left source)) sources
-  pub write_fault : status ≡ 4 → Rose out_faults.old out_faults.new
-  pub front : status ≡ 4 → IfVisible table.old names (λ contents. WrotePart written.old written.new (output_of contents))
-  pub untouched : status ≢ 0 → status ≢ 4 → written.new ≡ written.old
-  pub out_kept : status ≢ 4 → out_faults.new ≡ out_faults.old
-  pub got : HaveGot fault (length names) (length sources)
-  pub table_left : table.new ≡ option_map (without_names (take (length sources) names)) table.old
-  pub files_kept : ((file : ℕ) → fault ≢ Some (OpenFault file)) → files_faults.new ≡ files_faults.old
-  pub sources_kept : ((file : ℕ) → fault ≢ Some (ReadFault file)) → All (λ source. faults source ≡ 0) sources
-  pub open_fault : (file : ℕ) → fault ≡ Some (OpenFault file) → Rose files_faults.old files_faults.new
-  pub missing : (file : ℕ) → fault ≡ Some (OpenFault file) → IfSome table.old (λ files. IsMissing files names file)
-  pub read_fault : (file : ℕ) → fault ≡ Some (ReadFault file) → (0 < file) × IsSomeAnd (slice_get sources (file - 1)) (λ source. 0 < faults source)
-  pub too_long : (file line len : ℕ) → fault ≡ Some (TooLong file line len) → (0 < file) × (file ≤ length sources) × (0 < line) × (65536 < len)
-  pub too_large : (file : ℕ) → fault ≡ Some (TooLarge file) → (0 < file) × (file ≤ length sources) × (2 ^ 30 < read)
-  pub too_large_visible : (file : ℕ) → fault ≡ Some (TooLarge file) → IfVisible table.old names (λ contents. IsReadOf left read contents sources file)
-  pub unread : status ≢ 6 → read ≡ 0
-  pub rest : IfVisible table.old (take (length sources) names) (λ contents. HaveRest left contents sources)
-  pub cause : IfVisible table.old (take (length sources) names) (λ contents. IsCause fault (first_file_fault faults left 1 contents sources))
-  pub whole : IfVisible table.old (take (length sources) names) (λ contents. IsOfWhole fault contents)
-  pub complete : status ≢ 2 → ¬ Rose files_faults.old files_faults.new → ¬ Rose out_faults.old out_faults.new → All (λ source. faults source ≡ 0) sources
-      → IfVisible table.old (take (length sources) names) (λ contents. All (λ content. file_trouble false content ≡ None) contents → (status ≡ 0) ⊎ (status ≡ 5))
+-- how a run over no file of the outside ends that is to write this text
+abbrev pub EndsAlone : List ℕ → Wrote → Option Fault → Type 0
+EndsAlone text w None = IsUnchanged w.faults × (w.written.new ≡ written_with w.written.old text)
+EndsAlone text w (Some WriteFault) = Rose w.faults.old w.faults.new × WrotePart w.written.old w.written.new text
+EndsAlone text w (Some NoMemory) = IsUnwritten w
+EndsAlone text w _ = ⊥
+
+-- no file was asked for
+abbrev pub IsClosed : {S : Type 0} → Left S → Type 0
+IsClosed r = IsUnchanged r.table × IsUnchanged r.opens × (r.sources ≡ []) × (r.read ≡ 0)
+
+-- how a run ends that is asked for this: refused words, files, or a generated file
+abbrev pub EndsAs : {S : Type 0} → (S → ℕ) → (S → Option (List ℕ)) → Result Asked WordsFault → Left S → Wrote → Option Fault → Type 0
+EndsAs faults left (Err fault) r w end = IsClosed r × IsUnwritten w × ((end ≡ Some (Words fault)) ⊎ (end ≡ Some NoMemory))
+EndsAs faults left (Ok (run a)) r w end = HasGot left a.files r × EndsOver a.size (one_thread_output a.topics) faults left a.files r w end
+EndsAs faults left (Ok (generated a)) r w end = IsClosed r × EndsAlone (self_summary a.seed a.lines) w end
+
+-- nothing stood in the way of a run over these files: each was got, no count rose, and no content has trouble
+pub record IsCalm {S : Type 0} (size : ℕ) (faults : S → ℕ) (names : List (List ℕ)) (r : Left S) (w : Wrote) : Type 0 where
+  pub all : length r.sources ≡ length names
+  pub opens : ¬ Rose r.opens.old r.opens.new
+  pub writes : ¬ Rose w.faults.old w.faults.new
+  pub quiet : All (λ source. faults source ≡ 0) r.sources
+  pub visible : IsSome r.table.old
+  pub sound : IfGot names r (λ contents. All (λ content. file_trouble size false content ≡ None) contents)

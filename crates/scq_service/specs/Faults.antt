@@ -1,19 +1,21 @@
 -- What the program ends with.
-use Rattle.std.specs.Prelude.{ℕ, List, [], ◌++◌, Option, Some, None, codes, decimal}
+use Rattle.std.specs.Prelude.{ℕ, ◌^◌, List, [], ◌++◌, Option, Some, None, codes, decimal}
 use Rattle.scq_frames.specs.declared.fault.FrameFault.{FrameFault}
 use Rattle.scq_frames.specs.declared.fault.FrameFault.TheVariants as frame
+use Rattle.scq_topics.specs.declared.topics.TopicFault.{TopicFault}
+use Rattle.scq_topics.specs.declared.topics.TopicFault.TheVariants.{TooMany, BadName, BadKind, Twice}
+use Rattle.scq_words.specs.declared.fault.WordsFault.{WordsFault}
+use Rattle.scq_words.specs.declared.fault.WordsFault.TheVariants.{NotUnderstood, Workers, Order, Size, Topics, TooManyFiles, NoName, MoreWorkers, Seed, Lines}
 use Rattle.scq_service.specs.declared.fault.Fault.{Fault}
 use Rattle.scq_service.specs.declared.fault.Fault.TheVariants.{Words, OpenFault, ReadFault, TooLong, TooLarge, WriteFault, NoMemory}
-use Rattle.scq_service.specs.declared.fault.WordsFault.{WordsFault}
-use Rattle.scq_service.specs.declared.fault.WordsFault.TheVariants.{NotUnderstood}
 
 -- the status of each fault
 abbrev pub status_of_fault : Fault → ℕ
-status_of_fault (TooLong file line len) = 1
+status_of_fault (TooLong file line len limit) = 1
 status_of_fault (Words fault) = 2
 status_of_fault (OpenFault file) = 3
 status_of_fault (ReadFault file) = 3
-status_of_fault (TooLarge file) = 6
+status_of_fault (TooLarge file limit) = 6
 status_of_fault WriteFault = 4
 status_of_fault NoMemory = 5
 
@@ -22,18 +24,47 @@ abbrev pub status_of : Option Fault → ℕ
 status_of None = 0
 status_of (Some fault) = status_of_fault fault
 
--- the line about faulty words
+-- what is said of a file, and of an entry of the topics
+abbrev pub file_line : ℕ → List ℕ → List ℕ
+file_line file what = codes "file " ++ decimal file ++ what
+
+abbrev pub entry_line : ℕ → List ℕ → List ℕ
+entry_line at what = codes "topics entry " ++ decimal at ++ what
+
+-- the line about refused topics
+abbrev pub topics_line : TopicFault → List ℕ
+topics_line (TooMany at) = entry_line at (codes ": too many\n")
+topics_line (BadName at) = entry_line at (codes ": bad name\n")
+topics_line (BadKind at) = entry_line at (codes ": bad kind\n")
+topics_line (Twice at) = entry_line at (codes ": named twice\n")
+
+-- the line about refused words
 abbrev pub words_line : WordsFault → List ℕ
 words_line NotUnderstood = codes "words not understood\n"
+words_line Workers = codes "workers is not in 1..4096\n"
+words_line Order = codes "order is not in 1..12\n"
+words_line Size = codes "size is not in 1..65536\n"
+words_line (Topics fault) = topics_line fault
+words_line TooManyFiles = codes "more than 64 files\n"
+words_line (NoName file) = file_line file (codes " has no name\n")
+words_line MoreWorkers = codes "more workers than buffers\n"
+words_line Seed = codes "seed is not in 0..2147483647\n"
+words_line Lines = codes "lines is not in 1..1000000\n"
+
+-- `X bytes, limit S`, and the same after the line's number
+abbrev pub limit_line : ℕ → ℕ → List ℕ
+limit_line len limit = (decimal len ++ codes " bytes, limit ") ++ (decimal limit ++ codes "\n")
+
+abbrev pub payload_line : ℕ → ℕ → ℕ → List ℕ
+payload_line line len limit = (decimal line ++ codes ": payload of ") ++ limit_line len limit
 
 -- the line about a fault
 abbrev pub fault_line : Fault → List ℕ
 fault_line (Words fault) = words_line fault
-fault_line (OpenFault file) = codes "file " ++ decimal file ++ codes ": cannot open\n"
-fault_line (ReadFault file) = codes "file " ++ decimal file ++ codes ": read fault\n"
-fault_line (TooLong file line len) =
-    codes "file " ++ decimal file ++ codes " line " ++ decimal line ++ codes ": payload of " ++ decimal len ++ codes " bytes, limit 65536\n"
-fault_line (TooLarge file) = codes "file " ++ decimal file ++ codes ": more than 1073741824 bytes\n"
+fault_line (OpenFault file) = file_line file (codes ": cannot open\n")
+fault_line (ReadFault file) = file_line file (codes ": read fault\n")
+fault_line (TooLong file line len limit) = file_line file (codes " line ") ++ payload_line line len limit
+fault_line (TooLarge file limit) = file_line file (codes ": more than ") ++ (decimal limit ++ codes " bytes\n")
 fault_line WriteFault = codes "write fault\n"
 fault_line NoMemory = codes "out of memory\n"
 
@@ -42,12 +73,12 @@ abbrev pub report_of : Option Fault → List ℕ
 report_of None = []
 report_of (Some fault) = fault_line fault
 
--- a framer's fault as one of the file that it read
-abbrev pub fault_of_file : ℕ → FrameFault → Fault
-fault_of_file file frame.ReadFault = ReadFault file
-fault_of_file file (frame.TooLong line len) = TooLong file line len
-fault_of_file file (frame.TooLarge bytes) = TooLarge file
-fault_of_file file frame.NoMemory = NoMemory
+-- a framer's fault as one of the file that it read, where a payload may have `size` bytes
+abbrev pub fault_of_file : ℕ → ℕ → FrameFault → Fault
+fault_of_file size file frame.ReadFault = ReadFault file
+fault_of_file size file (frame.TooLong line len) = TooLong file line len size
+fault_of_file size file (frame.TooLarge bytes) = TooLarge file (2 ^ 30)
+fault_of_file size file frame.NoMemory = NoMemory
 
 -- the number of bytes that a framer read of a file that is too large, and 0 at its other faults
 abbrev pub bytes_of_large : FrameFault → ℕ

@@ -1,9 +1,5 @@
-pub mod Answers
-pub mod Output
-pub mod Words
 pub mod Contents
 pub mod Causes
-pub mod Judged
 pub mod Ends
 pub mod Faults
 pub mod Writing

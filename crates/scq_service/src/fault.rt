@@ -1,22 +1,29 @@
-/// Why the words of the command line are refused.
-#[derive(Clone, Copy, Debug, PartialEq, Eq)]
-pub enum WordsFault {
-    NotUnderstood,
-}
+use scq_words::WordsFault;
 
-/// Why the program ends with another status than 0. Files are numbered from 1.
+/// Why the program ends with another status than 0. Files and lines are numbered from 1.
 #[derive(Clone, Copy, Debug, PartialEq, Eq)]
 pub enum Fault {
     Words(WordsFault),
     /// The source of this file wasn't got.
-    OpenFault { file: u32 },
+    OpenFault {
+        file: u32,
+    },
     /// A read of this file failed.
-    ReadFault { file: u32 },
-    /// This line of this file has a payload of so many bytes, more than 65,536. Lines are numbered
-    /// from 1.
-    TooLong { file: u32, line: u32, len: u64 },
-    /// This file has more than 2^30 bytes.
-    TooLarge { file: u32 },
+    ReadFault {
+        file: u32,
+    },
+    /// This line of this file has a payload of so many bytes, more than the limit.
+    TooLong {
+        file: u32,
+        line: u32,
+        len: u64,
+        limit: u32,
+    },
+    /// This file has more bytes than the limit.
+    TooLarge {
+        file: u32,
+        limit: u64,
+    },
     WriteFault,
     NoMemory,
 }

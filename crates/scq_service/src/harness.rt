@@ -1,9 +1,10 @@
-//! What tests run: the service over memory in pieces of one size, and over lines that never end.
-ghost use Rattle.std.specs.Prelude.{◌≡◌, ◌<◌, IsTrue, IfOk, None};
+//! What tests run: the service over the files of a text in pieces of one size, and over lines that never
+//! end.
+ghost use Rattle.std.specs.Prelude.{◌≡◌, ◌<◌, IsTrue, IfOk, IfSome, None};
 ghost use Rattle.scq_outside.specs.Calls.{are_pieces};
 
 use crate::serve;
-use scq_outside::{Failed, Files, MemFiles, MemSink, MemSource, Source};
+use scq_outside::{Failed, Files, MemSink, MemSource, Source};
 use scq_word::NoMemory;
 use std::alloc::Global;
 
@@ -19,16 +20,17 @@ pub struct Ran {
     pub err: MemSink,
 }
 
-/// The service over these files, with room for 1,000 bytes in each sink.
+/// The service over these files, with room for 1,000 bytes in each sink. The words stand between the
+/// spaces of a line.
 pub fn run_over<F: Files>(
     alloc: Global,
-    words: &[&str],
+    words: &str,
     files: &mut F,
     writes: Cut,
     err_writes: Cut,
 ) -> Result<Ran, NoMemory> {
     let mut owned = Vec::new(alloc);
-    for word in words {
+    for word in words.split(' ') {
         owned.push(String::from_str(alloc, word)?)?;
     }
     let mut out = sink(alloc, writes)?;
@@ -42,20 +44,76 @@ pub fn run_over<F: Files>(
     })
 }
 
-/// The service over the one file `f`, or over none.
-pub fn run_in_memory(
+/// The service over the files of a text: `name:content`, with `|` between them.
+pub fn run_text(
     alloc: Global,
-    words: &[&str],
-    content: Option<&[u8]>,
+    words: &str,
+    files: &str,
     reads: Cut,
     writes: Cut,
     err_writes: Cut,
 ) -> Result<Ran, NoMemory> {
-    let mut files = MemFiles::new(alloc);
-    if let Some(bytes) = content {
-        files.add("f", source(alloc, bytes, reads)?)?;
-    }
+    let mut files = TextFiles {
+        alloc,
+        text: files,
+        reads,
+        given: [false; MOST_FILES],
+        faults: 0,
+    };
     run_over(alloc, words, &mut files, writes, err_writes)
+}
+
+/// The most files of a text that are found.
+const MOST_FILES: usize = 8;
+
+/// The files of a text, each of which is given once. Their sources are cut alike.
+#[derive(Drop)]
+struct TextFiles<'a> {
+    alloc: Global,
+    text: &'a str,
+    reads: Cut,
+    given: [bool; MOST_FILES],
+    faults: u64,
+}
+
+impl Files for TextFiles<'_> {
+    type Src = MemSource;
+
+    ghost faults = { λ f. f.faults };
+
+    ghost table = { λ _. None };
+
+    fn source(&mut self, name: &str) -> Result<MemSource, Failed> {
+        if let Some(at) = find(self.text, name)
+            && !self.given[at]
+            && let Some(source) = source_at(self.alloc, self.text, at, self.reads)
+        {
+            self.given[at] = true;
+            return Ok(source);
+        }
+        self.faults = self.faults.saturating_add(1);
+        Err(Failed)
+    }
+}
+
+/// Which file of the text has this name.
+fn find(text: &str, name: &str) -> Option<usize>
+    ensures { IfSome result (λ at. at < 8) }
+{
+    for (at, entry) in text.split('|').enumerate() {
+        if at < MOST_FILES && entry.split_once(':').is_some_and(|(own, _)| own == name) {
+            return Some(at);
+        }
+    }
+    None
+}
+
+/// The source of this file of the text.
+fn source_at(alloc: Global, text: &str, at: usize, reads: Cut) -> Option<MemSource>
+    ensures { IfSome result (λ source. source.faults ≡ 0) }
+{
+    let (_, content) = text.split('|').nth(at)?.split_once(':')?;
+    source(alloc, content.as_bytes(), reads).ok()
 }
 
 fn source(alloc: Global, bytes: &[u8], reads: Cut) -> Result<MemSource, NoMemory>

@@ -4,6 +4,9 @@ ghost use Rattle.scq_service.specs.Faults.{status_of_fault, fault_of_file, bytes
 use crate::Fault;
 use scq_frames::FrameFault;
 
+/// The greatest number of bytes of a file.
+const MOST_BYTES: u64 = 1 << 30;
+
 /// How a run ended.
 #[derive(Drop)]
 pub struct Outcome<S> {
@@ -45,20 +48,35 @@ impl<S> Outcome<S> {
         }
     }
 
-    pub(crate) fn of_file(sources: Vec<S>, file: u32, fault: FrameFault) -> Outcome<S>
-        ensures status { result.status ≡ status_of_fault (fault_of_file file fault) }
-        ensures fault { result.fault ≡ Some (fault_of_file file fault) }
+    pub(crate) fn of_file(sources: Vec<S>, size: u32, file: u32, fault: FrameFault) -> Outcome<S>
+        ensures status { result.status ≡ status_of_fault (fault_of_file size file fault) }
+        ensures fault { result.fault ≡ Some (fault_of_file size file fault) }
         ensures sources { result.sources ≡ sources }
         ensures read { result.read ≡ bytes_of_large fault }
     {
         match fault {
             FrameFault::ReadFault => Outcome::at(sources, Fault::ReadFault { file }),
             FrameFault::TooLong { line, len } => {
-                Outcome::at(sources, Fault::TooLong { file, line, len })
+                let limit = size;
+                Outcome::at(
+                    sources,
+                    Fault::TooLong {
+                        file,
+                        line,
+                        len,
+                        limit,
+                    },
+                )
             }
             FrameFault::TooLarge { bytes } => Outcome {
                 read: bytes,
-                ..Outcome::at(sources, Fault::TooLarge { file })
+                ..Outcome::at(
+                    sources,
+                    Fault::TooLarge {
+                        file,
+                        limit: MOST_BYTES,
+                    },
+                )
             },
             FrameFault::NoMemory => Outcome::at(sources, Fault::NoMemory),
         }

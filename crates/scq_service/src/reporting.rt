@@ -1,12 +1,14 @@
 ghost use Rattle.std.specs.Prelude.{◌≡◌, ◌⊎◌, ◌++◌, codes, decimal, OnOk, OnErr};
 ghost use Rattle.scq_outside.specs.Faults.{Rose};
-ghost use Rattle.scq_service.specs.Faults.{fault_line, report_of};
+ghost use Rattle.scq_service.specs.Faults.{entry_line, fault_line, file_line, limit_line, payload_line, report_of, topics_line, words_line};
 ghost use Rattle.scq_service.specs.Writing.{written_with, WrotePart};
 
+use crate::Fault;
 use crate::writing::write_all;
-use crate::{Fault, WordsFault};
 use itoa::Buffer;
 use scq_outside::{Failed, Sink};
+use scq_topics::TopicFault;
+use scq_words::WordsFault;
 
 /// Writes the line about a fault. It takes no memory, so that want of memory can be reported too.
 pub fn report<K: Sink>(sink: &mut K, fault: &Fault) -> Result<(), Failed>
@@ -16,35 +18,119 @@ pub fn report<K: Sink>(sink: &mut K, fault: &Fault) -> Result<(), Failed>
     ensures rose { OnErr result (Rose (K.faults sink.old) (K.faults sink.new)) }
 {
     match fault {
-        Fault::Words(WordsFault::NotUnderstood) => write_all(sink, b"words not understood\n"),
+        Fault::Words(fault) => write_words(sink, fault),
         Fault::OpenFault { file } => write_about(sink, *file, b": cannot open\n"),
         Fault::ReadFault { file } => write_about(sink, *file, b": read fault\n"),
-        Fault::TooLong { file, line, len } => write_too_long(sink, *file, *line, *len),
-        Fault::TooLarge { file } => write_about(sink, *file, b": more than 1073741824 bytes\n"),
+        Fault::TooLong {
+            file,
+            line,
+            len,
+            limit,
+        } => write_too_long(sink, *file, *line, *len, *limit),
+        Fault::TooLarge { file, limit } => write_too_large(sink, *file, *limit),
         Fault::WriteFault => write_all(sink, b"write fault\n"),
         Fault::NoMemory => write_all(sink, b"out of memory\n"),
     }
 }
 
-fn write_too_long<K: Sink>(sink: &mut K, file: u32, line: u32, len: u64) -> Result<(), Failed>
-    ensures whole { OnOk result (K.written sink.new ≡ written_with (K.written sink.old) (fault_line (Fault.TooLong file line len))) }
-    ensures part { WrotePart (K.written sink.old) (K.written sink.new) (fault_line (Fault.TooLong file line len)) }
+fn write_words<K: Sink>(sink: &mut K, fault: &WordsFault) -> Result<(), Failed>
+    ensures whole { OnOk result (K.written sink.new ≡ written_with (K.written sink.old) (words_line fault.now)) }
+    ensures part { WrotePart (K.written sink.old) (K.written sink.new) (words_line fault.now) }
+    ensures kept { OnOk result (K.faults sink.new ≡ K.faults sink.old) }
+    ensures rose { OnErr result (Rose (K.faults sink.old) (K.faults sink.new)) }
+{
+    match fault {
+        WordsFault::NotUnderstood => write_all(sink, b"words not understood\n"),
+        WordsFault::Workers => write_all(sink, b"workers is not in 1..4096\n"),
+        WordsFault::Order => write_all(sink, b"order is not in 1..12\n"),
+        WordsFault::Size => write_all(sink, b"size is not in 1..65536\n"),
+        WordsFault::Topics(fault) => write_topics(sink, fault),
+        WordsFault::TooManyFiles => write_all(sink, b"more than 64 files\n"),
+        WordsFault::NoName { file } => write_about(sink, *file, b" has no name\n"),
+        WordsFault::MoreWorkers => write_all(sink, b"more workers than buffers\n"),
+        WordsFault::Seed => write_all(sink, b"seed is not in 0..2147483647\n"),
+        WordsFault::Lines => write_all(sink, b"lines is not in 1..1000000\n"),
+    }
+}
+
+fn write_topics<K: Sink>(sink: &mut K, fault: &TopicFault) -> Result<(), Failed>
+    ensures whole { OnOk result (K.written sink.new ≡ written_with (K.written sink.old) (topics_line fault.now)) }
+    ensures part { WrotePart (K.written sink.old) (K.written sink.new) (topics_line fault.now) }
+    ensures kept { OnOk result (K.faults sink.new ≡ K.faults sink.old) }
+    ensures rose { OnErr result (Rose (K.faults sink.old) (K.faults sink.new)) }
+{
+    match fault {
+        TopicFault::TooMany { at } => write_entry(sink, *at, b": too many\n"),
+        TopicFault::BadName { at } => write_entry(sink, *at, b": bad name\n"),
+        TopicFault::BadKind { at } => write_entry(sink, *at, b": bad kind\n"),
+        TopicFault::Twice { at } => write_entry(sink, *at, b": named twice\n"),
+    }
+}
+
+fn write_too_long<K: Sink>(
+    sink: &mut K,
+    file: u32,
+    line: u32,
+    len: u64,
+    limit: u32,
+) -> Result<(), Failed>
+    ensures whole { OnOk result (K.written sink.new ≡ written_with (K.written sink.old) (file_line file (codes " line ") ++ payload_line line len limit)) }
+    ensures part { WrotePart (K.written sink.old) (K.written sink.new) (file_line file (codes " line ") ++ payload_line line len limit) }
     ensures kept { OnOk result (K.faults sink.new ≡ K.faults sink.old) }
     ensures rose { OnErr result (Rose (K.faults sink.old) (K.faults sink.new)) }
 {
     write_about(sink, file, b" line ")?;
+    write_payload(sink, line, len, limit)
+}
+
+fn write_payload<K: Sink>(sink: &mut K, line: u32, len: u64, limit: u32) -> Result<(), Failed>
+    ensures whole { OnOk result (K.written sink.new ≡ written_with (K.written sink.old) (payload_line line len limit)) }
+    ensures part { WrotePart (K.written sink.old) (K.written sink.new) (payload_line line len limit) }
+    ensures kept { OnOk result (K.faults sink.new ≡ K.faults sink.old) }
+    ensures rose { OnErr result (Rose (K.faults sink.old) (K.faults sink.new)) }
+{
     write_count(sink, u64::from(line), b": payload of ")?;
-    write_count(sink, len, b" bytes, limit 65536\n")
+    write_limit(sink, len, limit)
+}
+
+fn write_limit<K: Sink>(sink: &mut K, len: u64, limit: u32) -> Result<(), Failed>
+    ensures whole { OnOk result (K.written sink.new ≡ written_with (K.written sink.old) (limit_line len limit)) }
+    ensures part { WrotePart (K.written sink.old) (K.written sink.new) (limit_line len limit) }
+    ensures kept { OnOk result (K.faults sink.new ≡ K.faults sink.old) }
+    ensures rose { OnErr result (Rose (K.faults sink.old) (K.faults sink.new)) }
+{
+    write_count(sink, len, b" bytes, limit ")?;
+    write_count(sink, u64::from(limit), b"\n")
+}
+
+fn write_too_large<K: Sink>(sink: &mut K, file: u32, limit: u64) -> Result<(), Failed>
+    ensures whole { OnOk result (K.written sink.new ≡ written_with (K.written sink.old) (file_line file (codes ": more than ") ++ (decimal limit ++ codes " bytes\n"))) }
+    ensures part { WrotePart (K.written sink.old) (K.written sink.new) (file_line file (codes ": more than ") ++ (decimal limit ++ codes " bytes\n")) }
+    ensures kept { OnOk result (K.faults sink.new ≡ K.faults sink.old) }
+    ensures rose { OnErr result (Rose (K.faults sink.old) (K.faults sink.new)) }
+{
+    write_about(sink, file, b": more than ")?;
+    write_count(sink, limit, b" bytes\n")
 }
 
 fn write_about<K: Sink>(sink: &mut K, file: u32, what: &[u8]) -> Result<(), Failed>
-    ensures whole { OnOk result (K.written sink.new ≡ written_with (K.written sink.old) (codes "file " ++ decimal file ++ what.now)) }
-    ensures part { WrotePart (K.written sink.old) (K.written sink.new) (codes "file " ++ decimal file ++ what.now) }
+    ensures whole { OnOk result (K.written sink.new ≡ written_with (K.written sink.old) (file_line file what.now)) }
+    ensures part { WrotePart (K.written sink.old) (K.written sink.new) (file_line file what.now) }
     ensures kept { OnOk result (K.faults sink.new ≡ K.faults sink.old) }
     ensures rose { OnErr result (Rose (K.faults sink.old) (K.faults sink.new)) }
 {
     write_all(sink, b"file ")?;
     write_count(sink, u64::from(file), what)
+}
+
+fn write_entry<K: Sink>(sink: &mut K, at: u32, what: &[u8]) -> Result<(), Failed>
+    ensures whole { OnOk result (K.written sink.new ≡ written_with (K.written sink.old) (entry_line at what.now)) }
+    ensures part { WrotePart (K.written sink.old) (K.written sink.new) (entry_line at what.now) }
+    ensures kept { OnOk result (K.faults sink.new ≡ K.faults sink.old) }
+    ensures rose { OnErr result (Rose (K.faults sink.old) (K.faults sink.new)) }
+{
+    write_all(sink, b"topics entry ")?;
+    write_count(sink, u64::from(at), what)
 }
 
 fn write_count<K: Sink>(sink: &mut K, count: u64, what: &[u8]) -> Result<(), Failed>

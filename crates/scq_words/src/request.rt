@@ -1,3 +1,5 @@
+ghost use Rattle.std.specs.Prelude.{◌^◌, ◌<◌, ◌≤◌, vec_len};
+
 use scq_topics::Topics;
 
 /// What is asked of files. Workers are in `1..=4096` and at most `2^order`, the order in `1..=12`, the
@@ -9,6 +11,7 @@ pub struct RunRequest {
     pub size: u32,
     pub topics: Topics,
     pub files: Vec<String>,
+    ghost few: { vec_len files ≤ 64 },
 }
 
 /// What is asked of a generated file: the seed is in `0..=2147483647`, the lines in `1..=1000000`, the
@@ -18,6 +21,7 @@ pub struct SelfRequest {
     pub seed: u32,
     pub lines: u32,
     pub workers: u32,
+    ghost seed_in_range: { seed < 2 ^ 31 },
 }
 
 /// What the words of a command line ask for.
