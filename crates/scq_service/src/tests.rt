@@ -1,4 +1,4 @@
-//! Runs over memory, as tables: the worked rows, several files, refused words, long payloads, and reads and
+//! Runs over memory, as tables: several files, refused words, long payloads, and reads and
 //! writes in pieces of which one fails.
 use crate::harness::{Cut, EndlessFiles, run_over, run_text};
 use std::alloc::Global;
