@@ -1,6 +1,6 @@
 -- Tables, contents and faults of files, with one file more.
 use Rattle.std.proofs.Common.{◌≡◌, ◌⊎◌, ◌∙◌, refl, sym, ap, subst, inl, inr, arith, true, false, ℕ, suc, ◌+◌, Bool, ◌||◌, List, [], ◌∷◌, ◌++◌, length, map, append_assoc, Option, Some, None, IsSome, IfSome, cond}
-use Rattle.std.specs.Prelude.{IsSomeAnd, IsTrue, nat_lt, option_and_then, unwrap_or}
+use Rattle.std.specs.Prelude.{IsSomeAnd, nat_lt, option_and_then, unwrap_or}
 use Rattle.std.specs.List.{list_any}
 use Rattle.std.specs.Option.{option_map, option_or}
 use Rattle.std.specs.Str.{bytes_eq}

@@ -1,5 +1,5 @@
 -- How the reading of files ends, from how far it came.
-use Rattle.std.proofs.Common.{◌≡◌, ◌≢◌, ◌⊎◌, ◌∙◌, refl, sym, ap, subst, inl, inr, arith, ℕ, ◌+◌, ◌-◌, ◌<◌, ◌≤◌, List, [], ◌∷◌, length, take, get_or, Option, Some, None, IfSome}
+use Rattle.std.proofs.Common.{◌≡◌, ◌≢◌, ◌⊎◌, ◌∙◌, refl, sym, ap, subst, arith, ℕ, ◌+◌, ◌-◌, ◌<◌, List, [], length, take, get_or, Option, Some, None, IfSome}
 use Rattle.std.specs.Prelude.{IsSomeAnd, IsTrue, slice_get}
 use Rattle.std.specs.List.{list_any}
 use Rattle.std.specs.Option.{option_map}
@@ -10,16 +10,13 @@ use Rattle.scq_frames.specs.declared.fault.FrameFault.{FrameFault}
 use Rattle.scq_frames.specs.declared.fault.FrameFault.TheVariants as frame
 use Rattle.scq_outside.specs.Faults.{Rose}
 use Rattle.scq_outside.specs.Table.{Table}
-use Rattle.scq_collect.specs.Output.{answers_to}
 use Rattle.scq_collect.specs.declared.answered.Answered.{Answered}
-use Rattle.scq_service.specs.Causes.{first_file_fault, HaveRest}
 use Rattle.scq_service.specs.Contents.{contents_of, IfVisible, IsMissing, without_names}
-use Rattle.scq_service.specs.Ends.{Change, Left, HasGot, IfGot, IsAllRead, IsStopped, IsRefused, ReadsOver}
+use Rattle.scq_service.specs.Ends.{Change, IsRefused, ReadsOver}
 use Rattle.scq_service.specs.Faults.{bytes_of_large, fault_of_file}
-use Rattle.scq_service.specs.declared.fault.Fault.{Fault}
-use Rattle.scq_service.specs.declared.fault.Fault.TheVariants.{OpenFault, ReadFault, TooLong, TooLarge, NoMemory}
+use Rattle.scq_service.specs.declared.fault.Fault.TheVariants.{OpenFault}
 use Rattle.scq_service.proofs.Files.{gone}
-use Rattle.scq_service.proofs.Progress.{Sees, IsMet, Progress}
+use Rattle.scq_service.proofs.Progress.{Progress}
 
 pub visible-weaker : (table : Option Table) (names : List (List ℕ)) (P Q : List (List ℕ) → Type 0) → IfVisible table names P
     → ((contents : List (List ℕ)) → P contents → Q contents) → IfVisible table names Q

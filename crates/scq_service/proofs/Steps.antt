@@ -1,16 +1,14 @@
 -- What one file more adds to the reading of files: it was answered, it has the first fault, or it was
 -- got behind a file that has one.
-use Rattle.std.proofs.Common.{◌≡◌, ◌≢◌, ◌⊎◌, ◌∙◌, refl, sym, ap, subst, inl, inr, arith, true, false, zero, ℕ, suc, ◌+◌, ◌-◌, ◌<◌, ◌≤◌, ◌^◌, Bool, List, [], ◌∷◌, ◌++◌, length, take, map, get_or, length-append, Option, Some, None, IsSome, IfSome}
+use Rattle.std.proofs.Common.{◌≡◌, ◌≢◌, ◌∙◌, refl, sym, ap, subst, inl, inr, arith, true, false, zero, ℕ, suc, ◌+◌, ◌-◌, ◌<◌, ◌≤◌, ◌^◌, Bool, List, [], ◌∷◌, ◌++◌, length, take, map, get_or, length-append, Option, Some, None, IsSome, IfSome}
 use Rattle.std.specs.Prelude.{IsSomeAnd, nat_lt, slice_get, unwrap_or}
 use Rattle.std.specs.List.{All}
 use Rattle.std.specs.Option.{option_map, option_or}
 use Rattle.std.proofs.Math.Seq.{take-append_seam}
 use Rattle.std.proofs.lemmas.Bool.{lt-ltb}
 use Rattle.std.proofs.lemmas.List.{take_more, take-append-le}
-use Rattle.std.proofs.lemmas.List.Elements.{All-push}
 use Rattle.scq_topics.specs.declared.kind.Kind.{Kind}
 use Rattle.scq_frames.specs.Text.{messages_of}
-use Rattle.scq_frames.specs.Framing.{NothingLeft}
 use Rattle.scq_frames.specs.Trouble.{Trouble, LongPayload, ManyBytes}
 use Rattle.scq_frames.specs.declared.fault.FrameFault.{FrameFault}
 use Rattle.scq_frames.specs.declared.fault.FrameFault.TheVariants as frame
@@ -19,13 +17,12 @@ use Rattle.scq_outside.specs.Table.{Table, without_name}
 use Rattle.scq_collect.specs.Judged.{file_trouble, Judged, Judges}
 use Rattle.scq_collect.specs.Output.{answer_to, answers_to}
 use Rattle.scq_collect.specs.declared.answered.Answered.{Answered}
-use Rattle.scq_service.specs.Causes.{given_of, file_fault, first_file_fault, IsTroubled, HaveRest}
+use Rattle.scq_service.specs.Causes.{given_of, file_fault}
 use Rattle.scq_service.specs.Contents.{IfVisible, without_names}
-use Rattle.scq_service.specs.Ends.{Change, IsReadOf}
+use Rattle.scq_service.specs.Ends.{Change}
 use Rattle.scq_service.specs.Faults.{fault_of_file}
-use Rattle.scq_service.specs.declared.fault.Fault.{Fault}
 use Rattle.scq_service.proofs.Files.{without-more, visible-more, answers-more, fault_of_one, fault-more, rest-more, rest-length}
-use Rattle.scq_service.proofs.Progress.{IsCauseOf, SaysOf, Sees, IsMet, IsStill, Progress}
+use Rattle.scq_service.proofs.Progress.{Sees, IsMet, IsStill, Progress}
 
 -- a count that rose is above 0
 pub rose-above : (old new : ℕ) → Rose old new → 0 < new

@@ -1,13 +1,10 @@
-use Rattle.std.proofs.Common.{◌≡◌, ◌≢◌, ◌∙◌, ◌+◌, ◌<◌, ◌≤◌, refl, sym, ap, subst, arith, map, length, get_or, true, false, ℕ, List, [], ◌∷◌, ◌++◌, length-append, Option, Some, None, IfSome, Ok, Err}
+use Rattle.std.proofs.Common.{◌≡◌, ◌≢◌, ◌∙◌, ◌+◌, ◌<◌, refl, sym, ap, subst, arith, map, length, get_or, true, false, ℕ, [], ◌∷◌, ◌++◌, length-append, Option, Some, None, IfSome, Err}
 use Rattle.std.specs.Prelude.{string_bytes, is_some, not}
-use Rattle.std.specs.Option.{option_map}
 use Rattle.std.proofs.lemmas.List.{get_or-map, length-map}
 use Rattle.std.proofs.lemmas.List.Elements.{All-push}
 use Rattle.scq_frames.specs.Framing.{NothingLeft}
 use Rattle.scq_frames.specs.declared.fault.FrameFault.{FrameFault}
 use Rattle.scq_frames.specs.declared.fault.FrameFault.TheVariants as frame
-use Rattle.scq_collect.specs.declared.answered.Answered.{Answered}
-use Rattle.scq_outside.specs.Faults.{Rose}
 use Rattle.scq_outside.specs.Table.{Table}
 use Rattle.scq_service.specs.Ends.{Change}
 use Rattle.scq_service.specs.declared.fault.Fault.TheVariants.{OpenFault}

@@ -1,6 +1,5 @@
 use Rattle.std.proofs.Common.{◌≡◌, length, map}
 use Rattle.std.specs.Prelude.{string_bytes}
-use Rattle.scq_service.proofs.Files.{contents-more}
 use Rattle.scq_service.proofs.Progress.{Progress}
 use Rattle.scq_service.proofs.reading.read_files.Given as goal
 

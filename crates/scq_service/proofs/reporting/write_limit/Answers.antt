@@ -1,4 +1,4 @@
-use Rattle.std.proofs.Common.{◌≡◌, ℕ, List, ◌++◌, subst, codes, decimal}
+use Rattle.std.proofs.Common.{◌≡◌, ℕ, ◌++◌, subst, codes, decimal}
 use Rattle.std.specs.Prelude.{OnOk}
 use Rattle.scq_service.specs.Writing.{written_with, WrotePart}
 use Rattle.scq_service.proofs.Writings.{part-first, part-second, whole-then}

@@ -1,6 +1,4 @@
-use Rattle.std.proofs.Common.{◌≡◌, ℕ, List, ◌++◌, subst, codes, decimal}
-use Rattle.std.specs.Prelude.{OnOk}
-use Rattle.scq_service.specs.Writing.{written_with, WrotePart}
+use Rattle.std.proofs.Common.{◌++◌, codes, decimal}
 use Rattle.scq_service.specs.Faults.{file_line}
 use Rattle.scq_service.proofs.Writings.{part-first, part-second, whole-then}
 use Rattle.scq_service.proofs.reporting.write_too_large.Goals as goal
