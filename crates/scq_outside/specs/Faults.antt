@@ -1,14 +1,14 @@
 -- Counts of faults.
-use Rattle.std.specs.Prelude.{◌≡◌, ◌⊎◌, ℕ, ◌+◌, ◌<◌, ◌-◌, ◌^◌, min}
+use Rattle.std.specs.Prelude.{◌≡◌, ℕ, ◌+◌, ◌-◌, ◌^◌, min}
 
 -- where a count of faults stands still
 abbrev pub last_count : ℕ
 last_count = 2 ^ 64 - 1
 
--- the count rose in a call: it is greater than before, or stands at its last value
-abbrev pub Rose : ℕ → ℕ → Type 0
-Rose old new = (old < new) ⊎ (new ≡ last_count)
-
 -- the count after one fault more
 abbrev pub one_more : ℕ → ℕ
 one_more count = min (count + 1) last_count
+
+-- the count rose in a call: just one of its calls failed
+abbrev pub Rose : ℕ → ℕ → Type 0
+Rose old new = new ≡ one_more old

@@ -3,4 +3,5 @@ pub mod Faults
 pub mod Memory
 pub mod Readable
 pub mod Table
+pub mod Taking
 pub mod Written

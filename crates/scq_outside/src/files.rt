@@ -1,6 +1,6 @@
 ghost use Rattle.std.specs.Prelude.{◌≡◌, ℕ, ◌≤◌, Option, IsSome, IfOk, OnOk, OnErr, IfSome};
 ghost use Rattle.std.specs.Option.{option_map};
-ghost use Rattle.scq_outside.specs.Faults.{Rose, last_count};
+ghost use Rattle.scq_outside.specs.Faults.{Rose};
 ghost use Rattle.scq_outside.specs.Table.{Table, without_name};
 
 use crate::{Failed, Source};
@@ -27,6 +27,5 @@ pub trait Files {
         ensures missing { OnErr result (IfSome (table self.old) (λ files. files name.now ≡ None)) }
         ensures unchanged { OnErr result (table self.new ≡ table self.old) }
         ensures rose { OnErr result (Rose (faults self.old) (faults self.new)) }
-        ensures fits { OnErr result (faults self.new ≤ last_count) }
         ensures never_falls { faults self.old ≤ faults self.new };
 }

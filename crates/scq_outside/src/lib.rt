@@ -11,12 +11,14 @@ mod mem_files;
 mod mem_sink;
 mod mem_source;
 mod plain_source;
+mod read_all_fault;
 mod script;
 mod sink;
 mod source;
 mod std_sink;
 #[cfg(test)]
 mod tests;
+mod whole;
 
 pub use disk::{DiskFiles, DiskSource};
 pub use files::Files;
@@ -24,6 +26,8 @@ pub use mem_files::MemFiles;
 pub use mem_sink::MemSink;
 pub use mem_source::MemSource;
 pub use plain_source::PlainSource;
+pub use read_all_fault::ReadAllFault;
 pub use sink::Sink;
 pub use source::{Failed, Source};
 pub use std_sink::StdSink;
+pub use whole::read_all;

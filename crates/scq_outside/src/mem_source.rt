@@ -1,4 +1,4 @@
-ghost use Rattle.std.specs.Prelude.{◌≡◌, ℕ, ◌<◌, ◌≤◌, ◌++◌, List, [], Some, IsTrue, false, length, take, min, IfOk, OnOk, OnErr, IsErr, ◌↔◌};
+ghost use Rattle.std.specs.Prelude.{◌≡◌, ℕ, ◌<◌, ◌≤◌, ◌++◌, List, [], Some, IsTrue, false, length, take, drop, min, IfOk, OnOk, OnErr, IsErr, ◌↔◌};
 ghost use Rattle.scq_outside.specs.Calls.{are_pieces, first_call, next_call, fails_next, granted};
 ghost use Rattle.scq_outside.specs.Faults.{one_more};
 ghost use Rattle.scq_outside.specs.Readable.{Readable};
@@ -49,11 +49,13 @@ impl Source for MemSource {
         ensures moved { IfOk result (λ k. self.old.left ≡ take k into.new ++ self.new.left) }
         ensures within { IfOk result (λ k. k ≤ length into.new) }
         ensures end { IfOk result (λ k. k ≡ 0 → self.old.left ≡ []) }
+        ensures behind { IfOk result (λ k. drop k into.new ≡ drop k into.old) }
         ensures next { self.new.reads ≡ next_call self.old.reads }
         ensures kept { OnOk result (self.new.faults ≡ self.old.faults) }
 
         // A read that fails moves nothing, and counts once.
         ensures unmoved { OnErr result (self.new.left ≡ self.old.left) }
+        ensures untouched { OnErr result (into.new ≡ into.old) }
         ensures counted { OnErr result (self.new.faults ≡ one_more self.old.faults) }
         ensures never_falls { self.old.faults ≤ self.new.faults }
     {

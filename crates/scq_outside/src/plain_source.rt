@@ -39,6 +39,7 @@ impl Source for PlainSource {
         ensures within { IfOk result (λ k. k ≤ length into.new) }
         ensures moved { IfOk result (λ k. self.old ≡ take k into.new ++ self.new) }
         ensures end { IfOk result (λ k. k ≡ 0 → self.old ≡ []) }
+        ensures behind { IfOk result (λ k. drop k into.new ≡ drop k into.old) }
     {
         let rest = &self.bytes[self.at..];
         let count = into.len().min(rest.len());

@@ -1,6 +1,6 @@
 ghost use Rattle.std.specs.Prelude.{◌≡◌, ℕ, ◌<◌, ◌≤◌, ◌++◌, List, Option, length, take, IfOk, OnOk, OnErr};
 ghost use Rattle.std.specs.Option.{option_map};
-ghost use Rattle.scq_outside.specs.Faults.{Rose, last_count};
+ghost use Rattle.scq_outside.specs.Faults.{Rose};
 
 use crate::Failed;
 
@@ -24,6 +24,5 @@ pub trait Sink {
         // After a fault the sink has what it had.
         ensures unwritten { OnErr result (written self.new ≡ written self.old) }
         ensures rose { OnErr result (Rose (faults self.old) (faults self.new)) }
-        ensures fits { OnErr result (faults self.new ≤ last_count) }
         ensures never_falls { faults self.old ≤ faults self.new };
 }

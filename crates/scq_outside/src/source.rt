@@ -1,6 +1,6 @@
 ghost use Rattle.std.specs.Prelude.{◌≡◌, ℕ, ◌<◌, ◌≤◌, ◌++◌, List, [], Option, length, take, IfOk, OnOk, OnErr, IfSome};
 ghost use Rattle.std.specs.Option.{option_map};
-ghost use Rattle.scq_outside.specs.Faults.{Rose, last_count};
+ghost use Rattle.scq_outside.specs.Faults.{Rose};
 
 use thiserror::Error;
 
@@ -29,6 +29,5 @@ pub trait Source: Send + Drop {
         // After a fault the source has what it had.
         ensures unmoved { OnErr result (left self.new ≡ left self.old) }
         ensures rose { OnErr result (Rose (faults self.old) (faults self.new)) }
-        ensures fits { OnErr result (faults self.new ≤ last_count) }
         ensures never_falls { faults self.old ≤ faults self.new };
 }

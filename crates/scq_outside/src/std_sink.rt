@@ -1,57 +1,31 @@
-ghost use Rattle.std.specs.Prelude.{◌≡◌, ◌≤◌, length, None, IfOk};
+ghost use Rattle.std.specs.Prelude.{◌≡◌, None};
 
 use crate::{Failed, Sink};
-use std::io::{self, Stderr, Stdout, Write};
+use std::io::Write;
 
+/// A stream of the system without a buffer, as standard output and standard error are. What it took
+/// isn't visible.
 #[derive(Drop)]
-enum Stream {
-    Output(Stdout),
-    Errors(Stderr),
-}
-
-/// Standard output or standard error, without a buffer. What they took isn't visible.
-#[derive(Drop)]
-pub struct StdSink {
-    stream: Stream,
+pub struct StdSink<W: Write + Drop> {
+    stream: W,
     faults: u64,
 }
 
-impl StdSink {
-    pub fn output(stream: Stdout) -> StdSink
-        ensures { ⟦<StdSink as Sink>⟧.faults result ≡ 0 }
+impl<W: Write + Drop> StdSink<W> {
+    pub fn new(stream: W) -> StdSink<W>
+        ensures { ⟦<StdSink<W> as Sink>⟧.faults result ≡ 0 }
     {
-        StdSink {
-            stream: Stream::Output(stream),
-            faults: 0,
-        }
-    }
-
-    pub fn errors(stream: Stderr) -> StdSink
-        ensures { ⟦<StdSink as Sink>⟧.faults result ≡ 0 }
-    {
-        StdSink {
-            stream: Stream::Errors(stream),
-            faults: 0,
-        }
+        StdSink { stream, faults: 0 }
     }
 }
 
-fn write_some(stream: &mut Stream, piece: &[u8]) -> io::Result<usize>
-    ensures { IfOk result (λ k. k ≤ length piece.now) }
-{
-    match stream {
-        Stream::Output(stdout) => stdout.write(piece),
-        Stream::Errors(stderr) => stderr.write(piece),
-    }
-}
-
-impl Sink for StdSink {
+impl<W: Write + Drop> Sink for StdSink<W> {
     ghost faults = { λ sink. sink.faults };
 
     ghost written = { λ _. None };
 
     fn write(&mut self, piece: &[u8]) -> Result<usize, Failed> {
-        match write_some(&mut self.stream, piece) {
+        match self.stream.write(piece) {
             Ok(count) if count > 0 => Ok(count),
             _ => {
                 self.faults = self.faults.saturating_add(1);
