@@ -13,8 +13,8 @@ use std::{env, io};
 fn main(rt: HostRuntime) -> ExitCode {
     let alloc = rt.alloc();
     let mut files = DiskFiles::new(&rt);
-    let mut out = StdSink::output(rt.stdout());
-    let mut err = StdSink::errors(rt.stderr());
+    let mut out = StdSink::new(rt.stdout());
+    let mut err = StdSink::new(rt.stderr());
     let status = match words(&rt, alloc) {
         Ok(words) => serve(alloc, &words, &mut files, &mut out, &mut err).status,
         Err(AllocError) => {

@@ -1,5 +1,5 @@
 -- A run in whose way nothing stood ends with the output, or for want of memory.
-use Rattle.std.proofs.Common.{◌≡◌, ◌⊎◌, ◌∙◌, refl, sym, ap, subst, inl, inr, arith, false, ℕ, ◌-◌, ◌<◌, ◌≤◌, List, [], ◌∷◌, length, take, get_or, Option, Some, None, IsSome, IfSome}
+use Rattle.std.proofs.Common.{◌≡◌, ◌⊎◌, ◌∙◌, refl, sym, subst, inl, inr, arith, false, ℕ, ◌-◌, ◌<◌, List, length, take, Option, Some, None, IsSome}
 use Rattle.std.specs.Prelude.{IsSomeAnd, slice_get}
 use Rattle.std.specs.List.{All}
 use Rattle.std.proofs.lemmas.Option.{slice_get_within, get_or_from_slice_get}
@@ -44,7 +44,7 @@ pub complete : {S : Type 0} (size : ℕ) (text : List (List ℕ) → List ℕ) (
 complete size text faults left names r w None e calm = inl refl
 complete size text faults left names r w (Some NoMemory) e calm = inr refl
 complete size text faults left names r w (Some WriteFault) e calm = absurd (calm.writes e.1)
-complete size text faults left names r w (Some (OpenFault file)) e calm = absurd (calm.opens e.0.rose)
+complete size text faults left names r w (Some (OpenFault file)) e calm = absurd (calm.opens e.0.missed.rose)
 complete size text faults left names r w (Some (ReadFault file)) e calm = absurd (above-none faults r.sources (file - 1) calm.quiet e.0.2)
 complete size text faults left names r w (Some (TooLong file line len limit)) e calm =
     absurd (never size (LongPayload line len) r.table.old (take (length r.sources) names) file _ calm.visible calm.sound e.0.5 (λ contents t. t))

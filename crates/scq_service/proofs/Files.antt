@@ -21,14 +21,6 @@ pub without-more : (names : List (List ℕ)) (name : List ℕ) (table : Table) �
 without-more [] name table = refl
 without-more (x ∷ xs) name table = without-more xs name (without_name x table)
 
--- what is still there was there
-pub still-there : (names : List (List ℕ)) (table : Table) (name content : List ℕ) → without_names names table name ≡ Some content → table name ≡ Some content
-still-there [] table name content e = e
-still-there (x ∷ xs) table name content e = at (bytes_eq x name) (still-there xs (without_name x table) name content e) where
-  at : (b : Bool) → cond b None (table name) ≡ Some content → table name ≡ Some content
-  at true e = absurd (cc)
-  at false e = e
-
 -- what is not there now was never there, or was taken
 pub gone : (names : List (List ℕ)) (table : Table) (name : List ℕ) → without_names names table name ≡ None → (table name ≡ None) ⊎ (list_any (bytes_eq name) names ≡ true)
 gone [] table name e = inl e
@@ -48,7 +40,7 @@ gone (x ∷ xs) table name e = elim (gone xs (without_name x table) name e) [
   at false other e = inl e
 
 -- the contents with one more
-pub contents-more : (table : Table) (names : List (List ℕ)) (name content : List ℕ) (contents : List (List ℕ)) → contents_of table names ≡ Some contents → table name ≡ Some content
+pub contents-more : (table : Table) (names : List (List ℕ)) (name content : List ℕ) (contents : List (List ℕ)) → contents_of table names ≡ Some contents → without_names names table name ≡ Some content
     → contents_of table (names ++ name ∷ []) ≡ Some (contents ++ content ∷ [])
 contents-more table [] name content contents all this =
     ap (option_and_then (λ content. option_map (λ more. content ∷ more) (Some []))) this
@@ -57,17 +49,17 @@ contents-more table [] name content contents all this =
     none : {cs : List (List ℕ)} → Some [] ≡ Some cs → [] ≡ cs
     none e = cc
 contents-more table (x ∷ xs) name content contents all this =
-    parts (table x) (contents_of table xs) refl all (λ cs f. contents-more table xs name content cs f this)
+    parts (table x) (contents_of (without_name x table) xs) refl all (λ cs f. contents-more (without_name x table) xs name content cs f this)
   where
     parts : (o : Option (List ℕ)) (more : Option (List (List ℕ))) → table x ≡ o → option_and_then (λ c. option_map (λ cs. c ∷ cs) more) (table x) ≡ Some contents
-        → ((cs : List (List ℕ)) → more ≡ Some cs → contents_of table (xs ++ name ∷ []) ≡ Some (cs ++ content ∷ []))
-        → option_and_then (λ c. option_map (λ cs. c ∷ cs) (contents_of table (xs ++ name ∷ []))) (table x) ≡ Some (contents ++ content ∷ [])
+        → ((cs : List (List ℕ)) → more ≡ Some cs → contents_of (without_name x table) (xs ++ name ∷ []) ≡ Some (cs ++ content ∷ []))
+        → option_and_then (λ c. option_map (λ cs. c ∷ cs) (contents_of (without_name x table) (xs ++ name ∷ []))) (table x) ≡ Some (contents ++ content ∷ [])
     parts None more e all again = let none : None ≡ Some contents = sym (ap (option_and_then (λ c. option_map (λ cs. c ∷ cs) more)) e) ∙ all in absurd (cc)
     parts (Some c) None e all again = let none : None ≡ Some contents = sym (ap (option_and_then (λ c. option_map (λ cs. c ∷ cs) None)) e) ∙ all in absurd (cc)
     parts (Some c) (Some cs) e all again =
         let whole : Some (c ∷ cs) ≡ Some contents = sym (ap (option_and_then (λ c. option_map (λ cs. c ∷ cs) (Some cs))) e) ∙ all in
         let same : c ∷ cs ≡ contents = cc in
-        ap (option_and_then (λ c. option_map (λ more. c ∷ more) (contents_of table (xs ++ name ∷ [])))) e
+        ap (option_and_then (λ c. option_map (λ more. c ∷ more) (contents_of (without_name x table) (xs ++ name ∷ [])))) e
         ∙ ap (option_map (λ more. c ∷ more)) (again cs refl)
         ∙ ap (λ (before : List (List ℕ)). Some (before ++ content ∷ [])) same
 
@@ -87,7 +79,7 @@ visible-more (Some table) now names name before P Q is there seen more =
     next (Some content) e some is None f seen = absurd seen
     next (Some content) e some is (Some contents) f seen =
         let R : Option (List (List ℕ)) → Type 0 = λ o. IsSomeAnd o Q in
-        subst R (sym (contents-more table names name content contents f (still-there names table name content e))) (more contents content is seen)
+        subst R (sym (contents-more table names name content contents f e)) (more contents content is seen)
 
 -- the answers with one file more
 pub answers-more : (topics : List (List ℕ × Kind)) (file : ℕ) (contents : List (List ℕ)) (content : List ℕ)

@@ -12,7 +12,7 @@ use Rattle.scq_outside.specs.Faults.{Rose}
 use Rattle.scq_outside.specs.Table.{Table}
 use Rattle.scq_collect.specs.declared.answered.Answered.{Answered}
 use Rattle.scq_service.specs.Contents.{contents_of, IfVisible, IsMissing, without_names}
-use Rattle.scq_service.specs.Ends.{Change, IsRefused, ReadsOver}
+use Rattle.scq_service.specs.Ends.{Change, HasMissed, IsRefused, ReadsOver}
 use Rattle.scq_service.specs.Faults.{bytes_of_large, fault_of_file}
 use Rattle.scq_service.specs.declared.fault.Fault.TheVariants.{OpenFault}
 use Rattle.scq_service.proofs.Files.{gone}
@@ -54,6 +54,16 @@ module _ {S : Type 0} (size : ℕ) (faults : S → ℕ) (left : S → Option (Li
     read = refl;
   }
 
+  -- the next source was not got
+  pub missed : (names : List (List ℕ)) (table : Change (Option Table)) (opens : Change ℕ) (sources : List S) (answered : List Answered) (met : Option (ℕ × FrameFault)) (name : List ℕ) (new : Option Table) (count : ℕ)
+      → Progress size faults left topics names table opens met sources answered → length sources < length names → name ≡ get_or names (length sources) []
+      → IfSome table.new (λ files. files name ≡ None) → Rose opens.new count
+      → (read : ℕ) → HasMissed names (record { table = record { old = table.old; new = new }; opens = record { old = opens.old; new = count }; sources = sources; read = read })
+  missed names table opens sources answered met name new count p more is none rose read = record {
+    rose = rose-since opens.old opens.new count p.kept rose;
+    missing = missing table.old table.new names (length sources) name more is p.left_table none;
+  }
+
   pub ends-stopped : (names : List (List ℕ)) (table : Change (Option Table)) (opens : Change ℕ) (sources : List S) (answered : List Answered) (name : List ℕ) (new : Option Table) (count : ℕ)
       → Progress size faults left topics names table opens None sources answered → length sources < length names → name ≡ get_or names (length sources) []
       → IfSome table.new (λ files. files name ≡ None) → Rose opens.new count
@@ -61,33 +71,36 @@ module _ {S : Type 0} (size : ℕ) (faults : S → ℕ) (left : S → Option (Li
   ends-stopped names table opens sources answered name new count p more is none rose = record {
     next = refl;
     within = more;
-    rose = rose-since opens.old opens.new count p.kept rose;
-    missing = missing table.old table.new names (length sources) name more is p.left_table none;
+    missed = missed names table opens sources answered None name new count p more is none rose 0;
     quiet = p.still.0;
+    ended = p.still.1;
     sound = visible-weaker table.old (take (length sources) names) _ _ p.seen (λ contents sees. sees.says.0);
     read = refl;
   }
 
   -- what is said of the file that has the first fault
   refused : (names : List (List ℕ)) (table : Change (Option Table)) (opens : Change ℕ) (sources : List S) (answered : List Answered) (file : ℕ) (fault : FrameFault) (new : Option Table) (count read : ℕ)
-      → Progress size faults left topics names table opens (Some (file, fault)) sources answered → (length sources < length names → Rose opens.old count) → fault ≢ frame.NoMemory
+      → Progress size faults left topics names table opens (Some (file, fault)) sources answered
+      → (length sources < length names → HasMissed names (record { table = record { old = table.old; new = new }; opens = record { old = opens.old; new = count }; sources = sources; read = read })) → fault ≢ frame.NoMemory
       → IsRefused size faults left names (record { table = record { old = table.old; new = new }; opens = record { old = opens.old; new = count }; sources = sources; read = read }) file (fault_of_file size file fault)
   refused names table opens sources answered file fault new count read p stopped other = record {
     first = p.still.first;
     last = p.still.last;
     stopped = stopped;
     quiet = p.still.quiet;
+    ended = p.still.ended;
     cause = visible-weaker table.old (take (length sources) names) _ _ p.seen (λ contents sees. sees.says.first other);
   }
 
   pub ends-met : (names : List (List ℕ)) (table : Change (Option Table)) (opens : Change ℕ) (sources : List S) (answered : List Answered) (file : ℕ) (fault : FrameFault) (new : Option Table) (count : ℕ)
-      → Progress size faults left topics names table opens (Some (file, fault)) sources answered → (length sources < length names → Rose opens.old count)
+      → Progress size faults left topics names table opens (Some (file, fault)) sources answered
+      → (length sources < length names → (read : ℕ) → HasMissed names (record { table = record { old = table.old; new = new }; opens = record { old = opens.old; new = count }; sources = sources; read = read }))
       → ReadsOver size faults left names (record { table = record { old = table.old; new = new }; opens = record { old = opens.old; new = count }; sources = sources; read = bytes_of_large fault })
       (Some (fault_of_file size file fault))
   ends-met names table opens sources answered file frame.ReadFault new count p stopped =
-      (refused names table opens sources answered file frame.ReadFault new count 0 p stopped (λ e. cc), refl, p.still.failed refl)
+      (refused names table opens sources answered file frame.ReadFault new count 0 p (λ less. stopped less 0) (λ e. cc), refl, p.still.failed refl)
   ends-met names table opens sources answered file (frame.TooLong line len) new count p stopped = (
-    refused names table opens sources answered file (frame.TooLong line len) new count 0 p stopped (λ e. cc),
+    refused names table opens sources answered file (frame.TooLong line len) new count 0 p (λ less. stopped less 0) (λ e. cc),
     refl,
     refl,
     (p.still.long line len refl).0,
@@ -95,7 +108,7 @@ module _ {S : Type 0} (size : ℕ) (faults : S → ℕ) (left : S → Option (Li
     visible-weaker table.old (take (length sources) names) _ _ p.seen (λ contents sees. sees.says.long line len refl),
   )
   ends-met names table opens sources answered file (frame.TooLarge bytes) new count p stopped = (
-    refused names table opens sources answered file (frame.TooLarge bytes) new count bytes p stopped (λ e. cc),
+    refused names table opens sources answered file (frame.TooLarge bytes) new count bytes p (λ less. stopped less bytes) (λ e. cc),
     refl,
     p.still.large bytes refl,
     visible-weaker table.old (take (length sources) names) _ _ p.seen (λ contents sees. sees.says.large bytes refl),

@@ -1,6 +1,6 @@
 -- What one file more adds to the reading of files: it was answered, it has the first fault, or it was
 -- got behind a file that has one.
-use Rattle.std.proofs.Common.{◌≡◌, ◌≢◌, ◌∙◌, refl, sym, ap, subst, inl, inr, arith, true, false, zero, ℕ, suc, ◌+◌, ◌-◌, ◌<◌, ◌≤◌, ◌^◌, Bool, List, [], ◌∷◌, ◌++◌, length, take, map, get_or, length-append, Option, Some, None, IsSome, IfSome}
+use Rattle.std.proofs.Common.{◌≡◌, ◌≢◌, ◌∙◌, refl, sym, ap, subst, arith, true, false, zero, ℕ, suc, ◌+◌, ◌-◌, ◌<◌, ◌≤◌, ◌^◌, Bool, List, [], ◌∷◌, ◌++◌, length, take, map, get_or, length-append, Option, Some, None, IsSome, IfSome}
 use Rattle.std.specs.Prelude.{IsSomeAnd, nat_lt, slice_get, unwrap_or}
 use Rattle.std.specs.List.{All}
 use Rattle.std.specs.Option.{option_map, option_or}
@@ -8,6 +8,7 @@ use Rattle.std.proofs.Math.Seq.{take-append_seam}
 use Rattle.std.proofs.lemmas.Bool.{lt-ltb}
 use Rattle.std.proofs.lemmas.List.{take_more, take-append-le}
 use Rattle.scq_topics.specs.declared.kind.Kind.{Kind}
+use Rattle.scq_frames.specs.Framing.{NothingLeft}
 use Rattle.scq_frames.specs.Text.{messages_of}
 use Rattle.scq_frames.specs.Trouble.{Trouble, LongPayload, ManyBytes}
 use Rattle.scq_frames.specs.declared.fault.FrameFault.{FrameFault}
@@ -26,8 +27,7 @@ use Rattle.scq_service.proofs.Progress.{Sees, IsMet, IsStill, Progress}
 
 -- a count that rose is above 0
 pub rose-above : (old new : ℕ) → Rose old new → 0 < new
-rose-above old new (inl more) = omega arith
-rose-above old new (inr last) = omega arith
+rose-above old new rose = omega (arith, rose)
 
 -- what was visible before a source gave these bytes is they and what is left
 pub split-visible : (content bytes : List ℕ) (after : Option (List ℕ)) → Some content ≡ option_map (λ rest. bytes ++ rest) after
@@ -158,26 +158,32 @@ module _ {S : Type 0} (size : ℕ) (faults : S → ℕ) (left : S → Option (Li
   still-met met sources source m =
       let within : met.0 - 1 < length sources = omega (arith, m.first, m.last) in
       let A : List S → Type 0 = λ xs. All (λ source. faults source ≡ 0) xs in
+      let E : List S → Type 0 = λ xs. All (λ source. NothingLeft (left source)) xs in
+      let same = sym (take-append-le (met.0 - 1) sources (source ∷ []) (omega arith)) in
       record {
         first = m.first;
         last = omega (arith, m.last, length-append sources (source ∷ []));
-        quiet = subst A (sym (take-append-le (met.0 - 1) sources (source ∷ []) (omega arith))) m.quiet;
+        quiet = subst A same m.quiet;
+        ended = subst E same m.ended;
         failed = λ e. some-and _ _ _ (get-front sources source (met.0 - 1) within) (m.failed e);
         long = m.long;
         large = m.large;
       }
 
   -- the next file has the first fault
-  pub still-refused : (sources : List S) (source : S) (fault : FrameFault) (file : ℕ) → file ≡ length sources + 1 → All (λ source. faults source ≡ 0) sources
+  pub still-refused : (sources : List S) (source : S) (fault : FrameFault) (file : ℕ) → file ≡ length sources + 1 → IsStill size faults left topics None sources
       → (fault ≡ frame.ReadFault → 0 < faults source) → ((line len : ℕ) → fault ≡ frame.TooLong line len → (0 < line) × (size < len))
-      → ((bytes : ℕ) → fault ≡ frame.TooLarge bytes → 2 ^ 30 < bytes) → IsMet size faults left topics file fault (sources ++ source ∷ [])
-  still-refused sources source fault file is quiet failed long large =
+      → ((bytes : ℕ) → fault ≡ frame.TooLarge bytes → bytes ≡ 2 ^ 30 + 1) → IsMet size faults left topics file fault (sources ++ source ∷ [])
+  still-refused sources source fault file is still failed long large =
       let before : file - 1 ≡ length sources = omega (arith, is) in
       let A : List S → Type 0 = λ xs. All (λ source. faults source ≡ 0) xs in
+      let E : List S → Type 0 = λ xs. All (λ source. NothingLeft (left source)) xs in
+      let same = sym (ap (λ n. take n (sources ++ source ∷ [])) before ∙ take-append_seam sources (source ∷ [])) in
       record {
         first = omega (arith, is);
         last = omega (arith, is, length-append sources (source ∷ []));
-        quiet = subst A (sym (ap (λ n. take n (sources ++ source ∷ [])) before ∙ take-append_seam sources (source ∷ []))) quiet;
+        quiet = subst A same still.0;
+        ended = subst E same still.1;
         failed = λ e. some-and _ _ _ (ap (slice_get (sources ++ source ∷ [])) before ∙ get-last sources source) (failed e);
         long = long;
         large = large;

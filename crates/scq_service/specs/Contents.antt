@@ -5,11 +5,12 @@ use Rattle.std.specs.Str.{bytes_eq}
 use Rattle.std.specs.Option.{option_map}
 use Rattle.scq_outside.specs.Table.{Table, without_name}
 
--- the contents that a table has for these names, in their order, where each is there
+-- the contents that a table gives for these names, in their order, where each is there; a name that was
+-- given is there no more
 abbrev pub contents_of : Table → List (List ℕ) → Option (List (List ℕ))
 contents_of table [] = Some []
 contents_of table (name ∷ names) =
-    option_and_then (λ content. option_map (λ more. content ∷ more) (contents_of table names)) (table name)
+    option_and_then (λ content. option_map (λ more. content ∷ more) (contents_of (without_name name table) names)) (table name)
 
 -- where the table is visible, each name is there and the contents meet P
 abbrev pub IfVisible : Option Table → List (List ℕ) → (List (List ℕ) → Type 0) → Type 0

@@ -67,22 +67,29 @@ pub record IsAllRead {S : Type 0} (size : ℕ) (faults : S → ℕ) (left : S �
   pub sound : HasFault size faults left names r None
   pub read : r.read ≡ 0
 
--- a source was not got, and those before it have no fault
+-- the next source was not got: its name is missing, and the count of files rose
+pub record HasMissed {S : Type 0} (names : List (List ℕ)) (r : Left S) : Type 0 where
+  pub rose : Rose r.opens.old r.opens.new
+  pub missing : IfSome r.table.old (λ files. IsMissing files names (length r.sources + 1))
+
+-- a source was not got, and those before it were read to their ends and have no fault
 pub record IsStopped {S : Type 0} (size : ℕ) (faults : S → ℕ) (left : S → Option (List ℕ)) (names : List (List ℕ)) (r : Left S) (file : ℕ) : Type 0 where
   pub next : file ≡ length r.sources + 1
   pub within : length r.sources < length names
-  pub rose : Rose r.opens.old r.opens.new
-  pub missing : IfSome r.table.old (λ files. IsMissing files names file)
+  pub missed : HasMissed names r
   pub quiet : All (λ source. faults source ≡ 0) r.sources
+  pub ended : All (λ source. NothingLeft (left source)) r.sources
   pub sound : HasFault size faults left names r None
   pub read : r.read ≡ 0
 
--- this file has the first fault; where not all sources were got, one was not
+-- this file has the first fault, and those before it were read to their ends; where not all sources were got,
+-- the next one was not
 pub record IsRefused {S : Type 0} (size : ℕ) (faults : S → ℕ) (left : S → Option (List ℕ)) (names : List (List ℕ)) (r : Left S) (file : ℕ) (fault : Fault) : Type 0 where
   pub first : 0 < file
   pub last : file ≤ length r.sources
-  pub stopped : length r.sources < length names → Rose r.opens.old r.opens.new
+  pub stopped : length r.sources < length names → HasMissed names r
   pub quiet : All (λ source. faults source ≡ 0) (take (file - 1) r.sources)
+  pub ended : All (λ source. NothingLeft (left source)) (take (file - 1) r.sources)
   pub cause : HasFault size faults left names r (Some fault)
 
 -- so many bytes of this file's content were read, and its source has the others left
@@ -102,7 +109,7 @@ ReadsOver size faults left names r (Some (TooLong file line len limit)) =
     IsRefused size faults left names r file (TooLong file line len limit) × (r.read ≡ 0) × (limit ≡ size) × (0 < line) × (size < len)
     × IfGot names r (λ contents. IsTroubled size contents file (LongPayload line len))
 ReadsOver size faults left names r (Some (TooLarge file limit)) =
-    IsRefused size faults left names r file (TooLarge file limit) × (limit ≡ 2 ^ 30) × (2 ^ 30 < r.read)
+    IsRefused size faults left names r file (TooLarge file limit) × (limit ≡ 2 ^ 30) × (r.read ≡ 2 ^ 30 + 1)
     × IfGot names r (λ contents. IsTroubled size contents file ManyBytes × IsReadOf left r.read contents r.sources file)
 ReadsOver size faults left names r (Some NoMemory) = r.read ≡ 0
 ReadsOver size faults left names r (Some WriteFault) = ⊥

@@ -12,7 +12,7 @@ use Rattle.scq_frames.specs.Text.{messages_of}
 use Rattle.scq_collect.specs.Output.{answer_to}
 use Rattle.scq_service.proofs.Progress.{Progress}
 use Rattle.scq_service.proofs.Steps.{progress-more, rose-above, sees-answered, sees-met, sees-refused, still-met, still-refused}
-use Rattle.scq_service.proofs.Readings.{ends-all, ends-stopped, ends-met, rose-since}
+use Rattle.scq_service.proofs.Readings.{ends-all, ends-stopped, ends-met, missed}
 use Rattle.scq_service.proofs.reading.read_files.Goals as goal
 use Rattle.scq_service.proofs.reading.read_files.Goals.{then-is_none+in-Err, then-is_none+in_default-collect, else-is_none}
 
@@ -61,7 +61,7 @@ files-preserved g c =
             count = longer w.collect.new.source;
             progress = progress-more size faults left topics names table opens None (Some (c.files.at + 1, fault)) sources w.collect.new.source c.files.answered.items w.collect.new.answered.items
                 name _ _ (left source) now more is_name said.given said.kept said.content (λ e. cc)
-                (still-refused size faults left topics sources w.collect.new.source fault (c.files.at + 1) next now.still.0 failed (λ line len e. told.too_long line len (ap Err e)) (λ bytes e. (told.too_large bytes (ap Err e)).0))
+                (still-refused size faults left topics sources w.collect.new.source fault (c.files.at + 1) next now.still failed (λ line len e. told.too_long line len (ap Err e)) (λ bytes e. (told.too_large bytes (ap Err e)).0))
                 (sees-refused size faults left topics sources w.collect.new.source c.files.answered.items w.collect.new.answered.items fault (c.files.at + 1) (left source) next failed quiet told.judged
                 (λ bytes e. (told.too_large bytes (ap Err e)).1));
           })
@@ -124,7 +124,7 @@ returns-in-Some-met-clause-ends g c =
     let now = subst P c.in-Some-met.is c.files.invariant.progress in
     let all : length sources ≡ length names = omega (arith, c.files-test.false, c.files.invariant.count, length-map own string_bytes, now.within) in
     rw (end.read, ap (λ v. v.items) end.sources, end.fault)
-    (ends-met c.args.size faults left c.args.topics.now names table opens sources c.files.answered.items c.in-Some-met.first c.in-Some-met.fault table.new opens.new now (λ less. absurd (omega (arith, less, all))))
+    (ends-met c.args.size faults left c.args.topics.now names table opens sources c.files.answered.items c.in-Some-met.first c.in-Some-met.fault table.new opens.new now (λ less read. absurd (omega (arith, less, all))))
 
 pub returns-in-None-clause-ends : goal.returns-in-None-clause-ends
 returns-in-None-clause-ends g c =
@@ -161,5 +161,11 @@ returns-in-Some-clause-ends g c =
     let opens : Change ℕ = record { old = g.F.Files.faults c.args.files.now; new = g.F.Files.faults c.files.files } in
     let P : Option (ℕ × FrameFault) → Type 0 = λ met. Progress c.args.size faults left c.args.topics.now names table opens met sources c.files.answered.items in
     let now = subst P c.in-Some.is c.files.invariant.progress in
+    let name = c.as_str.result.now in
+    let count = c.files.invariant.count in
+    let is_name : name ≡ get_or names (length sources) [] =
+    c.as_str.ensures.value ∙ ap string_bytes c.index-names-at.is ∙ sym (get_or-map string_bytes own c.files.at c.index-names-at.result [] c.files-test.true)
+    ∙ ap (λ n. get_or names n []) (sym count) in
     rw (end.read, ap (λ v. v.items) end.sources, end.fault)
-    (ends-met c.args.size faults left c.args.topics.now names table opens sources c.files.answered.items c.in-Some.first c.in-Some.fault _ _ now (λ less. rose-since opens.old opens.new _ now.kept was.rose))
+    (ends-met c.args.size faults left c.args.topics.now names table opens sources c.files.answered.items c.in-Some.first c.in-Some.fault _ _ now
+    (λ less. missed c.args.size faults left c.args.topics.now names table opens sources c.files.answered.items (Some (c.in-Some.first, c.in-Some.fault)) name _ _ now less is_name was.missing was.rose))

@@ -1,6 +1,6 @@
-use Rattle.std.proofs.Common.{subst, Ok, Result}
+use Rattle.std.proofs.Common.{subst, Result}
 use Rattle.scq_collect.specs.Output.{one_thread_output}
-use Rattle.scq_words.specs.Asked.{Asked, run}
+use Rattle.scq_words.specs.Asked.{Asked}
 use Rattle.scq_words.specs.declared.fault.WordsFault.{WordsFault}
 use Rattle.scq_service.specs.Ends.{EndsAs, Left, Wrote}
 use Rattle.scq_service.proofs.Completeness.{complete}
