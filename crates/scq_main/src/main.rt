@@ -3,7 +3,7 @@
 //! contract of its own: what a real file or stream holds, no clause can say.
 #![tactic(auto)]
 
-use scq_outside::{DiskFiles, StdSink};
+use scq_outside::{DiskFiles, StdSink, StdStream};
 use scq_service::{Fault, report, serve};
 use std::alloc::{AllocError, Global};
 use std::env::Env;
@@ -13,8 +13,8 @@ use std::{env, io};
 fn main(rt: HostRuntime) -> ExitCode {
     let alloc = rt.alloc();
     let mut files = DiskFiles::new(&rt);
-    let mut out = StdSink::new(rt.stdout());
-    let mut err = StdSink::new(rt.stderr());
+    let mut out = StdSink::new(StdStream::Output(rt.stdout()));
+    let mut err = StdSink::new(StdStream::Errors(rt.stderr()));
     let status = match words(&rt, alloc) {
         Ok(words) => serve(alloc, &words, &mut files, &mut out, &mut err).status,
         Err(AllocError) => {

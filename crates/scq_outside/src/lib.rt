@@ -29,5 +29,5 @@ pub use plain_source::PlainSource;
 pub use read_all_fault::ReadAllFault;
 pub use sink::Sink;
 pub use source::{Failed, Source};
-pub use std_sink::StdSink;
+pub use std_sink::{StdSink, StdStream};
 pub use whole::read_all;

@@ -1,10 +1,32 @@
 ghost use Rattle.std.specs.Prelude.{◌≡◌, None};
 
 use crate::{Failed, Sink};
-use std::io::Write;
+use std::io::{self, Stderr, Stdout, Write};
 
-/// A stream of the system without a buffer, as standard output and standard error are. What it took
-/// isn't visible.
+/// Standard output or standard error, as one type.
+#[derive(Drop)]
+pub enum StdStream {
+    Output(Stdout),
+    Errors(Stderr),
+}
+
+impl Write for StdStream {
+    fn write(&mut self, piece: &[u8]) -> io::Result<usize> {
+        match self {
+            StdStream::Output(stdout) => stdout.write(piece),
+            StdStream::Errors(stderr) => stderr.write(piece),
+        }
+    }
+
+    fn flush(&mut self) -> io::Result<()> {
+        match self {
+            StdStream::Output(stdout) => stdout.flush(),
+            StdStream::Errors(stderr) => stderr.flush(),
+        }
+    }
+}
+
+/// A stream of the system without a buffer. What it took isn't visible.
 #[derive(Drop)]
 pub struct StdSink<W: Write + Drop> {
     stream: W,

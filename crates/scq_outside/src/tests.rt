@@ -2,7 +2,7 @@ ghost use Rattle.std.specs.Prelude.{◌≡◌, IfOk};
 
 use crate::{
     DiskFiles, Failed, Files, MemFiles, MemSink, MemSource, PlainSource, ReadAllFault, Sink,
-    Source, StdSink, read_all,
+    Source, StdSink, StdStream, read_all,
 };
 use scq_word::{Bytes, NoMemory};
 use std::alloc::{AllocError, Global};
@@ -142,8 +142,12 @@ fn the_disk_gives_files_that_are_there(rt: HostRuntime) -> Result<(), Fail> {
 
 #[test]
 fn standard_streams_take_bytes(rt: HostRuntime) {
-    assert!(rt; StdSink::new(rt.stdout()).write(b"taken\n").is_ok());
-    assert!(rt; StdSink::new(rt.stderr()).write(b"taken\n").is_ok());
+    for stream in [
+        StdStream::Output(rt.stdout()),
+        StdStream::Errors(rt.stderr()),
+    ] {
+        assert!(rt; StdSink::new(stream).write(b"taken\n").is_ok());
+    }
 }
 
 /// Takes at most so many bytes at a time, and fails where that is none.

@@ -159,14 +159,14 @@ impl Topics {
         }
     }
 
-    /// The kind of a topic, and `Kind::Len` for the number `len()`.
+    /// The kind of a topic, and the default one for the number `len()`.
     pub fn kind(&self, topic: u32) -> Kind
         requires { topic ≤ length self.now }
         ensures { result ≡ kind_of self.now topic }
     {
         match self.topics.as_slice().get(topic as usize) {
             Some(topic) => topic.kind,
-            None => Kind::Len,
+            None => Kind::default(),
         }
     }
 }
