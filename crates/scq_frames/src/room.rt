@@ -1,5 +1,5 @@
 //! The room in which a window's bytes stand: how more of it is made, and how it is read into.
-ghost use Rattle.std.specs.Prelude.{◌≡◌, ℕ, ◌+◌, ◌-◌, ◌<◌, ◌≤◌, ◌++◌, take, slice_range, vec_len, IfOk, IfSome, OnOk, OnErr, []};
+ghost use Rattle.std.specs.Prelude.{◌≡◌, ◌⊎◌, ℕ, ◌+◌, ◌-◌, ◌*◌, ◌<◌, ◌≤◌, ◌++◌, take, slice_range, vec_len, IfOk, IfSome, OnOk, OnErr, []};
 ghost use Rattle.std.specs.Option.{option_map};
 ghost use Rattle.scq_outside.specs.Faults.{Rose};
 
@@ -7,7 +7,8 @@ use scq_outside::{Failed, Source};
 use scq_word::NoMemory;
 
 /// Makes room for so many bytes more behind the held ones, which stand from `start` up to `end`.
-/// Answers where the held bytes begin then: they move only where that makes room enough.
+/// Answers where the held bytes begin then: they move only where that makes room enough. Where the
+/// room grows it is to double what is needed, so that a long line is copied a few times and no more.
 pub fn make_room(
     room: &mut Vec<u8>,
     start: usize,
@@ -19,6 +20,8 @@ pub fn make_room(
     requires small { more ≤ 4096 }
     ensures held { IfOk result (λ from. slice_range room.new.items from (from + (end - start)) ≡ slice_range room.old.items start end) }
     ensures enough { IfOk result (λ from. from + (end - start) + more ≤ vec_len room.new) }
+    ensures grows { OnOk result ((vec_len room.new ≡ vec_len room.old) ⊎ (vec_len room.new ≡ (end - start + more) * 2)) }
+    ensures needed { OnOk result (vec_len room.old < vec_len room.new → vec_len room.old < end - start + more) }
     ensures err { OnErr result (room.new.items ≡ room.old.items) }
 {
     let len = room.len();
@@ -30,7 +33,7 @@ pub fn make_room(
         room.copy_within(start..end, 0);
         return Ok(0);
     }
-    room.resize(len.saturating_mul(2).saturating_add(more), 0)?;
+    room.resize((held + more).saturating_mul(2), 0)?;
     Ok(start)
 }
 

@@ -2,7 +2,7 @@
 //! before reads that fail, and a message's bytes.
 ghost use Rattle.std.specs.Prelude.{◌^◌, ◌≤◌, None};
 
-use crate::{Framer, Message, decode, encode};
+use crate::{FrameFault, Framer, Message, decode, encode};
 use scq_outside::{Failed, Source};
 use scq_topics::Topics;
 use scq_word::Bytes;
@@ -218,5 +218,29 @@ fn encodes_a_message_in_its_bytes(rt: HostRuntime) -> Result<(), Fail> {
     assert_eq!(rt; view.payload, b"hi".as_slice());
     assert!(rt; decode(&bytes[..17]).is_none());
     assert!(rt; decode(&bytes[..15]).is_none());
+    Ok(())
+}
+
+#[test]
+fn faults_say_what_they_are(rt: HostRuntime) -> Result<(), Fail> {
+    let rows = [
+        (FrameFault::ReadFault, "a read failed"),
+        (
+            FrameFault::TooLong {
+                line: 7,
+                len: 65_537,
+            },
+            "line 7: payload of 65537 bytes is too long",
+        ),
+        (
+            FrameFault::TooLarge { bytes: 12 },
+            "more bytes than the limit: 12 were read",
+        ),
+        (FrameFault::NoMemory, "out of memory"),
+    ];
+    for (fault, want) in rows.iter() {
+        let said = fault.to_string(rt.alloc())?;
+        assert_eq!(rt; said.as_str(), *want);
+    }
     Ok(())
 }
