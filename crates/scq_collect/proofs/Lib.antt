@@ -2,5 +2,6 @@ pub mod Begun
 pub mod Gathered
 pub mod Judging
 pub mod Lines
+pub mod Positions
 mod Rows
 pub mod Sums

@@ -5,11 +5,11 @@ use smallvec::SmallVec;
 use std::alloc::Global;
 use std::marker::Model;
 
-/// The most bytes of a reply that stand in the value itself: as many as the largest `u64` has digits.
-const SHORT: usize = 20;
+/// The most bytes of a short reply.
+const SHORT: usize = 16;
 
-/// The bytes of a reply, which contracts see as a list. Short ones take no memory, so a list of replies
-/// that are numbers is one allocation.
+/// The bytes of a reply, which contracts see as a list. Those of a short reply, as most numbers are, take
+/// no memory beside the value.
 #[derive(Debug, Drop)]
 pub struct ReplyBytes {
     bytes: SmallVec<u8, SHORT>,
@@ -22,7 +22,7 @@ impl Model for ReplyBytes {
 }
 
 impl ReplyBytes {
-    /// A copy, in one allocation of just this length where it has more than 20 bytes.
+    /// A copy, in one allocation of just this length where it has more than 16 bytes.
     pub fn copy_of(alloc: Global, from: &[u8]) -> Result<ReplyBytes, NoMemory>
         ensures { IfOk result (λ copy. copy ≡ from.now) }
     {
