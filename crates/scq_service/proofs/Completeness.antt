@@ -10,7 +10,7 @@ use Rattle.scq_service.specs.Causes.{IsTroubled}
 use Rattle.scq_service.specs.Contents.{contents_of, IfVisible}
 use Rattle.scq_service.specs.Ends.{Left, Wrote, EndsOver, IsCalm}
 use Rattle.scq_service.specs.declared.fault.Fault.{Fault}
-use Rattle.scq_service.specs.declared.fault.Fault.TheVariants.{Words, OpenFault, ReadFault, TooLong, TooLarge, WriteFault, NoMemory}
+use Rattle.scq_service.specs.declared.fault.Fault.TheVariants.{Words, OpenFault, ReadFault, TooLong, TooLarge, WriteFault, BadLine, NotEnabled, Unlawful, NoMemory}
 
 -- an element that is there meets what all meet
 all-at : {X : Type 0} (P Q : X → Type 0) (xs : List X) (k : ℕ) → All P xs → IsSomeAnd (slice_get xs k) Q → (x : X) × P x × Q x
@@ -51,3 +51,6 @@ complete size text faults left names r w (Some (TooLong file line len limit)) e 
 complete size text faults left names r w (Some (TooLarge file limit)) e calm =
     absurd (never size ManyBytes r.table.old (take (length r.sources) names) file _ calm.visible calm.sound e.0.3 (λ contents t. t.0))
 complete size text faults left names r w (Some (Words fault)) e calm = absurd (e.0)
+complete size text faults left names r w (Some (BadLine line)) e calm = absurd (e.0)
+complete size text faults left names r w (Some (NotEnabled line)) e calm = absurd (e.0)
+complete size text faults left names r w (Some (Unlawful line)) e calm = absurd (e.0)

@@ -4,19 +4,22 @@ use Rattle.std.specs.Prelude.{◌≡◌, ◌⊎◌, false, ℕ, ◌+◌, ◌-◌
 use Rattle.std.specs.List.{All}
 use Rattle.std.specs.Option.{option_map}
 use Rattle.scq_outside.specs.Faults.{Rose}
-use Rattle.scq_outside.specs.Table.{Table}
+use Rattle.scq_outside.specs.Table.{Table, without_name}
 use Rattle.scq_frames.specs.Framing.{NothingLeft}
 use Rattle.scq_frames.specs.Trouble.{LongPayload, ManyBytes}
 use Rattle.scq_collect.specs.Judged.{file_trouble}
 use Rattle.scq_collect.specs.Output.{one_thread_output}
+use Rattle.scq_lines.specs.Lines.{lines_of}
 use Rattle.scq_self.specs.Summary.{self_summary}
-use Rattle.scq_words.specs.Asked.{Asked, run, generated}
+use Rattle.scq_words.specs.Asked.{Asked, run, generated, whole}
 use Rattle.scq_words.specs.declared.fault.WordsFault.{WordsFault}
+use Rattle.scq_words.specs.declared.text_request.TextCommand.{TextCommand}
 use Rattle.scq_service.specs.Causes.{first_file_fault, IsTroubled, HaveRest}
 use Rattle.scq_service.specs.Contents.{IfVisible, IsMissing, without_names}
+use Rattle.scq_service.specs.Telling.{Tells, IsOfText}
 use Rattle.scq_service.specs.Writing.{written_with, WrotePart}
 use Rattle.scq_service.specs.declared.fault.Fault.{Fault}
-use Rattle.scq_service.specs.declared.fault.Fault.TheVariants.{Words, OpenFault, ReadFault, TooLong, TooLarge, WriteFault, NoMemory}
+use Rattle.scq_service.specs.declared.fault.Fault.TheVariants.{Words, OpenFault, ReadFault, TooLong, TooLarge, WriteFault, BadLine, NotEnabled, Unlawful, NoMemory}
 
 -- a count or what is visible of an object, before a call and after it
 pub record Change (A : Type 0) : Type 0 where
@@ -113,6 +116,9 @@ ReadsOver size faults left names r (Some (TooLarge file limit)) =
     × IfGot names r (λ contents. IsTroubled size contents file ManyBytes × IsReadOf left r.read contents r.sources file)
 ReadsOver size faults left names r (Some NoMemory) = r.read ≡ 0
 ReadsOver size faults left names r (Some WriteFault) = ⊥
+ReadsOver size faults left names r (Some (BadLine line)) = ⊥
+ReadsOver size faults left names r (Some (NotEnabled line)) = ⊥
+ReadsOver size faults left names r (Some (Unlawful line)) = ⊥
 ReadsOver size faults left names r (Some (Words fault)) = ⊥
 
 -- how a run over files of these names ends: with the text written, with a front of it where out failed,
@@ -133,15 +139,80 @@ EndsAlone text w (Some WriteFault) = Rose w.faults.old w.faults.new × WrotePart
 EndsAlone text w (Some NoMemory) = IsUnwritten w
 EndsAlone text w _ = ⊥
 
+-- A run over one whole file, whose text tells what is to be written. The order of its tests is: the file is got, read, not too
+-- large, and then its text is taken line by line.
+
+-- the most bytes of such a file
+abbrev pub most_text : ℕ
+most_text = 2 ^ 24
+
+-- where the table was visible, the file was there, and its content meets P
+abbrev pub IfContent : {S : Type 0} → Left S → List ℕ → (List ℕ → Type 0) → Type 0
+IfContent r name P = IfSome r.table.old (λ files. IsSomeAnd (files name) P)
+
+-- the file was got, and nothing else was asked for
+pub record IsOneGot {S : Type 0} (name : List ℕ) (r : Left S) : Type 0 where
+  pub one : length r.sources ≡ 1
+  pub opens : IsUnchanged r.opens
+  pub table : r.table.new ≡ option_map (without_name name) r.table.old
+
+-- it was read to its end, within the most bytes
+pub record IsWhole {S : Type 0} (faults : S → ℕ) (left : S → Option (List ℕ)) (name : List ℕ) (r : Left S) : Type 0 where
+  pub got : IsOneGot name r
+  pub quiet : All (λ source. faults source ≡ 0) r.sources
+  pub ended : All (λ source. NothingLeft (left source)) r.sources
+  pub fits : IfContent r name (λ content. length content ≤ most_text)
+  pub read : r.read ≡ 0
+
+-- it was not got
+pub record IsNotGot {S : Type 0} (name : List ℕ) (r : Left S) : Type 0 where
+  pub none : r.sources ≡ []
+  pub rose : Rose r.opens.old r.opens.new
+  pub missing : IfSome r.table.old (λ files. files name ≡ None)
+  pub table : IsUnchanged r.table
+  pub read : r.read ≡ 0
+
+-- a read failed before the most bytes were passed
+pub record IsReadUntil {S : Type 0} (faults : S → ℕ) (left : S → Option (List ℕ)) (name : List ℕ) (r : Left S) : Type 0 where
+  pub got : IsOneGot name r
+  pub failed : All (λ source. faults source ≡ 1) r.sources
+  pub fits : IfContent r name (λ content. All (λ source. IsSomeAnd (left source) (λ rest. length content ≤ most_text + length rest)) r.sources)
+  pub read : r.read ≡ 0
+
+-- one byte more than the most was read
+pub record IsLarge {S : Type 0} (faults : S → ℕ) (left : S → Option (List ℕ)) (name : List ℕ) (r : Left S) : Type 0 where
+  pub got : IsOneGot name r
+  pub quiet : All (λ source. faults source ≡ 0) r.sources
+  pub read : r.read ≡ most_text + 1
+  pub bytes : IfContent r name (λ content. All (λ source. Some (length content) ≡ option_map (λ rest. r.read + length rest) (left source)) r.sources)
+
+-- what the file's lines tell meets P
+abbrev pub IsTold : {S : Type 0} → TextCommand → List ℕ → Left S → (List ℕ → Type 0) → Type 0
+IsTold command name r P = IfContent r name (λ content. (text : List ℕ) × Tells command (lines_of content) (Ok text) × P text)
+
+-- how a run over the file of this name ends
+abbrev pub EndsWhole : {S : Type 0} → TextCommand → (S → ℕ) → (S → Option (List ℕ)) → List ℕ → Left S → Wrote → Option Fault → Type 0
+EndsWhole command faults left name r w None =
+    IsWhole faults left name r × IsUnchanged w.faults × IsTold command name r (λ text. w.written.new ≡ written_with w.written.old text)
+EndsWhole command faults left name r w (Some WriteFault) =
+    IsWhole faults left name r × Rose w.faults.old w.faults.new × IsTold command name r (λ text. WrotePart w.written.old w.written.new text)
+EndsWhole command faults left name r w (Some (OpenFault file)) = (file ≡ 1) × IsNotGot name r × IsUnwritten w
+EndsWhole command faults left name r w (Some (ReadFault file)) = (file ≡ 1) × IsReadUntil faults left name r × IsUnwritten w
+EndsWhole command faults left name r w (Some (TooLarge file limit)) = (file ≡ 1) × (limit ≡ most_text) × IsLarge faults left name r × IsUnwritten w
+EndsWhole command faults left name r w (Some NoMemory) = (length r.sources ≤ 1) × (r.read ≡ 0) × IsUnwritten w
+EndsWhole command faults left name r w (Some fault) =
+    IsOfText command fault × IsWhole faults left name r × IfContent r name (λ content. Tells command (lines_of content) (Err fault)) × IsUnwritten w
+
 -- no file was asked for
 abbrev pub IsClosed : {S : Type 0} → Left S → Type 0
 IsClosed r = IsUnchanged r.table × IsUnchanged r.opens × (r.sources ≡ []) × (r.read ≡ 0)
 
--- how a run ends that is asked for this: refused words, files, or a generated file
+-- how a run ends that is asked for this: refused words, files, a generated file, or one whole file
 abbrev pub EndsAs : {S : Type 0} → (S → ℕ) → (S → Option (List ℕ)) → Result Asked WordsFault → Left S → Wrote → Option Fault → Type 0
 EndsAs faults left (Err fault) r w end = IsClosed r × IsUnwritten w × ((end ≡ Some (Words fault)) ⊎ (end ≡ Some NoMemory))
 EndsAs faults left (Ok (run a)) r w end = HasGot left a.files r × EndsOver a.size (one_thread_output a.topics) faults left a.files r w end
 EndsAs faults left (Ok (generated a)) r w end = IsClosed r × EndsAlone (self_summary a.seed a.lines) w end
+EndsAs faults left (Ok (whole a)) r w end = EndsWhole a.command faults left a.file r w end
 
 -- nothing stood in the way of a run over these files: each was got, no count rose, and no content has trouble
 pub record IsCalm {S : Type 0} (size : ℕ) (faults : S → ℕ) (names : List (List ℕ)) (r : Left S) (w : Wrote) : Type 0 where

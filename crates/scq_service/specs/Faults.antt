@@ -7,7 +7,13 @@ use Rattle.scq_topics.specs.declared.topics.TopicFault.TheVariants.{TooMany, Bad
 use Rattle.scq_words.specs.declared.fault.WordsFault.{WordsFault}
 use Rattle.scq_words.specs.declared.fault.WordsFault.TheVariants.{NotUnderstood, Workers, Order, Size, Topics, TooManyFiles, NoName, MoreWorkers, Seed, Lines}
 use Rattle.scq_service.specs.declared.fault.Fault.{Fault}
-use Rattle.scq_service.specs.declared.fault.Fault.TheVariants.{Words, OpenFault, ReadFault, TooLong, TooLarge, WriteFault, NoMemory}
+use Rattle.scq_service.specs.declared.fault.Fault.TheVariants.{Words, OpenFault, ReadFault, TooLong, TooLarge, WriteFault, BadLine, NotEnabled, Unlawful, NoMemory}
+use Rattle.scq_outside.specs.declared.read_all_fault.ReadAllFault.{ReadAllFault}
+use Rattle.scq_outside.specs.declared.read_all_fault.ReadAllFault.TheVariants as whole
+use Rattle.scq_check.specs.declared.history.HistoryFault.{HistoryFault}
+use Rattle.scq_check.specs.declared.history.HistoryFault.TheVariants as history
+use Rattle.scq_replay.specs.declared.replaying.ScheduleFault.{ScheduleFault}
+use Rattle.scq_replay.specs.declared.replaying.ScheduleFault.TheVariants as schedule
 
 -- the status of each fault
 abbrev pub status_of_fault : Fault → ℕ
@@ -17,6 +23,9 @@ status_of_fault (OpenFault file) = 3
 status_of_fault (ReadFault file) = 3
 status_of_fault (TooLarge file limit) = 6
 status_of_fault WriteFault = 4
+status_of_fault (BadLine line) = 8
+status_of_fault (NotEnabled line) = 9
+status_of_fault (Unlawful line) = 10
 status_of_fault NoMemory = 5
 
 -- the status that the program ends with
@@ -58,6 +67,10 @@ limit_line len limit = (decimal len ++ codes " bytes, limit ") ++ (decimal limit
 abbrev pub payload_line : ℕ → ℕ → ℕ → List ℕ
 payload_line line len limit = (decimal line ++ codes ": payload of ") ++ limit_line len limit
 
+-- what is said of a line of a history or schedule
+abbrev pub text_line : ℕ → List ℕ → List ℕ
+text_line line what = codes "line " ++ decimal line ++ what
+
 -- the line about a fault
 abbrev pub fault_line : Fault → List ℕ
 fault_line (Words fault) = words_line fault
@@ -66,6 +79,9 @@ fault_line (ReadFault file) = file_line file (codes ": read fault\n")
 fault_line (TooLong file line len limit) = file_line file (codes " line ") ++ payload_line line len limit
 fault_line (TooLarge file limit) = file_line file (codes ": more than ") ++ (decimal limit ++ codes " bytes\n")
 fault_line WriteFault = codes "write fault\n"
+fault_line (BadLine line) = text_line line (codes ": not understood\n")
+fault_line (NotEnabled line) = text_line line (codes ": step not enabled\n")
+fault_line (Unlawful line) = text_line line (codes ": event out of place\n")
 fault_line NoMemory = codes "out of memory\n"
 
 -- what is reported of the end: the fault's line, or nothing
@@ -84,3 +100,24 @@ fault_of_file size file frame.NoMemory = NoMemory
 abbrev pub bytes_of_large : FrameFault → ℕ
 bytes_of_large (frame.TooLarge bytes) = bytes
 bytes_of_large _ = 0
+
+-- a fault of the one whole file
+abbrev pub fault_of_text : ReadAllFault → Fault
+fault_of_text whole.ReadFault = ReadFault 1
+fault_of_text (whole.TooLarge bytes) = TooLarge 1 (2 ^ 24)
+fault_of_text whole.NoMemory = NoMemory
+
+abbrev pub bytes_of_large_text : ReadAllFault → ℕ
+bytes_of_large_text (whole.TooLarge bytes) = bytes
+bytes_of_large_text _ = 0
+
+-- a fault of a history's text, and of a schedule's
+abbrev pub fault_of_history : HistoryFault → Fault
+fault_of_history (history.BadLine line) = BadLine line
+fault_of_history (history.Unlawful line) = Unlawful line
+fault_of_history history.NoMemory = NoMemory
+
+abbrev pub fault_of_schedule : ScheduleFault → Fault
+fault_of_schedule (schedule.BadLine line) = BadLine line
+fault_of_schedule (schedule.NotEnabled line) = NotEnabled line
+fault_of_schedule schedule.NoMemory = NoMemory

@@ -3,3 +3,4 @@ pub mod Causes
 pub mod Ends
 pub mod Faults
 pub mod Writing
+pub mod Telling

@@ -1,3 +1,6 @@
+use scq_check::HistoryFault;
+use scq_replay::ScheduleFault;
+use scq_word::NoMemory;
 use scq_words::WordsFault;
 
 /// Why the program ends with another status than 0. Files and lines are numbered from 1.
@@ -25,6 +28,18 @@ pub enum Fault {
         limit: u64,
     },
     WriteFault,
+    /// This line of a history or schedule is not of the form, or is one line too many.
+    BadLine {
+        line: u32,
+    },
+    /// The step of this line of a schedule is not enabled.
+    NotEnabled {
+        line: u32,
+    },
+    /// The event of this line of a history is out of place.
+    Unlawful {
+        line: u32,
+    },
     NoMemory,
 }
 
@@ -42,6 +57,50 @@ impl Fault {
             Fault::WriteFault => 4,
             Fault::NoMemory => 5,
             Fault::TooLarge { .. } => 6,
+            Fault::BadLine { .. } => 8,
+            Fault::NotEnabled { .. } => 9,
+            Fault::Unlawful { .. } => 10,
+        }
+    }
+}
+
+impl From<NoMemory> for Fault {
+    ghost use Rattle.std.specs.Prelude.{◌≡◌};
+    ghost use Rattle.scq_service.specs.declared.fault.Fault.TheVariants.{NoMemory as Wanted};
+
+    ghost from_gives = { λ _ fault. fault ≡ Wanted };
+
+    fn from(_: NoMemory) -> Fault {
+        Fault::NoMemory
+    }
+}
+
+impl From<HistoryFault> for Fault {
+    ghost use Rattle.std.specs.Prelude.{◌≡◌};
+    ghost use Rattle.scq_service.specs.Faults.{fault_of_history};
+
+    ghost from_gives = { λ refused fault. fault ≡ fault_of_history refused };
+
+    fn from(refused: HistoryFault) -> Fault {
+        match refused {
+            HistoryFault::BadLine { line } => Fault::BadLine { line },
+            HistoryFault::Unlawful { line } => Fault::Unlawful { line },
+            HistoryFault::NoMemory => Fault::NoMemory,
+        }
+    }
+}
+
+impl From<ScheduleFault> for Fault {
+    ghost use Rattle.std.specs.Prelude.{◌≡◌};
+    ghost use Rattle.scq_service.specs.Faults.{fault_of_schedule};
+
+    ghost from_gives = { λ refused fault. fault ≡ fault_of_schedule refused };
+
+    fn from(refused: ScheduleFault) -> Fault {
+        match refused {
+            ScheduleFault::BadLine { line } => Fault::BadLine { line },
+            ScheduleFault::NotEnabled { line } => Fault::NotEnabled { line },
+            ScheduleFault::NoMemory => Fault::NoMemory,
         }
     }
 }

@@ -16,6 +16,7 @@ mod run;
 mod serving;
 #[cfg(test)]
 mod tests;
+mod whole;
 mod writing;
 
 pub use fault::Fault;

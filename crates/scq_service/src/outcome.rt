@@ -1,8 +1,10 @@
 ghost use Rattle.std.specs.Prelude.{◌≡◌, Some, None};
-ghost use Rattle.scq_service.specs.Faults.{status_of_fault, fault_of_file, bytes_of_large};
+ghost use Rattle.scq_service.specs.Faults.{status_of_fault, fault_of_file, fault_of_text, bytes_of_large, bytes_of_large_text};
 
 use crate::Fault;
+use crate::whole::MOST_TEXT;
 use scq_frames::FrameFault;
+use scq_outside::ReadAllFault;
 
 /// The greatest number of bytes of a file.
 const MOST_BYTES: u64 = 1 << 30;
@@ -79,6 +81,29 @@ impl<S> Outcome<S> {
                 )
             },
             FrameFault::NoMemory => Outcome::at(sources, Fault::NoMemory),
+        }
+    }
+
+    /// The end at a fault of the one whole file.
+    pub(crate) fn of_text(sources: Vec<S>, fault: ReadAllFault) -> Outcome<S>
+        ensures status { result.status ≡ status_of_fault (fault_of_text fault) }
+        ensures fault { result.fault ≡ Some (fault_of_text fault) }
+        ensures sources { result.sources ≡ sources }
+        ensures read { result.read ≡ bytes_of_large_text fault }
+    {
+        match fault {
+            ReadAllFault::ReadFault => Outcome::at(sources, Fault::ReadFault { file: 1 }),
+            ReadAllFault::TooLarge { bytes } => Outcome {
+                read: bytes,
+                ..Outcome::at(
+                    sources,
+                    Fault::TooLarge {
+                        file: 1,
+                        limit: MOST_TEXT,
+                    },
+                )
+            },
+            ReadAllFault::NoMemory => Outcome::at(sources, Fault::NoMemory),
         }
     }
 }

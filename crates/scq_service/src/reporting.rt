@@ -1,6 +1,6 @@
 ghost use Rattle.std.specs.Prelude.{◌≡◌, ◌⊎◌, ◌++◌, codes, decimal, OnOk, OnErr};
 ghost use Rattle.scq_outside.specs.Faults.{Rose};
-ghost use Rattle.scq_service.specs.Faults.{entry_line, fault_line, file_line, limit_line, payload_line, report_of, topics_line, words_line};
+ghost use Rattle.scq_service.specs.Faults.{entry_line, fault_line, file_line, limit_line, payload_line, report_of, text_line, topics_line, words_line};
 ghost use Rattle.scq_service.specs.Writing.{written_with, WrotePart};
 
 use crate::Fault;
@@ -29,6 +29,9 @@ pub fn report<K: Sink>(sink: &mut K, fault: &Fault) -> Result<(), Failed>
         } => write_too_long(sink, *file, *line, *len, *limit),
         Fault::TooLarge { file, limit } => write_too_large(sink, *file, *limit),
         Fault::WriteFault => write_all(sink, b"write fault\n"),
+        Fault::BadLine { line } => write_of_line(sink, *line, b": not understood\n"),
+        Fault::NotEnabled { line } => write_of_line(sink, *line, b": step not enabled\n"),
+        Fault::Unlawful { line } => write_of_line(sink, *line, b": event out of place\n"),
         Fault::NoMemory => write_all(sink, b"out of memory\n"),
     }
 }
@@ -121,6 +124,16 @@ fn write_about<K: Sink>(sink: &mut K, file: u32, what: &[u8]) -> Result<(), Fail
 {
     write_all(sink, b"file ")?;
     write_count(sink, u64::from(file), what)
+}
+
+fn write_of_line<K: Sink>(sink: &mut K, line: u32, what: &[u8]) -> Result<(), Failed>
+    ensures whole { OnOk result (K.written sink.new ≡ written_with (K.written sink.old) (text_line line what.now)) }
+    ensures part { WrotePart (K.written sink.old) (K.written sink.new) (text_line line what.now) }
+    ensures kept { OnOk result (K.faults sink.new ≡ K.faults sink.old) }
+    ensures rose { OnErr result (Rose (K.faults sink.old) (K.faults sink.new)) }
+{
+    write_all(sink, b"line ")?;
+    write_count(sink, u64::from(line), what)
 }
 
 fn write_entry<K: Sink>(sink: &mut K, at: u32, what: &[u8]) -> Result<(), Failed>

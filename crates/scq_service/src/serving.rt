@@ -9,6 +9,7 @@ ghost use Rattle.scq_service.specs.Writing.{written_with, WrotePart};
 use crate::generated::run_self;
 use crate::reporting::report_end;
 use crate::run::run_files;
+use crate::whole::run_text;
 use crate::{Fault, Outcome};
 use scq_outside::{Files, Sink};
 use scq_words::{Request, WordsError, read_words};
@@ -84,6 +85,9 @@ fn run<F: Files, K: Sink>(
             Ok(()) => Outcome::whole(Vec::new(alloc)),
             Err(fault) => Outcome::at(Vec::new(alloc), fault),
         },
+        Ok(Request::Text(asked)) => {
+            run_text(alloc, asked.command, asked.file.as_str(), files, out)
+        }
         Err(WordsError::Refused(fault)) => Outcome::at(Vec::new(alloc), Fault::Words(fault)),
         Err(WordsError::NoMemory) => Outcome::at(Vec::new(alloc), Fault::NoMemory),
     }

@@ -1,14 +1,16 @@
 -- What is asked, from the matches of `clap` and the tests of the texts.
-use Rattle.std.proofs.Common.{◌≡◌, ◌∙◌, sym, ap, ℕ, List, [], codes, Option, Some, None, Result, Ok, Err}
+use Rattle.std.proofs.Common.{◌≡◌, ◌∙◌, refl, sym, ap, ℕ, List, [], ◌∷◌, length, eqb, true, false, codes, Option, Some, None, Result, Ok, Err}
 use Rattle.std.specs.Prelude.{◌≢◌, IsErrOf, unwrap_or, option_map}
 use Rattle.std.specs.Result.{IsErrAnd}
 use Rattle.std.specs.Option.{option_or}
 use Rattle.clap.specs.Words.{Row, all_of, first_of, first_value, matched_of, matches_of, raw_values, rows_of}
 use Rattle.clap.specs.declared.parser.matches.Found.{Found}
 use Rattle.clap.proofs.WalkLemmas.{first_value-rows, raw_values-rows}
-use Rattle.scq_words.specs.Commands.{run_app, self_app}
-use Rattle.scq_words.specs.Asked.{Asked, RunTexts, SelfTexts, answered_by, asked_of_run, asked_of_self, first_of_tests, generated, refused_by_clap, run, run_asked, run_tests, run_texts, self_asked, self_tests, self_texts, texts_of_run, texts_of_self}
+use Rattle.scq_words.specs.Commands.{run_app, self_app, text_app}
+use Rattle.scq_words.specs.Asked.{Asked, RunTexts, SelfTexts, answered_by, asked_of_run, asked_of_self, asked_of_text, refused_names, text_file, whole, first_of_tests, generated, refused_by_clap, run, run_asked, run_tests, run_texts, self_asked, self_tests, self_texts, texts_of_run, texts_of_self}
 use Rattle.scq_words.specs.declared.fault.WordsFault.{WordsFault}
+use Rattle.scq_words.specs.declared.fault.WordsFault.TheVariants.{NoName}
+use Rattle.scq_words.specs.declared.text_request.TextCommand.{TextCommand}
 use Rattle.scq_words.specs.declared.fault.WordsError.{WordsError}
 use Rattle.scq_words.specs.declared.fault.WordsError.TheVariants.{Refused, NoMemory}
 
@@ -75,6 +77,34 @@ unfolding asked_of_self
 asked-refused-self words fault refused =
     let t = self_texts (matches_of self_app words) in
     ap (λ test. answered_by (option_or test (first_of_tests (self_tests t))) (generated (self_asked t))) refused
+
+pub file-text : (f : Found) (rows : List Row) (file : Option (List ℕ)) → rows_of f ≡ rows → file ≡ first_value f (codes "file") → unwrap_or file [] ≡ text_file rows
+file-text f rows file same got = ap (λ o. unwrap_or o []) (text-same f rows (codes "file") file same got)
+
+pub text-answer : (command : TextCommand) (words : List (List ℕ)) (file : List ℕ) (said : Result Asked WordsFault) → refused_by_clap (text_app command) words ≡ None
+    → file ≡ text_file (matches_of (text_app command) words)
+    → answered_by (first_of_tests (refused_names (file ∷ []) ∷ [])) (whole (record { command = command; file = file })) ≡ said → asked_of_text command words ≡ said
+unfolding asked_of_text
+text-answer command words file said passes is answer =
+    after_clap (refused_by_clap (text_app command) words) _ _ said passes
+    (ap (λ (file : List ℕ). answered_by (first_of_tests (refused_names (file ∷ []) ∷ [])) (whole (record { command = command; file = file }))) (sym is) ∙ answer)
+
+pub asked-refused-text : (command : TextCommand) (words : List (List ℕ)) (fault : WordsFault) → refused_by_clap (text_app command) words ≡ Some fault → asked_of_text command words ≡ Err fault
+unfolding asked_of_text
+asked-refused-text command words fault refused =
+    let file = text_file (matches_of (text_app command) words) in
+    ap (λ test. answered_by (option_or test (first_of_tests (refused_names (file ∷ []) ∷ []))) (whole (record { command = command; file = file }))) refused
+
+-- a text or the empty one, behind a reference or not
+pub text_or_empty : {X : Type 0} (o : Option X) (d : X) (f : X → List ℕ) → f d ≡ [] → f (unwrap_or o d) ≡ unwrap_or (option_map f o) []
+text_or_empty None d f empty = empty
+text_or_empty (Some x) d f empty = refl
+
+pub name-missing : (name : List ℕ) → eqb (length name) 0 ≡ true → first_of_tests (refused_names (name ∷ []) ∷ []) ≡ Some (NoName 1)
+name-missing name is = rw is refl
+
+pub name-there : (name : List ℕ) → eqb (length name) 0 ≡ false → first_of_tests (refused_names (name ∷ []) ∷ []) ≡ None
+name-there name is = rw is refl
 
 -- an error that `?` hands on
 pub handed-on : {T E : Type 0} (r : Result T E) (e f : E) → IsErrAnd r (λ passed. passed ≡ e) → IsErrOf r f → e ≡ f

@@ -7,14 +7,17 @@ use Rattle.clap.specs.Words.{App, Row, all_of, first_of, matches_of}
 use Rattle.clap.specs.Faults.{fault_of}
 use Rattle.scq_topics.specs.declared.kind.Kind.{Kind}
 use Rattle.scq_topics.specs.Topics.{declared_by, entries_of, first_fault}
-use Rattle.scq_words.specs.Commands.{run_app, self_app}
+use Rattle.scq_words.specs.Commands.{run_app, self_app, text_app}
 use Rattle.scq_words.specs.Numbers.{number_or, refused_outside}
 use Rattle.scq_words.specs.declared.fault.WordsFault.{WordsFault}
 use Rattle.scq_words.specs.declared.fault.WordsFault.TheVariants.{NotUnderstood, Workers, Order, Size, Topics, TooManyFiles, NoName, MoreWorkers, Seed, Lines}
 use Rattle.scq_words.specs.declared.request.Request.{Request}
-use Rattle.scq_words.specs.declared.request.Request.TheVariants.{Run, SelfRun}
+use Rattle.scq_words.specs.declared.request.Request.TheVariants.{Run, SelfRun, Text}
 use Rattle.scq_words.specs.declared.request.RunRequest.{RunRequest}
 use Rattle.scq_words.specs.declared.request.SelfRequest.{SelfRequest}
+use Rattle.scq_words.specs.declared.text_request.TextCommand.{TextCommand}
+use Rattle.scq_words.specs.declared.text_request.TextCommand.TheVariants.{Check, Replay}
+use Rattle.scq_words.specs.declared.text_request.TextRequest.{TextRequest}
 
 -- the first fault of a list of tests
 abbrev pub first_of_tests : List (Option WordsFault) → Option WordsFault
@@ -64,9 +67,15 @@ pub record SelfAsked : Type 0 where
   pub lines : ℕ
   pub workers : ℕ
 
+-- what is asked of one whole file
+pub record TextAsked : Type 0 where
+  pub command : TextCommand
+  pub file : List ℕ
+
 pub data Asked : Type 0 where
   run : RunAsked → Asked
   generated : SelfAsked → Asked
+  whole : TextAsked → Asked
 
 -- the texts of `run`'s arguments
 pub record RunTexts : Type 0 where
@@ -148,12 +157,22 @@ unfoldable pub asked_of_self : List (List ℕ) → Result Asked WordsFault
 asked_of_self words = let t = self_texts (matches_of self_app words) in
     answered_by (first_of_tests (refused_by_clap self_app words ∷ self_tests t)) (generated (self_asked t))
 
+-- the name of the one file
+abbrev pub text_file : List Row → List ℕ
+text_file rows = unwrap_or (first_of (codes "file") rows) []
+
+unfoldable pub asked_of_text : TextCommand → List (List ℕ) → Result Asked WordsFault
+asked_of_text command words = let file = text_file (matches_of (text_app command) words) in
+    answered_by (first_of_tests (refused_by_clap (text_app command) words ∷ refused_names (file ∷ []) ∷ [])) (whole (record { command = command; file = file }))
+
 -- what the words ask for: the first is a command, and those after it are its arguments
 abbrev pub asked : List (List ℕ) → Result Asked WordsFault
 asked [] = Err NotUnderstood
 asked (command ∷ words) =
     if bytes_eq command (codes "run") then asked_of_run words
     else if bytes_eq command (codes "self") then asked_of_self words
+    else if bytes_eq command (codes "check") then asked_of_text Check words
+    else if bytes_eq command (codes "replay") then asked_of_text Replay words
     else Err NotUnderstood
 
 -- a request of the program as what is asked
@@ -169,6 +188,10 @@ run_of r = record {
 abbrev pub self_of : SelfRequest → SelfAsked
 self_of r = record { seed = r.seed; lines = r.lines; workers = r.workers }
 
+abbrev pub text_of : TextRequest → TextAsked
+text_of r = record { command = r.command; file = string_bytes r.file }
+
 abbrev pub asked_by : Request → Asked
 asked_by (Run r) = run (run_of r)
 asked_by (SelfRun r) = generated (self_of r)
+asked_by (Text r) = whole (text_of r)

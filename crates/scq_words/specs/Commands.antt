@@ -1,7 +1,14 @@
--- The commands as `clap` knows them: `run` and `self` with their options and files.
+-- The commands as `clap` knows them: `run` and `self` with their options and files, `check` and `replay` with one file.
 use Rattle.std.specs.Prelude.{ℕ, List, Some, true, codes}
 use Rattle.clap.specs.Words.{App, Rule, new_app, new_rule, with_rule}
+use Rattle.scq_words.specs.declared.text_request.TextCommand.{TextCommand}
+use Rattle.scq_words.specs.declared.text_request.TextCommand.TheVariants.{Check, Replay}
 use Rattle.clap.specs.declared.builder.action.ArgAction.TheVariants.{Append}
+
+-- the words of the commands that take one file
+abbrev pub command_name : TextCommand → List ℕ
+command_name Check = codes "check"
+command_name Replay = codes "replay"
 
 -- a command that reads the words as they are, with neither help nor version
 abbrev pub plain_app : List ℕ → App
@@ -33,3 +40,11 @@ abbrev pub self_app : App
 self_app =
     with_rule (with_rule (with_rule (plain_app (codes "self")) (required_rule (codes "seed"))) (required_rule (codes "lines")))
     (option_rule (codes "workers"))
+
+-- the one file
+abbrev pub file_rule : Rule
+file_rule = record (new_rule (codes "file")) { required = true }
+
+-- a command that takes one file
+abbrev pub text_app : TextCommand → App
+text_app command = with_rule (plain_app (command_name command)) file_rule

@@ -14,8 +14,10 @@ mod run;
 mod self_words;
 #[cfg(test)]
 mod tests;
+mod text_request;
 mod workers;
 
 pub use fault::{WordsError, WordsFault};
 pub use reading::read_words;
 pub use request::{Request, RunRequest, SelfRequest};
+pub use text_request::{TextCommand, TextRequest};

@@ -1,9 +1,9 @@
 ghost use Rattle.std.specs.Prelude.{◌≡◌, ◌≢◌, IfOk, IfErr, map, string_bytes, false};
 ghost use Rattle.clap.specs.Words.{app_of, found_of, kind_of, matches_of, rows_of, rule_of, takes};
 ghost use Rattle.scq_words.specs.Asked.{refused_by_clap};
-ghost use Rattle.scq_words.specs.Commands.{files_rule, option_rule, plain_app, run_app, run_numbers_app, self_app};
+ghost use Rattle.scq_words.specs.Commands.{files_rule, option_rule, plain_app, run_app, run_numbers_app, self_app, text_app};
 
-use crate::{WordsError, WordsFault};
+use crate::{TextCommand, WordsError, WordsFault};
 use clap::error::ErrorKind;
 use clap::{Arg, ArgAction, ArgMatches, Command, Error};
 use std::alloc::{AllocError, Global};
@@ -72,6 +72,35 @@ fn self_command<'a>(alloc: Global) -> Result<Command<'a>, AllocError>
         .arg(option(alloc, "seed").required(true))?
         .arg(option(alloc, "lines").required(true))?
         .arg(option(alloc, "workers"))
+}
+
+/// The matches of the words of a command that takes one file.
+pub fn text_matches<'a>(
+    alloc: Global,
+    command: TextCommand,
+    words: &'a [String],
+) -> Result<ArgMatches<'a>, WordsError>
+    ensures rows { IfOk result (λ m. rows_of (found_of m) ≡ matches_of (text_app command) (map string_bytes words.entry.now)) }
+    ensures passes { IfOk result (λ m. refused_by_clap (text_app command) (map string_bytes words.entry.now) ≡ None) }
+    ensures refused { IfErr result (λ error. (error ≢ WordsError.NoMemory) → (error ≡ WordsError.Refused WordsFault.NotUnderstood)
+        × (refused_by_clap (text_app command) (map string_bytes words.entry.now) ≡ Some WordsFault.NotUnderstood)
+        × (takes (text_app command) (map string_bytes words.entry.now) ≡ false)) }
+{
+    let command = text_command(alloc, command)?;
+    match command.try_get_matches_from(words) {
+        Ok(matches) => Ok(matches),
+        Err(error) => Err(error_of(&error)),
+    }
+}
+
+fn text_command<'a>(alloc: Global, command: TextCommand) -> Result<Command<'a>, AllocError>
+    ensures { IfOk result (λ app. app_of app ≡ text_app command) }
+{
+    let name = match command {
+        TextCommand::Check => "check",
+        TextCommand::Replay => "replay",
+    };
+    plain_command(alloc, name).arg(Arg::new(alloc, "file").required(true))
 }
 
 /// A command that reads the words as they are, with neither help nor version.

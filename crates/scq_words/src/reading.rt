@@ -4,7 +4,8 @@ ghost use Rattle.scq_words.specs.Asked.{asked, asked_by};
 
 use crate::run::read_run;
 use crate::self_words::read_self;
-use crate::{Request, WordsError, WordsFault};
+use crate::text_request::read_text;
+use crate::{Request, TextCommand, WordsError, WordsFault};
 use std::alloc::Global;
 
 /// What the words ask for, which are the program's arguments without its own name. They are refused by
@@ -18,6 +19,8 @@ pub fn read_words(alloc: Global, words: &[String]) -> Result<Request, WordsError
         [command, rest @ ..] => match command.as_str() {
             "run" => Ok(Request::Run(read_run(alloc, rest)?)),
             "self" => Ok(Request::SelfRun(read_self(alloc, rest)?)),
+            "check" => Ok(Request::Text(read_text(alloc, TextCommand::Check, rest)?)),
+            "replay" => Ok(Request::Text(read_text(alloc, TextCommand::Replay, rest)?)),
             _ => Err(WordsError::Refused(WordsFault::NotUnderstood)),
         },
         [] => Err(WordsError::Refused(WordsFault::NotUnderstood)),

@@ -1,5 +1,6 @@
 ghost use Rattle.std.specs.Prelude.{◌^◌, ◌<◌, ◌≤◌, vec_len};
 
+use crate::TextRequest;
 use scq_topics::Topics;
 
 /// What is asked of files. Workers are in `1..=4096` and at most `2^order`, the order in `1..=12`, the
@@ -29,4 +30,5 @@ pub struct SelfRequest {
 pub enum Request {
     Run(RunRequest),
     SelfRun(SelfRequest),
+    Text(TextRequest),
 }

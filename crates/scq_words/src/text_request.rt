@@ -1,0 +1,41 @@
+ghost use Rattle.std.specs.Prelude.{◌≡◌, Ok, Err, map, string_bytes, IfOk, IsErrOf};
+ghost use Rattle.scq_words.specs.declared.fault.WordsFault.{WordsFault as TheFault};
+ghost use Rattle.scq_words.specs.Asked.{asked_of_text, text_of, whole};
+
+use crate::parsing::text_matches;
+use crate::{WordsError, WordsFault};
+use std::alloc::Global;
+
+/// A command that reads one whole file, and writes what its text tells.
+#[derive(Clone, Copy, Debug, PartialEq, Eq)]
+pub enum TextCommand {
+    /// Judges the history that the file holds.
+    Check,
+    /// Runs the schedule that the file holds.
+    Replay,
+}
+
+/// What is asked of one file, which has a name.
+#[derive(Debug, Drop)]
+pub struct TextRequest {
+    pub command: TextCommand,
+    pub file: String,
+}
+
+/// What the words after the command ask for.
+pub(crate) fn read_text(
+    alloc: Global,
+    command: TextCommand,
+    words: &[String],
+) -> Result<TextRequest, WordsError>
+    ensures request { IfOk result (λ request. asked_of_text command (map string_bytes words.now) ≡ Ok (whole (text_of request))) }
+    ensures refused { (fault : TheFault) → IsErrOf result (WordsError.Refused fault) → asked_of_text command (map string_bytes words.now) ≡ Err fault }
+{
+    let matches = text_matches(alloc, command, words)?;
+    let name = matches.get_str("file").unwrap_or("");
+    if name.is_empty() {
+        return Err(WordsError::Refused(WordsFault::NoName { file: 1 }));
+    }
+    let file = String::from_str(alloc, name)?;
+    Ok(TextRequest { command, file })
+}
