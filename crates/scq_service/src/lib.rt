@@ -5,6 +5,8 @@
 //! holds.
 #![tactic(auto)]
 
+#[cfg(test)]
+mod command_lines;
 mod fault;
 mod generated;
 #[cfg(test)]
