@@ -8,7 +8,8 @@ use Rattle.scq_collect.specs.Judged.{file_trouble}
 use Rattle.scq_outside.specs.Table.{Table}
 use Rattle.scq_service.specs.Causes.{IsTroubled}
 use Rattle.scq_service.specs.Contents.{contents_of, IfVisible}
-use Rattle.scq_service.specs.Ends.{Left, Wrote, EndsOver, IsCalm}
+use Rattle.scq_outside.specs.Faults.{Rose}
+use Rattle.scq_service.specs.Ends.{Left, Wrote, EndsAlone, EndsOver, IsCalm}
 use Rattle.scq_service.specs.declared.fault.Fault.{Fault}
 use Rattle.scq_service.specs.declared.fault.Fault.TheVariants.{Words, OpenFault, ReadFault, TooLong, TooLarge, WriteFault, BadLine, NotEnabled, Unlawful, NoMemory}
 
@@ -54,3 +55,17 @@ complete size text faults left names r w (Some (Words fault)) e calm = absurd (e
 complete size text faults left names r w (Some (BadLine line)) e calm = absurd (e.0)
 complete size text faults left names r w (Some (NotEnabled line)) e calm = absurd (e.0)
 complete size text faults left names r w (Some (Unlawful line)) e calm = absurd (e.0)
+
+-- a run over no file of the outside, none of whose writes failed, ends likewise
+pub complete-alone : (text : List ℕ) (w : Wrote) (end : Option Fault) → EndsAlone text w end → ¬ Rose w.faults.old w.faults.new → (end ≡ None) ⊎ (end ≡ Some NoMemory)
+complete-alone text w None e calm = inl refl
+complete-alone text w (Some NoMemory) e calm = inr refl
+complete-alone text w (Some WriteFault) e calm = absurd (calm e.0)
+complete-alone text w (Some (OpenFault file)) e calm = absurd e
+complete-alone text w (Some (ReadFault file)) e calm = absurd e
+complete-alone text w (Some (TooLong file line len limit)) e calm = absurd e
+complete-alone text w (Some (TooLarge file limit)) e calm = absurd e
+complete-alone text w (Some (Words fault)) e calm = absurd e
+complete-alone text w (Some (BadLine line)) e calm = absurd e
+complete-alone text w (Some (NotEnabled line)) e calm = absurd e
+complete-alone text w (Some (Unlawful line)) e calm = absurd e

@@ -1,5 +1,5 @@
 -- What the text of a file tells a command, line by line: what is to be written, or the first line with a fault.
-use Rattle.std.specs.Prelude.{◌≡◌, ℕ, ◌<◌, List, Result, Ok, Err}
+use Rattle.std.specs.Prelude.{◌≡◌, ℕ, List, Result, Ok, Err}
 use Rattle.scq_hist.specs.Aspects.{IsFreshAt, IsOnceAt, IsInOrderAt, IsEmptyRightAt}
 use Rattle.scq_hist.specs.declared.events.Event.{Event}
 use Rattle.scq_check.specs.HistoryText.{tokens_in, events_in, IsHistory, IsBadLine, IsUnlawfulLine}

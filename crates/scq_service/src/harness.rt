@@ -4,7 +4,7 @@ ghost use Rattle.std.specs.Prelude.{◌≡◌, ◌<◌, IsTrue, IfOk, IfSome, No
 ghost use Rattle.scq_outside.specs.Calls.{are_pieces};
 
 use crate::serve;
-use scq_outside::{Failed, Files, MemSink, MemSource, Source};
+use scq_outside::{Failed, Files, MemSink, MemSource, PlainSource, Source};
 use scq_word::NoMemory;
 use std::alloc::Global;
 
@@ -33,9 +33,20 @@ pub fn run_over<F: Files>(
     for word in words.split(' ') {
         owned.push(String::from_str(alloc, word)?)?;
     }
+    run_words(alloc, owned.as_slice(), files, writes, err_writes)
+}
+
+/// The service with these words.
+pub fn run_words<F: Files>(
+    alloc: Global,
+    words: &[String],
+    files: &mut F,
+    writes: Cut,
+    err_writes: Cut,
+) -> Result<Ran, NoMemory> {
     let mut out = sink(alloc, writes)?;
     let mut err = sink(alloc, err_writes)?;
-    let outcome = serve(alloc, &owned, files, &mut out, &mut err);
+    let outcome = serve(alloc, words, files, &mut out, &mut err);
     Ok(Ran {
         status: outcome.status,
         read: outcome.read,
@@ -177,5 +188,23 @@ impl Files for EndlessFiles {
 
     fn source(&mut self, _name: &str) -> Result<Endless, Failed> {
         Ok(Endless)
+    }
+}
+
+/// Gives an empty source, whatever its name.
+#[derive(Drop)]
+pub struct EmptyFiles {
+    pub alloc: Global,
+}
+
+impl Files for EmptyFiles {
+    type Src = PlainSource;
+
+    ghost faults = { λ _. 0 };
+
+    ghost table = { λ _. None };
+
+    fn source(&mut self, _name: &str) -> Result<PlainSource, Failed> {
+        Ok(PlainSource::new(Vec::new(self.alloc)))
     }
 }

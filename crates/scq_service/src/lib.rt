@@ -5,6 +5,8 @@
 //! holds.
 #![tactic(auto)]
 
+#[cfg(test)]
+mod command_lines;
 mod fault;
 mod generated;
 #[cfg(test)]
@@ -16,6 +18,8 @@ mod run;
 mod serving;
 #[cfg(test)]
 mod tests;
+#[cfg(test)]
+mod text_commands;
 mod whole;
 mod writing;
 

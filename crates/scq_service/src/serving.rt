@@ -1,6 +1,6 @@
 ghost use Rattle.std.specs.Prelude.{◌≡◌, ◌⊎◌, Ok, None, Some, map, string_bytes};
 ghost use Rattle.scq_outside.specs.Faults.{Rose};
-ghost use Rattle.scq_words.specs.Asked.{asked, run, RunAsked};
+ghost use Rattle.scq_words.specs.Asked.{asked, generated, run, RunAsked, SelfAsked};
 ghost use Rattle.scq_service.specs.Ends.{EndsAs, IsCalm};
 ghost use Rattle.scq_service.specs.Faults.{status_of, report_of};
 ghost use Rattle.scq_service.specs.declared.fault.Fault.TheVariants.{NoMemory};
@@ -48,6 +48,10 @@ pub fn serve<F: Files, K: Sink>(
           read = result.read;
         })
         (record { written = record { old = K.written out.old; new = K.written out.new }; faults = record { old = K.faults out.old; new = K.faults out.new } })
+        → (result.fault ≡ None) ⊎ (result.fault ≡ Some NoMemory) }
+
+    // Where no write failed a run of `self` ends with the summary, or for want of memory.
+    ensures complete_self { (a : SelfAsked) → asked (map string_bytes words.now) ≡ Ok (generated a) → ¬ Rose (K.faults out.old) (K.faults out.new)
         → (result.fault ≡ None) ⊎ (result.fault ≡ Some NoMemory) }
 
     // Err has the fault's line, whole where it didn't fail.

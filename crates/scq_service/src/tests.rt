@@ -1,4 +1,4 @@
-//! Runs over memory, as tables: several files, refused words, long payloads, and reads and
+//! Runs over memory, as tables: several files, long payloads, and reads and
 //! writes in pieces of which one fails.
 use crate::harness::{Cut, EndlessFiles, run_over, run_text};
 use std::alloc::Global;
@@ -137,91 +137,6 @@ static SEVERAL: [Row; 8] = [
     ),
 ];
 
-static REFUSED: [Row; 16] = [
-    ("walk f", "f:x 1\n", 2, "", "words not understood\n"),
-    ("", "f:x 1\n", 2, "", "words not understood\n"),
-    ("run", "f:x 1\n", 2, "", "words not understood\n"),
-    ("run --frob f", "f:x 1\n", 2, "", "words not understood\n"),
-    (
-        "run --workers 0 --order 13 f",
-        "f:x 1\n",
-        2,
-        "",
-        "workers is not in 1..4096\n",
-    ),
-    (
-        "run --order 13 f",
-        "f:x 1\n",
-        2,
-        "",
-        "order is not in 1..12\n",
-    ),
-    (
-        "run --size 0 f",
-        "f:x 1\n",
-        2,
-        "",
-        "size is not in 1..65536\n",
-    ),
-    (
-        "run --topics a=len,b=len,c=len,d=len,e=len,f=len,g=len,h=len,i=len,j=len,k=len,l=len,m=len,n=len,o=len,p=len,q=len f",
-        "f:x 1\n",
-        2,
-        "",
-        "topics entry 17: too many\n",
-    ),
-    (
-        "run --topics a=len, f",
-        "f:x 1\n",
-        2,
-        "",
-        "topics entry 2: bad name\n",
-    ),
-    (
-        "run --topics a f",
-        "f:x 1\n",
-        2,
-        "",
-        "topics entry 1: bad kind\n",
-    ),
-    (
-        "run --topics a=len,a=sum f",
-        "f:x 1\n",
-        2,
-        "",
-        "topics entry 2: named twice\n",
-    ),
-    (
-        "run f f f f f f f f f f f f f f f f f f f f f f f f f f f f f f f f f f f f f f f f f f f f f f f f f f f f f f f f f f f f f f f f f",
-        "f:x 1\n",
-        2,
-        "",
-        "more than 64 files\n",
-    ),
-    ("run f ", "f:x 1\n", 2, "", "file 2 has no name\n"),
-    (
-        "run --order 3 --workers 9 f",
-        "f:x 1\n",
-        2,
-        "",
-        "more workers than buffers\n",
-    ),
-    (
-        "self --seed 2147483648 --lines 0",
-        "f:x 1\n",
-        2,
-        "",
-        "seed is not in 0..2147483647\n",
-    ),
-    (
-        "self --seed 1 --lines 0",
-        "f:x 1\n",
-        2,
-        "",
-        "lines is not in 1..1000000\n",
-    ),
-];
-
 static GENERATED: [Row; 7] = [
     (
         "self --seed 1 --lines 3",
@@ -303,12 +218,6 @@ fn worked_rows_end_as_worked(rt: HostRuntime) -> Result<(), Fail> {
 #[test]
 fn several_files_end_at_the_first_fault(rt: HostRuntime) -> Result<(), Fail> {
     assert!(rt; all_end_so(rt.alloc(), &SEVERAL)?);
-    Ok(())
-}
-
-#[test]
-fn refused_words_write_their_line(rt: HostRuntime) -> Result<(), Fail> {
-    assert!(rt; all_end_so(rt.alloc(), &REFUSED)?);
     Ok(())
 }
 

@@ -1,4 +1,5 @@
-ghost use Rattle.std.specs.Prelude.{◌≡◌, ◌≤◌, length, map, nat_lt, string_bytes, vec_len, IfOk, OnOk};
+ghost use Rattle.std.specs.Prelude.{◌≡◌, ◌<◌, ◌≤◌, length, map, nat_lt, string_bytes, vec_len, IfOk, OnOk};
+ghost use Rattle.std.specs.List.{All};
 ghost use Rattle.std.specs.Result.{result_err};
 ghost use Rattle.scq_words.specs.Asked.{refused_if, refused_names};
 
@@ -22,7 +23,8 @@ pub fn few_files(files: &[&str]) -> Result<(), WordsFault>
 /// Each of at most 64 files has a name.
 pub fn named_files(files: &[&str]) -> Result<(), WordsFault>
     requires { length files.now ≤ 64 }
-    ensures { result_err result ≡ refused_names (map (λ name. name.now) files.now) }
+    ensures refused { result_err result ≡ refused_names (map (λ name. name.now) files.now) }
+    ensures named { OnOk result (All (λ name. 0 < length name.now) files.now) }
 {
     match files.iter().position(|name| name.is_empty()) {
         Some(at) => Err(WordsFault::NoName {

@@ -1,4 +1,4 @@
-ghost use Rattle.std.specs.Prelude.{◌≡◌, ◌⊎◌, ◌≤◌, IfOk};
+ghost use Rattle.std.specs.Prelude.{◌≡◌, ◌⊎◌, ◌≤◌, IfOk, IsSome};
 ghost use Rattle.std.specs.Result.{result_err};
 ghost use Rattle.std.specs.Char.{is_ascii_digit};
 ghost use Rattle.scq_words.specs.Numbers.{number_in, number_or, refused_outside, text_in};
@@ -35,6 +35,7 @@ pub fn optional_number(
 ) -> Result<u32, WordsFault>
     ensures refused { result_err result ≡ refused_outside low high fault (text_in text.entry) }
     ensures within { IfOk result (λ n. (n ≡ default) ⊎ ((low ≤ n) × (n ≤ high))) }
+    ensures given { IsSome text.entry → IfOk result (λ n. (low ≤ n) × (n ≤ high)) }
     ensures value { IfOk result (λ n. n ≡ number_or default (text_in text.entry)) }
 {
     let Some(text) = text else {

@@ -1,6 +1,7 @@
-ghost use Rattle.std.specs.Prelude.{◌≡◌, Ok, Err, map, string_bytes, IfOk, IsErrOf};
+ghost use Rattle.std.specs.Prelude.{◌≡◌, Ok, Err, false, map, string_bytes, IfOk, IsErrOf};
 ghost use Rattle.scq_words.specs.declared.fault.WordsFault.{WordsFault as TheFault};
 ghost use Rattle.scq_words.specs.Asked.{asked, asked_by};
+ghost use Rattle.scq_words.specs.Ranges.{IsInRange, is_taken};
 
 use crate::run::read_run;
 use crate::self_words::read_self;
@@ -14,6 +15,10 @@ use std::alloc::Global;
 pub fn read_words(alloc: Global, words: &[String]) -> Result<Request, WordsError>
     ensures request { IfOk result (λ request. asked (map string_bytes words.now) ≡ Ok (asked_by request)) }
     ensures refused { (fault : TheFault) → IsErrOf result (WordsError.Refused fault) → asked (map string_bytes words.now) ≡ Err fault }
+
+    // `clap` refuses no words that it is said to take. What is asked is in its ranges.
+    ensures taken { IsErrOf result (WordsError.Refused WordsFault.NotUnderstood) → is_taken (map string_bytes words.now) ≡ false }
+    ensures ranges { IfOk result (λ request. IsInRange (asked_by request)) }
 {
     match words {
         [command, rest @ ..] => match command.as_str() {

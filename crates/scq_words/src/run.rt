@@ -1,8 +1,11 @@
-ghost use Rattle.std.specs.Prelude.{◌≡◌, Ok, Err, None, Some, map, string_bytes, IfOk, IsErrOf};
+ghost use Rattle.std.specs.Prelude.{◌≡◌, ◌≤◌, Ok, Err, None, Some, false, length, map, string_bytes, IfOk, IsErrOf};
 ghost use Rattle.std.specs.Result.{result_err};
 ghost use Rattle.scq_words.specs.declared.fault.WordsFault.{WordsFault as TheFault};
 ghost use Rattle.scq_words.specs.Asked.{asked_of_run, first_of_tests, refused_topics, run, run_asked, run_of, run_tests, texts_of_run, topics_or_none};
+ghost use Rattle.clap.specs.Words.{takes};
+ghost use Rattle.scq_words.specs.Commands.{run_app};
 ghost use Rattle.scq_words.specs.Numbers.{text_in};
+ghost use Rattle.scq_words.specs.Ranges.{IsRunInRange};
 
 use crate::files::{few_files, named_files, own_files};
 use crate::number::optional_number;
@@ -16,6 +19,8 @@ use std::alloc::Global;
 pub fn read_run(alloc: Global, words: &[String]) -> Result<RunRequest, WordsError>
     ensures request { IfOk result (λ request. asked_of_run (map string_bytes words.now) ≡ Ok (run (run_of request))) }
     ensures refused { (fault : TheFault) → IsErrOf result (WordsError.Refused fault) → asked_of_run (map string_bytes words.now) ≡ Err fault }
+    ensures taken { IsErrOf result (WordsError.Refused WordsFault.NotUnderstood) → takes run_app (map string_bytes words.now) ≡ false }
+    ensures ranges { IfOk result (λ request. IsRunInRange (run_of request)) }
 {
     let matches = run_matches(alloc, words)?;
     let workers = matches.get_str("workers");
@@ -41,6 +46,7 @@ fn check_run(
         IfOk result (λ request. (first_of_tests (run_tests texts) ≡ None) × (run_asked texts ≡ run_of request)) }
     ensures refused { let texts = texts_of_run (text_in workers.entry) (text_in order.entry) (text_in size.entry) (text_in topics.entry) (map (λ name. name.now) files.now) in
         (fault : TheFault) → IsErrOf result (WordsError.Refused fault) → first_of_tests (run_tests texts) ≡ Some fault }
+    ensures ranges { IfOk result (λ request. IsRunInRange (run_of request)) }
 {
     let given = optional_number(workers, 0, 1, 4096, WordsFault::Workers)?;
     let order = optional_number(order, 6, 1, 12, WordsFault::Order)?;
@@ -63,6 +69,7 @@ fn check_run(
 fn topics_of(text: Option<&str>) -> Result<Topics, WordsFault>
     ensures refused { result_err result ≡ refused_topics (text_in text.entry) }
     ensures topics { IfOk result (λ topics. topics ≡ topics_or_none (text_in text.entry)) }
+    ensures few { IfOk result (λ topics. length topics ≤ 16) }
 {
     match text {
         Some(text) => match Topics::read(text) {

@@ -1,5 +1,5 @@
 //! A table of command lines, each with what it asks for or the line of its fault.
-use crate::{Request, RunRequest, SelfRequest, WordsError, read_words};
+use crate::{Request, RunRequest, SelfRequest, WordsError, WordsFault, read_words};
 use std::alloc::Global;
 use std::test::Fail;
 
@@ -43,7 +43,7 @@ static COMMANDS: [(&str, &str); 37] = [
     ("self f", "words not understood"),
 ];
 
-static WORKERS: [(&str, &str); 17] = [
+static WORKERS: [(&str, &str); 18] = [
     ("run --workers 1 f", "run 1 6 65536 0 f"),
     ("run --order 12 --workers=4096 f", "run 4096 12 65536 0 f"),
     ("run f --workers 1", "run 1 6 65536 0 f"),
@@ -57,6 +57,7 @@ static WORKERS: [(&str, &str); 17] = [
     ("run --workers +1 f", "workers is not in 1..4096"),
     ("run --workers=-1 f", "workers is not in 1..4096"),
     ("run --workers -1 f", "words not understood"),
+    ("run --workers - f", "workers is not in 1..4096"),
     ("run --workers 1x f", "workers is not in 1..4096"),
     ("run f --workers", "words not understood"),
     ("run --workers 1 --workers 1 f", "words not understood"),
@@ -208,7 +209,7 @@ static PAIRS: [(&str, &str); 21] = [
     ),
 ];
 
-static SELVES: [(&str, &str); 40] = [
+static SELVES: [(&str, &str); 41] = [
     ("self --seed 1 --lines 3", "self 1 3 4"),
     ("self --seed=1 --lines=3", "self 1 3 4"),
     ("self --lines 3 --seed 1", "self 1 3 4"),
@@ -225,6 +226,10 @@ static SELVES: [(&str, &str); 40] = [
     ),
     (
         "self --seed 2147483648 --lines 1",
+        "seed is not in 0..2147483647",
+    ),
+    (
+        "self --seed 4294967296 --lines 1",
         "seed is not in 0..2147483647",
     ),
     ("self --seed 1 --lines 0", "lines is not in 1..1000000"),
@@ -380,5 +385,15 @@ fn pairs_are_read_or_refused(rt: HostRuntime) -> Result<(), Fail> {
 #[test]
 fn selves_are_read_or_refused(rt: HostRuntime) -> Result<(), Fail> {
     assert!(rt; is_answered(rt.alloc(), &SELVES)?);
+    Ok(())
+}
+
+#[test]
+fn no_words_are_refused(rt: HostRuntime) -> Result<(), Fail> {
+    let refused = read_words(rt.alloc(), &[]).err();
+    assert_eq!(rt;
+        refused,
+        Some(WordsError::Refused(WordsFault::NotUnderstood))
+    );
     Ok(())
 }

@@ -1,4 +1,6 @@
-ghost use Rattle.std.specs.Prelude.{◌≡◌, Ok, Err, map, string_bytes, IfOk, IsErrOf};
+ghost use Rattle.std.specs.Prelude.{◌≡◌, ◌<◌, Ok, Err, false, length, map, string_bytes, IfOk, IsErrOf};
+ghost use Rattle.clap.specs.Words.{takes};
+ghost use Rattle.scq_words.specs.Commands.{text_app};
 ghost use Rattle.scq_words.specs.declared.fault.WordsFault.{WordsFault as TheFault};
 ghost use Rattle.scq_words.specs.Asked.{asked_of_text, text_of, whole};
 
@@ -30,6 +32,8 @@ pub(crate) fn read_text(
 ) -> Result<TextRequest, WordsError>
     ensures request { IfOk result (λ request. asked_of_text command (map string_bytes words.now) ≡ Ok (whole (text_of request))) }
     ensures refused { (fault : TheFault) → IsErrOf result (WordsError.Refused fault) → asked_of_text command (map string_bytes words.now) ≡ Err fault }
+    ensures taken { IsErrOf result (WordsError.Refused WordsFault.NotUnderstood) → takes (text_app command) (map string_bytes words.now) ≡ false }
+    ensures named { IfOk result (λ request. 0 < length (string_bytes request.file)) }
 {
     let matches = text_matches(alloc, command, words)?;
     let name = matches.get_str("file").unwrap_or("");

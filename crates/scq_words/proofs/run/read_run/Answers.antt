@@ -1,12 +1,14 @@
-use Rattle.std.proofs.Common.{◌≡◌, ◌∙◌, sym, ap, map, Some, None, Ok, Err}
+use Rattle.std.proofs.Common.{◌≡◌, ◌∙◌, sym, ap, map, [], Some, None, Ok, Err}
 use Rattle.std.specs.Prelude.{string_bytes}
 use Rattle.std.proofs.lemmas.Result.{IfOk-weaker}
 use Rattle.clap.specs.Words.{found_of, matches_of}
 use Rattle.scq_words.specs.Commands.{run_app}
-use Rattle.scq_words.specs.Asked.{asked_of_run, run, run_of}
+use Rattle.scq_words.specs.Asked.{asked_of_run, run, run_of, texts_of_run}
+use Rattle.scq_words.specs.Numbers.{text_in}
 use Rattle.scq_words.specs.declared.fault.WordsError.TheVariants.{Refused}
 use Rattle.scq_words.specs.declared.fault.WordsFault.TheVariants.{NotUnderstood}
 use Rattle.scq_words.proofs.Answering.{run-texts, run-answer, answer-ok, answer-err, asked-refused-run, handed-on, refused-same, refused-some}
+use Rattle.scq_words.proofs.InRange.{run-other}
 use Rattle.scq_words.proofs.run.read_run.Goals as goal
 
 pub returns-in-Some-clause-request : goal.returns-in-Some-clause-request
@@ -44,3 +46,13 @@ returns-in_err-matches-clause-refused c = λ fault is.
     let said = c.in_err-matches.ensures.refused (refused-some _ fault same) in
     let one : NotUnderstood ≡ fault = refused-same (sym said.0 ∙ same) in
     asked-refused-run words fault (said.1 ∙ ap Some one)
+
+pub returns-in-Some-clause-taken : goal.returns-in-Some-clause-taken
+returns-in-Some-clause-taken c = λ is.
+    let texts = texts_of_run (text_in c.get_str-workers.result) (text_in c.get_str-order.result) (text_in c.get_str-size.result) (text_in c.get_str-topics.result) (map (λ name. name.now) c.in-Some.files.now) in
+    absurd (run-other texts (c.check_run.ensures.refused NotUnderstood is))
+
+pub returns-clause-taken : goal.returns-clause-taken
+returns-clause-taken c = λ is.
+    let texts = texts_of_run (text_in c.get_str-workers.result) (text_in c.get_str-order.result) (text_in c.get_str-size.result) (text_in c.get_str-topics.result) [] in
+    absurd (run-other texts (c.check_run-in-None.ensures.refused NotUnderstood is))

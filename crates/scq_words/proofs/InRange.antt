@@ -1,0 +1,55 @@
+-- The tests of `run`'s arguments never answer that the words aren't understood.
+use Rattle.std.proofs.Common.{◌≡◌, ◌≢◌, ◌⊎◌, inl, inr, arith, true, false, ℕ, ◌+◌, ◌≤◌, Bool, List, [], length, Option, Some, None}
+use Rattle.std.specs.Prelude.{◌==◌, ◌&&◌, nat_lt, nat_le, option_map, if◌then◌else◌}
+use Rattle.std.specs.List.{position}
+use Rattle.std.specs.Option.{option_or}
+use Rattle.scq_topics.specs.Topics.{entries_of, first_fault}
+use Rattle.scq_words.specs.Asked.{RunTexts, first_of_tests, refused_if, refused_topics, run_tests}
+use Rattle.scq_words.specs.Numbers.{fault_outside, number_in, refused_outside}
+use Rattle.scq_words.specs.declared.fault.WordsFault.{WordsFault}
+use Rattle.scq_words.specs.declared.fault.WordsFault.TheVariants.{NotUnderstood, Workers, Order, Size, Topics, TooManyFiles, NoName, MoreWorkers}
+
+-- a test that doesn't answer that the words aren't understood
+abbrev IsOther : Option WordsFault → Type 0
+IsOther test = test ≢ Some NotUnderstood
+
+or-other : (test rest : Option WordsFault) → IsOther test → IsOther rest → IsOther (option_or test rest)
+or-other None rest a b = b
+or-other (Some fault) rest a b = a
+
+if-other : (b : Bool) (fault : WordsFault) → fault ≢ NotUnderstood → IsOther (refused_if b fault)
+if-other true fault other = λ e. other (cc)
+if-other false fault other = λ e. cc
+
+outside-other : (low high : ℕ) (fault : WordsFault) (text : Option (List ℕ)) → fault ≢ NotUnderstood → IsOther (refused_outside low high fault text)
+outside-other low high fault None other = λ e. cc
+outside-other low high fault (Some text) other = at (number_in text) where
+  at : (o : Option ℕ) → IsOther (fault_outside low high fault o)
+  at None = λ e. other (cc)
+  at (Some n) = within (nat_le low n && nat_le n high) where
+    within : (b : Bool) → IsOther (if b then None else Some fault)
+    within true = λ e. cc
+    within false = λ e. other (cc)
+
+map-other : {A : Type 0} (f : A → WordsFault) (o : Option A) → ((a : A) → f a ≢ NotUnderstood) → IsOther (option_map f o)
+map-other f None other = λ e. cc
+map-other f (Some a) other = λ e. other a (cc)
+
+topics-other : (text : Option (List ℕ)) → IsOther (refused_topics text)
+topics-other None = λ e. cc
+topics-other (Some text) = map-other Topics (first_fault [] (entries_of text)) (λ a e. cc)
+
+pub run-other : (t : RunTexts) → first_of_tests (run_tests t) ≢ Some NotUnderstood
+run-other t =
+    or-other _ _ (outside-other 1 4096 Workers t.workers (λ e. cc))
+    (or-other _ _ (outside-other 1 12 Order t.order (λ e. cc))
+    (or-other _ _ (outside-other 1 65536 Size t.size (λ e. cc))
+    (or-other _ _ (topics-other t.topics)
+    (or-other _ _ (if-other (nat_lt 64 (length t.files)) TooManyFiles (λ e. cc))
+    (or-other _ _ (map-other (λ at. NoName (at + 1)) (position (λ name. length name == 0) t.files) (λ a e. cc))
+    (or-other _ None (if-other _ MoreWorkers (λ e. cc)) (λ e. cc)))))))
+
+-- a number that is the default or was tested is in its range
+pub in-range : (n default low high : ℕ) → (n ≡ default) ⊎ ((low ≤ n) × (n ≤ high)) → low ≤ default → default ≤ high → (low ≤ n) × (n ≤ high)
+in-range n default low high (inl is) above below = (omega (arith, is, above), omega (arith, is, below))
+in-range n default low high (inr within) above below = within

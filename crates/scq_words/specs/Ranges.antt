@@ -1,0 +1,38 @@
+-- Which words `clap` takes, and in which ranges the settings are.
+use Rattle.std.specs.Prelude.{ℕ, ◌^◌, ◌<◌, ◌≤◌, Bool, false, List, [], ◌∷◌, length, codes, if◌then◌else◌}
+use Rattle.std.specs.List.{All}
+use Rattle.std.specs.Str.{bytes_eq}
+use Rattle.clap.specs.Words.{takes}
+use Rattle.scq_words.specs.Commands.{run_app, self_app, text_app}
+use Rattle.scq_words.specs.Asked.{Asked, RunAsked, SelfAsked, run, generated, whole}
+use Rattle.scq_words.specs.declared.text_request.TextCommand.TheVariants.{Check, Replay}
+
+-- the first word is a command, and `clap` takes those after it as its arguments
+abbrev pub is_taken : List (List ℕ) → Bool
+is_taken [] = false
+is_taken (command ∷ words) =
+    if bytes_eq command (codes "run") then takes run_app words
+    else if bytes_eq command (codes "self") then takes self_app words
+    else if bytes_eq command (codes "check") then takes (text_app Check) words
+    else if bytes_eq command (codes "replay") then takes (text_app Replay) words
+    else false
+
+-- the settings of a run are in their ranges, and each of its files has a name
+pub record IsRunInRange (a : RunAsked) : Type 0 where
+  pub order : (1 ≤ a.order) × (a.order ≤ 12)
+  pub workers : (1 ≤ a.workers) × (a.workers ≤ 2 ^ a.order)
+  pub size : (1 ≤ a.size) × (a.size ≤ 65536)
+  pub topics : length a.topics ≤ 16
+  pub files : length a.files ≤ 64
+  pub names : All (λ name. 0 < length name) a.files
+
+-- those of `self`, whose order is 6
+pub record IsSelfInRange (a : SelfAsked) : Type 0 where
+  pub seed : a.seed ≤ 2147483647
+  pub lines : (1 ≤ a.lines) × (a.lines ≤ 1000000)
+  pub workers : (1 ≤ a.workers) × (a.workers ≤ 64)
+
+abbrev pub IsInRange : Asked → Type 0
+IsInRange (run a) = IsRunInRange a
+IsInRange (generated a) = IsSelfInRange a
+IsInRange (whole a) = 0 < length a.file
