@@ -1,5 +1,5 @@
 //! Histories judged and schedules run over one file in memory, as a table.
-use crate::harness::{Cut, run_text};
+use crate::harness::{Cut, EndlessFiles, run_over, run_text};
 use std::test::Fail;
 
 const WHOLE: Cut = (4096, None);
@@ -179,5 +179,18 @@ fn faults_of_the_file_and_the_sinks(rt: HostRuntime) -> Result<(), Fail> {
         assert_eq!(rt; ran.out.bytes(), out.as_bytes(), "row {row}");
         assert_eq!(rt; ran.err.bytes(), err.as_bytes(), "row {row}");
     }
+    Ok(())
+}
+
+#[test]
+fn a_text_without_end_is_too_large(rt: HostRuntime) -> Result<(), Fail> {
+    let ran = run_over(rt.alloc(), "check f", &mut EndlessFiles, WHOLE, WHOLE)?;
+    assert_eq!(rt; ran.status, 6);
+    assert_eq!(rt; ran.read, 16777217);
+    assert_eq!(rt; ran.out.bytes(), b"".as_slice());
+    assert_eq!(rt;
+        ran.err.bytes(),
+        b"file 1: more than 16777216 bytes\n".as_slice()
+    );
     Ok(())
 }
