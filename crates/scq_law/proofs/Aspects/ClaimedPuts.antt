@@ -16,7 +16,7 @@ use Rattle.scq_hist.specs.declared.events.Reply.TheVariants.{Got}
 use Rattle.scq_law.specs.Run.{Recorded}
 use Rattle.scq_law.specs.Places.{Maker}
 use Rattle.scq_law.proofs.Base.Ghosts.{Ghost, GetState, placed, unopened, opened, dead, took, is_placed}
-use Rattle.scq_law.proofs.Base.TicketEvents.{trying}
+use Rattle.scq_core.specs.Stances.{trying}
 use Rattle.scq_law.proofs.Base.EventFacts.{stance}
 use Rattle.scq_law.proofs.Base.Based.{IsBased, based}
 use Rattle.scq_law.proofs.Places.SeatTickets.{IsRooted}

@@ -18,7 +18,8 @@ use Rattle.scq_hist.specs.declared.events.Reply.TheVariants.{Nothing, Spent}
 use Rattle.scq_law.specs.Run.{starts, puts_after}
 use Rattle.scq_law.specs.Places.{call_of}
 use Rattle.scq_law.proofs.Base.Ghosts.{Ghost, placed, is_placed}
-use Rattle.scq_law.proofs.Base.TicketEvents.{Stance, resting, drawing, putting, landed, seeking, trying, missed, leaving, stance_of, TicketEvent, calm, drew, fell, laid, finished, entered, refused, began, died, saw_end, lifted, taken, lowered, emptied, overran, stance_by, ended_by}
+use Rattle.scq_core.specs.Stances.{Stance, resting, drawing, putting, landed, asking, seeking, trying, gave_up, stance_of}
+use Rattle.scq_law.proofs.Base.TicketEvents.{TicketEvent, calm, drew, fell, laid, finished, entered, refused, began, died, saw_end, lifted, taken, lowered, emptied, overran, stance_by, ended_by}
 use Rattle.scq_law.proofs.Base.EventFacts.{stance, EventFacts}
 use Rattle.scq_law.proofs.Base.EventSteps.{EventStep, event_step, ghost_next}
 use Rattle.scq_law.proofs.Places.SeatTickets.{IsRooted}
@@ -146,7 +147,7 @@ module _ (c : Setup) (opening : List (List ℕ)) (full : length opening ≡ n_of
 
   -- a get goes on in another stance, without a ticket that changes
   goes_on : (e : TicketEvent) (z : Stance) → EventStep c time g m k e n → Doing events (begun k) k z → due z ≡ 0
-      → ((r i t : ℕ) (w : List ℕ) → z ≢ landed r i w t) → ((r h : ℕ) → z ≡ leaving r h → Emptying opening events placer g.puts g.gets tied.since k r)
+      → ((r i t : ℕ) (w : List ℕ) → z ≢ landed r i w t) → ((r h : ℕ) → z ≡ gave_up r h true → Emptying opening events placer g.puts g.gets tied.since k r)
       → IsTied c opening (events ++ []) begun placer (updated now k z) (calls_of n) g
   goes_on e z event_step does none other leave =
       quiet (updated now k z) placer g
@@ -207,9 +208,9 @@ module _ (c : Setup) (opening : List (List ℕ)) (full : length opening ≡ n_of
       tied_done c opening events begun placer now (calls_of m) g tied k r i w t (calls_of n) (here ∙ is) p.placed
       (free_after (finished r i w t) event_step later refl) (calls_rise (finished r i w t) event_step.event_facts) (omega arith)
   tied_event (entered r) event_step later decided is =
-      goes_on (entered r) (seeking r) event_step (doing (seeking r) is) refl (λ q i t w at. cc) (λ q u at. absurd (cc))
+      goes_on (entered r) (seeking r) event_step (doing (asking r) is) refl (λ q i t w at. cc) (λ q u at. absurd (cc))
   tied_event (refused r) event_step later decided is =
-      let does = doing (seeking r) is in
+      let does = doing (asking r) is in
       get_ends (refused r) r event_step does (free_after (refused r) event_step later refl) (emptying event_step.base r (decided r (by_refusal r)) does)
   tied_event (began r h) event_step later decided is =
       let p = event_step.event_facts.proper in
@@ -219,15 +220,15 @@ module _ (c : Setup) (opening : List (List ℕ)) (full : length opening ≡ n_of
       (calls_rise (began r h) event_step.event_facts))
   tied_event (died r h) event_step later decided is =
       let p = event_step.event_facts.proper in
-      quiet (updated now k (missed r h)) placer (ghost_next time g m k (died r h))
+      quiet (updated now k (gave_up r h false)) placer (ghost_next time g m k (died r h))
       (tied_died c opening events begun placer now (calls_of m) g tied k r h (calls_of n) (here ∙ is) p.opened (calls_rise (died r h) event_step.event_facts))
   tied_event (saw_end r h) event_step later decided is =
-      let does = doing (missed r h) is in
+      let does = doing (gave_up r h false) is in
       let sees = emptying event_step.base r (decided r (by_end r h)) does in
-      goes_on (saw_end r h) (leaving r h) event_step does refl (λ q i t w at. cc)
+      goes_on (saw_end r h) (gave_up r h true) event_step does refl (λ q i t w at. cc)
       (λ q u at. let ring : r ≡ q = cc in subst (λ z. Emptying opening events placer g.puts g.gets tied.since k z) ring sees)
   tied_event (lifted r h to) event_step later decided is =
-      goes_on (lifted r h to) (leaving r h) event_step (doing (leaving r h) is) refl (λ q i t w at. cc)
+      goes_on (lifted r h to) (gave_up r h true) event_step (doing (gave_up r h true) is) refl (λ q i t w at. cc)
       (λ q u at. let ring : r ≡ q = cc in subst (λ z. Emptying opening events placer g.puts g.gets tied.since k z) ring (tied.emptied.leaves k r h (here ∙ is)))
   tied_event (taken r h i w) event_step later decided is =
       let p = event_step.event_facts.proper in
@@ -239,18 +240,18 @@ module _ (c : Setup) (opening : List (List ℕ)) (full : length opening ≡ n_of
       (λ q t x at. free.pends q t x at)
       (calls_rise (taken r h i w) event_step.event_facts)
   tied_event (lowered r h) event_step later decided is =
-      goes_on (lowered r h) (seeking r) event_step (doing (missed r h) is) refl (λ q i t w at. cc) (λ q u at. absurd (cc))
+      goes_on (lowered r h) (seeking r) event_step (doing (gave_up r h false) is) refl (λ q i t w at. cc) (λ q u at. absurd (cc))
   tied_event (emptied r h) event_step later decided is =
       let free = free_after (emptied r h) event_step later refl in
       elim is [
-        | inl a ↦ get_ends (emptied r h) r event_step (doing (leaving r h) a) free (tied.emptied.leaves k r h (here ∙ a))
+        | inl a ↦ get_ends (emptied r h) r event_step (doing (gave_up r h true) a) free (tied.emptied.leaves k r h (here ∙ a))
         | inr a ↦
-            let stands : stance m k ≡ missed r h =
+            let stands : stance m k ≡ gave_up r h false =
             elim event_step.event_facts.proper.was [
               | inl left ↦ elim own [ inl same ↦ absurd (cc) | inr rests ↦ absurd (cc) ]
               | inr low ↦ low.0
             ] in
-            let does = doing (missed r h) a in
+            let does = doing (gave_up r h false) a in
             get_ends (emptied r h) r event_step does free (emptying event_step.base r (decided r (by_level r h stands)) does)
       ]
   tied_event (overran r t true) event_step later decided is =

@@ -20,7 +20,7 @@ use Rattle.scq_hist.specs.declared.events.Reply.{Reply}
 use Rattle.scq_hist.specs.declared.events.Reply.TheVariants.{Done, Got, Nothing}
 use Rattle.scq_law.specs.Places.{Maker, call_of}
 use Rattle.scq_law.proofs.Base.Ghosts.{Ghost, fresh, pending, failed, placed, unopened, opened, dead, took, is_placed, with_put, with_get}
-use Rattle.scq_law.proofs.Base.TicketEvents.{Stance, resting, drawing, putting, landed, seeking, trying, missed, leaving}
+use Rattle.scq_core.specs.Stances.{Stance, resting, drawing, putting, landed, asking, seeking, trying, gave_up}
 use Rattle.scq_law.proofs.Aspects.GrowingHistory.{under_now, under_old}
 use Rattle.scq_law.proofs.Aspects.CallsUnderWay.{PutsNow, GetsNow, Doing, IsCalled, called_put, called_get, called_end, called_on, put_answer, get_answer}
 use Rattle.scq_law.proofs.Aspects.PlacedPuts.{IsNamed, due, Landing, IsPlaced, placed_grown, placed_on, placed_drawn, placed_laid, updated_entry_else}
@@ -74,7 +74,7 @@ module _ (c : Setup) (opening : List (List ℕ)) (events : List history.Event) (
       ]
 
   -- where only this seat's stance changes, a seat that leaves did so
-  leaves_else : (s : Stance) → ((r h : ℕ) → s ≢ leaving r h) → (j r h : ℕ) → updated stance k s j ≡ leaving r h → (stance j ≡ leaving r h) × (k ≢ j)
+  leaves_else : (s : Stance) → ((r h : ℕ) → s ≢ gave_up r h true) → (j r h : ℕ) → updated stance k s j ≡ gave_up r h true → (stance j ≡ gave_up r h true) × (k ≢ j)
   leaves_else s none j r h is =
       elim (cases_eq j k) [
         | inl same ↦ absurd (none r h (sym (rw (eq-eqb j k same) refl) ∙ is))
@@ -110,7 +110,7 @@ module _ (c : Setup) (opening : List (List ℕ)) (events : List history.Event) (
 
   -- or a get
   pub tied_get : (r : ℕ) → stance k ≡ resting → IsFree g k
-      → IsTied c opening (events ++ Start k (Get r) ∷ []) begun placer (updated stance k (seeking r)) calls g
+      → IsTied c opening (events ++ Start k (Get r) ∷ []) begun placer (updated stance k (asking r)) calls g
   tied_get r rests free =
       record {
         origin = tied.origin;
@@ -118,22 +118,22 @@ module _ (c : Setup) (opening : List (List ℕ)) (events : List history.Event) (
         ended = tied.ended;
         called = called_get events begun stance k r tied.called rests;
         placed =
-            placed_grown c opening events begun placer stance calls g.puts tied.origin tied.placed (Start k (Get r)) begun (updated stance k (seeking r)) calls
+            placed_grown c opening events begun placer stance calls g.puts tied.origin tied.placed (Start k (Get r)) begun (updated stance k (asking r)) calls
             (other_pends free)
-            (due_else (seeking r) (omega arith)) (λ j. omega arith) (λ j is. absurd (cc));
+            (due_else (asking r) (omega arith)) (λ j. omega arith) (λ j is. absurd (cc));
         taken = taken_grown events placer g.puts g.gets tied.origin tied.since tied.ended tied.taken (Start k (Get r)) (other_opens free) (λ j name y is. cc);
-        emptied = emptied_grown opening events placer stance g.puts g.gets tied.since tied.emptied (Start k (Get r)) (updated stance k (seeking r))
-            (leaves_else (seeking r) (λ a b z. cc)) (λ j z. absurd (cc));
+        emptied = emptied_grown opening events placer stance g.puts g.gets tied.since tied.emptied (Start k (Get r)) (updated stance k (asking r))
+            (leaves_else (asking r) (λ a b z. cc)) (λ j z. absurd (cc));
         lands =
             λ j q x t y is.
-            let old = lands_else stance k (seeking r) (λ a b d z e. cc) j q x t y is in
+            let old = lands_else stance k (asking r) (λ a b d z e. cc) j q x t y is in
             tied.lands j q x t y old.1;
       }
 
   -- a call goes on
   pub tied_on : (s : Stance) (calls2 : ℕ → ℕ) → Doing events (begun k) k s → due s ≤ due (stance k) → ((j : ℕ) → calls j ≤ calls2 j)
       → ((r i t : ℕ) (w : List ℕ) → s ≡ landed r i w t → placer r t ≡ Of k (begun k))
-      → ((r h : ℕ) → s ≡ leaving r h → Emptying opening events placer g.puts g.gets tied.since k r)
+      → ((r h : ℕ) → s ≡ gave_up r h true → Emptying opening events placer g.puts g.gets tied.since k r)
       → IsTied c opening events begun placer (updated stance k s) calls2 g
   tied_on s calls2 now less calls_rise here leave =
       record {
@@ -395,32 +395,32 @@ module _ (c : Setup) (opening : List (List ℕ)) (events : List history.Event) (
 
   -- a get gives its ticket up
   pub tied_died : (r h : ℕ) (calls2 : ℕ → ℕ) → stance k ≡ trying r h → g.gets r h ≡ opened k → ((j : ℕ) → calls j ≤ calls2 j)
-      → IsTied c opening events begun placer (updated stance k (missed r h)) calls2 (with_get g r h dead)
+      → IsTied c opening events begun placer (updated stance k (gave_up r h false)) calls2 (with_get g r h dead)
   tied_died r h calls2 stands is calls_rise =
       let now : GetsNow events k r = rw stands at (tied.called.doing k) in
       record {
         origin = tied.origin;
         since = updated_entry tied.since r h (tied.since r h);
         ended = tied.ended;
-        called = called_on events begun stance k (missed r h) tied.called now;
-        placed = placed_on c opening events begun placer stance calls g.puts tied.origin tied.placed (updated stance k (missed r h)) calls2
-            (due_else (missed r h) (omega arith)) calls_rise;
+        called = called_on events begun stance k (gave_up r h false) tied.called now;
+        placed = placed_on c opening events begun placer stance calls g.puts tied.origin tied.placed (updated stance k (gave_up r h false)) calls2
+            (due_else (gave_up r h false) (omega arith)) calls_rise;
         taken =
             taken_drawn events placer g.puts g.gets tied.origin tied.since tied.ended tied.taken r h (λ j n at. cc) dead (tied.since r h) (λ j n at. cc)
             (λ j same. absurd (cc))
             (tied.taken.early r h)
             (λ u j n at le. refl);
         emptied =
-            emptied_kept opening events placer stance g.puts g.gets tied.since tied.emptied placer (updated stance k (missed r h)) g.puts
+            emptied_kept opening events placer stance g.puts g.gets tied.since tied.emptied placer (updated stance k (gave_up r h false)) g.puts
             (updated_entry g.gets r h dead) (updated_entry tied.since r h (tied.since r h)) (λ q u z. (z, refl))
             (λ q u some. (
               λ at. elim (updated_entry_or g.gets r h dead q u) [ inl a ↦ let was = a.2 in cc | inr a ↦ some (sym a.1 ∙ at) ],
               ap (λ (f : ℕ → ℕ → ℕ). f q u) (updated_entry_same tied.since r h),
             ))
-            (λ j q u at. inl (leaves_else (missed r h) (λ a b z. cc) j q u at).0);
+            (λ j q u at. inl (leaves_else (gave_up r h false) (λ a b z. cc) j q u at).0);
         lands =
             λ j q x u y at.
-            let old = lands_else stance k (missed r h) (λ a b d z e. cc) j q x u y at in
+            let old = lands_else stance k (gave_up r h false) (λ a b d z e. cc) j q x u y at in
             tied.lands j q x u y old.1;
       }
 

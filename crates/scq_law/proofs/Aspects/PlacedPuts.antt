@@ -18,7 +18,7 @@ use Rattle.scq_hist.specs.declared.events.PutName.TheVariants.{Opening, Of}
 use Rattle.scq_hist.specs.declared.events.Reply.TheVariants.{Done}
 use Rattle.scq_law.specs.Places.{Maker, call_of}
 use Rattle.scq_law.proofs.Base.Ghosts.{PutState, pending, placed, is_placed}
-use Rattle.scq_law.proofs.Base.TicketEvents.{Stance, drawing, putting}
+use Rattle.scq_core.specs.Stances.{Stance, drawing, putting}
 use Rattle.scq_law.proofs.Aspects.GrowingHistory.{under_now, at_grown, under_old, length_grown, put_grown, seat_of, under_else}
 
 -- the put of this name is an opening token of queue 0 with this content, or a seat's put of this queue that starts at s

@@ -15,7 +15,8 @@ use Rattle.scq_core.proofs.Turns.{awake}
 use Rattle.scq_core.proofs.Steady.{has}
 use Rattle.scq_law.specs.Places.{call_of, opening_put}
 use Rattle.scq_law.proofs.Base.Ghosts.{Ghost, pending, placed, opened, dead}
-use Rattle.scq_law.proofs.Base.TicketEvents.{Stance, stance_of, TicketEvent, event, stance_by, hand_by, ended_by, kept_by, tail_by, head_by, threshold_by}
+use Rattle.scq_core.specs.Stances.{Stance, stance_of}
+use Rattle.scq_law.proofs.Base.TicketEvents.{TicketEvent, event, stance_by, hand_by, ended_by, kept_by, tail_by, head_by, threshold_by}
 use Rattle.scq_law.proofs.Base.Traces.{event_of}
 use Rattle.scq_law.proofs.Base.EventFacts.{Rests, Proper, EventFacts}
 use Rattle.scq_law.proofs.Base.BaseGroup.{IsBooked, IsDrawn, Claims, Knows, Passed, Holds}

@@ -15,7 +15,8 @@ use Rattle.scq_core.proofs.UpdatedLemmas.{updated_here, updated_same, updated_en
 use Rattle.scq_core.proofs.Ranks.{counters_rise}
 use Rattle.scq_law.specs.Places.{call_of}
 use Rattle.scq_law.proofs.Base.Ghosts.{Ghost, pending, failed, placed, opened, dead, waiting, with_put, with_get}
-use Rattle.scq_law.proofs.Base.TicketEvents.{event, ghost_by, stance_of}
+use Rattle.scq_core.specs.Stances.{stance_of}
+use Rattle.scq_law.proofs.Base.TicketEvents.{event, ghost_by}
 use Rattle.scq_law.proofs.Base.BaseGroup.{IsBooked, IsDrawn, Claims, Knows, Passed, Holds, Effect}
 use Rattle.scq_law.proofs.Base.PutEffects.{is_ours, put_effect, no_effect}
 use Rattle.scq_law.proofs.Base.DrawEffects.{began_effect}
