@@ -195,7 +195,8 @@ covers_step c time g m k (finished q i w t) n trace event_step was =
                 ] in
                 let near = finished_near c g m event_step.base.drawn (windowed c time g m trace) r p there in
                 let idle : in_flight r (n.part k).phase ≡ 0 = ap (flying r) d.stance in
-                let few = total_less (λ (a : Part). in_flight r a.phase) n.part (λ a. one_on_bit r (attempt_ring (stance_of a.phase))) c.seats k event_step.low idle in
+                let few =
+                total_less (λ (a : Part). in_flight r a.phase) n.part (λ a. one_on_bit r (attempt_ring (stance_of a.phase))) c.seats k event_step.low idle in
                 let reaches = reset_reaches c in
                 let reset : n.cells.threshold r ≡ reset_level c = rw (d.threshold, same) (updated_here m.cells.threshold q (reset_level c)) in
                 let head : n.cells.head r ≡ m.cells.head r = rw d.head refl in

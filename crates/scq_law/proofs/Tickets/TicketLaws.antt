@@ -80,14 +80,17 @@ head_bounded c time g m trace r =
     let puts = λ (p : Part). tally (was_put r) p.calls + is_putting r p.phase in
     let placed : total (puts_of r) m.part c.seats ≤ total puts m.part c.seats =
     total_le (puts_of r) puts m.part
-    (λ k. let calls = tally_le (was_done r) (was_put r) (done_put r) (m.part k).calls in let phase = placed_putting r (stance_of (m.part k).phase) in omega arith)
+    (λ k.
+    let calls = tally_le (was_done r) (was_put r) (done_put r) (m.part k).calls in
+    let phase = placed_putting r (stance_of (m.part k).phase) in omega arith)
     c.seats in
     let dones : total (done_of r) m.part c.seats ≤ total puts m.part c.seats =
     total_le (done_of r) puts m.part (λ k. let calls = tally_le (was_done r) (was_put r) (done_put r) (m.part k).calls in omega arith) c.seats in
     let split = total_plus (gets_of r) (λ (p : Part). flying r (stance_of p.phase) + spent_of p.spent) m.part c.seats in
     let again = total_plus (λ (p : Part). flying r (stance_of p.phase)) (λ (p : Part). spent_of p.spent) m.part c.seats in
     let attempts_in_flight : total (λ (p : Part). flying r (stance_of p.phase)) m.part c.seats ≤ dequeues_of c m r =
-    total_le (λ (p : Part). flying r (stance_of p.phase)) (λ (p : Part). dequeues r p.phase) m.part (λ k. flying_dequeues r (stance_of (m.part k).phase)) c.seats in
+    total_le (λ (p : Part). flying r (stance_of p.phase)) (λ (p : Part). dequeues r p.phase) m.part
+    (λ k. flying_dequeues r (stance_of (m.part k).phase)) c.seats in
     let product : total (done_of r) m.part c.seats * (reset_value c.order c.seats + c.seats) ≤ enqueues c m r * (reset_value c.order c.seats + c.seats) =
     mul-le-mul_right (reset_value c.order c.seats + c.seats) (omega arith) in
     let parts = bound_parts (enqueues c m r) (reset_value c.order c.seats + c.seats) in
