@@ -1,8 +1,10 @@
 -- A sum over the parts of seats: when one part changes, and where each part gives at most 1.
-use Rattle.std.proofs.Common.{◌≡◌, ℕ, zero, suc, ◌+◌, ◌<◌, ◌≤◌, refl, inl, inr, arith}
+use Rattle.std.proofs.Common.{◌≡◌, ℕ, zero, suc, ◌+◌, ◌<◌, ◌≤◌, refl, inl, inr, arith, eq-eqb, ne_eqb}
+use Rattle.std.specs.Prelude.{Option, Some, None}
 use Rattle.std.proofs.lemmas.Bool.{cases_eq}
 use Rattle.scq_core.specs.Updated.{updated}
 use Rattle.scq_core.specs.Machine.{Part}
+use Rattle.scq_core.specs.Stances.{one_on}
 use Rattle.scq_core.specs.Laws.{total}
 use Rattle.scq_core.proofs.UpdatedLemmas.{updated_here, updated_else}
 
@@ -60,3 +62,9 @@ total_one f part (suc n) k low =
       | inl same ↦ rw same (omega arith)
       | inr apart ↦ let rest = total_one f part n k (omega arith) in omega arith
     ]
+
+-- a seat counts at most once on a ring
+pub one_on_bit : (r : ℕ) (o : Option ℕ) → one_on r o ≤ 1
+one_on_bit r None = omega arith
+one_on_bit r (Some q) =
+    elim (cases_eq q r) [ inl same ↦ rw (eq-eqb q r same) (omega arith) | inr other ↦ rw (ne_eqb q r other) (omega arith) ]

@@ -12,26 +12,14 @@ use Rattle.scq_core.specs.Updated.{updated}
 use Rattle.scq_core.specs.Machine.{Cells, Part, Machine, read, beside}
 use Rattle.scq_core.specs.Table.{ring_slots, cycle, zero_level, reset_level, turn_of, location_of, after, cells_after, moved}
 use Rattle.scq_core.specs.Start.{start_of}
+use Rattle.scq_core.specs.Stances.{stance_of, entered_ring}
 use Rattle.scq_core.specs.Reach.{IsReachable, at_start, by_step}
 use Rattle.scq_core.specs.Laws.{word_at, dequeues, dequeues_of, ThresholdFloor}
 use Rattle.scq_core.proofs.UpdatedLemmas.{updated_or, updated_cases}
 use Rattle.scq_core.proofs.Turns.{turned, Begins, begins_put, begins_get, begins, awake}
 use Rattle.scq_core.proofs.Entries.{zero_level_is, some_seats}
 use Rattle.scq_core.proofs.Steady.{either_way}
-use Rattle.scq_core.proofs.Counts.{total_updated, total_few, total_none}
-
--- a seat counts at most once
-pub dequeues_bit : (r : ℕ) (phase : Phase) → dequeues r phase ≤ 1
-dequeues_bit r (AtD2 q l) = either_way (λ (v : ℕ). v ≤ 1) (q == r) 1 0 (omega arith) (omega arith)
-dequeues_bit r (AtD3 q h l) = either_way (λ (v : ℕ). v ≤ 1) (q == r) 1 0 (omega arith) (omega arith)
-dequeues_bit r (AtD4 q h) = either_way (λ (v : ℕ). v ≤ 1) (q == r) 1 0 (omega arith) (omega arith)
-dequeues_bit r (AtD5 q h e) = either_way (λ (v : ℕ). v ≤ 1) (q == r) 1 0 (omega arith) (omega arith)
-dequeues_bit r (AtD6 q h) = either_way (λ (v : ℕ). v ≤ 1) (q == r) 1 0 (omega arith) (omega arith)
-dequeues_bit r (AtD7 q h from to) = either_way (λ (v : ℕ). v ≤ 1) (q == r) 1 0 (omega arith) (omega arith)
-dequeues_bit r (AtD8 q h from) = either_way (λ (v : ℕ). v ≤ 1) (q == r) 1 0 (omega arith) (omega arith)
-dequeues_bit r (AtD9 q h from to) = either_way (λ (v : ℕ). v ≤ 1) (q == r) 1 0 (omega arith) (omega arith)
-dequeues_bit r (AtD10 q h leaving) = either_way (λ (v : ℕ). v ≤ 1) (q == r) 1 0 (omega arith) (omega arith)
-dequeues_bit r phase = omega arith
+use Rattle.scq_core.proofs.Counts.{total_updated, total_few, total_none, one_on_bit}
 
 dequeues_begun : (c : Setup) (hand : List ℕ) (r : ℕ) (turn : Phase) → Begins c hand turn → dequeues r turn ≡ 0
 dequeues_begun c hand r turn (begins_put q i w low small held) = refl
@@ -182,7 +170,7 @@ floor_turn c m k s turn low e was =
       floor =
           λ r.
           let sum = total_updated (λ (q : Part). dequeues r q.phase) m.part k (after c turn x y p) c.seats low in
-          let few = total_few (λ (q : Part). dequeues r q.phase) (moved c m k turn).part (λ q. dequeues_bit r q.phase) c.seats in
+          let few = total_few (λ (q : Part). dequeues r q.phase) (moved c m k turn).part (λ q. one_on_bit r (entered_ring (stance_of q.phase))) c.seats in
           let floor = was.floor r in
           let counted = dequeues_turn c p s turn r e in
           let effect = falls_turn c m.cells p turn r (awake c p.hand p.spent p.phase s turn e) in

@@ -1,39 +1,17 @@
 -- Which steps may want memory: those that copy a content, and those that end their call.
-use Rattle.std.proofs.Common.{◌≡◌, ℕ, true, false, List, inl, inr, refl, ◌∙◌}
-use Rattle.std.specs.Prelude.{Option, Some}
+use Rattle.std.proofs.Common.{◌≡◌, ℕ, true, false, List, inl, inr, refl}
 use Rattle.scq_word.specs.declared.setup.Setup.{Setup}
 use Rattle.scq_core.specs.declared.phase.Phase.{Phase}
-use Rattle.scq_core.specs.declared.phase.Phase.TheVariants.{Idle, AtE1, AtE4, AtE5, AtE6, AtD1, AtD2, AtD4, AtD10}
+use Rattle.scq_core.specs.declared.phase.Phase.TheVariants.{Idle, AtE1, AtE5, AtE6, AtD1, AtD2, AtD4, AtD10}
 use Rattle.scq_core.specs.declared.step.Step.{Step}
-use Rattle.scq_core.specs.declared.step.Step.TheVariants.{E4, D4}
 use Rattle.scq_core.specs.Machine.{Part, read, beside}
-use Rattle.scq_core.specs.Table.{turn_at, next_step, ring_of, cell_of, location_of, after}
-use Rattle.scq_core.specs.Turn.{needs_copy, copies_content, ends_call, TakesMemory}
+use Rattle.scq_core.specs.Table.{ring_of, cell_of, location_of, after}
+use Rattle.scq_core.specs.Turn.{ends_call, TakesMemory}
 use Rattle.scq_core.specs.StateLists.{StateLists, part_in, machine_of}
 use Rattle.scq_core.specs.Advance.{found_by, WantsMemory}
 use Rattle.scq_core.proofs.UpdatedLemmas.{updated_here}
-use Rattle.scq_core.proofs.Turns.{turned, Begins, begins_put, begins_get, begins, goes_alone, awake}
+use Rattle.scq_core.proofs.Turns.{turned}
 use Rattle.scq_core.proofs.TurnCells.{read-cell}
-
-phase_copies : (phase : Phase) (step : Step) → next_step phase ≡ Some step → needs_copy phase ≡ true → copies_content step ≡ true
-phase_copies (AtE4 r i w t e) E4 is needs = refl
-phase_copies (AtD4 r h) D4 is needs = refl
-phase_copies phase step is needs = absurd (cc)
-
-begun_copies_none : (c : Setup) (hand : List ℕ) (turn : Phase) → Begins c hand turn → needs_copy turn ≡ true → ⊥
-begun_copies_none c hand turn (begins_put r i w low small held) needs = cc
-begun_copies_none c hand turn (begins_get r low) needs = cc
-
--- a turn that needs a copy is that of a step that copies
-pub step_copies : (c : Setup) (hand : List ℕ) (spent : Option ℕ) (phase : Phase) (step : Step) (turn : Phase) → turn_at c hand spent phase step ≡ Some turn
-    → needs_copy turn ≡ true → copies_content step ≡ true
-step_copies c hand spent phase step turn enabled needs =
-    elim (begins c hand spent phase step turn enabled) [
-      | inl same ↦
-          let wakes : phase ≡ Idle → ⊥ = λ idle. awake c hand spent phase step turn enabled (same ∙ idle) in
-          phase_copies phase step (goes_alone c hand spent phase step turn wakes enabled) (rw same at needs)
-      | inr new ↦ absurd (begun_copies_none c hand turn new.2 needs)
-    ]
 
 -- a turn that ends its call leaves the seat idle
 pub ended_idle : (c : Setup) (turn : Phase) (x : ℕ) (y : List ℕ) (p : Part) → ends_call c turn x ≡ true → (after c turn x y p).phase ≡ Idle

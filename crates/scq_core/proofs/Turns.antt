@@ -78,7 +78,8 @@ enables c hand spent (AtD6 r h) D6 turn e = let same : AtD6 r h ≡ turn = cc in
 enables c hand spent (AtD7 r h from to) D7 turn e = let same : AtD7 r h from to ≡ turn = cc in rw (← same) (continues spent (AtD7 r h from to) D7 refl refl)
 enables c hand spent (AtD8 r h from) D8 turn e = let same : AtD8 r h from ≡ turn = cc in rw (← same) (continues spent (AtD8 r h from) D8 refl refl)
 enables c hand spent (AtD9 r h from to) D9 turn e = let same : AtD9 r h from to ≡ turn = cc in rw (← same) (continues spent (AtD9 r h from to) D9 refl refl)
-enables c hand spent (AtD10 r h leaving) D10 turn e = let same : AtD10 r h leaving ≡ turn = cc in rw (← same) (continues spent (AtD10 r h leaving) D10 refl refl)
+enables c hand spent (AtD10 r h leaving) D10 turn e =
+    let same : AtD10 r h leaving ≡ turn = cc in rw (← same) (continues spent (AtD10 r h leaving) D10 refl refl)
 enables c hand spent phase step turn e = absurd (cc)
 
 -- the first step of a call: an enqueue of an index in the hand, or a dequeue

@@ -1,4 +1,4 @@
--- One turn, on lists: a ring with another word, and the seat's part afterwards.
+-- For private calls: one turn, on lists: a ring with another word, and the seat's part afterwards.
 use Rattle.std.specs.Prelude.{ℕ, ◌≡◌, ◌<◌, ◌⊎◌, true, List, Some, slice_set}
 use Rattle.scq_word.specs.declared.setup.Setup.{Setup}
 use Rattle.scq_core.specs.declared.phase.Phase.{Phase}

@@ -1,4 +1,4 @@
--- The rings of the start as lists: one in which nothing was ever placed, and one in which each index stands.
+-- For private calls: the rings of the start as lists: one in which nothing was ever placed, and one in which each index stands.
 use Rattle.std.specs.Prelude.{ℕ, ◌≡◌, ◌+◌, ◌-◌, List, ◌∷◌, length, replicate, slice_index_or}
 use Rattle.scq_word.specs.declared.setup.Setup.{Setup}
 use Rattle.scq_word.specs.Sizes.{n_of}

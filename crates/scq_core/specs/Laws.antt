@@ -1,5 +1,5 @@
 -- The laws of the machine that its own arithmetic stands on, for every reachable state and every enabled step.
-use Rattle.std.specs.Prelude.{ℕ, zero, suc, ◌≡◌, ◌≢◌, ◌+◌, ◌*◌, ◌^◌, ◌<◌, ◌≤◌, ◌⊎◌, true, ◌==◌, if◌then◌else◌, List, [], ◌++◌, slice_index_or, Option, Some, None}
+use Rattle.std.specs.Prelude.{ℕ, zero, suc, ◌≡◌, ◌≢◌, ◌+◌, ◌*◌, ◌^◌, ◌<◌, ◌≤◌, ◌⊎◌, true, List, [], ◌++◌, slice_index_or, Option, Some, None}
 use Rattle.scq_word.specs.declared.setup.Setup.{Setup}
 use Rattle.scq_word.specs.Sizes.{n_of}
 use Rattle.scq_word.specs.Words.{packed, safe_in, cycle_in, is_none_in, rank_in}
@@ -9,6 +9,7 @@ use Rattle.scq_core.specs.declared.phase.Phase.TheVariants.{Idle, AtE1, AtE2, At
 use Rattle.scq_core.specs.Machine.{Cells, Part, Machine, Location, written}
 use Rattle.scq_core.specs.Table.{ring_slots, cycle, slot, zero_level, reset_level, holds_index}
 use Rattle.scq_core.specs.Start.{unused}
+use Rattle.scq_core.specs.Stances.{stance_of, entered_ring, one_on}
 
 -- an entry's word is as it was, or of a higher rank: so a word that has changed never comes back
 pub record IsAbove (m e now : ℕ) : Type 0 where
@@ -95,16 +96,7 @@ spent_of (Some ticket) = 1
 
 -- 1 for a seat in a dequeue of this ring that has passed D1
 abbrev pub dequeues : ℕ → Phase → ℕ
-dequeues r (AtD2 q l) = if q == r then 1 else 0
-dequeues r (AtD3 q h l) = if q == r then 1 else 0
-dequeues r (AtD4 q h) = if q == r then 1 else 0
-dequeues r (AtD5 q h e) = if q == r then 1 else 0
-dequeues r (AtD6 q h) = if q == r then 1 else 0
-dequeues r (AtD7 q h from to) = if q == r then 1 else 0
-dequeues r (AtD8 q h from) = if q == r then 1 else 0
-dequeues r (AtD9 q h from to) = if q == r then 1 else 0
-dequeues r (AtD10 q h leaving) = if q == r then 1 else 0
-dequeues r phase = 0
+dequeues r phase = one_on r (entered_ring (stance_of phase))
 
 -- how many seats keep a spent ticket, and how many are in a dequeue of this ring that has passed D1
 abbrev pub spent_seats : Setup → Machine → ℕ

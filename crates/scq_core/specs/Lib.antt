@@ -2,6 +2,7 @@ pub mod Updated
 pub mod Machine
 pub mod Table
 pub mod Start
+pub mod Stances
 pub mod Reach
 pub mod Laws
 pub mod Rings

@@ -1,5 +1,5 @@
 -- What the parts of a turn do, and what its arithmetic stands on.
-use Rattle.std.specs.Prelude.{ℕ, ◌≡◌, ◌⊎◌, ◌+◌, ◌^◌, ◌<◌, ◌==◌, Bool, true, false, nat_lt, nat_le, List, [], ◌∷◌, ◌++◌, Option, Some, None}
+use Rattle.std.specs.Prelude.{ℕ, ◌≡◌, ◌⊎◌, ◌+◌, ◌^◌, ◌<◌, ◌==◌, Bool, true, false, nat_lt, nat_le, List, [], ◌∷◌, ◌++◌, Option, Some, None, IsSome}
 use Rattle.scq_word.specs.declared.setup.Setup.{Setup}
 use Rattle.scq_word.specs.Sizes.{n_of}
 use Rattle.scq_word.specs.Entries.{IsIndexOrMark}
@@ -11,6 +11,7 @@ use Rattle.scq_core.specs.declared.step.Step.TheVariants.{E1, E4, D1, D4}
 use Rattle.scq_core.specs.declared.next.Next.{Next}
 use Rattle.scq_core.specs.declared.next.Next.TheVariants.{Goes, Ends, Spends, Places, Takes}
 use Rattle.scq_core.specs.Machine.{Part, Machine}
+use Rattle.scq_core.specs.Stances.{stance_of, get_ring}
 use Rattle.scq_core.specs.Table.{step_of, zero_level, reset_level, ring_of, goes_on, ends, spends, hand_without}
 
 -- the ring of the call that a seat is in the middle of
@@ -83,14 +84,7 @@ laid_by next = None
 
 -- a turn of a dequeue
 abbrev pub IsOfGet : Phase → Type 0
-IsOfGet Idle = ⊥
-IsOfGet (AtE1 r i w l) = ⊥
-IsOfGet (AtE2 r i w t l) = ⊥
-IsOfGet (AtE3 r i w t e) = ⊥
-IsOfGet (AtE4 r i w t e) = ⊥
-IsOfGet (AtE5 r i w t) = ⊥
-IsOfGet (AtE6 r i w t) = ⊥
-IsOfGet turn = Unit {0}
+IsOfGet turn = IsSome (get_ring (stance_of turn))
 
 -- what a turn's arithmetic stands on, where it found the word x: counters have room, tickets are below the limit, an
 -- entry has an index of the ring or none, and Threshold is not yet at the bottom

@@ -4,8 +4,11 @@ pub mod PlacedPuts
 pub mod TakenGets
 pub mod SeenEmpty
 pub mod Coupling
+pub mod CoupledPuts
+pub mod CoupledGets
 pub mod FinishedPuts
 pub mod EventRecording
+pub mod DecidingGets
 pub mod CoupledTurns
 pub mod CoupledRuns
 pub mod ClaimedPuts

@@ -2,6 +2,7 @@ pub mod Ghosts
 pub mod TicketEvents
 pub mod Traces
 pub mod EventFacts
+pub mod TurnChanges
 pub mod TurnEvents
 pub mod TurnOrigins
 pub mod BaseGroup

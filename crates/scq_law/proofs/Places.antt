@@ -1,5 +1,6 @@
 pub mod HandLemmas
 pub mod HandLaws
+pub mod LiveTickets
 pub mod OneSpot
 pub mod SeatTickets
 pub mod ReachedTickets

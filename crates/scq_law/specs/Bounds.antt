@@ -6,7 +6,7 @@ use Rattle.scq_word.specs.Sizes.{n_of}
 use Rattle.scq_core.specs.declared.ended.Ended.{Ended}
 use Rattle.scq_core.specs.declared.ended.Ended.TheVariants.{Done, Got, Nothing, Spent}
 use Rattle.scq_core.specs.declared.phase.Phase.{Phase}
-use Rattle.scq_core.specs.declared.phase.Phase.TheVariants.{AtE1, AtE2, AtE3, AtE4, AtE5, AtE6, AtD3, AtD4, AtD5, AtD6, AtD7, AtD8, AtD9, AtD10}
+use Rattle.scq_core.specs.Stances.{stance_of, put_ring, attempt_ring, one_on}
 use Rattle.scq_core.specs.Machine.{Machine}
 use Rattle.scq_core.specs.Table.{ring_slots, zero_level}
 use Rattle.scq_core.specs.Laws.{total}
@@ -20,15 +20,7 @@ pub record WithinWindow (c : Setup) (m : Machine) : Type 0 where
 -- 1 for a seat whose attempt is in flight on this ring: it has drawn a ticket below the limit to dequeue, and hasn't yet
 -- taken what is there or counted the attempt as failed
 abbrev pub in_flight : ℕ → Phase → ℕ
-in_flight r (AtD3 q h l) = if q == r then 1 else 0
-in_flight r (AtD4 q h) = if q == r then 1 else 0
-in_flight r (AtD5 q h e) = if q == r then 1 else 0
-in_flight r (AtD6 q h) = if q == r then 1 else 0
-in_flight r (AtD7 q h from to) = if q == r then 1 else 0
-in_flight r (AtD8 q h from) = if q == r then 1 else 0
-in_flight r (AtD9 q h from to) = if q == r then 1 else 0
-in_flight r (AtD10 q h leaving) = if q == r then 1 else 0
-in_flight r phase = 0
+in_flight r phase = one_on r (attempt_ring (stance_of phase))
 
 -- how many attempts of this ring are in flight
 abbrev pub attempts_in_flight : Setup → Machine → ℕ → ℕ
@@ -74,13 +66,7 @@ was_put r (Spent q t false) = 0
 
 -- 1 for a seat that has one under way
 abbrev pub is_putting : ℕ → Phase → ℕ
-is_putting r (AtE1 q i w l) = if q == r then 1 else 0
-is_putting r (AtE2 q i w t l) = if q == r then 1 else 0
-is_putting r (AtE3 q i w t e) = if q == r then 1 else 0
-is_putting r (AtE4 q i w t e) = if q == r then 1 else 0
-is_putting r (AtE5 q i w t) = if q == r then 1 else 0
-is_putting r (AtE6 q i w t) = if q == r then 1 else 0
-is_putting r phase = 0
+is_putting r phase = one_on r (put_ring (stance_of phase))
 
 -- the opening puts of a ring
 abbrev pub openings : Setup → ℕ → ℕ

@@ -6,7 +6,7 @@ use Rattle.scq_word.specs.Words.{is_none_in}
 use Rattle.scq_core.specs.declared.ended.Ended.{Ended}
 use Rattle.scq_core.specs.declared.ended.Ended.TheVariants.{Done, Got}
 use Rattle.scq_core.specs.declared.phase.Phase.{Phase}
-use Rattle.scq_core.specs.declared.phase.Phase.TheVariants.{AtE5, AtE6}
+use Rattle.scq_core.specs.Stances.{stance_of, placed_ring, one_on}
 use Rattle.scq_core.specs.Machine.{Cells, Part, Machine}
 use Rattle.scq_core.specs.Table.{ring_slots}
 use Rattle.scq_core.specs.Laws.{total}
@@ -37,9 +37,7 @@ was_got r ended = 0
 
 -- 1 for a seat whose put has placed its index on this ring and has not ended
 abbrev pub has_placed : ℕ → Phase → ℕ
-has_placed r (AtE5 q i w t) = if q == r then 1 else 0
-has_placed r (AtE6 q i w t) = if q == r then 1 else 0
-has_placed r phase = 0
+has_placed r phase = one_on r (placed_ring (stance_of phase))
 
 -- how many gets of a seat took an index from this ring
 abbrev pub gets_of : ℕ → Part → ℕ

@@ -1,12 +1,13 @@
 -- Places of a ring are its tickets at which an index was placed. Each is placed once and taken at most once, and what is
 -- taken there is what was placed there. All of it is read off the seats' records and what they are in the middle of.
-use Rattle.std.specs.Prelude.{◌≡◌, ℕ, ◌+◌, ◌-◌, ◌<◌, ◌≤◌, ◌⊎◌, false, List, [], length, Some, slice_get, slice_index_or}
+use Rattle.std.specs.Prelude.{◌≡◌, ℕ, ◌+◌, ◌-◌, ◌<◌, ◌≤◌, ◌⊎◌, Bool, false, List, [], length, Some, slice_get, slice_index_or}
 use Rattle.scq_word.specs.declared.setup.Setup.{Setup}
 use Rattle.scq_word.specs.Sizes.{n_of}
 use Rattle.scq_word.specs.Words.{is_none_in}
 use Rattle.scq_core.specs.declared.ended.Ended.TheVariants.{Done, Got}
 use Rattle.scq_core.specs.declared.phase.Phase.{Phase}
-use Rattle.scq_core.specs.declared.phase.Phase.TheVariants.{Idle, AtE5, AtE6, AtD3, AtD4, AtD5, AtD6, AtD7, AtD8, AtD9, AtD10}
+use Rattle.scq_core.specs.declared.phase.Phase.TheVariants.{Idle, AtD4}
+use Rattle.scq_core.specs.Stances.{stance_of, landed, trying, gave_up}
 use Rattle.scq_core.specs.Machine.{Machine}
 use Rattle.scq_core.specs.Table.{ring_slots, slot}
 use Rattle.scq_core.specs.Laws.{word_at}
@@ -18,25 +19,15 @@ pub data Maker : Type 0 where
 
 -- a seat has placed this content at this place, and its call has not ended
 abbrev pub HasLanded : Phase → ℕ → ℕ → List ℕ → Type 0
-HasLanded (AtE5 ring index content ticket) r p w = (ring ≡ r) × (ticket ≡ p) × (content ≡ w)
-HasLanded (AtE6 ring index content ticket) r p w = (ring ≡ r) × (ticket ≡ p) × (content ≡ w)
-HasLanded phase r p w = ⊥
+HasLanded phase r p w = (i : ℕ) × (stance_of phase ≡ landed r i w p)
 
 -- a dequeue has drawn this ticket and looks whether an index stands there
 abbrev pub LooksAt : Phase → ℕ → ℕ → Type 0
-LooksAt (AtD3 ring ticket least) r h = (ring ≡ r) × (ticket ≡ h)
-LooksAt (AtD4 ring ticket) r h = (ring ≡ r) × (ticket ≡ h)
-LooksAt (AtD5 ring ticket word) r h = (ring ≡ r) × (ticket ≡ h)
-LooksAt phase r h = ⊥
+LooksAt phase r h = stance_of phase ≡ trying r h
 
 -- a dequeue has given this ticket up
 abbrev pub GaveUp : Phase → ℕ → ℕ → Type 0
-GaveUp (AtD6 ring ticket) r h = (ring ≡ r) × (ticket ≡ h)
-GaveUp (AtD7 ring ticket from to) r h = (ring ≡ r) × (ticket ≡ h)
-GaveUp (AtD8 ring ticket from) r h = (ring ≡ r) × (ticket ≡ h)
-GaveUp (AtD9 ring ticket from to) r h = (ring ≡ r) × (ticket ≡ h)
-GaveUp (AtD10 ring ticket leaving) r h = (ring ≡ r) × (ticket ≡ h)
-GaveUp phase r h = ⊥
+GaveUp phase r h = (leaves : Bool) × (stance_of phase ≡ gave_up r h leaves)
 
 -- the content w was placed at the place p of ring r: at the start, by a call in a record, or by one that has not ended
 pub data IsPlacedBy (c : Setup) (m : Machine) (r p : ℕ) (w : List ℕ) : Maker → Type 0 where

@@ -10,7 +10,7 @@ use Rattle.scq_hist.specs.declared.events.Event.{Event}
 use Rattle.scq_hist.specs.declared.events.Event.TheVariants.{Start, End}
 use Rattle.scq_hist.specs.declared.events.Reply.{Reply}
 use Rattle.scq_core.specs.Updated.{updated}
-use Rattle.scq_law.proofs.Base.TicketEvents.{Stance, resting, drawing, putting, landed, seeking, trying, missed, leaving}
+use Rattle.scq_core.specs.Stances.{Stance, resting, drawing, putting, landed, asking, seeking, trying, gave_up}
 use Rattle.scq_law.proofs.Aspects.GrowingHistory.{under_now, puts_now, new_at, kept_at, under_old, puts_old, puts_grown, put_grown, lawful_grown, seat_of, under_else, under_start, under_end}
 
 -- a put that the seat has under way, its latest
@@ -31,10 +31,10 @@ Doing events number k resting = under_now events k ≡ None
 Doing events number k (drawing r i w) = PutsNow events number k r w
 Doing events number k (putting r i w t) = PutsNow events number k r w
 Doing events number k (landed r i w t) = PutsNow events number k r w
+Doing events number k (asking r) = GetsNow events k r
 Doing events number k (seeking r) = GetsNow events k r
 Doing events number k (trying r h) = GetsNow events k r
-Doing events number k (missed r h) = GetsNow events k r
-Doing events number k (leaving r h) = GetsNow events k r
+Doing events number k (gave_up r h leaves) = GetsNow events k r
 
 pub record IsCalled (events : List Event) (puts : ℕ → ℕ) (stance : ℕ → Stance) : Type 0 where
   pub doing : (k : ℕ) → Doing events (puts k) k (stance k)
@@ -59,10 +59,10 @@ module _ (events : List Event) (x : Event) where
   doing_else number k (drawing r i w) other is = put_else_now number k r w other is
   doing_else number k (putting r i w t) other is = put_else_now number k r w other is
   doing_else number k (landed r i w t) other is = put_else_now number k r w other is
+  doing_else number k (asking r) other is = get_else_now k r other is
   doing_else number k (seeking r) other is = get_else_now k r other is
   doing_else number k (trying r h) other is = get_else_now k r other is
-  doing_else number k (missed r h) other is = get_else_now k r other is
-  doing_else number k (leaving r h) other is = get_else_now k r other is
+  doing_else number k (gave_up r h leaves) other is = get_else_now k r other is
 
 -- a seat that rests starts a put
 pub called_put : (events : List Event) (puts : ℕ → ℕ) (stance : ℕ → Stance) (k r i : ℕ) (w : List ℕ) → IsCalled events puts stance → stance k ≡ resting
@@ -105,7 +105,7 @@ called_put events puts stance k r i w called rests =
 
 -- a get
 pub called_get : (events : List Event) (puts : ℕ → ℕ) (stance : ℕ → Stance) (k r : ℕ) → IsCalled events puts stance → stance k ≡ resting
-    → IsCalled (events ++ Start k (Get r) ∷ []) puts (updated stance k (seeking r))
+    → IsCalled (events ++ Start k (Get r) ∷ []) puts (updated stance k (asking r))
 called_get events puts stance k r called rests =
     let x = Start k (Get r) in
     let idle : under_now events k ≡ None = rw rests at (called.doing k) in

@@ -16,7 +16,7 @@ use Rattle.scq_hist.specs.declared.events.Reply.TheVariants.{Got}
 use Rattle.scq_law.specs.Run.{Recorded}
 use Rattle.scq_law.specs.Places.{Maker}
 use Rattle.scq_law.proofs.Base.Ghosts.{Ghost, GetState, placed, unopened, opened, dead, took, is_placed}
-use Rattle.scq_law.proofs.Base.TicketEvents.{trying}
+use Rattle.scq_core.specs.Stances.{trying}
 use Rattle.scq_law.proofs.Base.EventFacts.{stance}
 use Rattle.scq_law.proofs.Base.Based.{IsBased, based}
 use Rattle.scq_law.proofs.Places.SeatTickets.{IsRooted}
@@ -115,38 +115,41 @@ module _ (c : Setup) (opening : List (List ℕ)) (recorded : Recorded) (tied_run
   pub once : IsOnce events
   once e name d there less before = let same = one_end d e name before there in absurd (omega arith)
 
+module _ (c : Setup) (opening : List (List ℕ)) (recorded : Recorded) (tied_run : IsTiedRun c opening recorded) where
   -- the put has its place in the queue's ring below Head, and the call that drew this place started before moment m
   pub record Ahead (queue m : ℕ) (name : PutName) : Type 0 where
     pub p : ℕ
-    pub is : is_placed (g.puts queue p) ≡ true
+    pub is : is_placed (tied_run.ghost.puts queue p) ≡ true
     pub named : recorded.placer queue p ≡ name
     pub low : p < recorded.state.cells.head queue
-    pub before : tied.since queue p < m
+    pub before : tied_run.tied.since queue p < m
 
   -- the call that drew a placed ticket below Head looks at it still, or took
-  pub drawn : (r p : ℕ) → is_placed (g.puts r p) ≡ true → p < recorded.state.cells.head r
-      → ((j : ℕ) × (g.gets r p ≡ opened j)) ⊎ ((j : ℕ) × (n : ℕ) × (g.gets r p ≡ took j n))
-  drawn r p is low = by_state (g.gets r p) refl where
-    by_state : (x : GetState) → g.gets r p ≡ x → ((j : ℕ) × (g.gets r p ≡ opened j)) ⊎ ((j : ℕ) × (n : ℕ) × (g.gets r p ≡ took j n))
+  pub drawn : (r p : ℕ) → is_placed (tied_run.ghost.puts r p) ≡ true → p < recorded.state.cells.head r
+      → ((j : ℕ) × (tied_run.ghost.gets r p ≡ opened j)) ⊎ ((j : ℕ) × (n : ℕ) × (tied_run.ghost.gets r p ≡ took j n))
+  drawn r p is low = by_state (tied_run.ghost.gets r p) refl where
+    by_state : (x : GetState) → tied_run.ghost.gets r p ≡ x
+        → ((j : ℕ) × (tied_run.ghost.gets r p ≡ opened j)) ⊎ ((j : ℕ) × (n : ℕ) × (tied_run.ghost.gets r p ≡ took j n))
     by_state unopened at =
         elim (cases_lt p (ring_slots c)) [
-          | inl less ↦ let none = ap is_placed (base.drawn.put_first r p less) in absurd (cc)
+          | inl less ↦ let none = ap is_placed ((base c opening recorded tied_run).drawn.put_first r p less) in absurd (cc)
           | inr first ↦
               elim (cases_lt p c.limit) [
-                | inl below ↦ absurd ((reached c tied_run.time g recorded.state tied_run.trace).reached r p first low below at)
-                | inr past ↦ let none = ap is_placed (base.drawn.put_limit r p past) in absurd (cc)
+                | inl below ↦ absurd ((reached c tied_run.time tied_run.ghost recorded.state tied_run.trace).reached r p first low below at)
+                | inr past ↦ let none = ap is_placed ((base c opening recorded tied_run).drawn.put_limit r p past) in absurd (cc)
               ]
         ]
     by_state (opened j) at = inl (j, at)
-    by_state dead at = let none = base.booked.never r p at in absurd (cc)
+    by_state dead at = let none = (base c opening recorded tied_run).booked.never r p at in absurd (cc)
     by_state (took j n) at = inr (j, n, at)
 
   -- a taken place's put is got by the call that drew it
-  get_of : (r p j n : ℕ) (name : PutName) → g.gets r p ≡ took j n → recorded.placer r p ≡ name → IsGetOf events name (tied.since r p) (tied.ended r p)
+  get_of : (r p j n : ℕ) (name : PutName) → tied_run.ghost.gets r p ≡ took j n → recorded.placer r p ≡ name
+      → IsGetOf recorded.events name (tied_run.tied.since r p) (tied_run.tied.ended r p)
   get_of r p j n name at named =
-      let t = tied.taken.takes r p j n at in
-      let call : IsCall events j (Get r) (tied.since r p) (tied.ended r p) (Got name t.content) =
-      subst (λ z. IsCall events j (Get r) (tied.since r p) (tied.ended r p) (Got z t.content)) named t.call in
+      let t = tied_run.tied.taken.takes r p j n at in
+      let call : IsCall recorded.events j (Get r) (tied_run.tied.since r p) (tied_run.tied.ended r p) (Got name t.content) =
+      subst (λ z. IsCall recorded.events j (Get r) (tied_run.tied.since r p) (tied_run.tied.ended r p) (Got z t.content)) named t.call in
       record {
         seat = j;
         queue = r;
@@ -154,50 +157,51 @@ module _ (c : Setup) (opening : List (List ℕ)) (recorded : Recorded) (tied_run
         call = call;
         first =
             λ d less names.
-            let here : Names events (tied.ended r p) name = record { seat = j; content = t.content; ends = call.ends } in
-            let same = one_end d (tied.ended r p) name names here in
+            let here : Names recorded.events (tied_run.tied.ended r p) name = record { seat = j; content = t.content; ends = call.ends } in
+            let same = one_end c opening recorded tied_run d (tied_run.tied.ended r p) name names here in
             omega arith;
       }
 
   -- an open place's put isn't got
-  not_got : (r p j : ℕ) (name : PutName) → g.gets r p ≡ opened j → is_placed (g.puts r p) ≡ true → recorded.placer r p ≡ name → ¬ IsGot events name
+  not_got : (r p j : ℕ) (name : PutName) → tied_run.ghost.gets r p ≡ opened j → is_placed (tied_run.ghost.puts r p) ≡ true → recorded.placer r p ≡ name
+      → ¬ IsGot recorded.events name
   not_got r p j name at is named got =
       let n = got.1 in
-      let t = taken_at got.0 n.seat name n.content n.ends in
-      let one = tied.placed.one t.r t.h r p (ap is_placed t.is) is (t.named ∙ sym named) in
-      let clash : g.gets r p ≡ took n.seat t.number =
-      subst (λ q. g.gets q p ≡ took n.seat t.number) one.0 (subst (λ u. g.gets t.r u ≡ took n.seat t.number) one.1 t.took) in
+      let t = taken_at c opening recorded tied_run got.0 n.seat name n.content n.ends in
+      let one = tied_run.tied.placed.one t.r t.h r p (ap is_placed t.is) is (t.named ∙ sym named) in
+      let clash : tied_run.ghost.gets r p ≡ took n.seat t.number =
+      subst (λ q. tied_run.ghost.gets q p ≡ took n.seat t.number) one.0 (subst (λ u. tied_run.ghost.gets t.r u ≡ took n.seat t.number) one.1 t.took) in
       cc
 
   -- the call that looks at an open place
-  starts_at : (r p j : ℕ) → g.gets r p ≡ opened j → slice_get events (tied.since r p) ≡ Some (Start j (Get r))
+  starts_at : (r p j : ℕ) → tied_run.ghost.gets r p ≡ opened j → slice_get recorded.events (tied_run.tied.since r p) ≡ Some (Start j (Get r))
   starts_at r p j at =
-      let stands = root.opens j r p at in
-      let now : GetsNow events j r = rw stands at (tied.called.doing j) in
-      let under = tied.taken.opens r p j at in
+      let stands = (root c opening recorded tied_run).opens j r p at in
+      let now : GetsNow recorded.events j r = rw stands at (tied_run.tied.called.doing j) in
+      let under = tied_run.tied.taken.opens r p j at in
       let here = now.under in
-      let start : now.s ≡ tied.since r p = cc in
-      subst (λ s. slice_get events s ≡ Some (Start j (Get r))) start now.starts
+      let start : now.s ≡ tied_run.tied.since r p = cc in
+      subst (λ s. slice_get recorded.events s ≡ Some (Start j (Get r))) start now.starts
 
   module _ (queue m : ℕ) (Puts : PutName → Type 0) (ahead : (name : PutName) → Puts name → Ahead queue m name) where
     abbrev Left : PutName → Type 0
-    Left name = Puts name × (¬ IsGot events name)
+    Left name = Puts name × (¬ IsGot recorded.events name)
 
     abbrev place : (name : PutName) → Left name → ℕ
     place name h = (ahead name h.0).p
 
     -- a place whose put isn't got is open
-    left_open : (name : PutName) (h : Left name) → (j : ℕ) × (g.gets queue (place name h) ≡ opened j)
+    left_open : (name : PutName) (h : Left name) → (j : ℕ) × (tied_run.ghost.gets queue (place name h) ≡ opened j)
     left_open name h =
         let a = ahead name h.0 in
         elim (drawn queue a.p a.is a.low) [
           | inl o ↦ o
           | inr t ↦
               let get = get_of queue a.p t.0 t.1 name t.2 a.named in
-              absurd (h.1 (tied.ended queue a.p, record { seat = get.seat; content = get.content; ends = get.call.ends }))
+              absurd (h.1 (tied_run.tied.ended queue a.p, record { seat = get.seat; content = get.content; ends = get.call.ends }))
         ]
 
-    claimed : (name : PutName) → Puts name → IsClaimed events m name
+    claimed : (name : PutName) → Puts name → IsClaimed recorded.events m name
     claimed name h =
         let a = ahead name h in
         elim (drawn queue a.p a.is a.low) [
@@ -205,20 +209,20 @@ module _ (c : Setup) (opening : List (List ℕ)) (recorded : Recorded) (tied_run
           | inr t ↦
               inl
               (record {
-                s = tied.since queue a.p;
-                e = tied.ended queue a.p;
+                s = tied_run.tied.since queue a.p;
+                e = tied_run.tied.ended queue a.p;
                 before = a.before;
                 get = get_of queue a.p t.0 t.1 name t.2 a.named;
               })
         ]
 
-    pub all_claimed : AllClaimed events queue m Puts
+    pub all_claimed : AllClaimed recorded.events queue m Puts
     all_claimed =
         record {
           claimed = claimed;
           matched =
               record {
-                partner = λ name h. tied.since queue (place name h);
+                partner = λ name h. tied_run.tied.since queue (place name h);
                 into =
                     λ name h.
                     let o = left_open name h in
@@ -226,18 +230,19 @@ module _ (c : Setup) (opening : List (List ℕ)) (recorded : Recorded) (tied_run
                       seat = o.0;
                       starts = starts_at queue (place name h) o.0 o.1;
                       before = (ahead name h.0).before;
-                      under_way_still = tied.taken.opens queue (place name h) o.0 o.1;
+                      under_way_still = tied_run.tied.taken.opens queue (place name h) o.0 o.1;
                     };
                 one_to_one =
                     λ x y h k same.
                     let a = left_open x h in
                     let b = left_open y k in
                     let x_starts = starts_at queue (place x h) a.0 a.1 in
-                    let y_starts : slice_get events (tied.since queue (place x h)) ≡ Some (Start b.0 (Get queue)) =
+                    let y_starts : slice_get recorded.events (tied_run.tied.since queue (place x h)) ≡ Some (Start b.0 (Get queue)) =
                     rw same (starts_at queue (place y k) b.0 b.1) in
                     let seat : a.0 ≡ b.0 = cc in
-                    let x_stands = root.opens a.0 queue (place x h) a.1 in
-                    let y_stands : stance recorded.state a.0 ≡ trying queue (place y k) = rw seat (root.opens b.0 queue (place y k) b.1) in
+                    let x_stands = (root c opening recorded tied_run).opens a.0 queue (place x h) a.1 in
+                    let y_stands : stance recorded.state a.0 ≡ trying queue (place y k) =
+                    rw seat ((root c opening recorded tied_run).opens b.0 queue (place y k) b.1) in
                     let one : place x h ≡ place y k = cc in
                     sym (ahead x h.0).named ∙ ap (recorded.placer queue) one ∙ (ahead y k.0).named;
               };

@@ -21,7 +21,8 @@ use Rattle.scq_hist.specs.declared.events.PutName.TheVariants.{Opening}
 use Rattle.scq_law.specs.Run.{Recorded, recorded_reply, placer_after, starts, finishes, puts_after, recorded_after, recorded_first, first_placer, nobody, IsRun}
 use Rattle.scq_law.specs.Places.{opening_put}
 use Rattle.scq_law.proofs.Base.Ghosts.{Ghost, placed, is_placed, stood, start_ghost}
-use Rattle.scq_law.proofs.Base.TicketEvents.{Stance, resting, stance_of, TicketEvent, calm, drew, fell, laid, finished, entered, refused, began, died, saw_end, lifted, taken, lowered, emptied, overran, stance_by, ended_by, event}
+use Rattle.scq_core.specs.Stances.{Stance, resting, stance_of}
+use Rattle.scq_law.proofs.Base.TicketEvents.{TicketEvent, calm, drew, fell, laid, finished, entered, refused, began, died, saw_end, lifted, taken, lowered, emptied, overran, stance_by, ended_by, event}
 use Rattle.scq_law.proofs.Base.Traces.{Trace, trace_start, trace_step, ghost_after}
 use Rattle.scq_law.proofs.Base.EventFacts.{stance}
 use Rattle.scq_law.proofs.Base.Based.{based}

@@ -9,7 +9,6 @@ use Rattle.scq_core.specs.declared.phase.Phase.{Phase}
 use Rattle.scq_core.specs.declared.phase.Phase.TheVariants.{Idle}
 use Rattle.scq_core.specs.Updated.{updated}
 use Rattle.scq_core.specs.Machine.{Machine, Part}
-use Rattle.scq_core.specs.Table.{ring_slots}
 use Rattle.scq_core.proofs.UpdatedLemmas.{updated_here, updated_else, updated_same}
 use Rattle.scq_core.proofs.Turns.{Begins, begins_put, begins_get}
 use Rattle.scq_hist.specs.declared.events.Event as history
@@ -18,26 +17,25 @@ use Rattle.scq_hist.specs.declared.events.Reply.TheVariants.{Nothing, Spent}
 use Rattle.scq_law.specs.Run.{starts, puts_after}
 use Rattle.scq_law.specs.Places.{call_of}
 use Rattle.scq_law.proofs.Base.Ghosts.{Ghost, placed, is_placed}
-use Rattle.scq_law.proofs.Base.TicketEvents.{Stance, resting, drawing, putting, landed, seeking, trying, missed, leaving, stance_of, TicketEvent, calm, drew, fell, laid, finished, entered, refused, began, died, saw_end, lifted, taken, lowered, emptied, overran, stance_by, ended_by}
+use Rattle.scq_core.specs.Stances.{Stance, resting, drawing, putting, landed, asking, seeking, trying, gave_up, stance_of}
+use Rattle.scq_law.proofs.Base.TicketEvents.{TicketEvent, calm, drew, fell, laid, finished, entered, refused, began, died, saw_end, lifted, taken, lowered, emptied, overran, stance_by, ended_by}
 use Rattle.scq_law.proofs.Base.EventFacts.{stance, EventFacts}
 use Rattle.scq_law.proofs.Base.EventSteps.{EventStep, event_step, ghost_next}
 use Rattle.scq_law.proofs.Places.SeatTickets.{IsRooted}
 use Rattle.scq_law.proofs.Aspects.CallsUnderWay.{PutsNow, GetsNow, Doing, put_answer, get_answer}
 use Rattle.scq_law.proofs.Aspects.PlacedPuts.{due}
-use Rattle.scq_law.proofs.Aspects.Coupling.{calls_of, IsTied, IsFree, tied_put, tied_get, tied_on, tied_end, tied_done, tied_drew, tied_fell, tied_laid, tied_began, tied_died, tied_taken}
+use Rattle.scq_law.proofs.Aspects.Coupling.{calls_of, IsTied, IsFree, tied_put, tied_get, tied_on, tied_end}
+use Rattle.scq_law.proofs.Aspects.CoupledPuts.{tied_done, tied_drew, tied_fell, tied_laid}
+use Rattle.scq_law.proofs.Aspects.CoupledGets.{tied_began, tied_died, tied_taken}
 use Rattle.scq_law.proofs.Aspects.EventRecording.{Within, starts_none, puts_none, ends_by, placer_by}
-use Rattle.std.proofs.lemmas.Bool.{cases_lt}
-use Rattle.scq_hist.specs.Calls.{IsFinishedAt}
-use Rattle.scq_hist.proofs.UnderWay.{started_within}
 use Rattle.scq_hist.specs.declared.events.Event.TheVariants.{End}
 use Rattle.scq_law.specs.Bounds.{IsFinished}
 use Rattle.scq_law.proofs.Threshold.EmptyDecisions.{Decides, by_refusal, by_end, by_level}
 use Rattle.scq_law.proofs.Aspects.GrowingHistory.{kept_at, under_old}
-use Rattle.scq_law.proofs.Aspects.SeenEmpty.{Passed, Emptying, finished_old}
-use Rattle.scq_law.proofs.Aspects.FinishedPuts.{settled}
+use Rattle.scq_law.proofs.Aspects.SeenEmpty.{Emptying, finished_old}
 use Rattle.scq_law.proofs.Places.RecordsAgree.{RecordsAgree}
 use Rattle.scq_law.proofs.Places.ReachedTickets.{IsReached}
-use Rattle.scq_law.proofs.Base.Based.{IsBased}
+use Rattle.scq_law.proofs.Aspects.DecidingGets.{emptying}
 
 -- the seat rests, so it has no ticket
 free_at : (g : Ghost) (m : Machine) (k : ℕ) → IsRooted g m → stance m k ≡ resting → IsFree g k
@@ -71,6 +69,18 @@ opens_call c opening events begun placer m g k turn tied root awake_turn from =
         tied_put c opening events begun placer (stance m) (calls_of m) g tied k r i w rests (free_at g m k root rests)
     first t (begins_get r ring) rests = tied_get c opening events begun placer (stance m) (calls_of m) g tied k r rests (free_at g m k root rests)
 
+-- an event adds to its seat's record what it ends, and to no other's
+calls_more : (c : Setup) (g : Ghost) (m : Machine) (k : ℕ) (n : Machine) (e : TicketEvent) → EventFacts c m g k e n
+    → calls_of n k ≡ calls_of m k + length (ended_by e)
+calls_more c g m k n e d = ap length d.calls ∙ length-append (m.part k).calls (ended_by e)
+
+calls_rise : (c : Setup) (g : Ghost) (m : Machine) (k : ℕ) (n : Machine) (e : TicketEvent) → EventFacts c m g k e n → (j : ℕ) → calls_of m j ≤ calls_of n j
+calls_rise c g m k n e d j =
+    elim (cases_eq j k) [
+      | inl same ↦ let more = calls_more c g m k n e d in rw same (omega arith)
+      | inr other ↦ let keeps : calls_of n j ≡ calls_of m j = ap (λ (p : Part). length p.calls) (d.others j other) in omega arith
+    ]
+
 -- second part: what the event does
 module _ (c : Setup) (opening : List (List ℕ)) (full : length opening ≡ n_of c.order) (events : List history.Event) (begun : ℕ → ℕ) (placer : ℕ → ℕ → PutName)
     (time : ℕ) (g : Ghost) (m : Machine) (k : ℕ) (n : Machine) (s : Stance)
@@ -81,16 +91,6 @@ module _ (c : Setup) (opening : List (List ℕ)) (full : length opening ≡ n_of
 
   here : now k ≡ s
   here = updated_here (stance m) k s
-
-  calls_more : (e : TicketEvent) → EventFacts c m g k e n → calls_of n k ≡ calls_of m k + length (ended_by e)
-  calls_more e d = ap length d.calls ∙ length-append (m.part k).calls (ended_by e)
-
-  calls_rise : (e : TicketEvent) → EventFacts c m g k e n → (j : ℕ) → calls_of m j ≤ calls_of n j
-  calls_rise e d j =
-      elim (cases_eq j k) [
-        | inl same ↦ let more = calls_more e d in rw same (omega arith)
-        | inr other ↦ let keeps : calls_of n j ≡ calls_of m j = ap (λ (p : Part). length p.calls) (d.others j other) in omega arith
-      ]
 
   abbrev Goal : TicketEvent → Type 0
   Goal e = IsTied c opening (events ++ ends_by k (placer_by e k begun placer) (ended_by e)) begun (placer_by e k begun placer) (updated now k (stance_by e s))
@@ -109,48 +109,14 @@ module _ (c : Setup) (opening : List (List ℕ)) (full : length opening ≡ n_of
       → IsFree (ghost_next time g m k e) k
   free_after e event_step later rests = free_at (ghost_next time g m k e) n k later (event_step.event_facts.stance ∙ rests)
 
-  -- where no finished place is at or past Head, each has been drawn by a get that had started
-  passed_now : IsBased c g m → (r : ℕ) → ((p : ℕ) → IsFinished c m r p → p < m.cells.head r) → GetsNow events k r → (name : PutName)
-      → IsFinishedAt opening events r (length events) name → Passed placer g.puts g.gets tied.since r (length events) name
-  passed_now base r below does name is =
-      let a = settled c opening full events begun placer now m g tied base records r (length events) name is in
-      let low = below a.p a.finished in
-      let some = started_within events k (length events) does.s does.under in
-      let there = a.is in
-      record {
-        p = a.p;
-        is = a.is;
-        named = a.named;
-        drawn =
-            λ at.
-            elim (cases_lt a.p (ring_slots c)) [
-              | inl less ↦ let none = ap is_placed (base.drawn.put_first r a.p less) in cc
-              | inr first ↦
-                  elim (cases_lt a.p c.limit) [
-                    | inl under ↦ reach.reached r a.p first low under at
-                    | inr past ↦ let none = ap is_placed (base.drawn.put_limit r a.p past) in cc
-                  ]
-            ];
-        before = elim (tied.taken.early r a.p) [ inl none ↦ omega arith | inr less ↦ less ];
-      }
-
-  emptying : IsBased c g m → (r : ℕ) → ((p : ℕ) → IsFinished c m r p → p < m.cells.head r) → GetsNow events k r
-      → Emptying opening events placer g.puts g.gets tied.since k r
-  emptying base r below does =
-      record {
-        m = length events;
-        low = omega arith;
-        after = λ z under. started_within events k (length events) z under;
-        passed = passed_now base r below does;
-      }
-
   -- a get goes on in another stance, without a ticket that changes
   goes_on : (e : TicketEvent) (z : Stance) → EventStep c time g m k e n → Doing events (begun k) k z → due z ≡ 0
-      → ((r i t : ℕ) (w : List ℕ) → z ≢ landed r i w t) → ((r h : ℕ) → z ≡ leaving r h → Emptying opening events placer g.puts g.gets tied.since k r)
+      → ((r i t : ℕ) (w : List ℕ) → z ≢ landed r i w t) → ((r h : ℕ) → z ≡ gave_up r h true → Emptying opening events placer g.puts g.gets tied.since k r)
       → IsTied c opening (events ++ []) begun placer (updated now k z) (calls_of n) g
   goes_on e z event_step does none other leave =
       quiet (updated now k z) placer g
-      (tied_on c opening events begun placer now (calls_of m) g tied k z (calls_of n) does (rw none (omega arith)) (calls_rise e event_step.event_facts)
+      (tied_on c opening events begun placer now (calls_of m) g tied k z (calls_of n) does (rw none (omega arith))
+      (calls_rise c g m k n e event_step.event_facts)
       (λ r i t w at. absurd (other r i t w at)) leave)
 
   -- a get ends with Nothing
@@ -159,7 +125,7 @@ module _ (c : Setup) (opening : List (List ℕ)) (full : length opening ≡ n_of
       → IsTied c opening (events ++ End k Nothing ∷ []) begun placer (updated now k resting) (calls_of n) g
   get_ends e r event_step does free sees =
       tied_end c opening events begun placer now (calls_of m) g tied k Nothing (calls_of n) (get_answer events k r Nothing does tt) (λ x. cc) (λ name y x. cc)
-      free (calls_rise e event_step.event_facts)
+      free (calls_rise c g m k n e event_step.event_facts)
       (λ same.
       record {
         r = r;
@@ -177,18 +143,18 @@ module _ (c : Setup) (opening : List (List ℕ)) (full : length opening ≡ n_of
   tied_event calm event_step later decided is =
       quiet (updated now k s) placer g
       (tied_on c opening events begun placer now (calls_of m) g tied k s (calls_of n) (doing s refl) (rw here (omega arith))
-      (calls_rise calm event_step.event_facts) (λ r i t w at. tied.lands k r i t w (here ∙ at)) (λ r h at. tied.emptied.leaves k r h (here ∙ at)))
+      (calls_rise c g m k n calm event_step.event_facts) (λ r i t w at. tied.lands k r i t w (here ∙ at)) (λ r h at. tied.emptied.leaves k r h (here ∙ at)))
   tied_event (drew r i w t) event_step later decided is =
       let p = event_step.event_facts.proper in
       let at_tail = p.at_tail in
       quiet (updated now k (putting r i w t)) placer (ghost_next time g m k (drew r i w t))
       (tied_drew c opening events begun placer now (calls_of m) g tied k r i w t (calls_of n) (here ∙ is) p.fresh
-      (λ u le. event_step.base.drawn.tails r u (omega arith)) (calls_rise (drew r i w t) event_step.event_facts))
+      (λ u le. event_step.base.drawn.tails r u (omega arith)) (calls_rise c g m k n (drew r i w t) event_step.event_facts))
   tied_event (fell r i w t found) event_step later decided is =
       let p = event_step.event_facts.proper in
       quiet (updated now k (drawing r i w)) placer (ghost_next time g m k (fell r i w t found))
       (tied_fell c opening events begun placer now (calls_of m) g tied k r i w t time found (calls_of n) (here ∙ is) p.pending
-      (calls_rise (fell r i w t found) event_step.event_facts))
+      (calls_rise c g m k n (fell r i w t found) event_step.event_facts))
   tied_event (laid r i w t) event_step later decided is =
       let p = event_step.event_facts.proper in
       quiet (updated now k (landed r i w t)) (placer_by (laid r i w t) k begun placer) (ghost_next time g m k (laid r i w t))
@@ -200,34 +166,36 @@ module _ (c : Setup) (opening : List (List ℕ)) (full : length opening ≡ n_of
             let claim : g.puts q u ≡ placed x y (call_of j (calls_of m j)) = rw old at (event_step.base.claims j) in
             ap is_placed claim
       ])
-      (calls_rise (laid r i w t) event_step.event_facts))
+      (calls_rise c g m k n (laid r i w t) event_step.event_facts))
   tied_event (finished r i w t) event_step later decided is =
       let p = event_step.event_facts.proper in
-      let more = calls_more (finished r i w t) event_step.event_facts in
+      let more = calls_more c g m k n (finished r i w t) event_step.event_facts in
       tied_done c opening events begun placer now (calls_of m) g tied k r i w t (calls_of n) (here ∙ is) p.placed
-      (free_after (finished r i w t) event_step later refl) (calls_rise (finished r i w t) event_step.event_facts) (omega arith)
+      (free_after (finished r i w t) event_step later refl) (calls_rise c g m k n (finished r i w t) event_step.event_facts) (omega arith)
   tied_event (entered r) event_step later decided is =
-      goes_on (entered r) (seeking r) event_step (doing (seeking r) is) refl (λ q i t w at. cc) (λ q u at. absurd (cc))
+      goes_on (entered r) (seeking r) event_step (doing (asking r) is) refl (λ q i t w at. cc) (λ q u at. absurd (cc))
   tied_event (refused r) event_step later decided is =
-      let does = doing (seeking r) is in
-      get_ends (refused r) r event_step does (free_after (refused r) event_step later refl) (emptying event_step.base r (decided r (by_refusal r)) does)
+      let does = doing (asking r) is in
+      get_ends (refused r) r event_step does (free_after (refused r) event_step later refl)
+      (emptying c opening full events begun placer g m k now tied records reach event_step.base r (decided r (by_refusal r)) does)
   tied_event (began r h) event_step later decided is =
       let p = event_step.event_facts.proper in
       let at_head = p.at_head in
       quiet (updated now k (trying r h)) placer (ghost_next time g m k (began r h))
       (tied_began c opening events begun placer now (calls_of m) g tied k r h (calls_of n) (here ∙ is) (λ u le. event_step.base.drawn.heads r u (omega arith))
-      (calls_rise (began r h) event_step.event_facts))
+      (calls_rise c g m k n (began r h) event_step.event_facts))
   tied_event (died r h) event_step later decided is =
       let p = event_step.event_facts.proper in
-      quiet (updated now k (missed r h)) placer (ghost_next time g m k (died r h))
-      (tied_died c opening events begun placer now (calls_of m) g tied k r h (calls_of n) (here ∙ is) p.opened (calls_rise (died r h) event_step.event_facts))
+      quiet (updated now k (gave_up r h false)) placer (ghost_next time g m k (died r h))
+      (tied_died c opening events begun placer now (calls_of m) g tied k r h (calls_of n) (here ∙ is) p.opened
+      (calls_rise c g m k n (died r h) event_step.event_facts))
   tied_event (saw_end r h) event_step later decided is =
-      let does = doing (missed r h) is in
-      let sees = emptying event_step.base r (decided r (by_end r h)) does in
-      goes_on (saw_end r h) (leaving r h) event_step does refl (λ q i t w at. cc)
+      let does = doing (gave_up r h false) is in
+      let sees = emptying c opening full events begun placer g m k now tied records reach event_step.base r (decided r (by_end r h)) does in
+      goes_on (saw_end r h) (gave_up r h true) event_step does refl (λ q i t w at. cc)
       (λ q u at. let ring : r ≡ q = cc in subst (λ z. Emptying opening events placer g.puts g.gets tied.since k z) ring sees)
   tied_event (lifted r h to) event_step later decided is =
-      goes_on (lifted r h to) (leaving r h) event_step (doing (leaving r h) is) refl (λ q i t w at. cc)
+      goes_on (lifted r h to) (gave_up r h true) event_step (doing (gave_up r h true) is) refl (λ q i t w at. cc)
       (λ q u at. let ring : r ≡ q = cc in subst (λ z. Emptying opening events placer g.puts g.gets tied.since k z) ring (tied.emptied.leaves k r h (here ∙ is)))
   tied_event (taken r h i w) event_step later decided is =
       let p = event_step.event_facts.proper in
@@ -237,26 +205,29 @@ module _ (c : Setup) (opening : List (List ℕ)) (full : length opening ≡ n_of
       (let ring : q ≡ r = cc in ring, let ticket : u ≡ h = cc in ticket))
       p.placed
       (λ q t x at. free.pends q t x at)
-      (calls_rise (taken r h i w) event_step.event_facts)
+      (calls_rise c g m k n (taken r h i w) event_step.event_facts)
   tied_event (lowered r h) event_step later decided is =
-      goes_on (lowered r h) (seeking r) event_step (doing (missed r h) is) refl (λ q i t w at. cc) (λ q u at. absurd (cc))
+      goes_on (lowered r h) (seeking r) event_step (doing (gave_up r h false) is) refl (λ q i t w at. cc) (λ q u at. absurd (cc))
   tied_event (emptied r h) event_step later decided is =
       let free = free_after (emptied r h) event_step later refl in
       elim is [
-        | inl a ↦ get_ends (emptied r h) r event_step (doing (leaving r h) a) free (tied.emptied.leaves k r h (here ∙ a))
+        | inl a ↦ get_ends (emptied r h) r event_step (doing (gave_up r h true) a) free (tied.emptied.leaves k r h (here ∙ a))
         | inr a ↦
-            let stands : stance m k ≡ missed r h =
+            let stands : stance m k ≡ gave_up r h false =
             elim event_step.event_facts.proper.was [
               | inl left ↦ elim own [ inl same ↦ absurd (cc) | inr rests ↦ absurd (cc) ]
               | inr low ↦ low.0
             ] in
-            let does = doing (missed r h) a in
-            get_ends (emptied r h) r event_step does free (emptying event_step.base r (decided r (by_level r h stands)) does)
+            let does = doing (gave_up r h false) a in
+            get_ends (emptied r h) r event_step does free
+            (emptying c opening full events begun placer g m k now tied records reach event_step.base r (decided r (by_level r h stands)) does)
       ]
   tied_event (overran r t true) event_step later decided is =
       let does : PutsNow events (begun k) k r is.1 = doing (drawing r is.0 is.1) is.2 in
       tied_end c opening events begun placer now (calls_of m) g tied k Spent (calls_of n) (put_answer events (begun k) k r is.1 Spent does tt) (λ x. cc)
-      (λ name y x. cc) (free_after (overran r t true) event_step later refl) (calls_rise (overran r t true) event_step.event_facts) (λ same. absurd (cc))
+      (λ name y x. cc) (free_after (overran r t true) event_step later refl) (calls_rise c g m k n (overran r t true) event_step.event_facts)
+      (λ same. absurd (cc))
   tied_event (overran r h false) event_step later decided is =
       tied_end c opening events begun placer now (calls_of m) g tied k Spent (calls_of n) (get_answer events k r Spent (doing (seeking r) is) tt) (λ x. cc)
-      (λ name y x. cc) (free_after (overran r h false) event_step later refl) (calls_rise (overran r h false) event_step.event_facts) (λ same. absurd (cc))
+      (λ name y x. cc) (free_after (overran r h false) event_step later refl) (calls_rise c g m k n (overran r h false) event_step.event_facts)
+      (λ same. absurd (cc))

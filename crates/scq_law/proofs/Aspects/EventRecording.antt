@@ -14,7 +14,8 @@ use Rattle.scq_hist.specs.declared.events.Event.TheVariants.{End}
 use Rattle.scq_hist.specs.declared.events.PutName.{PutName}
 use Rattle.scq_hist.specs.declared.events.PutName.TheVariants.{Of}
 use Rattle.scq_law.specs.Run.{recorded_reply, starts, finishes, puts_after, placer_after}
-use Rattle.scq_law.proofs.Base.TicketEvents.{Stance, resting, drawing, putting, landed, seeking, trying, missed, leaving, stance_of, TicketEvent, calm, drew, fell, laid, finished, entered, refused, began, died, saw_end, lifted, taken, lowered, emptied, overran, event}
+use Rattle.scq_core.specs.Stances.{Stance, resting, drawing, putting, landed, asking, seeking, trying, gave_up, stance_of}
+use Rattle.scq_law.proofs.Base.TicketEvents.{TicketEvent, calm, drew, fell, laid, finished, entered, refused, began, died, saw_end, lifted, taken, lowered, emptied, overran, event}
 use Rattle.scq_law.proofs.Aspects.GrowingHistory.{length_grown, new_at}
 
 -- what a seat is in the middle of at its turn, by the turn's event
@@ -24,15 +25,15 @@ Within (drew r i w t) s = s ≡ drawing r i w
 Within (fell r i w t found) s = s ≡ putting r i w t
 Within (laid r i w t) s = s ≡ putting r i w t
 Within (finished r i w t) s = s ≡ landed r i w t
-Within (entered r) s = s ≡ seeking r
-Within (refused r) s = s ≡ seeking r
+Within (entered r) s = s ≡ asking r
+Within (refused r) s = s ≡ asking r
 Within (began r h) s = s ≡ seeking r
 Within (died r h) s = s ≡ trying r h
-Within (saw_end r h) s = s ≡ missed r h
-Within (lifted r h to) s = s ≡ leaving r h
+Within (saw_end r h) s = s ≡ gave_up r h false
+Within (lifted r h to) s = s ≡ gave_up r h true
 Within (taken r h i w) s = s ≡ trying r h
-Within (lowered r h) s = s ≡ missed r h
-Within (emptied r h) s = (s ≡ leaving r h) ⊎ (s ≡ missed r h)
+Within (lowered r h) s = s ≡ gave_up r h false
+Within (emptied r h) s = (s ≡ gave_up r h true) ⊎ (s ≡ gave_up r h false)
 Within (overran r t true) s = (i : ℕ) × (w : List ℕ) × (s ≡ drawing r i w)
 Within (overran r t false) s = s ≡ seeking r
 
@@ -98,8 +99,6 @@ finishes_last seat placer Idle calls x rests =
     let long = length_grown calls x in
     let last : length (calls ++ x ∷ []) - 1 ≡ length calls = omega arith in
     rw (last, new_at calls x) refl
-finishes_last seat placer (AtD10 r h true) calls x rests = absurd (cc)
-finishes_last seat placer (AtD10 r h false) calls x rests = absurd (cc)
 finishes_last seat placer phase calls x rests = absurd (cc)
 
 -- who placed, after an event

@@ -17,7 +17,7 @@ use Rattle.scq_hist.specs.declared.events.PutName.TheVariants.{Opening, Of}
 use Rattle.scq_law.specs.Places.{call_of}
 use Rattle.scq_law.specs.Bounds.{IsFinished}
 use Rattle.scq_law.proofs.Base.Ghosts.{Ghost, is_placed}
-use Rattle.scq_law.proofs.Base.TicketEvents.{Stance}
+use Rattle.scq_core.specs.Stances.{Stance}
 use Rattle.scq_law.proofs.Base.Based.{IsBased}
 use Rattle.scq_law.proofs.Places.RecordsAgree.{RecordsAgree}
 use Rattle.scq_law.proofs.Aspects.PlacedPuts.{IsNamed}

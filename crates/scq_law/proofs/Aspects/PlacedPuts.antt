@@ -18,7 +18,7 @@ use Rattle.scq_hist.specs.declared.events.PutName.TheVariants.{Opening, Of}
 use Rattle.scq_hist.specs.declared.events.Reply.TheVariants.{Done}
 use Rattle.scq_law.specs.Places.{Maker, call_of}
 use Rattle.scq_law.proofs.Base.Ghosts.{PutState, pending, placed, is_placed}
-use Rattle.scq_law.proofs.Base.TicketEvents.{Stance, drawing, putting}
+use Rattle.scq_core.specs.Stances.{Stance, drawing, putting}
 use Rattle.scq_law.proofs.Aspects.GrowingHistory.{under_now, at_grown, under_old, length_grown, put_grown, seat_of, under_else}
 
 -- the put of this name is an opening token of queue 0 with this content, or a seat's put of this queue that starts at s
@@ -65,6 +65,10 @@ pub record IsPlaced (c : Setup) (opening : List (List ℕ)) (events : List Event
 -- elsewhere a changed function of two arguments is as it was
 pub updated_entry_else : {A : Type 0} → (f : ℕ → ℕ → A) (r s : ℕ) (x : A) (q z : ℕ) → (q ≡ r → z ≡ s → ⊥) → updated_entry f r s x q z ≡ f q z
 updated_entry_else f r s x q z apart = elim (updated_entry_or f r s x q z) [ inl a ↦ absurd (apart a.0 a.1) | inr a ↦ a.1 ]
+
+-- a placed ticket isn't one at which nothing is placed
+apart_from : (puts : ℕ → ℕ → PutState) (r t q u : ℕ) → is_placed (puts r t) ≡ false → is_placed (puts q u) ≡ true → q ≡ r → u ≡ t → ⊥
+apart_from puts r t q u empty full ring ticket = let clash : is_placed (puts r t) ≡ true = rw (← ring, ← ticket) full in cc
 
 module _ (c : Setup) (opening : List (List ℕ)) (events : List Event) (begun : ℕ → ℕ) (placer : ℕ → ℕ → PutName) (stance : ℕ → Stance) (calls : ℕ → ℕ)
     (puts : ℕ → ℕ → PutState) (origin : ℕ → ℕ → ℕ) (was : IsPlaced c opening events begun placer stance calls puts origin) where
@@ -143,161 +147,60 @@ module _ (c : Setup) (opening : List (List ℕ)) (events : List Event) (begun : 
             };
       }
 
-  -- a placed ticket isn't one at which nothing is placed
-  apart_from : (r t q u : ℕ) → is_placed (puts r t) ≡ false → is_placed (puts q u) ≡ true → q ≡ r → u ≡ t → ⊥
-  apart_from r t q u empty full ring ticket = let clash : is_placed (puts r t) ≡ true = rw (← ring, ← ticket) full in cc
+-- a ticket at which nothing is placed becomes another such, drawn by a call that started at position o
+module _ (c : Setup) (opening : List (List ℕ)) (events : List Event) (begun : ℕ → ℕ) (placer : ℕ → ℕ → PutName) (stance : ℕ → Stance) (calls : ℕ → ℕ)
+    (puts : ℕ → ℕ → PutState) (origin : ℕ → ℕ → ℕ) (was : IsPlaced c opening events begun placer stance calls puts origin)
+    (r t : ℕ) (empty : is_placed (puts r t) ≡ false) (x : PutState) (o : ℕ) (still : is_placed x ≡ false) where
+  abbrev puts2 : ℕ → ℕ → PutState
+  puts2 = updated_entry puts r t x
 
-  module _ (r t : ℕ) (empty : is_placed (puts r t) ≡ false) where
-    -- a ticket at which nothing is placed becomes another such, drawn by a call that started at position o
-    module _ (x : PutState) (o : ℕ) (still : is_placed x ≡ false) where
-      abbrev puts2 : ℕ → ℕ → PutState
-      puts2 = updated_entry puts r t x
+  abbrev origin2 : ℕ → ℕ → ℕ
+  origin2 = updated_entry origin r t o
 
-      abbrev origin2 : ℕ → ℕ → ℕ
-      origin2 = updated_entry origin r t o
+  old_full : (q u : ℕ) → is_placed (puts2 q u) ≡ true → is_placed (puts q u) ≡ true
+  old_full q u full =
+      elim (updated_entry_or puts r t x q u) [
+        | inl a ↦ let no : is_placed (puts2 q u) ≡ false = ap is_placed a.2 ∙ still in absurd (cc)
+        | inr a ↦ sym (ap is_placed a.1) ∙ full
+      ]
 
-      old_full : (q u : ℕ) → is_placed (puts2 q u) ≡ true → is_placed (puts q u) ≡ true
-      old_full q u full =
-          elim (updated_entry_or puts r t x q u) [
-            | inl a ↦ let no : is_placed (puts2 q u) ≡ false = ap is_placed a.2 ∙ still in absurd (cc)
-            | inr a ↦ sym (ap is_placed a.1) ∙ full
-          ]
+  still_full : (q u : ℕ) → is_placed (puts q u) ≡ true → puts2 q u ≡ puts q u
+  still_full q u full = updated_entry_else puts r t x q u (apart_from puts r t q u empty full)
 
-      still_full : (q u : ℕ) → is_placed (puts q u) ≡ true → puts2 q u ≡ puts q u
-      still_full q u full = updated_entry_else puts r t x q u (apart_from r t q u empty full)
+  same_origin : (q u : ℕ) → is_placed (puts q u) ≡ true → origin2 q u ≡ origin q u
+  same_origin q u full = updated_entry_else origin r t o q u (apart_from puts r t q u empty full)
 
-      same_origin : (q u : ℕ) → is_placed (puts q u) ≡ true → origin2 q u ≡ origin q u
-      same_origin q u full = updated_entry_else origin r t o q u (apart_from r t q u empty full)
+  old_placed : (q u i : ℕ) (w : List ℕ) (b : Maker) → puts2 q u ≡ placed i w b → puts q u ≡ placed i w b
+  old_placed q u i w b is = sym (still_full q u (old_full q u (ap is_placed is))) ∙ is
 
-      old_placed : (q u i : ℕ) (w : List ℕ) (b : Maker) → puts2 q u ≡ placed i w b → puts q u ≡ placed i w b
-      old_placed q u i w b is = sym (still_full q u (old_full q u (ap is_placed is))) ∙ is
-
-      pub placed_drawn : ((j i : ℕ) → x ≡ pending j i → under_now events j ≡ Some o) → (o ≡ 0) ⊎ (o < length events)
-          → ((u : ℕ) → is_placed (puts r u) ≡ true → t ≤ u → o ≡ origin r t) → IsPlaced c opening events begun placer stance calls puts2 origin2
-      placed_drawn now soon high =
-          record {
-            stood = λ j low. let token = was.stood j low in
-                record { is = ap is_placed (still_full 0 (ring_slots c + j) token.is) ∙ token.is; name = token.name };
-            tokens = was.tokens;
-            named =
-                λ q u i w b is.
-                let old = old_placed q u i w b is in
-                subst (λ s. IsNamed opening events (placer q u) q w s) (sym (same_origin q u (ap is_placed old))) (was.named q u i w b old);
-            pends =
-                λ q u k i is.
-                elim (updated_entry_or puts r t x q u) [
-                  | inl a ↦ now k i (sym a.2 ∙ is) ∙ ap Some (sym (rw (a.0, a.1) (updated_entry_here origin r t o)))
-                  | inr a ↦ was.pends q u k i (sym a.1 ∙ is) ∙ ap Some (sym (updated_entry_else origin r t o q u a.0))
-                ];
-            low = λ q u k n is name. was.low q u k n (old_full q u is) name;
-            one = λ q u p z is there. was.one q u p z (old_full q u is) (old_full p z there);
-            early =
-                λ q u.
-                elim (updated_entry_or origin r t o q u) [
-                  | inl a ↦ rw a.2 soon
-                  | inr a ↦ rw a.1 (was.early q u)
-                ];
-            done =
-                λ e k at.
-                let l = was.done e k at in
-                let full : is_placed (puts l.r l.p) ≡ true = ap is_placed l.is in
-                record {
-                  r = l.r;
-                  p = l.p;
-                  n = l.n;
-                  index = l.index;
-                  content = l.content;
-                  number = l.number;
-                  is = still_full l.r l.p full ∙ l.is;
-                  ended = l.ended;
-                  name = l.name;
-                  under = l.under ∙ ap Some (sym (same_origin l.r l.p full));
-                  later =
-                      λ u le.
-                      let old = l.later u le in
-                      elim (updated_entry_or origin r t o l.r u) [
-                        | inl a ↦
-                            let ring = a.0 in
-                            let ticket = a.1 in
-                            let here : is_placed (puts r l.p) ≡ true = rw (← ring) full in
-                            let same : o ≡ origin r t = high l.p here (omega arith) in
-                            let old_here : origin r t < e = rw (← ring, ← ticket) old in
-                            rw a.2 (omega arith)
-                        | inr a ↦ rw a.1 old
-                      ];
-                };
-          }
-
-    -- a seat places its put
-    module _ (k i number : ℕ) (w : List ℕ) where
-      abbrev new : PutState
-      new = placed i w (call_of k number)
-
-      abbrev placer2 : ℕ → ℕ → PutName
-      placer2 = updated_entry placer r t (Of k (begun k))
-
-      kept_full : (q u : ℕ) → is_placed (puts q u) ≡ true → updated_entry puts r t new q u ≡ puts q u
-      kept_full q u full = updated_entry_else puts r t new q u (apart_from r t q u empty full)
-
-      kept_name : (q u : ℕ) → is_placed (puts q u) ≡ true → placer2 q u ≡ placer q u
-      kept_name q u full = updated_entry_else placer r t (Of k (begun k)) q u (apart_from r t q u empty full)
-
-      new_name : (q u : ℕ) → q ≡ r → u ≡ t → placer2 q u ≡ Of k (begun k)
-      new_name q u ring ticket = rw (ring, ticket) (updated_entry_here placer r t (Of k (begun k)))
-
-      -- no other place has the name
-      fresh_name : due (stance k) ≡ 1 → (q u : ℕ) → (q ≡ r → u ≡ t → ⊥) → is_placed (puts q u) ≡ true → Of k (begun k) ≡ placer2 q u → ⊥
-      fresh_name is_due q u apart full same =
-          let old = was.low q u k (begun k) full (sym (same ∙ updated_entry_else placer r t (Of k (begun k)) q u apart)) in
-          omega arith
-
-      pub placed_laid : (s : Stance) → due (stance k) ≡ 1 → due s ≡ 0 → IsPut events k (begun k) r w (origin r t)
-          → IsPlaced c opening events begun (updated_entry placer r t (Of k (begun k))) (updated stance k s) calls
-          (updated_entry puts r t (placed i w (call_of k number))) origin
-      placed_laid s is_due no_due is_put = record {
+  pub placed_drawn : ((j i : ℕ) → x ≡ pending j i → under_now events j ≡ Some o) → (o ≡ 0) ⊎ (o < length events)
+      → ((u : ℕ) → is_placed (puts r u) ≡ true → t ≤ u → o ≡ origin r t) → IsPlaced c opening events begun placer stance calls puts2 origin2
+  placed_drawn now soon high =
+      record {
         stood = λ j low. let token = was.stood j low in
-            record { is = ap is_placed (kept_full 0 (ring_slots c + j) token.is) ∙ token.is; name = kept_name 0 (ring_slots c + j) token.is ∙ token.name };
-        tokens = λ q u j name. elim (updated_entry_or placer r t (Of k (begun k)) q u) [ inl a ↦ absurd (cc) | inr a ↦ was.tokens q u j (sym a.1 ∙ name) ];
-        named = λ q u j y b is. elim (updated_entry_or puts r t new q u) [
-          | inl a ↦
-              let same : placed i w (call_of k number) ≡ placed j y b = sym a.2 ∙ is in
-              let content : w ≡ y = cc in
-              let here : placer2 q u ≡ Of k (begun k) = rw (a.0, a.1) (updated_entry_here placer r t (Of k (begun k))) in
-              rw (here, a.0, a.1, ← content) is_put
-          | inr a ↦
-              let here : placer2 q u ≡ placer q u = updated_entry_else placer r t (Of k (begun k)) q u a.0 in
-              rw here (was.named q u j y b (sym a.1 ∙ is))
-        ];
-        pends = λ q u j y is. elim (updated_entry_or puts r t new q u) [ inl a ↦ absurd (cc) | inr a ↦ was.pends q u j y (sym a.1 ∙ is) ];
-        low = λ q u j n is name. elim (updated_entry_or puts r t new q u) [
-          | inl a ↦
-              let here : placer2 q u ≡ Of k (begun k) = rw (a.0, a.1) (updated_entry_here placer r t (Of k (begun k))) in
-              let same : Of k (begun k) ≡ Of j n = sym here ∙ name in
-              let seat : j ≡ k = cc in
-              let number_is : n ≡ begun k = cc in
-              rw (eq-eqb j k seat, number_is, seat, no_due) (omega arith)
-          | inr a ↦
-              let here : placer2 q u ≡ placer q u = updated_entry_else placer r t (Of k (begun k)) q u a.0 in
-              let old = was.low q u j n (sym (ap is_placed a.1) ∙ is) (sym here ∙ name) in
-              elim (cases_eq j k) [
-                | inl seat ↦ rw (eq-eqb j k seat, no_due) (omega arith)
-                | inr apart ↦ rw (ne_eqb j k apart) old
-              ]
-        ];
-        one = λ q u p z is there same. elim (updated_entry_or puts r t new q u) [
-          | inl a ↦ elim (updated_entry_or puts r t new p z) [
-            | inl b ↦ (a.0 ∙ sym b.0, a.1 ∙ sym b.1)
-            | inr b ↦ absurd (fresh_name is_due p z b.0 (sym (ap is_placed b.1) ∙ there) (sym (new_name q u a.0 a.1) ∙ same))
-          ]
-          | inr a ↦ elim (updated_entry_or puts r t new p z) [
-            | inl b ↦ absurd (fresh_name is_due q u a.0 (sym (ap is_placed a.1) ∙ is) (sym (new_name p z b.0 b.1) ∙ sym same))
-            | inr b ↦ was.one q u p z (sym (ap is_placed a.1) ∙ is) (sym (ap is_placed b.1) ∙ there)
-                (sym (updated_entry_else placer r t (Of k (begun k)) q u a.0) ∙ same ∙ updated_entry_else placer r t (Of k (begun k)) p z b.0)
-          ]
-        ];
-        early = was.early;
-        done = λ e j at.
-            let l = was.done e j at in
+            record { is = ap is_placed (still_full 0 (ring_slots c + j) token.is) ∙ token.is; name = token.name };
+        tokens = was.tokens;
+        named =
+            λ q u i w b is.
+            let old = old_placed q u i w b is in
+            subst (λ s. IsNamed opening events (placer q u) q w s) (sym (same_origin q u (ap is_placed old))) (was.named q u i w b old);
+        pends =
+            λ q u k i is.
+            elim (updated_entry_or puts r t x q u) [
+              | inl a ↦ now k i (sym a.2 ∙ is) ∙ ap Some (sym (rw (a.0, a.1) (updated_entry_here origin r t o)))
+              | inr a ↦ was.pends q u k i (sym a.1 ∙ is) ∙ ap Some (sym (updated_entry_else origin r t o q u a.0))
+            ];
+        low = λ q u k n is name. was.low q u k n (old_full q u is) name;
+        one = λ q u p z is there. was.one q u p z (old_full q u is) (old_full p z there);
+        early =
+            λ q u.
+            elim (updated_entry_or origin r t o q u) [
+              | inl a ↦ rw a.2 soon
+              | inr a ↦ rw a.1 (was.early q u)
+            ];
+        done =
+            λ e k at.
+            let l = was.done e k at in
             let full : is_placed (puts l.r l.p) ≡ true = ap is_placed l.is in
             record {
               r = l.r;
@@ -306,10 +209,110 @@ module _ (c : Setup) (opening : List (List ℕ)) (events : List Event) (begun : 
               index = l.index;
               content = l.content;
               number = l.number;
-              is = kept_full l.r l.p full ∙ l.is;
+              is = still_full l.r l.p full ∙ l.is;
               ended = l.ended;
-              name = kept_name l.r l.p full ∙ l.name;
-              under = l.under;
-              later = l.later;
+              name = l.name;
+              under = l.under ∙ ap Some (sym (same_origin l.r l.p full));
+              later =
+                  λ u le.
+                  let old = l.later u le in
+                  elim (updated_entry_or origin r t o l.r u) [
+                    | inl a ↦
+                        let ring = a.0 in
+                        let ticket = a.1 in
+                        let here : is_placed (puts r l.p) ≡ true = rw (← ring) full in
+                        let same : o ≡ origin r t = high l.p here (omega arith) in
+                        let old_here : origin r t < e = rw (← ring, ← ticket) old in
+                        rw a.2 (omega arith)
+                    | inr a ↦ rw a.1 old
+                  ];
             };
       }
+
+-- a seat places its put
+module _ (c : Setup) (opening : List (List ℕ)) (events : List Event) (begun : ℕ → ℕ) (placer : ℕ → ℕ → PutName) (stance : ℕ → Stance) (calls : ℕ → ℕ)
+    (puts : ℕ → ℕ → PutState) (origin : ℕ → ℕ → ℕ) (was : IsPlaced c opening events begun placer stance calls puts origin)
+    (r t : ℕ) (empty : is_placed (puts r t) ≡ false) (k i number : ℕ) (w : List ℕ) where
+  abbrev new : PutState
+  new = placed i w (call_of k number)
+
+  abbrev placer2 : ℕ → ℕ → PutName
+  placer2 = updated_entry placer r t (Of k (begun k))
+
+  kept_full : (q u : ℕ) → is_placed (puts q u) ≡ true → updated_entry puts r t new q u ≡ puts q u
+  kept_full q u full = updated_entry_else puts r t new q u (apart_from puts r t q u empty full)
+
+  kept_name : (q u : ℕ) → is_placed (puts q u) ≡ true → placer2 q u ≡ placer q u
+  kept_name q u full = updated_entry_else placer r t (Of k (begun k)) q u (apart_from puts r t q u empty full)
+
+  new_name : (q u : ℕ) → q ≡ r → u ≡ t → placer2 q u ≡ Of k (begun k)
+  new_name q u ring ticket = rw (ring, ticket) (updated_entry_here placer r t (Of k (begun k)))
+
+  -- no other place has the name
+  fresh_name : due (stance k) ≡ 1 → (q u : ℕ) → (q ≡ r → u ≡ t → ⊥) → is_placed (puts q u) ≡ true → Of k (begun k) ≡ placer2 q u → ⊥
+  fresh_name is_due q u apart full same =
+      let old = was.low q u k (begun k) full (sym (same ∙ updated_entry_else placer r t (Of k (begun k)) q u apart)) in
+      omega arith
+
+  pub placed_laid : (s : Stance) → due (stance k) ≡ 1 → due s ≡ 0 → IsPut events k (begun k) r w (origin r t)
+      → IsPlaced c opening events begun (updated_entry placer r t (Of k (begun k))) (updated stance k s) calls
+      (updated_entry puts r t (placed i w (call_of k number))) origin
+  placed_laid s is_due no_due is_put = record {
+    stood = λ j low. let token = was.stood j low in
+        record { is = ap is_placed (kept_full 0 (ring_slots c + j) token.is) ∙ token.is; name = kept_name 0 (ring_slots c + j) token.is ∙ token.name };
+    tokens = λ q u j name. elim (updated_entry_or placer r t (Of k (begun k)) q u) [ inl a ↦ absurd (cc) | inr a ↦ was.tokens q u j (sym a.1 ∙ name) ];
+    named = λ q u j y b is. elim (updated_entry_or puts r t new q u) [
+      | inl a ↦
+          let same : placed i w (call_of k number) ≡ placed j y b = sym a.2 ∙ is in
+          let content : w ≡ y = cc in
+          let here : placer2 q u ≡ Of k (begun k) = rw (a.0, a.1) (updated_entry_here placer r t (Of k (begun k))) in
+          rw (here, a.0, a.1, ← content) is_put
+      | inr a ↦
+          let here : placer2 q u ≡ placer q u = updated_entry_else placer r t (Of k (begun k)) q u a.0 in
+          rw here (was.named q u j y b (sym a.1 ∙ is))
+    ];
+    pends = λ q u j y is. elim (updated_entry_or puts r t new q u) [ inl a ↦ absurd (cc) | inr a ↦ was.pends q u j y (sym a.1 ∙ is) ];
+    low = λ q u j n is name. elim (updated_entry_or puts r t new q u) [
+      | inl a ↦
+          let here : placer2 q u ≡ Of k (begun k) = rw (a.0, a.1) (updated_entry_here placer r t (Of k (begun k))) in
+          let same : Of k (begun k) ≡ Of j n = sym here ∙ name in
+          let seat : j ≡ k = cc in
+          let number_is : n ≡ begun k = cc in
+          rw (eq-eqb j k seat, number_is, seat, no_due) (omega arith)
+      | inr a ↦
+          let here : placer2 q u ≡ placer q u = updated_entry_else placer r t (Of k (begun k)) q u a.0 in
+          let old = was.low q u j n (sym (ap is_placed a.1) ∙ is) (sym here ∙ name) in
+          elim (cases_eq j k) [
+            | inl seat ↦ rw (eq-eqb j k seat, no_due) (omega arith)
+            | inr apart ↦ rw (ne_eqb j k apart) old
+          ]
+    ];
+    one = λ q u p z is there same. elim (updated_entry_or puts r t new q u) [
+      | inl a ↦ elim (updated_entry_or puts r t new p z) [
+        | inl b ↦ (a.0 ∙ sym b.0, a.1 ∙ sym b.1)
+        | inr b ↦ absurd (fresh_name is_due p z b.0 (sym (ap is_placed b.1) ∙ there) (sym (new_name q u a.0 a.1) ∙ same))
+      ]
+      | inr a ↦ elim (updated_entry_or puts r t new p z) [
+        | inl b ↦ absurd (fresh_name is_due q u a.0 (sym (ap is_placed a.1) ∙ is) (sym (new_name p z b.0 b.1) ∙ sym same))
+        | inr b ↦ was.one q u p z (sym (ap is_placed a.1) ∙ is) (sym (ap is_placed b.1) ∙ there)
+            (sym (updated_entry_else placer r t (Of k (begun k)) q u a.0) ∙ same ∙ updated_entry_else placer r t (Of k (begun k)) p z b.0)
+      ]
+    ];
+    early = was.early;
+    done = λ e j at.
+        let l = was.done e j at in
+        let full : is_placed (puts l.r l.p) ≡ true = ap is_placed l.is in
+        record {
+          r = l.r;
+          p = l.p;
+          n = l.n;
+          index = l.index;
+          content = l.content;
+          number = l.number;
+          is = kept_full l.r l.p full ∙ l.is;
+          ended = l.ended;
+          name = kept_name l.r l.p full ∙ l.name;
+          under = l.under;
+          later = l.later;
+        };
+  }

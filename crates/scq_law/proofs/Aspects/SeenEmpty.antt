@@ -12,7 +12,7 @@ use Rattle.scq_hist.specs.declared.events.PutName.{PutName}
 use Rattle.scq_hist.specs.declared.events.PutName.TheVariants.{Opening, Of}
 use Rattle.scq_hist.specs.declared.events.Reply.TheVariants.{Nothing}
 use Rattle.scq_law.proofs.Base.Ghosts.{PutState, GetState, unopened, is_placed}
-use Rattle.scq_law.proofs.Base.TicketEvents.{Stance, leaving}
+use Rattle.scq_core.specs.Stances.{Stance, gave_up}
 use Rattle.scq_law.proofs.Aspects.GrowingHistory.{under_now, at_grown, old_at, kept_at, under_old, puts_old, length_grown, seat_of, under_else}
 
 -- what is finished at an old moment was so before
@@ -75,12 +75,12 @@ pub record Emptied (opening : List (List ℕ)) (events : List Event) (placer : �
 pub record IsEmptied (opening : List (List ℕ)) (events : List Event) (placer : ℕ → ℕ → PutName) (stance : ℕ → Stance) (puts : ℕ → ℕ → PutState)
     (gets : ℕ → ℕ → GetState) (since : ℕ → ℕ → ℕ) : Type 0 where
   pub ends : (e k : ℕ) → slice_get events e ≡ Some (End k Nothing) → Emptied opening events placer puts gets since e k
-  pub leaves : (k r h : ℕ) → stance k ≡ leaving r h → Emptying opening events placer puts gets since k r
+  pub leaves : (k r h : ℕ) → stance k ≡ gave_up r h true → Emptying opening events placer puts gets since k r
 
 module _ (opening : List (List ℕ)) (events : List Event) (placer : ℕ → ℕ → PutName) (stance : ℕ → Stance) (puts : ℕ → ℕ → PutState) (gets : ℕ → ℕ → GetState)
     (since : ℕ → ℕ → ℕ) (was : IsEmptied opening events placer stance puts gets since) where
   -- an event is recorded
-  pub emptied_grown : (x : Event) (stance2 : ℕ → Stance) → ((k r h : ℕ) → stance2 k ≡ leaving r h → (stance k ≡ leaving r h) × (seat_of x ≢ k))
+  pub emptied_grown : (x : Event) (stance2 : ℕ → Stance) → ((k r h : ℕ) → stance2 k ≡ gave_up r h true → (stance k ≡ gave_up r h true) × (seat_of x ≢ k))
       → ((k : ℕ) → x ≡ End k Nothing → Emptied opening (events ++ x ∷ []) placer puts gets since (length events) k)
       → IsEmptied opening (events ++ x ∷ []) placer stance2 puts gets since
   emptied_grown x stance2 old new =
@@ -121,7 +121,7 @@ module _ (opening : List (List ℕ)) (events : List Event) (placer : ℕ → ℕ
   pub emptied_kept : (placer2 : ℕ → ℕ → PutName) (stance2 : ℕ → Stance) (puts2 : ℕ → ℕ → PutState) (gets2 : ℕ → ℕ → GetState) (since2 : ℕ → ℕ → ℕ)
       → ((r p : ℕ) → is_placed (puts r p) ≡ true → (is_placed (puts2 r p) ≡ true) × (placer2 r p ≡ placer r p))
       → ((r p : ℕ) → gets r p ≢ unopened → (gets2 r p ≢ unopened) × (since2 r p ≡ since r p))
-      → ((k r h : ℕ) → stance2 k ≡ leaving r h → (stance k ≡ leaving r h) ⊎ Emptying opening events placer2 puts2 gets2 since2 k r)
+      → ((k r h : ℕ) → stance2 k ≡ gave_up r h true → (stance k ≡ gave_up r h true) ⊎ Emptying opening events placer2 puts2 gets2 since2 k r)
       → IsEmptied opening events placer2 stance2 puts2 gets2 since2
   emptied_kept placer2 stance2 puts2 gets2 since2 full drawn leave =
       record {

@@ -5,8 +5,6 @@ use Rattle.std.proofs.lemmas.Bool.{cases_eq, cases_lt}
 use Rattle.scq_word.specs.declared.setup.Setup.{Setup}
 use Rattle.scq_word.specs.Sizes.{n_of}
 use Rattle.scq_word.proofs.TicketLemmas.{slot_of_small}
-use Rattle.scq_core.specs.declared.phase.Phase.{Phase}
-use Rattle.scq_core.specs.declared.phase.Phase.TheVariants.{AtD10}
 use Rattle.scq_core.specs.Machine.{Cells, Part, Machine}
 use Rattle.scq_core.specs.Table.{ring_slots, slot, hand_without, moved}
 use Rattle.scq_core.specs.Start.{unused, filled, start_cells, start_of}
@@ -19,9 +17,10 @@ use Rattle.scq_core.proofs.Starts.{fills}
 use Rattle.scq_law.specs.Hands.{times}
 use Rattle.scq_law.specs.Bounds.{tally, openings}
 use Rattle.scq_law.specs.Sums.{sum_to}
-use Rattle.scq_law.specs.Kept.{has_index, left_in, left_below, was_done, was_got, has_placed, gets_of, puts_of, Balanced, AllKept}
+use Rattle.scq_law.specs.Kept.{has_index, left_in, left_below, was_done, was_got, gets_of, puts_of, Balanced, AllKept}
 use Rattle.scq_law.proofs.Base.Ghosts.{Ghost}
-use Rattle.scq_law.proofs.Base.TicketEvents.{Stance, landed, putting, trying, stance_of, TicketEvent, calm, drew, fell, laid, finished, entered, refused, began, died, saw_end, lifted, taken, lowered, emptied, overran, ended_by}
+use Rattle.scq_core.specs.Stances.{Stance, putting, trying, placed_ring, one_on}
+use Rattle.scq_law.proofs.Base.TicketEvents.{TicketEvent, calm, drew, fell, laid, finished, entered, refused, began, died, saw_end, lifted, taken, lowered, emptied, overran, ended_by}
 use Rattle.scq_law.proofs.Base.EventFacts.{stance}
 use Rattle.scq_law.proofs.Base.Traces.{Trace, trace_start, trace_step, has_trace, event_of}
 use Rattle.scq_law.proofs.Base.StartTickets.{one_place}
@@ -42,13 +41,7 @@ Lefts c e m n = (r : ℕ) → left_in c n.cells r + got_bit r e ≡ left_in c m.
 
 -- a seat's placed index, by its stance and by its phase
 abbrev landing : ℕ → Stance → ℕ
-landing r (landed q i w t) = bit q r
-landing r s = 0
-
-placed_landing : (r : ℕ) (phase : Phase) → has_placed r phase ≡ landing r (stance_of phase)
-placed_landing r (AtD10 q h true) = refl
-placed_landing r (AtD10 q h false) = refl
-placed_landing r phase = refl
+landing r s = one_on r (placed_ring s)
 
 -- the call that an event ends took an index where the event takes one
 ends_got : (r : ℕ) (e : TicketEvent) → tally (was_got r) (ended_by e) ≡ got_bit r e
@@ -96,8 +89,6 @@ balanced_step c time g m k e n event_step lefts was =
           let done_calls = calls_then (was_done r) c g m k e n event_step.event_facts in
           let got = ends_got r e in
           let put = puts_event c time g m k e n event_step r in
-          let placed_before = placed_landing r (m.part k).phase in
-          let placed_after = placed_landing r (n.part k).phase in
           omega arith;
     }
 

@@ -10,7 +10,7 @@ use Rattle.scq_core.specs.Table.{ring_slots, cycle, slot}
 use Rattle.scq_core.specs.Laws.{Lags}
 use Rattle.scq_law.specs.Places.{Maker, call_of}
 use Rattle.scq_law.proofs.Base.Ghosts.{Ghost, GetState, fresh, pending, placed, unopened, opened, dead, took, is_placed, waiting}
-use Rattle.scq_law.proofs.Base.TicketEvents.{Stance, putting, landed, trying, missed, leaving}
+use Rattle.scq_core.specs.Stances.{Stance, putting, landed, trying, gave_up}
 
 -- the word of a ticket's entry
 abbrev pub at_ticket : Setup → (ℕ → ℕ → ℕ) → ℕ → ℕ → ℕ
@@ -60,8 +60,7 @@ abbrev pub Claims : Ghost → ℕ → ℕ → Stance → Type 0
 Claims g k number (putting r i w t) = g.puts r t ≡ pending k i
 Claims g k number (landed r i w t) = g.puts r t ≡ placed i w (call_of k number)
 Claims g k number (trying r h) = g.gets r h ≡ opened k
-Claims g k number (missed r h) = g.gets r h ≡ dead
-Claims g k number (leaving r h) = g.gets r h ≡ dead
+Claims g k number (gave_up r h leaves) = g.gets r h ≡ dead
 Claims g k number _ = Unit {0}
 
 -- where the word that an enqueue loaded is unsafe and still there, each ticket of this slot that was given up is lower

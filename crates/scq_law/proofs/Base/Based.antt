@@ -13,7 +13,7 @@ use Rattle.scq_core.proofs.UpdatedLemmas.{updated_cases}
 use Rattle.scq_core.proofs.Turns.{Begins, begins_put, begins_get, begins, awake}
 use Rattle.scq_core.proofs.Steady.{has, steady_turn, steady_start}
 use Rattle.scq_law.proofs.Base.Ghosts.{Ghost}
-use Rattle.scq_law.proofs.Base.TicketEvents.{Stance, putting, landed, trying, missed, leaving, stance_of}
+use Rattle.scq_core.specs.Stances.{Stance, putting, landed, trying, gave_up, stance_of}
 use Rattle.scq_law.proofs.Base.Traces.{Trace, trace_start, trace_step, ghost_after}
 use Rattle.scq_law.proofs.Base.BaseGroup.{IsBooked, IsDrawn, Claims, Knows, Moves}
 use Rattle.scq_law.proofs.Base.TurnOutcomes.{OutcomeOf, outcome}
@@ -57,8 +57,7 @@ claims_last : (c : Setup) (e f : Entries) (g h : Ghost) (k j number : ℕ) (s : 
 claims_last c e f g h k j number (putting r i w t) moves other claims = moves.pends j r t i other claims
 claims_last c e f g h k j number (landed r i w t) moves other claims = moves.lies r t i w _ claims
 claims_last c e f g h k j number (trying r t) moves other claims = moves.opens j r t other claims
-claims_last c e f g h k j number (missed r t) moves other claims = moves.ends r t claims
-claims_last c e f g h k j number (leaving r t) moves other claims = moves.ends r t claims
+claims_last c e f g h k j number (gave_up r t leaves) moves other claims = moves.ends r t claims
 claims_last c e f g h k j number s moves other claims = tt
 
 -- and what it knows

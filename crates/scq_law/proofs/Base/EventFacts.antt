@@ -6,7 +6,8 @@ use Rattle.scq_core.specs.Machine.{Machine}
 use Rattle.scq_core.specs.Table.{zero_level, holds_index, slot}
 use Rattle.scq_law.specs.Places.{Maker, call_of}
 use Rattle.scq_law.proofs.Base.Ghosts.{Ghost, fresh, pending, placed, unopened, opened, dead, is_placed, waiting}
-use Rattle.scq_law.proofs.Base.TicketEvents.{Stance, resting, drawing, putting, landed, seeking, trying, missed, leaving, stance_of, TicketEvent, calm, drew, fell, laid, finished, entered, refused, began, died, saw_end, lifted, taken, lowered, emptied, overran, stance_by, hand_by, ended_by, kept_by, tail_by, head_by, threshold_by}
+use Rattle.scq_core.specs.Stances.{Stance, resting, drawing, putting, landed, seeking, trying, gave_up, stance_of}
+use Rattle.scq_law.proofs.Base.TicketEvents.{TicketEvent, calm, drew, fell, laid, finished, entered, refused, began, died, saw_end, lifted, taken, lowered, emptied, overran, stance_by, hand_by, ended_by, kept_by, tail_by, head_by, threshold_by}
 
 abbrev pub stance : Machine → ℕ → Stance
 stance m k = stance_of (m.part k).phase
@@ -79,12 +80,12 @@ pub record Died (c : Setup) (m : Machine) (g : Ghost) (k r h : ℕ) : Type 0 whe
   pub empty : is_placed (g.puts r h) ≡ false
 
 pub record SawEnd (c : Setup) (m : Machine) (g : Ghost) (k r h : ℕ) : Type 0 where
-  pub was : stance m k ≡ missed r h
+  pub was : stance m k ≡ gave_up r h false
   pub dead : g.gets r h ≡ dead
   pub low : m.cells.tail r ≤ h + 1
 
 pub record Lifted (c : Setup) (m : Machine) (g : Ghost) (k r h to : ℕ) : Type 0 where
-  pub was : stance m k ≡ leaving r h
+  pub was : stance m k ≡ gave_up r h true
   pub rises : m.cells.tail r ≤ to
   pub low : to ≤ m.cells.head r
 
@@ -95,12 +96,12 @@ pub record Taken (c : Setup) (m : Machine) (g : Ghost) (k r h i : ℕ) (w : List
   pub placed : g.puts r h ≡ placed i w maker
 
 pub record Lowered (c : Setup) (m : Machine) (g : Ghost) (k r h : ℕ) : Type 0 where
-  pub was : stance m k ≡ missed r h
+  pub was : stance m k ≡ gave_up r h false
   pub dead : g.gets r h ≡ dead
   pub level : zero_level < m.cells.threshold r
 
 pub record Emptied (c : Setup) (m : Machine) (g : Ghost) (k r h : ℕ) : Type 0 where
-  pub was : (stance m k ≡ leaving r h) ⊎ ((stance m k ≡ missed r h) × (m.cells.threshold r ≤ zero_level))
+  pub was : (stance m k ≡ gave_up r h true) ⊎ ((stance m k ≡ gave_up r h false) × (m.cells.threshold r ≤ zero_level))
   pub dead : g.gets r h ≡ dead
 
 -- a put draws a ticket at or past the limit

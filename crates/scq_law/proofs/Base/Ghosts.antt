@@ -1,5 +1,5 @@
 -- The proofs' own view of a run: what became of each ticket of each ring. It is no part of the machine.
-use Rattle.std.specs.Prelude.{ℕ, ◌+◌, ◌-◌, Bool, true, false, ◌==◌, ◌&&◌, nat_le, nat_lt, if◌then◌else◌, List, [], Option, Some, None, slice_index_or}
+use Rattle.std.specs.Prelude.{ℕ, ◌+◌, ◌-◌, Bool, true, false, ◌==◌, ◌&&◌, nat_le, nat_lt, if◌then◌else◌, List, [], slice_index_or}
 use Rattle.scq_word.specs.declared.setup.Setup.{Setup}
 use Rattle.scq_word.specs.Sizes.{n_of}
 use Rattle.scq_core.specs.Machine.{updated_entry}
@@ -37,12 +37,6 @@ waiting unopened = true
 waiting (opened k) = true
 waiting dead = false
 waiting (took k j) = false
-
--- the index that a put has drawn a ticket for, or placed there
-abbrev pub index_put : PutState → Option ℕ
-index_put (pending k i) = Some i
-index_put (placed i w b) = Some i
-index_put _ = None
 
 -- the tickets of ring 0 at the start, where the opening contents are placed
 abbrev pub stood : Setup → List (List ℕ) → ℕ → ℕ → PutState

@@ -159,6 +159,8 @@ module _ (c : Setup) (e : Entries) (g : Ghost) (k r h z : ℕ) (mine : g.gets r 
         shut = died_shut;
       }
 
+module _ (c : Setup) (e : Entries) (g : Ghost) (k r h z : ℕ) (mine : g.gets r h ≡ opened k)
+    (closes : Closes (ring_slots c) (at_ticket c e.word r h) z (cycle c h)) (booked : IsBooked c e g) where
   -- the ticket is open for this seat alone
   opened_once : (j q p : ℕ) → g.gets q p ≡ opened j → q ≡ r → p ≡ h → j ≡ k
   opened_once j q p is ring ticket =
@@ -170,13 +172,13 @@ module _ (c : Setup) (e : Entries) (g : Ghost) (k r h z : ℕ) (mine : g.gets r 
       let above : IsAbove (ring_slots c) v (at_ticket c e.word r h) = rw (ring, ← slots) at loaded.lags.above in
       came_back (ring_slots c) v (at_ticket c e.word r h) z is above closes.above
 
-  -- a seat that is about to place at another ticket: the entry is not the word that it loaded, or the ticket is above
+  -- a seat that is about to (place c e g k r h z mine closes booked) at another ticket: the entry is not the word that it loaded, or the ticket is above
   died_passes : (q t v : ℕ) → Loaded c e.word q t v → Passed c e.word g.gets q t v → Passed c (reworded c e r h z).word (with_get g r h dead).gets q t v
   died_passes q t v loaded old =
       record {
         passed =
             λ there unsafe p met gone.
-            elim (place q p) [
+            elim (place c e g k r h z mine closes booked q p) [
               | inl a ↦
                   let slots : slot c h ≡ slot c t = rw (← a.ticket) met in
                   let is : z ≡ v = sym a.word_is ∙ rw (← met) at there in
@@ -228,10 +230,10 @@ module _ (c : Setup) (e : Entries) (g : Ghost) (k r h z : ℕ) (mine : g.gets r 
             (λ _. is);
         holds =
             λ j q p apart is has.
-            elim (place q p) [
+            elim (place c e g k r h z mine closes booked q p) [
               | inl a ↦ absurd (apart (opened_once j q p is a.ring a.ticket))
               | inr (inl a) ↦
-                  let now = is_beside p a.slot (rw a.ring at has) in
+                  let now = is_beside c e g k r h z mine closes booked p a.slot (rw a.ring at has) in
                   record { cycle = rw a.word_is now.0; index = rw a.word_is now.1 }
               | inr (inr a) ↦ record { cycle = rw a.word_is has.cycle; index = rw a.word_is has.index }
             ];
@@ -239,4 +241,4 @@ module _ (c : Setup) (e : Entries) (g : Ghost) (k r h z : ℕ) (mine : g.gets r 
       }
 
   pub died_effect : Effect c e g k (reworded c e r h z) (with_get g r h dead)
-  died_effect = record { booked = died_booked; moves = died_moves }
+  died_effect = record { booked = died_booked c e g k r h z mine closes booked; moves = died_moves }

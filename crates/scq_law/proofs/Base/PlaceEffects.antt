@@ -143,6 +143,9 @@ module _ (c : Setup) (e : Entries) (g : Ghost) (k r t i z : ℕ) (w : List ℕ) 
             ];
       }
 
+module _ (c : Setup) (e : Entries) (g : Ghost) (k r t i z : ℕ) (w : List ℕ) (b : Maker) (mine : g.puts r t ≡ pending k i) (small : i < n_of c.order)
+    (fills : Fills (ring_slots c) (at_ticket c e.word r t) z (cycle c t) i) (passed : Passed c e.word g.gets r t (at_ticket c e.word r t))
+    (booked : IsBooked c e g) where
   laid_moves : Moves c e g k (refilled c e r t z w) (with_put g r t (placed i w b))
   laid_moves =
       record {
@@ -175,7 +178,7 @@ module _ (c : Setup) (e : Entries) (g : Ghost) (k r t i z : ℕ) (w : List ℕ) 
         takes = λ q p j x is. is;
         holds =
             λ j q p apart is has.
-            elim (place q p) [
+            elim (place c e g k r t i z w b mine small fills passed booked q p) [
               | inl a ↦
                   let some : is_none_in (ring_slots c) (at_ticket c e.word r t) ≡ false = rw (a.ring, a.ticket) at has.index in
                   let none = fills.none in
@@ -191,7 +194,7 @@ module _ (c : Setup) (e : Entries) (g : Ghost) (k r t i z : ℕ) (w : List ℕ) 
             record {
               passed =
                   λ stands unsafe p slot gone.
-                  elim (place q u) [
+                  elim (place c e g k r t i z w b mine small fills passed booked q u) [
                     | inl a ↦
                         let is : z ≡ v = sym a.word_is ∙ stands in
                         let none : is_none_in (ring_slots c) z ≡ true = rw is loaded.empty in
@@ -208,4 +211,4 @@ module _ (c : Setup) (e : Entries) (g : Ghost) (k r t i z : ℕ) (w : List ℕ) 
       }
 
   pub laid_effect : Effect c e g k (refilled c e r t z w) (with_put g r t (placed i w b))
-  laid_effect = record { booked = laid_booked; moves = laid_moves }
+  laid_effect = record { booked = laid_booked c e g k r t i z w b mine small fills passed booked; moves = laid_moves }

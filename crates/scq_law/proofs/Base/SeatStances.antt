@@ -1,5 +1,5 @@
 -- What a seat has by its stance, and that the other seats' stances stay.
-use Rattle.std.proofs.Common.{◌≡◌, ◌≢◌, ℕ, ◌<◌, List, true, false, ap}
+use Rattle.std.proofs.Common.{◌≡◌, ◌≢◌, ℕ, ◌<◌, List, ap}
 use Rattle.scq_word.specs.declared.setup.Setup.{Setup}
 use Rattle.scq_word.specs.Sizes.{n_of}
 use Rattle.scq_core.specs.declared.phase.Phase.{Phase}
@@ -7,7 +7,8 @@ use Rattle.scq_core.specs.declared.phase.Phase.TheVariants.{Idle, AtE1, AtE2, At
 use Rattle.scq_core.specs.Machine.{Cells, Part, Machine}
 use Rattle.scq_core.specs.Laws.{Offers, Drawn, Busy}
 use Rattle.scq_law.proofs.Base.Ghosts.{Ghost}
-use Rattle.scq_law.proofs.Base.TicketEvents.{Stance, resting, drawing, putting, landed, seeking, trying, missed, leaving, stance_of, TicketEvent}
+use Rattle.scq_core.specs.Stances.{Stance, resting, drawing, putting, landed, asking, seeking, trying, gave_up, stance_of}
+use Rattle.scq_law.proofs.Base.TicketEvents.{TicketEvent}
 use Rattle.scq_law.proofs.Base.EventFacts.{stance, EventFacts}
 use Rattle.scq_law.proofs.Base.Based.{IsBased}
 
@@ -16,10 +17,10 @@ Has c m hand resting = Unit {0}
 Has c m hand (drawing r i w) = Offers c hand r i
 Has c m hand (putting r i w t) = Offers c hand r i × Drawn c (m.tail r) t
 Has c m hand (landed r i w t) = (r < c.rings) × Drawn c (m.tail r) t × (i < n_of c.order)
+Has c m hand (asking r) = r < c.rings
 Has c m hand (seeking r) = r < c.rings
 Has c m hand (trying r h) = (r < c.rings) × Drawn c (m.head r) h
-Has c m hand (missed r h) = (r < c.rings) × Drawn c (m.head r) h
-Has c m hand (leaving r h) = (r < c.rings) × Drawn c (m.head r) h
+Has c m hand (gave_up r h leaves) = (r < c.rings) × Drawn c (m.head r) h
 
 pub busy_has : (c : Setup) (m : Cells) (hand : List ℕ) (phase : Phase) → Busy c m hand phase → Has c m hand (stance_of phase)
 busy_has c m hand Idle busy = tt
@@ -38,8 +39,7 @@ busy_has c m hand (AtD6 r h) busy = busy
 busy_has c m hand (AtD7 r h from to) busy = (busy.0, busy.1)
 busy_has c m hand (AtD8 r h from) busy = (busy.0, busy.1)
 busy_has c m hand (AtD9 r h from to) busy = (busy.0, busy.1)
-busy_has c m hand (AtD10 r h true) busy = busy
-busy_has c m hand (AtD10 r h false) busy = busy
+busy_has c m hand (AtD10 r h leaving) busy = busy
 
 -- what a seat of a known stance has
 pub stance_has : (c : Setup) (g : Ghost) (m : Machine) (k : ℕ) (s : Stance) → IsBased c g m → stance m k ≡ s → Has c m.cells (m.part k).hand s

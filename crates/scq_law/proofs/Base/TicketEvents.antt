@@ -7,42 +7,11 @@ use Rattle.scq_core.specs.declared.ended.Ended.{Ended}
 use Rattle.scq_core.specs.declared.ended.Ended.TheVariants.{Done, Got, Nothing, Spent}
 use Rattle.scq_core.specs.declared.phase.Phase.{Phase}
 use Rattle.scq_core.specs.declared.phase.Phase.TheVariants.{Idle, AtE1, AtE2, AtE3, AtE4, AtE5, AtE6, AtD1, AtD2, AtD3, AtD4, AtD5, AtD6, AtD7, AtD8, AtD9, AtD10}
+use Rattle.scq_core.specs.Stances.{Stance, resting, drawing, putting, landed, seeking, trying, gave_up}
 use Rattle.scq_core.specs.Updated.{updated}
 use Rattle.scq_core.specs.Table.{zero_level, reset_level, ring_slots, cycle, hand_without}
 use Rattle.scq_law.specs.Places.{call_of}
 use Rattle.scq_law.proofs.Base.Ghosts.{Ghost, pending, failed, placed, opened, dead, took, with_put, with_get}
-
--- what a seat is in the middle of, as far as the laws ask: nothing; an enqueue without a ticket, with one, with its index
--- placed; a dequeue without a ticket, with one that it looks at, with one that it gave up, and that it leaves with
-pub data Stance : Type 0 where
-  resting : Stance
-  drawing : (ring index : ℕ) (content : List ℕ) → Stance
-  putting : (ring index : ℕ) (content : List ℕ) (ticket : ℕ) → Stance
-  landed : (ring index : ℕ) (content : List ℕ) (ticket : ℕ) → Stance
-  seeking : (ring : ℕ) → Stance
-  trying : (ring ticket : ℕ) → Stance
-  missed : (ring ticket : ℕ) → Stance
-  leaving : (ring ticket : ℕ) → Stance
-
-abbrev pub stance_of : Phase → Stance
-stance_of Idle = resting
-stance_of (AtE1 r i w l) = drawing r i w
-stance_of (AtE2 r i w t l) = putting r i w t
-stance_of (AtE3 r i w t e) = putting r i w t
-stance_of (AtE4 r i w t e) = putting r i w t
-stance_of (AtE5 r i w t) = landed r i w t
-stance_of (AtE6 r i w t) = landed r i w t
-stance_of (AtD1 r) = seeking r
-stance_of (AtD2 r l) = seeking r
-stance_of (AtD3 r h l) = trying r h
-stance_of (AtD4 r h) = trying r h
-stance_of (AtD5 r h e) = trying r h
-stance_of (AtD6 r h) = missed r h
-stance_of (AtD7 r h from to) = leaving r h
-stance_of (AtD8 r h from) = leaving r h
-stance_of (AtD9 r h from to) = leaving r h
-stance_of (AtD10 r h true) = leaving r h
-stance_of (AtD10 r h false) = missed r h
 
 -- calm: nothing but what the seat is in the middle of. The others: an enqueue draws a ticket, fails with it, places its
 -- index, ends; a dequeue begins, ends at once, draws a ticket, gives it up, sees that nothing is behind it, lifts Tail,
@@ -109,9 +78,9 @@ stance_by (finished r i w t) s = resting
 stance_by (entered r) s = seeking r
 stance_by (refused r) s = resting
 stance_by (began r h) s = trying r h
-stance_by (died r h) s = missed r h
-stance_by (saw_end r h) s = leaving r h
-stance_by (lifted r h to) s = leaving r h
+stance_by (died r h) s = gave_up r h false
+stance_by (saw_end r h) s = gave_up r h true
+stance_by (lifted r h to) s = gave_up r h true
 stance_by (taken r h i w) s = resting
 stance_by (lowered r h) s = seeking r
 stance_by (emptied r h) s = resting

@@ -1,21 +1,22 @@
--- Each turn is its event: what held before its event, and that the state changes as the event says.
-use Rattle.std.proofs.Common.{◌≡◌, ℕ, ◌+◌, ◌<◌, true, false, ◌&&◌, List, [], ◌++◌, length, append-nil, refl, sym, ◌∙◌, inl, inr, arith, eq-eqb, ne_eqb, ltb-true, leb-true, eqb-true}
+-- Each turn is its event: what held before its event, and with it that the state changes as the event says.
+use Rattle.std.proofs.Common.{◌≡◌, ℕ, ◌+◌, ◌<◌, true, false, ◌&&◌, List, length, refl, ◌∙◌, inl, inr, arith, eq-eqb, ne_eqb, ltb-true, leb-true}
 use Rattle.std.specs.Prelude.{◌==◌, nat_lt, nat_le, Some}
 use Rattle.std.proofs.lemmas.Bool.{cases_Bool, cases_eq, leb-false, ltb-false}
 use Rattle.scq_word.specs.declared.setup.Setup.{Setup}
-use Rattle.scq_word.specs.Words.{packed, safe_in, cycle_in, is_none_in}
+use Rattle.scq_word.specs.Words.{packed, cycle_in, is_none_in}
 use Rattle.scq_core.specs.declared.phase.Phase.{Phase}
 use Rattle.scq_core.specs.declared.phase.Phase.TheVariants.{Idle, AtE1, AtE2, AtE3, AtE4, AtE5, AtE6, AtD1, AtD2, AtD3, AtD4, AtD5, AtD6, AtD7, AtD8, AtD9, AtD10}
 use Rattle.scq_core.specs.declared.step.Step.{Step}
-use Rattle.scq_core.specs.Machine.{Cells, Part, Machine}
-use Rattle.scq_core.specs.Table.{ring_slots, cycle, zero_level, reset_level, after, cells_after, turn_of, moved, passed}
+use Rattle.scq_core.specs.Machine.{Part, Machine}
+use Rattle.scq_core.specs.Table.{ring_slots, cycle, zero_level, reset_level, after, turn_of, moved, passed}
 use Rattle.scq_core.specs.Laws.{Busy, word_at}
-use Rattle.scq_core.proofs.UpdatedLemmas.{updated_here, updated_else, updated_same}
+use Rattle.scq_core.proofs.UpdatedLemmas.{updated_here, updated_else}
 use Rattle.scq_core.proofs.Turns.{awake}
 use Rattle.scq_core.proofs.Steady.{has}
 use Rattle.scq_law.specs.Places.{call_of, opening_put}
 use Rattle.scq_law.proofs.Base.Ghosts.{Ghost, pending, placed, opened, dead}
-use Rattle.scq_law.proofs.Base.TicketEvents.{Stance, stance_of, TicketEvent, event, stance_by, hand_by, ended_by, kept_by, tail_by, head_by, threshold_by}
+use Rattle.scq_core.specs.Stances.{Stance, stance_of}
+use Rattle.scq_law.proofs.Base.TicketEvents.{event, stance_by}
 use Rattle.scq_law.proofs.Base.Traces.{event_of}
 use Rattle.scq_law.proofs.Base.EventFacts.{Rests, Proper, EventFacts}
 use Rattle.scq_law.proofs.Base.BaseGroup.{IsBooked, IsDrawn, Claims, Knows, Passed, Holds}
@@ -26,130 +27,14 @@ use Rattle.scq_law.proofs.Window.FailCauses.{placement, fail_cause}
 use Rattle.scq_law.proofs.Base.TurnOutcomes.{found, content}
 use Rattle.scq_law.proofs.Base.Based.{IsBased, turn_claims, turn_knows}
 use Rattle.scq_law.proofs.Base.TurnOrigins.{From, is_first, came_from, goes_from}
-
--- how cells and part of seat k change, as the event e says
-pub record Changes (c : Setup) (m : Cells) (p : Part) (turn : Phase) (e : TicketEvent) (n : Cells) (q : Part) : Type 0 where
-  pub stance : stance_of q.phase ≡ stance_by e (stance_of turn)
-  pub hand : q.hand ≡ hand_by e p.hand
-  pub calls : q.calls ≡ p.calls ++ ended_by e
-  pub kept : q.spent ≡ kept_by e p.spent
-  pub tail : n.tail ≡ tail_by e m.tail
-  pub head : n.head ≡ head_by e m.head
-  pub threshold : n.threshold ≡ threshold_by c e m.threshold
-
-abbrev pub ChangesOf : Setup → Cells → Part → Phase → Type 0
-ChangesOf c m p turn =
-    Changes c m p turn (event c turn (found c m turn) (content c m turn)) (cells_after c turn m) (after c turn (found c m turn) (content c m turn) p)
-
--- no call ends
-same_calls : (p : Part) → p.calls ≡ p.calls ++ []
-same_calls p = sym (append-nil p.calls)
-
-changes : (c : Setup) (m : Cells) (p : Part) (turn : Phase) → (turn ≡ Idle → ⊥) → ChangesOf c m p turn
-changes c m p Idle awake = absurd (awake refl)
-changes c m p (AtE1 r i w l) awake =
-    elim (cases_Bool (nat_le c.limit (m.tail r))) [
-      | inl holds ↦ rw holds (record { stance = refl; hand = refl; calls = refl; kept = refl; tail = refl; head = refl; threshold = refl })
-      | inr fails ↦ rw fails (record { stance = refl; hand = refl; calls = same_calls p; kept = refl; tail = refl; head = refl; threshold = refl })
-    ]
-changes c m p (AtE2 r i w t l) awake =
-    elim (cases_Bool (nat_lt (cycle_in (ring_slots c) (word_at c m r t)) (cycle c t) && is_none_in (ring_slots c) (word_at c m r t))) [
-      | inl holds ↦
-          elim (cases_Bool (safe_in (ring_slots c) (word_at c m r t) == 1)) [
-            | inl safe ↦ rw (holds, safe) (record { stance = refl; hand = refl; calls = same_calls p; kept = refl; tail = refl; head = refl; threshold = refl })
-            | inr unsafe ↦ rw (holds, unsafe)
-                (record { stance = refl; hand = refl; calls = same_calls p; kept = refl; tail = refl; head = refl; threshold = refl })
-          ]
-      | inr fails ↦ rw fails (record { stance = refl; hand = refl; calls = same_calls p; kept = refl; tail = refl; head = refl; threshold = refl })
-    ]
-changes c m p (AtE3 r i w t e) awake =
-    elim (cases_Bool (nat_le (m.head r) t)) [
-      | inl holds ↦ rw holds
-          (record { stance = refl; hand = refl; calls = same_calls p; kept = refl; tail = refl; head = updated_same m.head r; threshold = refl })
-      | inr fails ↦ rw fails
-          (record { stance = refl; hand = refl; calls = same_calls p; kept = refl; tail = refl; head = updated_same m.head r; threshold = refl })
-    ]
-changes c m p (AtE4 r i w t e) awake =
-    elim (cases_Bool (word_at c m r t == e)) [
-      | inl holds ↦ rw holds (record { stance = refl; hand = refl; calls = same_calls p; kept = refl; tail = refl; head = refl; threshold = refl })
-      | inr fails ↦ rw fails (record { stance = refl; hand = refl; calls = same_calls p; kept = refl; tail = refl; head = refl; threshold = refl })
-    ]
-changes c m p (AtE5 r i w t) awake =
-    elim (cases_Bool (m.threshold r == reset_level c)) [
-      | inl holds ↦
-          let same = eqb-true (m.threshold r) (reset_level c) holds in
-          rw holds (record { stance = refl; hand = refl; calls = refl; kept = refl; tail = refl; head = refl; threshold = rw same refl })
-      | inr fails ↦ rw fails
-          (record { stance = refl; hand = refl; calls = same_calls p; kept = refl; tail = refl; head = refl; threshold = updated_same m.threshold r })
-    ]
-changes c m p (AtE6 r i w t) awake = record { stance = refl; hand = refl; calls = refl; kept = refl; tail = refl; head = refl; threshold = refl }
-changes c m p (AtD1 r) awake =
-    elim (cases_Bool (nat_lt (m.threshold r) zero_level)) [
-      | inl holds ↦ rw holds
-          (record { stance = refl; hand = refl; calls = refl; kept = refl; tail = refl; head = refl; threshold = updated_same m.threshold r })
-      | inr fails ↦ rw fails
-          (record { stance = refl; hand = refl; calls = same_calls p; kept = refl; tail = refl; head = refl; threshold = updated_same m.threshold r })
-    ]
-changes c m p (AtD2 r l) awake =
-    elim (cases_Bool (nat_le c.limit (m.head r))) [
-      | inl holds ↦ rw holds (record { stance = refl; hand = refl; calls = refl; kept = refl; tail = refl; head = refl; threshold = refl })
-      | inr fails ↦ rw fails (record { stance = refl; hand = refl; calls = same_calls p; kept = refl; tail = refl; head = refl; threshold = refl })
-    ]
-changes c m p (AtD3 r h l) awake =
-    elim (cases_Bool (cycle_in (ring_slots c) (word_at c m r h) == cycle c h)) [
-      | inl same ↦ rw same (record { stance = refl; hand = refl; calls = same_calls p; kept = refl; tail = refl; head = refl; threshold = refl })
-      | inr other ↦
-          elim (cases_Bool (nat_lt (cycle_in (ring_slots c) (word_at c m r h)) (cycle c h))) [
-            | inl lower ↦ rw (other, lower)
-                (record { stance = refl; hand = refl; calls = same_calls p; kept = refl; tail = refl; head = refl; threshold = refl })
-            | inr higher ↦ rw (other, higher)
-                (record { stance = refl; hand = refl; calls = same_calls p; kept = refl; tail = refl; head = refl; threshold = refl })
-          ]
-    ]
-changes c m p (AtD4 r h) awake = record { stance = refl; hand = refl; calls = refl; kept = refl; tail = refl; head = refl; threshold = refl }
-changes c m p (AtD5 r h e) awake =
-    elim (cases_Bool (word_at c m r h == e)) [
-      | inl holds ↦ rw holds (record { stance = refl; hand = refl; calls = same_calls p; kept = refl; tail = refl; head = refl; threshold = refl })
-      | inr fails ↦ rw fails (record { stance = refl; hand = refl; calls = same_calls p; kept = refl; tail = refl; head = refl; threshold = refl })
-    ]
-changes c m p (AtD6 r h) awake =
-    elim (cases_Bool (nat_le (m.tail r) (h + 1))) [
-      | inl holds ↦ rw holds
-          (record { stance = refl; hand = refl; calls = same_calls p; kept = refl; tail = updated_same m.tail r; head = refl; threshold = refl })
-      | inr fails ↦ rw fails
-          (record { stance = refl; hand = refl; calls = same_calls p; kept = refl; tail = updated_same m.tail r; head = refl; threshold = refl })
-    ]
-changes c m p (AtD7 r h from to) awake =
-    elim (cases_Bool (m.tail r == from)) [
-      | inl holds ↦ rw holds (record { stance = refl; hand = refl; calls = same_calls p; kept = refl; tail = refl; head = refl; threshold = refl })
-      | inr fails ↦ rw fails
-          (record { stance = refl; hand = refl; calls = same_calls p; kept = refl; tail = updated_same m.tail r; head = refl; threshold = refl })
-    ]
-changes c m p (AtD8 r h from) awake =
-    record { stance = refl; hand = refl; calls = same_calls p; kept = refl; tail = refl; head = updated_same m.head r; threshold = refl }
-changes c m p (AtD9 r h from to) awake =
-    elim (cases_Bool (nat_le to (m.tail r))) [
-      | inl holds ↦ rw holds
-          (record { stance = refl; hand = refl; calls = same_calls p; kept = refl; tail = updated_same m.tail r; head = refl; threshold = refl })
-      | inr fails ↦ rw fails
-          (record { stance = refl; hand = refl; calls = same_calls p; kept = refl; tail = updated_same m.tail r; head = refl; threshold = refl })
-    ]
-changes c m p (AtD10 r h true) awake = record { stance = refl; hand = refl; calls = refl; kept = refl; tail = refl; head = refl; threshold = refl }
-changes c m p (AtD10 r h false) awake =
-    elim (cases_Bool (nat_le (m.threshold r) zero_level)) [
-      | inl holds ↦ rw holds (record { stance = refl; hand = refl; calls = refl; kept = refl; tail = refl; head = refl; threshold = refl })
-      | inr fails ↦ rw fails (record { stance = refl; hand = refl; calls = same_calls p; kept = refl; tail = refl; head = refl; threshold = refl })
-    ]
+use Rattle.scq_law.proofs.Base.TurnChanges.{ChangesOf, changes}
 
 -- what held before the event of a turn
 abbrev pub ProperOf : Setup → Machine → Ghost → ℕ → Phase → Type 0
 ProperOf c m g k turn = Proper c m g k (event_of c m turn)
 
 module _ (c : Setup) (m : Machine) (g : Ghost) (k : ℕ) (booked : IsBooked c m.cells.entries g) (drawn : IsDrawn c m.cells.tail m.cells.head g) where
-  abbrev p : Part
-  p = m.part k
-
-  proper_E1 : (r i : ℕ) (w : List ℕ) (l : ℕ) → From p (AtE1 r i w l) → Busy c m.cells p.hand (AtE1 r i w l) → ProperOf c m g k (AtE1 r i w l)
+  proper_E1 : (r i : ℕ) (w : List ℕ) (l : ℕ) → From (m.part k) (AtE1 r i w l) → Busy c m.cells (m.part k).hand (AtE1 r i w l) → ProperOf c m g k (AtE1 r i w l)
   proper_E1 r i w l from busy =
       let offers = busy.0 in
       elim (cases_Bool (nat_le c.limit (m.cells.tail r))) [
@@ -174,7 +59,7 @@ module _ (c : Setup) (m : Machine) (g : Ghost) (k : ℕ) (booked : IsBooked c m.
             })
       ]
 
-  proper_E2 : (r i : ℕ) (w : List ℕ) (t l : ℕ) → From p (AtE2 r i w t l) → Busy c m.cells p.hand (AtE2 r i w t l) → g.puts r t ≡ pending k i
+  proper_E2 : (r i : ℕ) (w : List ℕ) (t l : ℕ) → From (m.part k) (AtE2 r i w t l) → Busy c m.cells (m.part k).hand (AtE2 r i w t l) → g.puts r t ≡ pending k i
       → ProperOf c m g k (AtE2 r i w t l)
   proper_E2 r i w t l from busy mine =
       let x = word_at c m.cells r t in
@@ -185,7 +70,7 @@ module _ (c : Setup) (m : Machine) (g : Ghost) (k : ℕ) (booked : IsBooked c m.
         | inr fails ↦
             rw fails
             (record {
-              was = goes_from p (AtE2 r i w t l) refl from;
+              was = goes_from (m.part k) (AtE2 r i w t l) refl from;
               pending = mine;
               index = offers.index;
               held = offers.held;
@@ -193,7 +78,7 @@ module _ (c : Setup) (m : Machine) (g : Ghost) (k : ℕ) (booked : IsBooked c m.
             })
       ]
 
-  proper_E3 : (r i : ℕ) (w : List ℕ) (t e : ℕ) → From p (AtE3 r i w t e) → Busy c m.cells p.hand (AtE3 r i w t e) → g.puts r t ≡ pending k i
+  proper_E3 : (r i : ℕ) (w : List ℕ) (t e : ℕ) → From (m.part k) (AtE3 r i w t e) → Busy c m.cells (m.part k).hand (AtE3 r i w t e) → g.puts r t ≡ pending k i
       → ProperOf c m g k (AtE3 r i w t e)
   proper_E3 r i w t e from busy mine =
       let offers = busy.0 in
@@ -202,7 +87,7 @@ module _ (c : Setup) (m : Machine) (g : Ghost) (k : ℕ) (booked : IsBooked c m.
         | inr fails ↦
             rw fails
             (record {
-              was = goes_from p (AtE3 r i w t e) refl from;
+              was = goes_from (m.part k) (AtE3 r i w t e) refl from;
               pending = mine;
               index = offers.index;
               held = offers.held;
@@ -210,7 +95,7 @@ module _ (c : Setup) (m : Machine) (g : Ghost) (k : ℕ) (booked : IsBooked c m.
             })
       ]
 
-  proper_E4 : (r i : ℕ) (w : List ℕ) (t e : ℕ) → From p (AtE4 r i w t e) → Busy c m.cells p.hand (AtE4 r i w t e) → g.puts r t ≡ pending k i
+  proper_E4 : (r i : ℕ) (w : List ℕ) (t e : ℕ) → From (m.part k) (AtE4 r i w t e) → Busy c m.cells (m.part k).hand (AtE4 r i w t e) → g.puts r t ≡ pending k i
       → Passed c m.cells.entries.word g.gets r t e → ProperOf c m g k (AtE4 r i w t e)
   proper_E4 r i w t e from busy mine passed =
       let x = word_at c m.cells r t in
@@ -222,7 +107,7 @@ module _ (c : Setup) (m : Machine) (g : Ghost) (k : ℕ) (booked : IsBooked c m.
             let earlier : cycle_in (ring_slots c) x < cycle c t = rw hit lags.earlier in
             rw (eq-eqb x e hit)
             (record {
-              was = goes_from p (AtE4 r i w t e) refl from;
+              was = goes_from (m.part k) (AtE4 r i w t e) refl from;
               pending = mine;
               index = offers.index;
               held = offers.held;
@@ -233,14 +118,16 @@ module _ (c : Setup) (m : Machine) (g : Ghost) (k : ℕ) (booked : IsBooked c m.
         | inr miss ↦ rw (ne_eqb x e miss) tt
       ]
 
-  proper_E5 : (r i : ℕ) (w : List ℕ) (t : ℕ) → From p (AtE5 r i w t) → g.puts r t ≡ placed i w (call_of k (length p.calls)) → ProperOf c m g k (AtE5 r i w t)
+  proper_E5 : (r i : ℕ) (w : List ℕ) (t : ℕ) → From (m.part k) (AtE5 r i w t) → g.puts r t ≡ placed i w (call_of k (length (m.part k).calls))
+      → ProperOf c m g k (AtE5 r i w t)
   proper_E5 r i w t from mine =
       elim (cases_Bool (m.cells.threshold r == reset_level c)) [
-        | inl high ↦ rw high (record { was = goes_from p (AtE5 r i w t) refl from; placed = mine })
+        | inl high ↦ rw high (record { was = goes_from (m.part k) (AtE5 r i w t) refl from; placed = mine })
         | inr low ↦ rw low tt
       ]
 
-  proper_D1 : (r : ℕ) → From p (AtD1 r) → r < c.rings → ProperOf c m g k (AtD1 r)
+module _ (c : Setup) (m : Machine) (g : Ghost) (k : ℕ) (booked : IsBooked c m.cells.entries g) (drawn : IsDrawn c m.cells.tail m.cells.head g) where
+  proper_D1 : (r : ℕ) → From (m.part k) (AtD1 r) → r < c.rings → ProperOf c m g k (AtD1 r)
   proper_D1 r from ring =
       let rests : Rests m k =
       elim from [ inl s ↦ record { rests = s.rests; keeps = s.keeps } | inr o ↦ let on = o.on in absurd (cc) ] in
@@ -249,9 +136,9 @@ module _ (c : Setup) (m : Machine) (g : Ghost) (k : ℕ) (booked : IsBooked c m.
         | inr high ↦ rw high (record { was = rests; ring = ring; level = ltb-false (m.cells.threshold r) zero_level high })
       ]
 
-  proper_D2 : (r l : ℕ) → From p (AtD2 r l) → ProperOf c m g k (AtD2 r l)
+  proper_D2 : (r l : ℕ) → From (m.part k) (AtD2 r l) → ProperOf c m g k (AtD2 r l)
   proper_D2 r l from =
-      let was = goes_from p (AtD2 r l) refl from in
+      let was = goes_from (m.part k) (AtD2 r l) refl from in
       elim (cases_Bool (nat_le c.limit (m.cells.head r))) [
         | inl past ↦ rw past (record { at_head = refl; past = leb-true c.limit (m.cells.head r) past; was = was })
         | inr under ↦
@@ -264,7 +151,7 @@ module _ (c : Setup) (m : Machine) (g : Ghost) (k : ℕ) (booked : IsBooked c m.
             })
       ]
 
-  proper_D3 : (r h l : ℕ) → From p (AtD3 r h l) → g.gets r h ≡ opened k → ProperOf c m g k (AtD3 r h l)
+  proper_D3 : (r h l : ℕ) → From (m.part k) (AtD3 r h l) → g.gets r h ≡ opened k → ProperOf c m g k (AtD3 r h l)
   proper_D3 r h l from mine =
       let x = word_at c m.cells r h in
       elim (cases_eq (cycle_in (ring_slots c) x) (cycle c h)) [
@@ -277,26 +164,26 @@ module _ (c : Setup) (m : Machine) (g : Ghost) (k : ℕ) (booked : IsBooked c m.
                   let later : cycle c h < cycle_in (ring_slots c) x = omega arith in
                   rw (ne_eqb (cycle_in (ring_slots c) x) (cycle c h) other, higher)
                   (record {
-                    was = goes_from p (AtD3 r h l) refl from;
+                    was = goes_from (m.part k) (AtD3 r h l) refl from;
                     opened = mine;
                     empty = died_unplaced c m.cells.entries g k r h x mine (closes_later (ring_slots c) x (cycle c h) later) booked;
                   })
             ]
       ]
 
-  proper_D4 : (r h : ℕ) → From p (AtD4 r h) → g.gets r h ≡ opened k → Holds c m.cells.entries.word r h → ProperOf c m g k (AtD4 r h)
+  proper_D4 : (r h : ℕ) → From (m.part k) (AtD4 r h) → g.gets r h ≡ opened k → Holds c m.cells.entries.word r h → ProperOf c m g k (AtD4 r h)
   proper_D4 r h from mine there =
       let both = booked.live r h there in
       let at = placement g r h both.0 in
       let stands = booked.stands r h at.index at.content at.maker at.is both.1 in
       record {
-        was = goes_from p (AtD4 r h) refl from;
+        was = goes_from (m.part k) (AtD4 r h) refl from;
         opened = mine;
         maker = at.maker;
         placed = rw (stands.index, stands.content) at.is;
       }
 
-  proper_D5 : (r h e : ℕ) → From p (AtD5 r h e) → Busy c m.cells p.hand (AtD5 r h e) → g.gets r h ≡ opened k → ProperOf c m g k (AtD5 r h e)
+  proper_D5 : (r h e : ℕ) → From (m.part k) (AtD5 r h e) → Busy c m.cells (m.part k).hand (AtD5 r h e) → g.gets r h ≡ opened k → ProperOf c m g k (AtD5 r h e)
   proper_D5 r h e from busy mine =
       let x = word_at c m.cells r h in
       elim (cases_eq x e) [
@@ -305,51 +192,52 @@ module _ (c : Setup) (m : Machine) (g : Ghost) (k : ℕ) (booked : IsBooked c m.
             let earlier : cycle_in (ring_slots c) x < cycle c h = rw hit lags.earlier in
             rw (eq-eqb x e hit)
             (record {
-              was = goes_from p (AtD5 r h e) refl from;
+              was = goes_from (m.part k) (AtD5 r h e) refl from;
               opened = mine;
               empty = died_unplaced c m.cells.entries g k r h (passed c h x) mine (closes_passed c h x earlier) booked;
             })
         | inr miss ↦ rw (ne_eqb x e miss) tt
       ]
 
-  proper_D6 : (r h : ℕ) → From p (AtD6 r h) → g.gets r h ≡ dead → ProperOf c m g k (AtD6 r h)
+  proper_D6 : (r h : ℕ) → From (m.part k) (AtD6 r h) → g.gets r h ≡ dead → ProperOf c m g k (AtD6 r h)
   proper_D6 r h from mine =
       elim (cases_Bool (nat_le (m.cells.tail r) (h + 1))) [
         | inl low ↦
             rw low
-            (record { was = goes_from p (AtD6 r h) refl from; dead = mine; low = leb-true (m.cells.tail r) (h + 1) low })
+            (record { was = goes_from (m.part k) (AtD6 r h) refl from; dead = mine; low = leb-true (m.cells.tail r) (h + 1) low })
         | inr high ↦ rw high tt
       ]
 
-  proper_D7 : (r h from to : ℕ) → From p (AtD7 r h from to) → Busy c m.cells p.hand (AtD7 r h from to) → ProperOf c m g k (AtD7 r h from to)
+  proper_D7 : (r h from to : ℕ) → From (m.part k) (AtD7 r h from to) → Busy c m.cells (m.part k).hand (AtD7 r h from to) → ProperOf c m g k (AtD7 r h from to)
   proper_D7 r h from to came busy =
       let catch = busy.2 in
       elim (cases_eq (m.cells.tail r) from) [
         | inl hit ↦
             let rises = catch.rises in
             rw (eq-eqb (m.cells.tail r) from hit)
-            (record { was = goes_from p (AtD7 r h from to) refl came; rises = omega arith; low = catch.behind_head })
+            (record { was = goes_from (m.part k) (AtD7 r h from to) refl came; rises = omega arith; low = catch.behind_head })
         | inr miss ↦ rw (ne_eqb (m.cells.tail r) from miss) tt
       ]
 
-  proper_D10 : (r h : ℕ) → From p (AtD10 r h false) → g.gets r h ≡ dead → ProperOf c m g k (AtD10 r h false)
+  proper_D10 : (r h : ℕ) → From (m.part k) (AtD10 r h false) → g.gets r h ≡ dead → ProperOf c m g k (AtD10 r h false)
   proper_D10 r h from mine =
-      let was = goes_from p (AtD10 r h false) refl from in
+      let was = goes_from (m.part k) (AtD10 r h false) refl from in
       elim (cases_Bool (nat_le (m.cells.threshold r) zero_level)) [
         | inl low ↦ rw low (record { was = inr (was, leb-true (m.cells.threshold r) zero_level low); dead = mine })
         | inr high ↦ rw high (record { was = was; dead = mine; level = leb-false (m.cells.threshold r) zero_level high })
       ]
 
-  proper : (turn : Phase) → (turn ≡ Idle → ⊥) → From p turn → Busy c m.cells p.hand turn → Claims g k (length p.calls) (stance_of turn)
+  proper : (turn : Phase) → (turn ≡ Idle → ⊥) → From (m.part k) turn → Busy c m.cells (m.part k).hand turn
+      → Claims g k (length (m.part k).calls) (stance_of turn)
       → Knows c m.cells.entries.word g.gets turn → ProperOf c m g k turn
   proper Idle awake from busy claims knows = absurd (awake refl)
-  proper (AtE1 r i w l) awake from busy claims knows = proper_E1 r i w l from busy
-  proper (AtE2 r i w t l) awake from busy claims knows = proper_E2 r i w t l from busy claims
-  proper (AtE3 r i w t e) awake from busy claims knows = proper_E3 r i w t e from busy claims
-  proper (AtE4 r i w t e) awake from busy claims knows = proper_E4 r i w t e from busy claims knows
-  proper (AtE5 r i w t) awake from busy claims knows = proper_E5 r i w t from claims
+  proper (AtE1 r i w l) awake from busy claims knows = proper_E1 c m g k booked drawn r i w l from busy
+  proper (AtE2 r i w t l) awake from busy claims knows = proper_E2 c m g k booked drawn r i w t l from busy claims
+  proper (AtE3 r i w t e) awake from busy claims knows = proper_E3 c m g k booked drawn r i w t e from busy claims
+  proper (AtE4 r i w t e) awake from busy claims knows = proper_E4 c m g k booked drawn r i w t e from busy claims knows
+  proper (AtE5 r i w t) awake from busy claims knows = proper_E5 c m g k booked drawn r i w t from claims
   proper (AtE6 r i w t) awake from busy claims knows =
-      record { was = goes_from p (AtE6 r i w t) refl from; placed = claims }
+      record { was = goes_from (m.part k) (AtE6 r i w t) refl from; placed = claims }
   proper (AtD1 r) awake from busy claims knows = proper_D1 r from busy
   proper (AtD2 r l) awake from busy claims knows = proper_D2 r l from
   proper (AtD3 r h l) awake from busy claims knows = proper_D3 r h l from claims
@@ -360,7 +248,7 @@ module _ (c : Setup) (m : Machine) (g : Ghost) (k : ℕ) (booked : IsBooked c m.
   proper (AtD8 r h from) awake came busy claims knows = tt
   proper (AtD9 r h from to) awake came busy claims knows = tt
   proper (AtD10 r h true) awake from busy claims knows =
-      record { was = inl (goes_from p (AtD10 r h true) refl from); dead = claims }
+      record { was = inl (goes_from (m.part k) (AtD10 r h true) refl from); dead = claims }
   proper (AtD10 r h false) awake from busy claims knows = proper_D10 r h from claims
 
 -- what the stance is after a call's first step does not depend on what it was

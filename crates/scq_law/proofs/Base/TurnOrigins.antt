@@ -1,15 +1,14 @@
 -- Where an enabled turn's seat comes from: its stance is the turn's, or it rests and the turn begins a call.
-use Rattle.std.proofs.Common.{◌≡◌, ℕ, List, Bool, true, false, refl, ap, sym, ◌∙◌, ◌⊎◌, inl, inr}
+use Rattle.std.proofs.Common.{◌≡◌, ℕ, List, Bool, true, false, refl, ap, sym, ◌⊎◌, inl, inr}
 use Rattle.std.specs.Prelude.{Option, Some, None}
 use Rattle.scq_word.specs.declared.setup.Setup.{Setup}
 use Rattle.scq_core.specs.declared.phase.Phase.{Phase}
-use Rattle.scq_core.specs.declared.phase.Phase.TheVariants.{Idle, AtE1, AtE2, AtE3, AtE4, AtE5, AtE6, AtD1, AtD2, AtD3, AtD4, AtD5, AtD6, AtD7, AtD8, AtD9, AtD10}
+use Rattle.scq_core.specs.declared.phase.Phase.TheVariants.{AtE1, AtD1}
 use Rattle.scq_core.specs.declared.step.Step.{Step}
-use Rattle.scq_core.specs.declared.step.Step.TheVariants.{E1Again, E2, E3, E4, E5, E6, D2, D3, D4, D5, D6, D7, D8, D9, D10}
 use Rattle.scq_core.specs.Machine.{Part}
 use Rattle.scq_core.specs.Table.{turn_of, next_step}
 use Rattle.scq_core.proofs.Turns.{Begins, begins_put, begins_get, begins, Enables, new_put, new_get, continues, enables}
-use Rattle.scq_law.proofs.Base.TicketEvents.{resting, stance_of}
+use Rattle.scq_core.specs.Stances.{resting, stance_of}
 
 -- a first step of a call; a dequeue's never is what a seat rests at
 abbrev pub is_first : Phase → Bool

@@ -15,7 +15,8 @@ use Rattle.scq_core.proofs.UpdatedLemmas.{updated_here, updated_same, updated_en
 use Rattle.scq_core.proofs.Ranks.{counters_rise}
 use Rattle.scq_law.specs.Places.{call_of}
 use Rattle.scq_law.proofs.Base.Ghosts.{Ghost, pending, failed, placed, opened, dead, waiting, with_put, with_get}
-use Rattle.scq_law.proofs.Base.TicketEvents.{event, ghost_by, stance_of}
+use Rattle.scq_core.specs.Stances.{stance_of}
+use Rattle.scq_law.proofs.Base.TicketEvents.{event, ghost_by}
 use Rattle.scq_law.proofs.Base.BaseGroup.{IsBooked, IsDrawn, Claims, Knows, Passed, Holds, Effect}
 use Rattle.scq_law.proofs.Base.PutEffects.{is_ours, put_effect, no_effect}
 use Rattle.scq_law.proofs.Base.DrawEffects.{began_effect}
@@ -46,6 +47,20 @@ abbrev pub OutcomeOf : Setup → Cells → Ghost → ℕ → ℕ → Part → Ph
 OutcomeOf c m g time k p turn =
     Outcome c m.entries g k (cells_after c turn m) (ghost_then c m g time k p turn) (after c turn (found c m turn) (content c m turn) p)
 
+-- an entry that is only read
+read_entry : (c : Setup) (m : Cells) (g : Ghost) (k r s : ℕ) (h : Ghost) (q : Part) → Outcome c m.entries g k m h q
+    → Outcome c m.entries g k (written m (entry_of r s) (m.entries.word r s) (m.entries.content r s)) h q
+read_entry c m g k r s h q holds = rw (updated_entry_same m.entries.word r s, updated_entry_same m.entries.content r s) holds
+
+-- the counters of a ring that are only read
+read_tail : (c : Setup) (m : Cells) (g : Ghost) (k r : ℕ) (h : Ghost) (q : Part) → Outcome c m.entries g k m h q
+    → Outcome c m.entries g k (written m (tail_of r) (m.tail r) []) h q
+read_tail c m g k r h q holds = rw (updated_same m.tail r) holds
+
+read_head : (c : Setup) (m : Cells) (g : Ghost) (k r : ℕ) (h : Ghost) (q : Part) → Outcome c m.entries g k m h q
+    → Outcome c m.entries g k (written m (head_of r) (m.head r) []) h q
+read_head c m g k r h q holds = rw (updated_same m.head r) holds
+
 module _ (c : Setup) (m : Cells) (g : Ghost) (time k : ℕ) (p : Part) (booked : IsBooked c m.entries g) (drawn : IsDrawn c m.tail m.head g) where
   quiet : Effect c m.entries g k m.entries g
   quiet = no_effect c m.entries g k booked
@@ -54,6 +69,18 @@ module _ (c : Setup) (m : Cells) (g : Ghost) (time k : ℕ) (p : Part) (booked :
   gave_up : (r i t b : ℕ) → g.puts r t ≡ pending k i → Effect c m.entries g k m.entries (with_put g r t (failed time i b))
   gave_up r i t b mine =
       put_effect c m.entries g k r t (failed time i b) (ap (is_ours k) mine ∙ eq-eqb k k refl) refl booked
+
+  -- a ticket that is given up while the entry's word becomes z
+  gives_up : (r h z : ℕ) (q : Part) → g.gets r h ≡ opened k → Drawn c (m.head r) h → Closes (ring_slots c) (word_at c m r h) z (cycle c h)
+      → Outcome c m.entries g k (written m (entry_of r (slot c h)) z (m.entries.content r (slot c h))) (with_get g r h dead) (goes_on (AtD6 r h) q)
+  gives_up r h z q mine low closes =
+      rw (updated_entry_same m.entries.content r (slot c h))
+      (record {
+        effect = died_effect c m.entries g k r h z mine closes booked;
+        drawn = drawn_get c m.tail m.head g r h dead low drawn;
+        claims = updated_entry_here g.gets r h dead;
+        knows = tt;
+      })
 
   outcome_E1 : (r i : ℕ) (w : List ℕ) (l : ℕ) → Busy c m p.hand (AtE1 r i w l) → OutcomeOf c m g time k p (AtE1 r i w l)
   outcome_E1 r i w l busy =
@@ -78,18 +105,6 @@ module _ (c : Setup) (m : Cells) (g : Ghost) (time k : ℕ) (p : Part) (booked :
             })
       ]
 
-  -- an entry that is only read
-  read_entry : (r s : ℕ) (h : Ghost) (q : Part) → Outcome c m.entries g k m h q
-      → Outcome c m.entries g k (written m (entry_of r s) (m.entries.word r s) (m.entries.content r s)) h q
-  read_entry r s h q holds = rw (updated_entry_same m.entries.word r s, updated_entry_same m.entries.content r s) holds
-
-  -- the counters of a ring that are only read
-  read_tail : (r : ℕ) (h : Ghost) (q : Part) → Outcome c m.entries g k m h q → Outcome c m.entries g k (written m (tail_of r) (m.tail r) []) h q
-  read_tail r h q holds = rw (updated_same m.tail r) holds
-
-  read_head : (r : ℕ) (h : Ghost) (q : Part) → Outcome c m.entries g k m h q → Outcome c m.entries g k (written m (head_of r) (m.head r) []) h q
-  read_head r h q holds = rw (updated_same m.head r) holds
-
   outcome_E2 : (r i : ℕ) (w : List ℕ) (t l : ℕ) → Busy c m p.hand (AtE2 r i w t l) → g.puts r t ≡ pending k i → OutcomeOf c m g time k p (AtE2 r i w t l)
   outcome_E2 r i w t l busy mine =
       let x = word_at c m r t in
@@ -98,15 +113,15 @@ module _ (c : Setup) (m : Cells) (g : Ghost) (time k : ℕ) (p : Part) (booked :
             elim (cases_eq (safe_in (ring_slots c) x) 1) [
               | inl safe ↦
                   rw (fits, eq-eqb (safe_in (ring_slots c) x) 1 safe)
-                  (read_entry r (slot c t) _ _
+                  (read_entry c m g k r (slot c t) _ _
                   (record { effect = quiet; drawn = drawn; claims = mine; knows = record { passed = λ there unsafe h slot gone. absurd (omega arith) } }))
               | inr unsafe ↦
                   rw (fits, ne_eqb (safe_in (ring_slots c) x) 1 unsafe)
-                  (read_entry r (slot c t) _ _ (record { effect = quiet; drawn = drawn; claims = mine; knows = tt }))
+                  (read_entry c m g k r (slot c t) _ _ (record { effect = quiet; drawn = drawn; claims = mine; knows = tt }))
             ]
         | inr fails ↦
             rw fails
-            (read_entry r (slot c t) _ _
+            (read_entry c m g k r (slot c t) _ _
             (record { effect = gave_up r i t _ mine; drawn = drawn_put c m.tail m.head g r t _ busy.1 drawn; claims = tt; knows = tt }))
       ]
 
@@ -116,7 +131,7 @@ module _ (c : Setup) (m : Cells) (g : Ghost) (time k : ℕ) (p : Part) (booked :
         | inl low ↦
             let under = leb-true (m.head r) t low in
             rw low
-            (read_head r _ _
+            (read_head c m g k r _ _
             (record {
               effect = quiet;
               drawn = drawn;
@@ -133,7 +148,7 @@ module _ (c : Setup) (m : Cells) (g : Ghost) (time k : ℕ) (p : Part) (booked :
             }))
         | inr fails ↦
             rw fails
-            (read_head r _ _
+            (read_head c m g k r _ _
             (record { effect = gave_up r i t _ mine; drawn = drawn_put c m.tail m.head g r t _ busy.1 drawn; claims = tt; knows = tt }))
       ]
 
@@ -159,7 +174,7 @@ module _ (c : Setup) (m : Cells) (g : Ghost) (time k : ℕ) (p : Part) (booked :
             })
         | inr miss ↦
             rw (ne_eqb x e miss)
-            (read_entry r (slot c t) _ _ (record { effect = quiet; drawn = drawn; claims = mine; knows = tt }))
+            (read_entry c m g k r (slot c t) _ _ (record { effect = quiet; drawn = drawn; claims = mine; knows = tt }))
       ]
 
   outcome_E5 : (r i : ℕ) (w : List ℕ) (t : ℕ) → g.puts r t ≡ placed i w (call_of k (length p.calls)) → OutcomeOf c m g time k p (AtE5 r i w t)
@@ -169,11 +184,15 @@ module _ (c : Setup) (m : Cells) (g : Ghost) (time k : ℕ) (p : Part) (booked :
         | inr low ↦ rw low (record { effect = quiet; drawn = drawn; claims = mine; knows = tt })
       ]
 
+module _ (c : Setup) (m : Cells) (g : Ghost) (time k : ℕ) (p : Part) (booked : IsBooked c m.entries g) (drawn : IsDrawn c m.tail m.head g) where
+  still : Effect c m.entries g k m.entries g
+  still = no_effect c m.entries g k booked
+
   outcome_D1 : (r : ℕ) → OutcomeOf c m g time k p (AtD1 r)
   outcome_D1 r =
       elim (cases_Bool (nat_lt (m.threshold r) zero_level)) [
-        | inl low ↦ rw low (record { effect = quiet; drawn = drawn; claims = tt; knows = tt })
-        | inr high ↦ rw high (record { effect = quiet; drawn = drawn; claims = tt; knows = tt })
+        | inl low ↦ rw low (record { effect = still; drawn = drawn; claims = tt; knows = tt })
+        | inr high ↦ rw high (record { effect = still; drawn = drawn; claims = tt; knows = tt })
       ]
 
   outcome_D2 : (r l : ℕ) → Busy c m p.hand (AtD2 r l) → OutcomeOf c m g time k p (AtD2 r l)
@@ -182,7 +201,7 @@ module _ (c : Setup) (m : Cells) (g : Ghost) (time k : ℕ) (p : Part) (booked :
       elim (cases_Bool (nat_le c.limit (m.head r))) [
         | inl past ↦
             rw past
-            (record { effect = quiet; drawn = drawn_rise c m (cells_after c (AtD2 r l) m) g up drawn; claims = tt; knows = tt })
+            (record { effect = still; drawn = drawn_rise c m (cells_after c (AtD2 r l) m) g up drawn; claims = tt; knows = tt })
         | inr under ↦
             let low = leb-false c.limit (m.head r) under in
             let h = m.head r in
@@ -197,18 +216,6 @@ module _ (c : Setup) (m : Cells) (g : Ghost) (time k : ℕ) (p : Part) (booked :
               knows = tt;
             })
       ]
-
-  -- a ticket that is given up while the entry's word becomes z
-  gives_up : (r h z : ℕ) (q : Part) → g.gets r h ≡ opened k → Drawn c (m.head r) h → Closes (ring_slots c) (word_at c m r h) z (cycle c h)
-      → Outcome c m.entries g k (written m (entry_of r (slot c h)) z (m.entries.content r (slot c h))) (with_get g r h dead) (goes_on (AtD6 r h) q)
-  gives_up r h z q mine low closes =
-      rw (updated_entry_same m.entries.content r (slot c h))
-      (record {
-        effect = died_effect c m.entries g k r h z mine closes booked;
-        drawn = drawn_get c m.tail m.head g r h dead low drawn;
-        claims = updated_entry_here g.gets r h dead;
-        knows = tt;
-      })
 
   outcome_D3 : (r h l : ℕ) → Busy c m p.hand (AtD3 r h l) → g.gets r h ≡ opened k → OutcomeOf c m g time k p (AtD3 r h l)
   outcome_D3 r h l busy mine =
@@ -225,18 +232,18 @@ module _ (c : Setup) (m : Cells) (g : Ghost) (time k : ℕ) (p : Part) (booked :
               | inr has ↦ has
             ] in
             rw (eq-eqb (cycle_in (ring_slots c) x) (cycle c h) same)
-            (read_entry r (slot c h) _ _
-            (record { effect = quiet; drawn = drawn; claims = mine; knows = record { cycle = same; index = some } }))
+            (read_entry c m g k r (slot c h) _ _
+            (record { effect = still; drawn = drawn; claims = mine; knows = record { cycle = same; index = some } }))
         | inr other ↦
             elim (cases_Bool (nat_lt (cycle_in (ring_slots c) x) (cycle c h))) [
               | inl lower ↦
                   rw (ne_eqb (cycle_in (ring_slots c) x) (cycle c h) other, lower)
-                  (read_entry r (slot c h) _ _ (record { effect = quiet; drawn = drawn; claims = mine; knows = tt }))
+                  (read_entry c m g k r (slot c h) _ _ (record { effect = still; drawn = drawn; claims = mine; knows = tt }))
               | inr higher ↦
                   let high = ltb-false (cycle_in (ring_slots c) x) (cycle c h) higher in
                   let later : cycle c h < cycle_in (ring_slots c) x = omega arith in
                   rw (ne_eqb (cycle_in (ring_slots c) x) (cycle c h) other, higher)
-                  (gives_up r h x p mine busy.1 (closes_later (ring_slots c) x (cycle c h) later))
+                  (gives_up c m g time k p booked drawn r h x p mine busy.1 (closes_later (ring_slots c) x (cycle c h) later))
             ]
       ]
 
@@ -259,17 +266,17 @@ module _ (c : Setup) (m : Cells) (g : Ghost) (time k : ℕ) (p : Part) (booked :
             let lags = busy.2 in
             let earlier : cycle_in (ring_slots c) x < cycle c h = rw hit lags.earlier in
             let closes : Closes (ring_slots c) x (passed c h e) (cycle c h) = rw (← hit) (closes_passed c h x earlier) in
-            rw (eq-eqb x e hit) (gives_up r h (passed c h e) p mine busy.1 closes)
+            rw (eq-eqb x e hit) (gives_up c m g time k p booked drawn r h (passed c h e) p mine busy.1 closes)
         | inr miss ↦
             rw (ne_eqb x e miss)
-            (read_entry r (slot c h) _ _ (record { effect = quiet; drawn = drawn; claims = mine; knows = tt }))
+            (read_entry c m g k r (slot c h) _ _ (record { effect = still; drawn = drawn; claims = mine; knows = tt }))
       ]
 
   outcome_D6 : (r h : ℕ) → g.gets r h ≡ dead → OutcomeOf c m g time k p (AtD6 r h)
   outcome_D6 r h mine =
       elim (cases_Bool (nat_le (m.tail r) (h + 1))) [
-        | inl low ↦ rw low (read_tail r _ _ (record { effect = quiet; drawn = drawn; claims = mine; knows = tt }))
-        | inr high ↦ rw high (read_tail r _ _ (record { effect = quiet; drawn = drawn; claims = mine; knows = tt }))
+        | inl low ↦ rw low (read_tail c m g k r _ _ (record { effect = still; drawn = drawn; claims = mine; knows = tt }))
+        | inr high ↦ rw high (read_tail c m g k r _ _ (record { effect = still; drawn = drawn; claims = mine; knows = tt }))
       ]
 
   outcome_D7 : (r h from to : ℕ) → Busy c m p.hand (AtD7 r h from to) → g.gets r h ≡ dead → OutcomeOf c m g time k p (AtD7 r h from to)
@@ -279,36 +286,36 @@ module _ (c : Setup) (m : Cells) (g : Ghost) (time k : ℕ) (p : Part) (booked :
       elim (cases_eq (m.tail r) from) [
         | inl hit ↦
             let same = eq-eqb (m.tail r) from hit in
-            rw same (record { effect = quiet; drawn = rw same at risen; claims = mine; knows = tt })
+            rw same (record { effect = still; drawn = rw same at risen; claims = mine; knows = tt })
         | inr miss ↦
             rw (ne_eqb (m.tail r) from miss)
-            (read_tail r _ _ (record { effect = quiet; drawn = drawn; claims = mine; knows = tt }))
+            (read_tail c m g k r _ _ (record { effect = still; drawn = drawn; claims = mine; knows = tt }))
       ]
 
   outcome_D9 : (r h from to : ℕ) → g.gets r h ≡ dead → OutcomeOf c m g time k p (AtD9 r h from to)
   outcome_D9 r h from to mine =
       elim (cases_Bool (nat_le to (m.tail r))) [
-        | inl low ↦ rw low (read_tail r _ _ (record { effect = quiet; drawn = drawn; claims = mine; knows = tt }))
-        | inr high ↦ rw high (read_tail r _ _ (record { effect = quiet; drawn = drawn; claims = mine; knows = tt }))
+        | inl low ↦ rw low (read_tail c m g k r _ _ (record { effect = still; drawn = drawn; claims = mine; knows = tt }))
+        | inr high ↦ rw high (read_tail c m g k r _ _ (record { effect = still; drawn = drawn; claims = mine; knows = tt }))
       ]
 
   outcome_D10 : (r h : ℕ) → g.gets r h ≡ dead → OutcomeOf c m g time k p (AtD10 r h false)
   outcome_D10 r h mine =
       elim (cases_Bool (nat_le (m.threshold r) zero_level)) [
-        | inl low ↦ rw low (record { effect = quiet; drawn = drawn; claims = tt; knows = tt })
-        | inr high ↦ rw high (record { effect = quiet; drawn = drawn; claims = tt; knows = tt })
+        | inl low ↦ rw low (record { effect = still; drawn = drawn; claims = tt; knows = tt })
+        | inr high ↦ rw high (record { effect = still; drawn = drawn; claims = tt; knows = tt })
       ]
 
   -- every turn
   pub outcome : (turn : Phase) → (turn ≡ Idle → ⊥) → Busy c m p.hand turn → Claims g k (length p.calls) (stance_of turn) → Knows c m.entries.word g.gets turn
       → OutcomeOf c m g time k p turn
   outcome Idle awake busy claims knows = absurd (awake refl)
-  outcome (AtE1 r i w l) awake busy claims knows = outcome_E1 r i w l busy
-  outcome (AtE2 r i w t l) awake busy claims knows = outcome_E2 r i w t l busy claims
-  outcome (AtE3 r i w t e) awake busy claims knows = outcome_E3 r i w t e busy claims
-  outcome (AtE4 r i w t e) awake busy claims knows = outcome_E4 r i w t e busy claims knows
-  outcome (AtE5 r i w t) awake busy claims knows = outcome_E5 r i w t claims
-  outcome (AtE6 r i w t) awake busy claims knows = record { effect = quiet; drawn = drawn; claims = tt; knows = tt }
+  outcome (AtE1 r i w l) awake busy claims knows = outcome_E1 c m g time k p booked drawn r i w l busy
+  outcome (AtE2 r i w t l) awake busy claims knows = outcome_E2 c m g time k p booked drawn r i w t l busy claims
+  outcome (AtE3 r i w t e) awake busy claims knows = outcome_E3 c m g time k p booked drawn r i w t e busy claims
+  outcome (AtE4 r i w t e) awake busy claims knows = outcome_E4 c m g time k p booked drawn r i w t e busy claims knows
+  outcome (AtE5 r i w t) awake busy claims knows = outcome_E5 c m g time k p booked drawn r i w t claims
+  outcome (AtE6 r i w t) awake busy claims knows = record { effect = still; drawn = drawn; claims = tt; knows = tt }
   outcome (AtD1 r) awake busy claims knows = outcome_D1 r
   outcome (AtD2 r l) awake busy claims knows = outcome_D2 r l busy
   outcome (AtD3 r h l) awake busy claims knows = outcome_D3 r h l busy claims
@@ -317,8 +324,8 @@ module _ (c : Setup) (m : Cells) (g : Ghost) (time k : ℕ) (p : Part) (booked :
   outcome (AtD6 r h) awake busy claims knows = outcome_D6 r h claims
   outcome (AtD7 r h from to) awake busy claims knows = outcome_D7 r h from to busy claims
   outcome (AtD8 r h from) awake busy claims knows =
-      read_head r _ _ (record { effect = quiet; drawn = drawn; claims = claims; knows = tt })
+      read_head c m g k r _ _ (record { effect = still; drawn = drawn; claims = claims; knows = tt })
   outcome (AtD9 r h from to) awake busy claims knows = outcome_D9 r h from to claims
   outcome (AtD10 r h true) awake busy claims knows =
-      record { effect = quiet; drawn = drawn; claims = tt; knows = tt }
+      record { effect = still; drawn = drawn; claims = tt; knows = tt }
   outcome (AtD10 r h false) awake busy claims knows = outcome_D10 r h claims

@@ -1,18 +1,18 @@
 -- The public law on places, from the tickets' states. Plan: what is placed by the records and phases is what the ticket's
 -- state says, in both directions; then each field is a fact of states.
-use Rattle.std.proofs.Common.{◌≡◌, ℕ, ◌-◌, ◌<◌, ◌≤◌, true, false, List, length, refl, ap, sym, ◌∙◌, ◌⊎◌, inl, inr, arith}
+use Rattle.std.proofs.Common.{◌≡◌, ℕ, ◌-◌, ◌<◌, ◌≤◌, true, false, List, length, refl, ap, sym, subst, ◌∙◌, ◌⊎◌, inl, inr, arith}
 use Rattle.std.proofs.lemmas.Bool.{cases_lt}
 use Rattle.scq_word.specs.declared.setup.Setup.{Setup}
 use Rattle.scq_word.specs.Words.{is_none_in}
 use Rattle.scq_core.specs.declared.phase.Phase.{Phase}
-use Rattle.scq_core.specs.declared.phase.Phase.TheVariants.{Idle, AtE5, AtE6, AtD3, AtD4, AtD5, AtD6, AtD7, AtD8, AtD9, AtD10}
+use Rattle.scq_core.specs.declared.phase.Phase.TheVariants.{Idle, AtD4}
 use Rattle.scq_core.specs.Machine.{Part, Machine}
 use Rattle.scq_core.specs.Table.{ring_slots, slot}
 use Rattle.scq_core.specs.Laws.{word_at}
 use Rattle.scq_core.specs.Reach.{IsReachable}
-use Rattle.scq_law.specs.Places.{Maker, opening_put, call_of, HasLanded, LooksAt, GaveUp, IsPlacedBy, at_opening, in_record, under_way, IsTakenBy, IsTaken, IsUntaken, OneLooks, AllIdle, PlacesOnce}
+use Rattle.scq_law.specs.Places.{Maker, opening_put, call_of, LooksAt, GaveUp, IsPlacedBy, at_opening, in_record, under_way, IsTakenBy, IsTaken, IsUntaken, OneLooks, AllIdle, PlacesOnce}
 use Rattle.scq_law.proofs.Base.Ghosts.{Ghost, GetState, placed, unopened, opened, dead, took, is_placed}
-use Rattle.scq_law.proofs.Base.TicketEvents.{resting, landed, trying, stance_of}
+use Rattle.scq_core.specs.Stances.{resting, trying, stance_of}
 use Rattle.scq_law.proofs.Base.Traces.{has_trace}
 use Rattle.scq_law.proofs.Base.EventFacts.{stance}
 use Rattle.scq_law.proofs.Base.BaseGroup.{Claims, Knows}
@@ -23,44 +23,9 @@ use Rattle.scq_law.proofs.Places.ReachedTickets.{IsReached}
 use Rattle.scq_law.proofs.Places.RecordsAgree.{RecordsAgree}
 use Rattle.scq_law.proofs.Places.Throughout.{rooted, reached, records_agree}
 
--- phases and stances
-has_landed : (g : Ghost) (k number : ℕ) (phase : Phase) (r p : ℕ) (w : List ℕ) → Claims g k number (stance_of phase) → HasLanded phase r p w
-    → (i : ℕ) × (g.puts r p ≡ placed i w (call_of k number))
-has_landed g k number (AtE5 q i v t) r p w claims has = (i, rw (← has.0, ← has.1, ← has.2) claims)
-has_landed g k number (AtE6 q i v t) r p w claims has = (i, rw (← has.0, ← has.1, ← has.2) claims)
-has_landed g k number phase r p w claims has = absurd has
-
-landed_has : (phase : Phase) (r i : ℕ) (w : List ℕ) (p : ℕ) → stance_of phase ≡ landed r i w p → HasLanded phase r p w
-landed_has (AtE5 q x v t) r i w p is =
-    let ring : q ≡ r = cc in let ticket : t ≡ p = cc in let content : v ≡ w = cc in (ring, ticket, content)
-landed_has (AtE6 q x v t) r i w p is =
-    let ring : q ≡ r = cc in let ticket : t ≡ p = cc in let content : v ≡ w = cc in (ring, ticket, content)
-landed_has (AtD10 q h true) r i w p is = absurd (cc)
-landed_has (AtD10 q h false) r i w p is = absurd (cc)
-landed_has phase r i w p is = absurd (cc)
-
-trying_looks : (phase : Phase) (r h : ℕ) → stance_of phase ≡ trying r h → LooksAt phase r h
-trying_looks (AtD3 q t l) r h is = let ring : q ≡ r = cc in let ticket : t ≡ h = cc in (ring, ticket)
-trying_looks (AtD4 q t) r h is = let ring : q ≡ r = cc in let ticket : t ≡ h = cc in (ring, ticket)
-trying_looks (AtD5 q t e) r h is = let ring : q ≡ r = cc in let ticket : t ≡ h = cc in (ring, ticket)
-trying_looks (AtD10 q t true) r h is = absurd (cc)
-trying_looks (AtD10 q t false) r h is = absurd (cc)
-trying_looks phase r h is = absurd (cc)
-
-looks_opened : (g : Ghost) (k number : ℕ) (phase : Phase) (r h : ℕ) → Claims g k number (stance_of phase) → LooksAt phase r h → g.gets r h ≡ opened k
-looks_opened g k number (AtD3 q t l) r h claims at = rw (← at.0, ← at.1) claims
-looks_opened g k number (AtD4 q t) r h claims at = rw (← at.0, ← at.1) claims
-looks_opened g k number (AtD5 q t e) r h claims at = rw (← at.0, ← at.1) claims
-looks_opened g k number phase r h claims at = absurd at
-
+-- a ticket that a dequeue has given up is dead
 pub gave_up_dead : (g : Ghost) (k number : ℕ) (phase : Phase) (r h : ℕ) → Claims g k number (stance_of phase) → GaveUp phase r h → g.gets r h ≡ dead
-gave_up_dead g k number (AtD6 q t) r h claims at = rw (← at.0, ← at.1) claims
-gave_up_dead g k number (AtD7 q t from to) r h claims at = rw (← at.0, ← at.1) claims
-gave_up_dead g k number (AtD8 q t from) r h claims at = rw (← at.0, ← at.1) claims
-gave_up_dead g k number (AtD9 q t from to) r h claims at = rw (← at.0, ← at.1) claims
-gave_up_dead g k number (AtD10 q t true) r h claims at = rw (← at.0, ← at.1) claims
-gave_up_dead g k number (AtD10 q t false) r h claims at = rw (← at.0, ← at.1) claims
-gave_up_dead g k number phase r h claims at = absurd at
+gave_up_dead g k number phase r h claims gave = subst (Claims g k number) gave.1 claims
 
 module _ (c : Setup) (g : Ghost) (m : Machine) (base : IsBased c g m) (records_agree : RecordsAgree c g m) where
   pub placed_by : (r p : ℕ) (w : List ℕ) (a : Maker) → IsPlacedBy c m r p w a → (i : ℕ) × (g.puts r p ≡ placed i w a)
@@ -68,7 +33,7 @@ module _ (c : Setup) (g : Ghost) (m : Machine) (base : IsBased c g m) (records_a
       (p - ring_slots c, rw (ring, content) (records_agree.opens p first last))
   placed_by r p w a (in_record k j is) = let made = records_agree.done k j r p w is in (made.index, made.is)
   placed_by r p w a (under_way k has) =
-      has_landed g k (length (m.part k).calls) (m.part k).phase r p w (base.claims k) has
+      (has.0, subst (Claims g k (length (m.part k).calls)) has.1 (base.claims k))
 
   pub by_placed : (r p i : ℕ) (w : List ℕ) (a : Maker) → g.puts r p ≡ placed i w a → IsPlacedBy c m r p w a
   by_placed r p i w opening_put is =
@@ -76,7 +41,7 @@ module _ (c : Setup) (g : Ghost) (m : Machine) (base : IsBased c g m) (records_a
   by_placed r p i w (call_of k j) is =
       elim (records_agree.made r p i w k j is) [
         | inl call ↦ in_record k j call
-        | inr lands ↦ rw lands.0 (under_way k (landed_has (m.part k).phase r i w p lands.1))
+        | inr lands ↦ rw lands.0 (under_way k (i, lands.1))
       ]
 
   -- one maker and one content, since a ticket has one state
@@ -126,6 +91,10 @@ module _ (c : Setup) (g : Ghost) (m : Machine) (base : IsBased c g m) (records_a
         | inr high ↦ let bad = base.drawn.heads r p high in absurd (cc)
       ]
 
+  -- the ticket at which a seat looks is open, and its own
+  opened_by : (k r h : ℕ) → LooksAt (m.part k).phase r h → g.gets r h ≡ opened k
+  opened_by k r h looks = subst (Claims g k (length (m.part k).calls)) looks (base.claims k)
+
   -- an open ticket is that of one seat, which looks at it
   one_looks : IsRooted g m → IsReached c g m → (r h k : ℕ) → g.gets r h ≡ opened k → OneLooks c m r h
   one_looks roots reach r h k is =
@@ -140,10 +109,10 @@ module _ (c : Setup) (g : Ghost) (m : Machine) (base : IsBased c g m) (records_a
                   let rests : stance m k ≡ resting = ap (λ (p : Part). stance_of p.phase) idle in
                   absurd (cc)
             ];
-        looks = trying_looks (m.part k).phase r h (roots.opens k r h is);
+        looks = roots.opens k r h is;
         alone =
             λ j looks.
-            let own : g.gets r h ≡ opened j = looks_opened g j (length (m.part j).calls) (m.part j).phase r h (base.claims j) looks in
+            let own = opened_by j r h looks in
             cc;
       }
 
@@ -182,7 +151,7 @@ module _ (c : Setup) (g : Ghost) (m : Machine) (base : IsBased c g m) (records_a
 
   looked_at : (k r h : ℕ) → LooksAt (m.part k).phase r h → (h < m.cells.head r) × IsUntaken m r h
   looked_at k r h looks =
-      let own : g.gets r h ≡ opened k = looks_opened g k (length (m.part k).calls) (m.part k).phase r h (base.claims k) looks in
+      let own = opened_by k r h looks in
       let passed : h < m.cells.head r =
       elim (cases_lt h (m.cells.head r)) [
         | inl low ↦ low
@@ -237,5 +206,5 @@ got_below c m reach idle r p w a by low =
       | inl taken ↦ taken
       | inr (inl high) ↦ absurd (omega arith)
       | inr (inr one) ↦
-          let at : LooksAt Idle r p = rw (idle one.seat one.low) at one.looks in absurd at
+          let at : LooksAt Idle r p = rw (idle one.seat one.low) at one.looks in absurd (cc)
     ]

@@ -8,7 +8,8 @@ use Rattle.scq_core.specs.Start.{start_of, idle_part}
 use Rattle.scq_core.proofs.UpdatedLemmas.{updated_entry_or, updated_entry_cases, updated_or}
 use Rattle.scq_law.specs.Places.{call_of}
 use Rattle.scq_law.proofs.Base.Ghosts.{Ghost, PutState, GetState, fresh, pending, failed, placed, unopened, opened, dead, took, start_ghost, with_put, with_get}
-use Rattle.scq_law.proofs.Base.TicketEvents.{putting, TicketEvent, drew, fell, laid, began, died, taken, overran}
+use Rattle.scq_core.specs.Stances.{putting}
+use Rattle.scq_law.proofs.Base.TicketEvents.{TicketEvent, drew, fell, laid, began, died, taken, overran}
 use Rattle.scq_law.proofs.Base.EventFacts.{EventFacts}
 use Rattle.scq_law.proofs.Base.StartTickets.{stands_at}
 use Rattle.scq_law.proofs.Base.EventSteps.{EventStep, ghost_next}

@@ -13,7 +13,8 @@ use Rattle.scq_core.specs.Start.{start_of}
 use Rattle.scq_core.proofs.UpdatedLemmas.{updated_entry_or, updated_entry_here}
 use Rattle.scq_law.specs.Places.{Maker, call_of, opening_put}
 use Rattle.scq_law.proofs.Base.Ghosts.{Ghost, pending, failed, placed, opened, dead, took, start_ghost}
-use Rattle.scq_law.proofs.Base.TicketEvents.{landed, TicketEvent, calm, drew, fell, laid, finished, entered, refused, began, died, saw_end, lifted, taken, lowered, emptied, overran, ended_by}
+use Rattle.scq_core.specs.Stances.{landed}
+use Rattle.scq_law.proofs.Base.TicketEvents.{TicketEvent, calm, drew, fell, laid, finished, entered, refused, began, died, saw_end, lifted, taken, lowered, emptied, overran, ended_by}
 use Rattle.scq_law.proofs.Base.EventFacts.{stance, EventFacts}
 use Rattle.scq_law.proofs.Base.StartTickets.{stands_at}
 use Rattle.scq_law.proofs.Base.EventSteps.{EventStep, ghost_next}
@@ -237,214 +238,143 @@ module _ (c : Setup) (time : ℕ) (g : Ghost) (m : Machine) (k : ℕ) (e : Ticke
             (ends.0, rw (new.0, new.1, d.calls) last)
       ]
 
+  -- the parts together, from the call that the event ends and from what it does to the tickets
+  agrees_by : ((r p : ℕ) (w : List ℕ) → ended_by e ≡ Done r p w ∷ [] → Makes g r p w k (length (m.part k).calls))
+      → ((r p : ℕ) (w : List ℕ) → ended_by e ≡ Got r p w ∷ [] → Takes h r p w k (length (m.part k).calls))
+      → ((r p i : ℕ) (w : List ℕ) (b : Maker) → h.puts r p ≡ placed i w b
+      → (g.puts r p ≡ placed i w b) ⊎ ((b ≡ call_of k (length (n.part k).calls)) × (stance n k ≡ landed r i w p)))
+      → ((r i : ℕ) (w : List ℕ) (p : ℕ) → stance m k ≡ landed r i w p → (ended_by e ≡ Done r p w ∷ []) ⊎ ((ended_by e ≡ []) × (stance n k ≡ landed r i w p)))
+      → ((r p j x : ℕ) → h.gets r p ≡ took j x
+      → (g.gets r p ≡ took j x) ⊎ ((j ≡ k) × (x ≡ length (m.part k).calls) × ((w : List ℕ) × (ended_by e ≡ Got r p w ∷ [])))) → RecordsAgree c h n
+  agrees_by new_done new_got back own taken_back =
+      record {
+        done = done_step new_done;
+        got = got_step new_got;
+        made = λ r p i w j x is. made_step back own r p i w j x is;
+        stood = stood_step (λ r p i w is. elim (back r p i w opening_put is) [ inl was ↦ was | inr new ↦ let maker = new.0 in absurd (cc) ]);
+        opens = opens_step;
+        taken = taken_step taken_back;
+      }
+
 pub records_agree_step : (c : Setup) (time : ℕ) (g : Ghost) (m : Machine) (k : ℕ) (e : TicketEvent) (n : Machine) → EventStep c time g m k e n
     → RecordsAgree c g m → RecordsAgree c (ghost_next time g m k e) n
-records_agree_step c time g m k calm n event_step old =
-    let d = event_step.event_facts in
-    record {
-      done = done_step c time g m k calm n event_step old (λ q p v is. absurd (cc));
-      got = got_step c time g m k calm n event_step old (λ q p v is. absurd (cc));
-      made = made_step c time g m k calm n event_step old (λ q p x v b is. inl is) (λ q x v p is. inr (refl, d.stance ∙ is));
-      stood = stood_step c time g m k calm n event_step old (λ q p x v is. is);
-      opens = opens_step c time g m k calm n event_step old;
-      taken = taken_step c time g m k calm n event_step old (λ q p j x is. inl is);
-    }
-records_agree_step c time g m k (drew r i w t) n event_step old =
-    let d = event_step.event_facts in
-    record {
-      done = done_step c time g m k (drew r i w t) n event_step old (λ q p v is. absurd (cc));
-      got = got_step c time g m k (drew r i w t) n event_step old (λ q p v is. absurd (cc));
-      made = made_step c time g m k (drew r i w t) n event_step old
-          (λ q p y v b is. elim (updated_entry_or g.puts r t (pending k i) q p)
-          [ inl a ↦ let clash : pending k i ≡ placed y v b = sym a.2 ∙ is in absurd (cc) | inr a ↦ inl (sym a.1 ∙ is) ])
-          (λ q x v p is. let was = d.proper.was in elim was [ inl rests ↦ let stand = rests.rests in absurd (cc) | inr stand ↦ absurd (cc) ]);
-      stood = stood_step c time g m k (drew r i w t) n event_step old
-          (λ q p y v is. elim (updated_entry_or g.puts r t (pending k i) q p)
-          [ inl a ↦ let clash : pending k i ≡ placed y v opening_put = sym a.2 ∙ is in absurd (cc) | inr a ↦ sym a.1 ∙ is ]);
-      opens = opens_step c time g m k (drew r i w t) n event_step old;
-      taken = taken_step c time g m k (drew r i w t) n event_step old (λ q p j x is. inl is);
-    }
-records_agree_step c time g m k (fell r i w t found) n event_step old =
-    let d = event_step.event_facts in
-    record {
-      done = done_step c time g m k (fell r i w t found) n event_step old (λ q p v is. absurd (cc));
-      got = got_step c time g m k (fell r i w t found) n event_step old (λ q p v is. absurd (cc));
-      made = made_step c time g m k (fell r i w t found) n event_step old
-          (λ q p y v b is. elim (updated_entry_or g.puts r t (failed time i found) q p)
-          [ inl a ↦ let clash : failed time i found ≡ placed y v b = sym a.2 ∙ is in absurd (cc) | inr a ↦ inl (sym a.1 ∙ is) ])
-          (λ q x v p is. let was = d.proper.was in absurd (cc));
-      stood = stood_step c time g m k (fell r i w t found) n event_step old
-          (λ q p y v is. elim (updated_entry_or g.puts r t (failed time i found) q p)
-          [ inl a ↦ let clash : failed time i found ≡ placed y v opening_put = sym a.2 ∙ is in absurd (cc) | inr a ↦ sym a.1 ∙ is ]);
-      opens = opens_step c time g m k (fell r i w t found) n event_step old;
-      taken = taken_step c time g m k (fell r i w t found) n event_step old (λ q p j x is. inl is);
-    }
-records_agree_step c time g m k (laid r i w t) n event_step old =
-    let d = event_step.event_facts in
+records_agree_step c time g m k calm n s old =
+    agrees_by c time g m k calm n s old
+    (λ q p v is. absurd (cc)) (λ q p v is. absurd (cc)) (λ q p y v b is. inl is) (λ q x v p is. inr (refl, s.event_facts.stance ∙ is))
+    (λ q p j x is. inl is)
+records_agree_step c time g m k (drew r i w t) n s old =
+    agrees_by c time g m k (drew r i w t) n s old
+    (λ q p v is. absurd (cc)) (λ q p v is. absurd (cc))
+    (λ q p y v b is. elim (updated_entry_or g.puts r t (pending k i) q p)
+    [ inl a ↦ let clash : pending k i ≡ placed y v b = sym a.2 ∙ is in absurd (cc) | inr a ↦ inl (sym a.1 ∙ is) ])
+    (λ q x v p is. elim s.event_facts.proper.was [ inl rests ↦ let stand = rests.rests in absurd (cc) | inr stand ↦ absurd (cc) ])
+    (λ q p j x is. inl is)
+records_agree_step c time g m k (fell r i w t found) n s old =
+    agrees_by c time g m k (fell r i w t found) n s old
+    (λ q p v is. absurd (cc)) (λ q p v is. absurd (cc))
+    (λ q p y v b is. elim (updated_entry_or g.puts r t (failed time i found) q p)
+    [ inl a ↦ let clash : failed time i found ≡ placed y v b = sym a.2 ∙ is in absurd (cc) | inr a ↦ inl (sym a.1 ∙ is) ])
+    (λ q x v p is. let was = s.event_facts.proper.was in absurd (cc)) (λ q p j x is. inl is)
+records_agree_step c time g m k (laid r i w t) n s old =
+    let d = s.event_facts in
     let calls : (n.part k).calls ≡ (m.part k).calls = d.calls ∙ append-nil (m.part k).calls in
+    agrees_by c time g m k (laid r i w t) n s old
+    (λ q p v is. absurd (cc)) (λ q p v is. absurd (cc))
+    (λ q p y v b is. elim (updated_entry_or g.puts r t (placed i w (call_of k (length (m.part k).calls))) q p) [
+      | inl a ↦
+          let same : placed i w (call_of k (length (m.part k).calls)) ≡ placed y v b = sym a.2 ∙ is in
+          let index : i ≡ y = cc in
+          let content : w ≡ v = cc in
+          let maker : call_of k (length (m.part k).calls) ≡ b = cc in
+          inr (sym maker ∙ ap (λ (z : List Ended). call_of k (length z)) (sym calls), rw (a.0, a.1, ← index, ← content) d.stance)
+      | inr a ↦ inl (sym a.1 ∙ is)
+    ])
+    (λ q x v p is. let was = s.event_facts.proper.was in absurd (cc)) (λ q p j x is. inl is)
+records_agree_step c time g m k (finished r i w t) n s old =
+    agrees_by c time g m k (finished r i w t) n s old
+    (λ q p v is.
+    let same : Done r t w ≡ Done q p v = cc in
+    let ring : r ≡ q = cc in
+    let place : t ≡ p = cc in
+    let content : w ≡ v = cc in
+    record { index = i; is = rw (← ring, ← place, ← content) s.event_facts.proper.placed })
+    (λ q p v is. absurd (cc)) (λ q p y v b is. inl is)
+    (λ q x v p is.
+    let was = s.event_facts.proper.was in
+    let same : landed r i w t ≡ landed q x v p = sym was ∙ is in
+    let ring : r ≡ q = cc in
+    let place : t ≡ p = cc in
+    let content : w ≡ v = cc in
+    inl (rw (ring, place, content) refl))
+    (λ q p j x is. inl is)
+records_agree_step c time g m k (entered r) n s old =
+    agrees_by c time g m k (entered r) n s old
+    (λ q p v is. absurd (cc)) (λ q p v is. absurd (cc)) (λ q p y v b is. inl is)
+    (λ q x v p is. let stand = s.event_facts.proper.was.rests in absurd (cc)) (λ q p j x is. inl is)
+records_agree_step c time g m k (refused r) n s old =
+    agrees_by c time g m k (refused r) n s old
+    (λ q p v is. absurd (cc)) (λ q p v is. absurd (cc)) (λ q p y v b is. inl is)
+    (λ q x v p is. let stand = s.event_facts.proper.was.rests in absurd (cc)) (λ q p j x is. inl is)
+records_agree_step c time g m k (began r h) n s old =
+    agrees_by c time g m k (began r h) n s old
+    (λ q p v is. absurd (cc)) (λ q p v is. absurd (cc)) (λ q p y v b is. inl is)
+    (λ q x v p is. let was = s.event_facts.proper.was in absurd (cc))
+    (λ q p j y is. elim (updated_entry_or g.gets r h (opened k) q p)
+    [ inl a ↦ let clash : opened k ≡ took j y = sym a.2 ∙ is in absurd (cc) | inr a ↦ inl (sym a.1 ∙ is) ])
+records_agree_step c time g m k (died r h) n s old =
+    agrees_by c time g m k (died r h) n s old
+    (λ q p v is. absurd (cc)) (λ q p v is. absurd (cc)) (λ q p y v b is. inl is)
+    (λ q x v p is. let was = s.event_facts.proper.was in absurd (cc))
+    (λ q p j y is. elim (updated_entry_or g.gets r h dead q p)
+    [ inl a ↦ let clash : dead ≡ took j y = sym a.2 ∙ is in absurd (cc) | inr a ↦ inl (sym a.1 ∙ is) ])
+records_agree_step c time g m k (saw_end r h) n s old =
+    agrees_by c time g m k (saw_end r h) n s old
+    (λ q p v is. absurd (cc)) (λ q p v is. absurd (cc)) (λ q p y v b is. inl is)
+    (λ q x v p is. let was = s.event_facts.proper.was in absurd (cc)) (λ q p j x is. inl is)
+records_agree_step c time g m k (lifted r h to) n s old =
+    agrees_by c time g m k (lifted r h to) n s old
+    (λ q p v is. absurd (cc)) (λ q p v is. absurd (cc)) (λ q p y v b is. inl is)
+    (λ q x v p is. let was = s.event_facts.proper.was in absurd (cc)) (λ q p j x is. inl is)
+records_agree_step c time g m k (taken r h i w) n s old =
+    let d = s.event_facts in
+    agrees_by c time g m k (taken r h i w) n s old
+    (λ q p v is. absurd (cc))
+    (λ q p v is.
+    let same : Got r h w ≡ Got q p v = cc in
+    let ring : r ≡ q = cc in
+    let place : h ≡ p = cc in
+    let content : w ≡ v = cc in
     record {
-      done = done_step c time g m k (laid r i w t) n event_step old (λ q p v is. absurd (cc));
-      got = got_step c time g m k (laid r i w t) n event_step old (λ q p v is. absurd (cc));
-      made = made_step c time g m k (laid r i w t) n event_step old
-          (λ q p y v b is. elim (updated_entry_or g.puts r t (placed i w (call_of k (length (m.part k).calls))) q p) [
-            | inl a ↦ let same : placed i w (call_of k (length (m.part k).calls)) ≡ placed y v b = sym a.2 ∙ is in let index : i ≡ y = cc in let content : w
-                ≡ v = cc in let maker : call_of k (length (m.part k).calls) ≡ b = cc in
-                inr (sym maker ∙ ap (λ (z : List Ended). call_of k (length z)) (sym calls), rw (a.0, a.1, ← index, ← content) d.stance)
-            | inr a ↦
-                inl (sym a.1 ∙ is)
-          ]) (λ q x v p is. let was = d.proper.was in absurd (cc));
-      stood = stood_step c time g m k (laid r i w t) n event_step old
-          (λ q p y v is. elim (updated_entry_or g.puts r t (placed i w (call_of k (length (m.part k).calls))) q p) [
-            | inl a ↦ let clash : placed i w (call_of k (length (m.part k).calls)) ≡ placed y v opening_put = sym a.2 ∙ is in absurd (cc)
-            | inr a ↦ sym a.1
-                ∙ is
-          ]);
-      opens = opens_step c time g m k (laid r i w t) n event_step old;
-      taken = taken_step c time g m k (laid r i w t) n event_step old (λ q p j x is. inl is);
-    }
-records_agree_step c time g m k (finished r i w t) n event_step old =
-    let d = event_step.event_facts in
-    record {
-      done = done_step c time g m k (finished r i w t) n event_step old
-          (λ q p v is. let same : Done r t w ≡ Done q p v = cc in let ring : r ≡ q = cc in let place : t ≡ p = cc in let content : w ≡ v = cc in
-          record { index = i; is = rw (← ring, ← place, ← content) d.proper.placed });
-      got = got_step c time g m k (finished r i w t) n event_step old (λ q p v is. absurd (cc));
-      made = made_step c time g m k (finished r i w t) n event_step old (λ q p x v b is. inl is)
-          (λ q x v p is. let was = d.proper.was in let same : landed r i w t ≡ landed q x v p = sym was ∙ is in let ring : r ≡ q = cc in let place : t ≡ p =
-          cc in let content : w ≡ v = cc in inl (rw (ring, place, content) refl));
-      stood = stood_step c time g m k (finished r i w t) n event_step old (λ q p x v is. is);
-      opens = opens_step c time g m k (finished r i w t) n event_step old;
-      taken = taken_step c time g m k (finished r i w t) n event_step old (λ q p j x is. inl is);
-    }
-records_agree_step c time g m k (entered r) n event_step old =
-    let d = event_step.event_facts in
-    record {
-      done = done_step c time g m k (entered r) n event_step old (λ q p v is. absurd (cc));
-      got = got_step c time g m k (entered r) n event_step old (λ q p v is. absurd (cc));
-      made = made_step c time g m k (entered r) n event_step old (λ q p x v b is. inl is)
-          (λ q x v p is. let was = d.proper.was in let stand = was.rests in absurd (cc));
-      stood = stood_step c time g m k (entered r) n event_step old (λ q p x v is. is);
-      opens = opens_step c time g m k (entered r) n event_step old;
-      taken = taken_step c time g m k (entered r) n event_step old (λ q p j x is. inl is);
-    }
-records_agree_step c time g m k (refused r) n event_step old =
-    let d = event_step.event_facts in
-    record {
-      done = done_step c time g m k (refused r) n event_step old (λ q p v is. absurd (cc));
-      got = got_step c time g m k (refused r) n event_step old (λ q p v is. absurd (cc));
-      made = made_step c time g m k (refused r) n event_step old (λ q p x v b is. inl is)
-          (λ q x v p is. let was = d.proper.was in let stand = was.rests in absurd (cc));
-      stood = stood_step c time g m k (refused r) n event_step old (λ q p x v is. is);
-      opens = opens_step c time g m k (refused r) n event_step old;
-      taken = taken_step c time g m k (refused r) n event_step old (λ q p j x is. inl is);
-    }
-records_agree_step c time g m k (began r h) n event_step old =
-    let d = event_step.event_facts in
-    record {
-      done = done_step c time g m k (began r h) n event_step old (λ q p v is. absurd (cc));
-      got = got_step c time g m k (began r h) n event_step old (λ q p v is. absurd (cc));
-      made = made_step c time g m k (began r h) n event_step old (λ q p x v b is. inl is) (λ q x v p is. let was = d.proper.was in absurd (cc));
-      stood = stood_step c time g m k (began r h) n event_step old (λ q p x v is. is);
-      opens = opens_step c time g m k (began r h) n event_step old;
-      taken = taken_step c time g m k (began r h) n event_step old
-          (λ q p j y is. elim (updated_entry_or g.gets r h (opened k) q p)
-          [ inl a ↦ let clash : opened k ≡ took j y = sym a.2 ∙ is in absurd (cc) | inr a ↦ inl (sym a.1 ∙ is) ]);
-    }
-records_agree_step c time g m k (died r h) n event_step old =
-    let d = event_step.event_facts in
-    record {
-      done = done_step c time g m k (died r h) n event_step old (λ q p v is. absurd (cc));
-      got = got_step c time g m k (died r h) n event_step old (λ q p v is. absurd (cc));
-      made = made_step c time g m k (died r h) n event_step old (λ q p x v b is. inl is) (λ q x v p is. let was = d.proper.was in absurd (cc));
-      stood = stood_step c time g m k (died r h) n event_step old (λ q p x v is. is);
-      opens = opens_step c time g m k (died r h) n event_step old;
-      taken = taken_step c time g m k (died r h) n event_step old
-          (λ q p j y is. elim (updated_entry_or g.gets r h (dead) q p)
-          [ inl a ↦ let clash : dead ≡ took j y = sym a.2 ∙ is in absurd (cc) | inr a ↦ inl (sym a.1 ∙ is) ]);
-    }
-records_agree_step c time g m k (saw_end r h) n event_step old =
-    let d = event_step.event_facts in
-    record {
-      done = done_step c time g m k (saw_end r h) n event_step old (λ q p v is. absurd (cc));
-      got = got_step c time g m k (saw_end r h) n event_step old (λ q p v is. absurd (cc));
-      made = made_step c time g m k (saw_end r h) n event_step old (λ q p x v b is. inl is) (λ q x v p is. let was = d.proper.was in absurd (cc));
-      stood = stood_step c time g m k (saw_end r h) n event_step old (λ q p x v is. is);
-      opens = opens_step c time g m k (saw_end r h) n event_step old;
-      taken = taken_step c time g m k (saw_end r h) n event_step old (λ q p j x is. inl is);
-    }
-records_agree_step c time g m k (lifted r h to) n event_step old =
-    let d = event_step.event_facts in
-    record {
-      done = done_step c time g m k (lifted r h to) n event_step old (λ q p v is. absurd (cc));
-      got = got_step c time g m k (lifted r h to) n event_step old (λ q p v is. absurd (cc));
-      made = made_step c time g m k (lifted r h to) n event_step old (λ q p x v b is. inl is) (λ q x v p is. let was = d.proper.was in absurd (cc));
-      stood = stood_step c time g m k (lifted r h to) n event_step old (λ q p x v is. is);
-      opens = opens_step c time g m k (lifted r h to) n event_step old;
-      taken = taken_step c time g m k (lifted r h to) n event_step old (λ q p j x is. inl is);
-    }
-records_agree_step c time g m k (taken r h i w) n event_step old =
-    let d = event_step.event_facts in
-    record {
-      done = done_step c time g m k (taken r h i w) n event_step old (λ q p v is. absurd (cc));
-      got = got_step c time g m k (taken r h i w) n event_step old
-          (λ q p v is. let same : Got r h w ≡ Got q p v = cc in let ring : r ≡ q = cc in let place : h ≡ p = cc in let content : w ≡ v = cc in
-          record {
-            took = rw (← ring, ← place) (updated_entry_here g.gets r h (took k (length (m.part k).calls)));
-            index = i;
-            maker = d.proper.maker;
-            is =
-                rw (← ring, ← place, ← content) d.proper.placed;
-          });
-      made = made_step c time g m k (taken r h i w) n event_step old (λ q p x v b is. inl is) (λ q x v p is. let was = d.proper.was in absurd (cc));
-      stood = stood_step c time g m k (taken r h i w) n event_step old (λ q p x v is. is);
-      opens = opens_step c time g m k (taken r h i w) n event_step old;
-      taken = taken_step c time g m k (taken r h i w) n event_step old
-          (λ q p j y is. elim (updated_entry_or g.gets r h (took k (length (m.part k).calls)) q p) [
-            | inl a ↦ let same : took k (length (m.part k).calls) ≡ took j y = sym a.2 ∙ is in let seat : j ≡ k = cc in let number : y
-                ≡ length (m.part k).calls = cc in inr (seat, number, (w, rw (a.0, a.1) refl))
-            | inr a ↦ inl (sym a.1 ∙ is)
-          ]);
-    }
-records_agree_step c time g m k (lowered r h) n event_step old =
-    let d = event_step.event_facts in
-    record {
-      done = done_step c time g m k (lowered r h) n event_step old (λ q p v is. absurd (cc));
-      got = got_step c time g m k (lowered r h) n event_step old (λ q p v is. absurd (cc));
-      made = made_step c time g m k (lowered r h) n event_step old (λ q p x v b is. inl is) (λ q x v p is. let was = d.proper.was in absurd (cc));
-      stood = stood_step c time g m k (lowered r h) n event_step old (λ q p x v is. is);
-      opens = opens_step c time g m k (lowered r h) n event_step old;
-      taken = taken_step c time g m k (lowered r h) n event_step old (λ q p j x is. inl is);
-    }
-records_agree_step c time g m k (emptied r h) n event_step old =
-    let d = event_step.event_facts in
-    record {
-      done = done_step c time g m k (emptied r h) n event_step old (λ q p v is. absurd (cc));
-      got = got_step c time g m k (emptied r h) n event_step old (λ q p v is. absurd (cc));
-      made = made_step c time g m k (emptied r h) n event_step old (λ q p x v b is. inl is)
-          (λ q x v p is. let was = d.proper.was in elim was [ inl stand ↦ absurd (cc) | inr both ↦ let stand = both.0 in absurd (cc) ]);
-      stood = stood_step c time g m k (emptied r h) n event_step old (λ q p x v is. is);
-      opens = opens_step c time g m k (emptied r h) n event_step old;
-      taken = taken_step c time g m k (emptied r h) n event_step old (λ q p j x is. inl is);
-    }
-records_agree_step c time g m k (overran r t true) n event_step old =
-    let d = event_step.event_facts in
-    record {
-      done = done_step c time g m k (overran r t true) n event_step old (λ q p v is. absurd (cc));
-      got = got_step c time g m k (overran r t true) n event_step old (λ q p v is. absurd (cc));
-      made = made_step c time g m k (overran r t true) n event_step old (λ q p x v b is. inl is)
-          (λ q x v p is. let was = d.proper.was in
-          elim was [ inl rests ↦ let stand = rests.rests in absurd (cc) | inr both ↦ let stand = both.2 in absurd (cc) ]);
-      stood = stood_step c time g m k (overran r t true) n event_step old (λ q p x v is. is);
-      opens = opens_step c time g m k (overran r t true) n event_step old;
-      taken = taken_step c time g m k (overran r t true) n event_step old (λ q p j x is. inl is);
-    }
-records_agree_step c time g m k (overran r t false) n event_step old =
-    let d = event_step.event_facts in
-    record {
-      done = done_step c time g m k (overran r t false) n event_step old (λ q p v is. absurd (cc));
-      got = got_step c time g m k (overran r t false) n event_step old (λ q p v is. absurd (cc));
-      made = made_step c time g m k (overran r t false) n event_step old (λ q p x v b is. inl is) (λ q x v p is. let was = d.proper.was in absurd (cc));
-      stood = stood_step c time g m k (overran r t false) n event_step old (λ q p x v is. is);
-      opens = opens_step c time g m k (overran r t false) n event_step old;
-      taken = taken_step c time g m k (overran r t false) n event_step old (λ q p j x is. inl is);
-    }
+      took = rw (← ring, ← place) (updated_entry_here g.gets r h (took k (length (m.part k).calls)));
+      index = i;
+      maker = d.proper.maker;
+      is = rw (← ring, ← place, ← content) d.proper.placed;
+    })
+    (λ q p y v b is. inl is) (λ q x v p is. let was = s.event_facts.proper.was in absurd (cc))
+    (λ q p j y is. elim (updated_entry_or g.gets r h (took k (length (m.part k).calls)) q p) [
+      | inl a ↦
+          let same : took k (length (m.part k).calls) ≡ took j y = sym a.2 ∙ is in
+          let seat : j ≡ k = cc in
+          let number : y ≡ length (m.part k).calls = cc in
+          inr (seat, number, (w, rw (a.0, a.1) refl))
+      | inr a ↦ inl (sym a.1 ∙ is)
+    ])
+records_agree_step c time g m k (lowered r h) n s old =
+    agrees_by c time g m k (lowered r h) n s old
+    (λ q p v is. absurd (cc)) (λ q p v is. absurd (cc)) (λ q p y v b is. inl is)
+    (λ q x v p is. let was = s.event_facts.proper.was in absurd (cc)) (λ q p j x is. inl is)
+records_agree_step c time g m k (emptied r h) n s old =
+    agrees_by c time g m k (emptied r h) n s old
+    (λ q p v is. absurd (cc)) (λ q p v is. absurd (cc)) (λ q p y v b is. inl is)
+    (λ q x v p is. elim s.event_facts.proper.was [ inl stand ↦ absurd (cc) | inr both ↦ let stand = both.0 in absurd (cc) ])
+    (λ q p j x is. inl is)
+records_agree_step c time g m k (overran r t true) n s old =
+    agrees_by c time g m k (overran r t true) n s old
+    (λ q p v is. absurd (cc)) (λ q p v is. absurd (cc)) (λ q p y v b is. inl is)
+    (λ q x v p is. elim s.event_facts.proper.was
+    [ inl rests ↦ let stand = rests.rests in absurd (cc) | inr both ↦ let stand = both.2 in absurd (cc) ])
+    (λ q p j x is. inl is)
+records_agree_step c time g m k (overran r t false) n s old =
+    agrees_by c time g m k (overran r t false) n s old
+    (λ q p v is. absurd (cc)) (λ q p v is. absurd (cc)) (λ q p y v b is. inl is)
+    (λ q x v p is. let was = s.event_facts.proper.was in absurd (cc)) (λ q p j x is. inl is)

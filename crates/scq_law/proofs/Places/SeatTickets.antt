@@ -9,7 +9,8 @@ use Rattle.scq_core.specs.Start.{start_of}
 use Rattle.scq_core.proofs.UpdatedLemmas.{updated_entry_or}
 use Rattle.scq_law.specs.Places.{call_of}
 use Rattle.scq_law.proofs.Base.Ghosts.{Ghost, PutState, GetState, pending, failed, placed, opened, dead, took, start_ghost, with_put, with_get}
-use Rattle.scq_law.proofs.Base.TicketEvents.{putting, trying, TicketEvent, calm, drew, fell, laid, finished, entered, refused, began, died, saw_end, lifted, taken, lowered, emptied, overran}
+use Rattle.scq_core.specs.Stances.{putting, trying}
+use Rattle.scq_law.proofs.Base.TicketEvents.{TicketEvent, calm, drew, fell, laid, finished, entered, refused, began, died, saw_end, lifted, taken, lowered, emptied, overran}
 use Rattle.scq_law.proofs.Base.EventFacts.{stance, EventFacts}
 use Rattle.scq_law.proofs.Base.StartTickets.{stands_at}
 use Rattle.scq_law.proofs.Base.EventSteps.{EventStep, ghost_next}

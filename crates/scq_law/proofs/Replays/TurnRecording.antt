@@ -1,21 +1,20 @@
 -- What an enabled turn adds to what is recorded, by its seat's phase and the step: the lists that the replay keeps go on showing it.
 -- Plan: `taken` says which turns there are for a phase and a step; one lemma for each part of what is recorded, by cases on it;
 -- `shown` puts them together.
-use Rattle.std.proofs.Common.{◌≡◌, ℕ, ◌+◌, ◌<◌, true, List, ◌++◌, length, inl, inr, refl, sym, ◌∙◌, ap, subst, eq-eqb, ne_eqb}
-use Rattle.std.specs.Prelude.{◌==◌, if◌then◌else◌, Option, Some, None, is_some, slice_index, slice_set, unwrap_or}
+use Rattle.std.proofs.Common.{◌≡◌, ℕ, ◌+◌, ◌<◌, List, ◌++◌, length, inl, inr, refl, sym, ◌∙◌, ap, subst, eq-eqb, ne_eqb}
+use Rattle.std.specs.Prelude.{◌==◌, if◌then◌else◌, Option, Some, slice_index, slice_set, unwrap_or}
 use Rattle.std.specs.Option.{option_map}
 use Rattle.std.proofs.lemmas.Bool.{cases_eq}
 use Rattle.std.proofs.lemmas.List.{length-set}
 use Rattle.scq_word.specs.declared.setup.Setup.{Setup}
 use Rattle.scq_core.specs.declared.ended.Ended.{Ended}
 use Rattle.scq_core.specs.declared.phase.Phase.{Phase}
-use Rattle.scq_core.specs.declared.phase.Phase.TheVariants.{Idle, AtE1, AtE2, AtE3, AtE4, AtE5, AtE6, AtD1, AtD2, AtD3, AtD4, AtD5, AtD6, AtD7, AtD8, AtD9, AtD10}
+use Rattle.scq_core.specs.declared.phase.Phase.TheVariants.{Idle, AtE1, AtE4, AtE5, AtE6, AtD1, AtD10}
 use Rattle.scq_core.specs.declared.step.Step.{Step}
-use Rattle.scq_core.specs.declared.step.Step.TheVariants.{E1, E1Again, E2, E3, E4, E5, E6, D1, D2, D3, D4, D5, D6, D7, D8, D9, D10}
+use Rattle.scq_core.specs.declared.step.Step.TheVariants.{E1, E4, D1}
 use Rattle.scq_core.specs.Updated.{updated}
 use Rattle.scq_core.specs.Machine.{Cells, Machine, Part, read, beside, updated_entry}
 use Rattle.scq_core.specs.Table.{turn_at, turn_of, next_step, step_of, moved, after, location_of}
-use Rattle.scq_core.specs.Turn.{started}
 use Rattle.scq_core.specs.StateLists.{machine_of}
 use Rattle.scq_core.specs.Laws.{Busy}
 use Rattle.scq_core.specs.Reach.{IsReachable}

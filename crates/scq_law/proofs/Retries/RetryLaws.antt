@@ -1,6 +1,6 @@
 -- Each new try of a call stands higher than the one before. Plan: what a turn finds is read off what its seat has; where a
 -- turn leads is read off the table.
-use Rattle.std.proofs.Common.{◌≡◌, ℕ, ◌+◌, ◌*◌, ◌<◌, ◌≤◌, true, false, ◌&&◌, List, inl, inr, arith, eq-eqb, ne_eqb, ltb-true}
+use Rattle.std.proofs.Common.{◌≡◌, ℕ, ◌+◌, ◌*◌, ◌<◌, ◌≤◌, true, false, ◌&&◌, List, refl, inl, inr, arith, eq-eqb, ne_eqb, ltb-true}
 use Rattle.std.specs.Prelude.{◌==◌, nat_lt, nat_le}
 use Rattle.std.proofs.lemmas.Bool.{cases_Bool, cases_eq, and_parts, leb-false}
 use Rattle.scq_word.specs.declared.setup.Setup.{Setup}
@@ -54,18 +54,18 @@ module _ (c : Setup) (m : Cells) (p : Part) (bound : (r : ℕ) → m.tail r ≤ 
             let both = and_parts (nat_lt (cycle_in (ring_slots c) x) (cycle c t)) (is_none_in (ring_slots c) x) fits in
             let low = earlier_rank (ring_slots c) x (cycle c t) (ltb-true _ _ both.0) in
             elim (cases_Bool (safe_in (ring_slots c) x == 1)) [
-              | inl safe ↦ rw (fits, safe) (busy.2, low)
-              | inr unsafe ↦ rw (fits, unsafe) (busy.2, low)
+              | inl safe ↦ rw (fits, safe) (refl, busy.2, low)
+              | inr unsafe ↦ rw (fits, unsafe) (refl, busy.2, low)
             ]
         | inr fails ↦ rw fails (omega arith)
       ]
   rises_turn (AtE3 r i w t e) busy =
-      elim (cases_Bool (nat_le (m.head r) t)) [ inl low ↦ rw low tt | inr fails ↦ rw fails (omega arith) ]
+      elim (cases_Bool (nat_le (m.head r) t)) [ inl low ↦ rw low (refl, refl) | inr fails ↦ rw fails (omega arith) ]
   rises_turn (AtE4 r i w t e) busy =
       let x = word_at c m r t in
       elim (cases_eq x e) [
         | inl hit ↦ rw (eq-eqb x e hit) tt
-        | inr miss ↦ rw (ne_eqb x e miss) (risen (ring_slots c) e x busy.2.above miss)
+        | inr miss ↦ rw (ne_eqb x e miss) (refl, risen (ring_slots c) e x busy.2.above miss)
       ]
   rises_turn (AtE5 r i w t) busy = tt
   rises_turn (AtE6 r i w t) busy = tt
@@ -82,7 +82,7 @@ module _ (c : Setup) (m : Cells) (p : Part) (bound : (r : ℕ) → m.tail r ≤ 
         | inr other ↦
             elim (cases_Bool (nat_lt (cycle_in (ring_slots c) x) (cycle c h))) [
               | inl lower ↦
-                  rw (other, lower) (busy.2, earlier_rank (ring_slots c) x (cycle c h) (ltb-true _ _ lower))
+                  rw (other, lower) (refl, busy.2, earlier_rank (ring_slots c) x (cycle c h) (ltb-true _ _ lower))
               | inr higher ↦ rw (other, higher) tt
             ]
       ]
@@ -91,11 +91,12 @@ module _ (c : Setup) (m : Cells) (p : Part) (bound : (r : ℕ) → m.tail r ≤ 
       let x = word_at c m r h in
       elim (cases_eq x e) [
         | inl hit ↦ rw (eq-eqb x e hit) tt
-        | inr miss ↦ rw (ne_eqb x e miss) (risen (ring_slots c) e x busy.2.above miss)
+        | inr miss ↦ rw (ne_eqb x e miss) (refl, risen (ring_slots c) e x busy.2.above miss)
       ]
   rises_turn (AtD6 r h) busy = tt
-  rises_turn (AtD7 r h from to) busy = tt
-  rises_turn (AtD8 r h from) busy = tt
+  rises_turn (AtD7 r h from to) busy =
+      elim (cases_Bool (m.tail r == from)) [ inl hit ↦ rw hit tt | inr miss ↦ rw miss refl ]
+  rises_turn (AtD8 r h from) busy = refl
   rises_turn (AtD9 r h from to) busy =
       elim (cases_Bool (nat_le to (m.tail r))) [ inl caught ↦ rw caught tt | inr under ↦ rw under (busy.2, bound r) ]
   rises_turn (AtD10 r h true) busy = tt

@@ -1,23 +1,21 @@
 -- Threshold covers what is finished at or past Head. Plan: but for a reset, no event lowers Threshold and Head together
 -- by more than its seat's attempt in flight; at a reset a finished place is in the window, and the seat has no attempt in flight.
-use Rattle.std.proofs.Common.{◌≡◌, ◌≢◌, ℕ, ◌+◌, ◌-◌, ◌<◌, ◌≤◌, true, false, List, refl, inl, inr, ap, sym, ◌∙◌, arith, eq-eqb, ne_eqb}
+use Rattle.std.proofs.Common.{◌≡◌, ◌≢◌, ℕ, ◌+◌, ◌-◌, ◌<◌, ◌≤◌, true, false, List, refl, inl, inr, ap, sym, arith, eq-eqb, ne_eqb}
 use Rattle.std.specs.Prelude.{◌==◌, if◌then◌else◌}
 use Rattle.std.proofs.lemmas.Bool.{cases_eq, cases_lt}
 use Rattle.scq_word.specs.declared.setup.Setup.{Setup}
 use Rattle.scq_core.specs.declared.ended.Ended.TheVariants.{Done}
-use Rattle.scq_core.specs.declared.phase.Phase.{Phase}
-use Rattle.scq_core.specs.declared.phase.Phase.TheVariants.{AtD10}
 use Rattle.scq_core.specs.Machine.{Part, Machine}
 use Rattle.scq_core.specs.Updated.{updated}
 use Rattle.scq_core.specs.Table.{ring_slots, zero_level, reset_level}
 use Rattle.scq_core.specs.Start.{start_of}
 use Rattle.scq_core.proofs.UpdatedLemmas.{updated_or, updated_here}
-use Rattle.scq_core.proofs.Steady.{either_way}
-use Rattle.scq_core.proofs.Counts.{total_none, total_less}
+use Rattle.scq_core.proofs.Counts.{total_none, total_less, one_on_bit}
 use Rattle.scq_core.proofs.Entries.{reset_covers, reset_reaches}
 use Rattle.scq_law.specs.Bounds.{in_flight, attempts_in_flight, IsFinished, ThresholdCovers}
 use Rattle.scq_law.proofs.Base.Ghosts.{Ghost, is_placed}
-use Rattle.scq_law.proofs.Base.TicketEvents.{Stance, trying, missed, leaving, stance_of, TicketEvent, finished, began, died, saw_end, lifted, lowered, emptied, overran}
+use Rattle.scq_core.specs.Stances.{Stance, stance_of, attempt_ring, one_on}
+use Rattle.scq_law.proofs.Base.TicketEvents.{TicketEvent, finished, began, died, saw_end, lifted, lowered, emptied, overran}
 use Rattle.scq_law.proofs.Base.EventFacts.{stance}
 use Rattle.scq_law.proofs.Window.FailCauses.{placement}
 use Rattle.scq_law.proofs.Base.Traces.{Trace}
@@ -30,23 +28,9 @@ use Rattle.scq_law.proofs.Window.CoverThroughout.{windowed}
 use Rattle.scq_law.proofs.Base.SeatSums.{total_change, contains_none}
 use Rattle.scq_law.proofs.Threshold.FinishedPlaced.{is_finish, finished_back, finished_or, finished_placed}
 
--- 1 for a seat whose attempt is in flight on this ring
+-- 1 for a seat of this stance whose attempt is in flight on this ring
 abbrev pub flying : ℕ → Stance → ℕ
-flying r (trying q h) = if q == r then 1 else 0
-flying r (missed q h) = if q == r then 1 else 0
-flying r (leaving q h) = if q == r then 1 else 0
-flying r s = 0
-
-pub flies_stance : (r : ℕ) (phase : Phase) → in_flight r phase ≡ flying r (stance_of phase)
-flies_stance r (AtD10 q h true) = refl
-flies_stance r (AtD10 q h false) = refl
-flies_stance r phase = refl
-
-pub flying_bit : (r : ℕ) (s : Stance) → flying r s ≤ 1
-flying_bit r (trying q h) = either_way (λ (v : ℕ). v ≤ 1) (q == r) 1 0 (omega arith) (omega arith)
-flying_bit r (missed q h) = either_way (λ (v : ℕ). v ≤ 1) (q == r) 1 0 (omega arith) (omega arith)
-flying_bit r (leaving q h) = either_way (λ (v : ℕ). v ≤ 1) (q == r) 1 0 (omega arith) (omega arith)
-flying_bit r s = omega arith
+flying r s = one_on r (attempt_ring s)
 
 -- a seat's own attempt in flight, on its ring and on another
 abbrev pub bit : ℕ → ℕ → ℕ
@@ -128,12 +112,7 @@ pub flights_move : (c : Setup) (time : ℕ) (g : Ghost) (m : Machine) (k : ℕ) 
     → attempts_in_flight c n r + flying r (stance m k) ≡ attempts_in_flight c m r + flying r (stance n k)
 flights_move c time g m k e n event_step r =
     let sum = total_change (λ (p : Part). in_flight r p.phase) m.part n.part k c.seats event_step.low event_step.event_facts.others in
-    let before = flies_stance r (m.part k).phase in
-    let after = flies_stance r (n.part k).phase in
     omega arith
-
-flies_bit : (r : ℕ) (phase : Phase) → in_flight r phase ≤ 1
-flies_bit r phase = let few = flying_bit r (stance_of phase) in let same = flies_stance r phase in omega arith
 
 covers_start : (c : Setup) (opening : List (List ℕ)) → ThresholdCovers c (start_of c opening)
 covers_start c opening =
@@ -215,8 +194,9 @@ covers_step c time g m k (finished q i w t) n trace event_step was =
                   | inr new ↦ rw (new.0, new.1) (ap is_placed d.proper.placed)
                 ] in
                 let near = finished_near c g m event_step.base.drawn (windowed c time g m trace) r p there in
-                let idle : in_flight r (n.part k).phase ≡ 0 = flies_stance r (n.part k).phase ∙ ap (flying r) d.stance in
-                let few = total_less (λ (a : Part). in_flight r a.phase) n.part (λ a. flies_bit r a.phase) c.seats k event_step.low idle in
+                let idle : in_flight r (n.part k).phase ≡ 0 = ap (flying r) d.stance in
+                let few =
+                total_less (λ (a : Part). in_flight r a.phase) n.part (λ a. one_on_bit r (attempt_ring (stance_of a.phase))) c.seats k event_step.low idle in
                 let reaches = reset_reaches c in
                 let reset : n.cells.threshold r ≡ reset_level c = rw (d.threshold, same) (updated_here m.cells.threshold q (reset_level c)) in
                 let head : n.cells.head r ≡ m.cells.head r = rw d.head refl in

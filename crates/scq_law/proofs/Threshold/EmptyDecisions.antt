@@ -1,12 +1,13 @@
 -- Where a dequeue decides that its ring is empty, no finished place is at or past Head.
-use Rattle.std.proofs.Common.{◌≡◌, ℕ, ◌<◌, ◌≤◌, inl, inr, arith}
+use Rattle.std.proofs.Common.{◌≡◌, ℕ, false, ◌<◌, ◌≤◌, inl, inr, arith}
 use Rattle.std.proofs.lemmas.Bool.{cases_lt}
 use Rattle.scq_word.specs.declared.setup.Setup.{Setup}
 use Rattle.scq_core.specs.Machine.{Machine}
 use Rattle.scq_core.specs.Table.{zero_level}
 use Rattle.scq_law.specs.Bounds.{IsFinished}
 use Rattle.scq_law.proofs.Base.Ghosts.{Ghost}
-use Rattle.scq_law.proofs.Base.TicketEvents.{missed, TicketEvent, refused, saw_end, emptied}
+use Rattle.scq_core.specs.Stances.{gave_up}
+use Rattle.scq_law.proofs.Base.TicketEvents.{TicketEvent, refused, saw_end, emptied}
 use Rattle.scq_law.proofs.Base.EventFacts.{stance}
 use Rattle.scq_law.proofs.Window.FailCauses.{placement}
 use Rattle.scq_law.proofs.Base.Traces.{Trace}
@@ -19,7 +20,7 @@ use Rattle.scq_law.proofs.Threshold.Covering.{covers}
 pub data Decides (m : Machine) (k : ℕ) : TicketEvent → ℕ → Type 0 where
   by_refusal : (r : ℕ) → Decides m k (refused r) r
   by_end : (r h : ℕ) → Decides m k (saw_end r h) r
-  by_level : (r h : ℕ) → stance m k ≡ missed r h → Decides m k (emptied r h) r
+  by_level : (r h : ℕ) → stance m k ≡ gave_up r h false → Decides m k (emptied r h) r
 
 -- where Threshold is at most 0
 low_level : (c : Setup) (time : ℕ) (g : Ghost) (m : Machine) → Trace c time g m → (r : ℕ) → m.cells.threshold r ≤ zero_level → (p : ℕ) → IsFinished c m r p

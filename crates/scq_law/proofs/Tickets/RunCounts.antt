@@ -16,7 +16,8 @@ use Rattle.scq_core.proofs.Floor.{threshold_floor}
 use Rattle.scq_law.specs.Bounds.{tally}
 use Rattle.scq_law.specs.Kept.{was_done, was_got}
 use Rattle.scq_law.proofs.Base.Ghosts.{Ghost, start_ghost}
-use Rattle.scq_law.proofs.Base.TicketEvents.{Stance, resting, seeking, stance_of, TicketEvent, finished, overran, ended_by}
+use Rattle.scq_core.specs.Stances.{Stance, resting, seeking, stance_of}
+use Rattle.scq_law.proofs.Base.TicketEvents.{TicketEvent, finished, overran, ended_by}
 use Rattle.scq_law.proofs.Base.EventFacts.{stance, EventFacts}
 use Rattle.scq_law.proofs.Base.Traces.{Trace, trace_start, trace_step}
 use Rattle.scq_law.proofs.Base.Based.{IsBased}

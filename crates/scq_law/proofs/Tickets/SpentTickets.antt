@@ -13,7 +13,8 @@ use Rattle.scq_core.specs.Reach.{IsReachable}
 use Rattle.scq_core.proofs.UpdatedLemmas.{updated_here}
 use Rattle.scq_law.specs.Bounds.{enqueues, TicketsBounded, NoneSpent}
 use Rattle.scq_law.proofs.Base.Ghosts.{Ghost, start_ghost}
-use Rattle.scq_law.proofs.Base.TicketEvents.{seeking, TicketEvent, finished, refused, taken, emptied, overran, ended_by}
+use Rattle.scq_core.specs.Stances.{seeking}
+use Rattle.scq_law.proofs.Base.TicketEvents.{TicketEvent, finished, refused, taken, emptied, overran, ended_by}
 use Rattle.scq_law.proofs.Base.EventFacts.{EventFacts}
 use Rattle.scq_law.proofs.Base.Traces.{Trace, has_trace}
 use Rattle.scq_law.proofs.Base.EventSteps.{EventStep, ghost_next, along}

@@ -1,7 +1,7 @@
 -- The ticket bound. Plan: Head is within what gets that took, attempts in flight, kept tickets and resets come to; gets took no
 -- more than puts placed; the attempts in flight are made up by the floor of Threshold, and the rest is within the enqueues that
 -- were begun.
-use Rattle.std.proofs.Common.{◌≡◌, ℕ, ◌+◌, ◌-◌, ◌*◌, ◌≤◌, true, false, List, [], ◌∷◌, inl, inr, arith}
+use Rattle.std.proofs.Common.{◌≡◌, ℕ, ◌+◌, ◌-◌, ◌*◌, ◌≤◌, List, [], ◌∷◌, inl, inr, arith}
 use Rattle.std.specs.Prelude.{min}
 use Rattle.std.proofs.Math.Nat.{mul-le-mul_right}
 use Rattle.std.proofs.lemmas.Bool.{cases_lt}
@@ -9,17 +9,15 @@ use Rattle.scq_word.specs.declared.setup.Setup.{Setup}
 use Rattle.scq_word.specs.Sizes.{n_of}
 use Rattle.scq_core.specs.declared.ended.Ended.{Ended}
 use Rattle.scq_core.specs.declared.ended.Ended.TheVariants.{Done}
-use Rattle.scq_core.specs.declared.phase.Phase.{Phase}
-use Rattle.scq_core.specs.declared.phase.Phase.TheVariants.{AtE5, AtE6, AtD10}
 use Rattle.scq_core.specs.Machine.{Part, Machine}
 use Rattle.scq_core.specs.Reach.{IsReachable}
 use Rattle.scq_core.specs.Laws.{total, dequeues, dequeues_of, spent_of}
 use Rattle.scq_core.proofs.Floor.{threshold_floor}
 use Rattle.scq_core.proofs.Limits.{counters_bounded}
 use Rattle.scq_law.specs.Bounds.{WithinWindow, ThresholdCovers, tally, was_put, is_putting, enqueues, TicketsBounded}
-use Rattle.scq_law.specs.Kept.{was_done, has_placed, gets_of, puts_of}
+use Rattle.scq_law.specs.Kept.{was_done, gets_of, puts_of}
 use Rattle.scq_law.proofs.Base.Ghosts.{Ghost}
-use Rattle.scq_law.proofs.Base.TicketEvents.{stance_of}
+use Rattle.scq_core.specs.Stances.{Stance, drawing, seeking, stance_of, placed_ring, put_ring, entered_ring, one_on}
 use Rattle.scq_law.proofs.Base.Traces.{Trace, has_trace}
 use Rattle.scq_law.proofs.Base.Based.{based}
 use Rattle.scq_law.proofs.Window.CoverThroughout.{windowed}
@@ -58,15 +56,13 @@ done_put : (r : ℕ) (x : Ended) → was_done r x ≤ was_put r x
 done_put r (Done q p w) = omega arith
 done_put r x = omega arith
 
-placed_putting : (r : ℕ) (phase : Phase) → has_placed r phase ≤ is_putting r phase
-placed_putting r (AtE5 q i w t) = omega arith
-placed_putting r (AtE6 q i w t) = omega arith
-placed_putting r phase = omega arith
+placed_putting : (r : ℕ) (s : Stance) → one_on r (placed_ring s) ≤ one_on r (put_ring s)
+placed_putting r (drawing q i w) = omega arith
+placed_putting r s = omega arith
 
-flying_dequeues : (r : ℕ) (phase : Phase) → flying r (stance_of phase) ≤ dequeues r phase
-flying_dequeues r (AtD10 q h true) = omega arith
-flying_dequeues r (AtD10 q h false) = omega arith
-flying_dequeues r phase = omega arith
+flying_dequeues : (r : ℕ) (s : Stance) → flying r s ≤ one_on r (entered_ring s)
+flying_dequeues r (seeking q) = omega arith
+flying_dequeues r s = omega arith
 
 -- the bound's product
 bound_parts : (e x : ℕ) → (e + 1) * (x + 1) ≡ e * x + e + x + 1
@@ -84,14 +80,17 @@ head_bounded c time g m trace r =
     let puts = λ (p : Part). tally (was_put r) p.calls + is_putting r p.phase in
     let placed : total (puts_of r) m.part c.seats ≤ total puts m.part c.seats =
     total_le (puts_of r) puts m.part
-    (λ k. let calls = tally_le (was_done r) (was_put r) (done_put r) (m.part k).calls in let phase = placed_putting r (m.part k).phase in omega arith)
+    (λ k.
+    let calls = tally_le (was_done r) (was_put r) (done_put r) (m.part k).calls in
+    let phase = placed_putting r (stance_of (m.part k).phase) in omega arith)
     c.seats in
     let dones : total (done_of r) m.part c.seats ≤ total puts m.part c.seats =
     total_le (done_of r) puts m.part (λ k. let calls = tally_le (was_done r) (was_put r) (done_put r) (m.part k).calls in omega arith) c.seats in
     let split = total_plus (gets_of r) (λ (p : Part). flying r (stance_of p.phase) + spent_of p.spent) m.part c.seats in
     let again = total_plus (λ (p : Part). flying r (stance_of p.phase)) (λ (p : Part). spent_of p.spent) m.part c.seats in
     let attempts_in_flight : total (λ (p : Part). flying r (stance_of p.phase)) m.part c.seats ≤ dequeues_of c m r =
-    total_le (λ (p : Part). flying r (stance_of p.phase)) (λ (p : Part). dequeues r p.phase) m.part (λ k. flying_dequeues r (m.part k).phase) c.seats in
+    total_le (λ (p : Part). flying r (stance_of p.phase)) (λ (p : Part). dequeues r p.phase) m.part
+    (λ k. flying_dequeues r (stance_of (m.part k).phase)) c.seats in
     let product : total (done_of r) m.part c.seats * (reset_value c.order c.seats + c.seats) ≤ enqueues c m r * (reset_value c.order c.seats + c.seats) =
     mul-le-mul_right (reset_value c.order c.seats + c.seats) (omega arith) in
     let parts = bound_parts (enqueues c m r) (reset_value c.order c.seats + c.seats) in

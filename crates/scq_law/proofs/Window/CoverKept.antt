@@ -177,6 +177,8 @@ module _ (c : Setup) (e : Entries) (g h : Ghost) (tail head head' : ℕ → ℕ)
         | inr after ↦ bar_past r t s i one.high two.close (rw same at after) bars
       ]
 
+module _ (c : Setup) (e : Entries) (g h : Ghost) (tail head head' : ℕ → ℕ) (time : ℕ) (flows : Flows c g tail head time h) (rises : (r : ℕ) → head r ≤ head' r)
+    (booked : IsBooked c e g) (drawn : IsDrawn c tail head g) (alone : IsAlone c g) (window : IsWindow c tail head) (book : FailedTickets c g head time) where
   pub book_step : FailedTickets c h head' (time + 1)
   book_step =
       record {
@@ -188,7 +190,7 @@ module _ (c : Setup) (e : Entries) (g h : Ghost) (tail head head' : ℕ → ℕ)
             ];
         small =
             λ r t y d b is over.
-            let note = noted r t y d b is over in
+            let note = noted c e g h tail head head' time flows rises booked drawn alone window book r t y d b is over in
             elim note.was [
               | inl old ↦ book.small r t y d b old note.high
               | inr new ↦
@@ -198,17 +200,18 @@ module _ (c : Setup) (e : Entries) (g h : Ghost) (tail head head' : ℕ → ℕ)
             ];
         blocked =
             λ r t y d b is over.
-            let note = noted r t y d b is over in
+            let note = noted c e g h tail head head' time flows rises booked drawn alone window book r t y d b is over in
             elim note.stood [
-              | inl bars ↦ bars_stays r t b note.drawn_low bars
-              | inr after ↦ inr (after_stays r b t note.drawn_low after)
+              | inl bars ↦ bars_stays c e g h tail head head' time flows rises booked drawn alone window book r t b note.drawn_low bars
+              | inr after ↦ inr (after_stays c e g h tail head head' time flows rises booked drawn alone window book r b t note.drawn_low after)
             ];
         drawer =
             λ r t y d b is over.
-            let note = noted r t y d b is over in
+            let note = noted c e g h tail head head' time flows rises booked drawn alone window book r t y d b is over in
             let low = note.drawn_low in
             elim note.was [
-              | inl old ↦ after_stays r d t note.drawn_low (book.drawer r t y d b old note.high)
+              | inl old ↦
+                  after_stays c e g h tail head head' time flows rises booked drawn alone window book r d t note.drawn_low (book.drawer r t y d b old note.high)
               | inr new ↦
                   let mine = new.0.pending in
                   record {
@@ -234,20 +237,22 @@ module _ (c : Setup) (e : Entries) (g h : Ghost) (tail head head' : ℕ → ℕ)
             ];
         apart =
             λ r t y d b s z f i is so over high other same.
-            let one = noted r t y d b is over in
-            let two = noted r s z f i so high in
+            let one = noted c e g h tail head head' time flows rises booked drawn alone window book r t y d b is over in
+            let two = noted c e g h tail head head' time flows rises booked drawn alone window book r s z f i so high in
             elim two.was [
               | inl old ↦
                   elim one.was [
                     | inl older ↦ book.apart r t y d b s z f i older old one.high two.high other same
-                    | inr new ↦ found_apart r s z f i t y d b two one (λ e. other (sym e)) new.1 (sym same)
+                    | inr new ↦
+                        found_apart c e g h tail head head' time flows rises booked drawn alone window book r s z f i t y d b two one
+                        (λ e. other (sym e)) new.1 (sym same)
                   ]
-              | inr new ↦ found_apart r t y d b s z f i one two other new.1 same
+              | inr new ↦ found_apart c e g h tail head head' time flows rises booked drawn alone window book r t y d b s z f i one two other new.1 same
             ];
         other =
             λ r t y d b s z f i is so over high order same.
-            let one = noted r t y d b is over in
-            let two = noted r s z f i so high in
+            let one = noted c e g h tail head head' time flows rises booked drawn alone window book r t y d b is over in
+            let two = noted c e g h tail head head' time flows rises booked drawn alone window book r s z f i so high in
             elim two.was [
               | inl old ↦
                   elim one.was [
@@ -256,7 +261,9 @@ module _ (c : Setup) (e : Entries) (g h : Ghost) (tail head head' : ℕ → ℕ)
                   ]
               | inr new ↦
                   elim one.was [
-                    | inl older ↦ bar_past r t s i one.high two.close (rw same at (book.drawer r t y d b older one.high)) new.1
+                    | inl older ↦
+                        bar_past c e g h tail head head' time flows rises booked drawn alone window book r t s i one.high two.close
+                        (rw same at (book.drawer r t y d b older one.high)) new.1
                     | inr newer ↦ alone.apart r t new.1.place newer.0.seat d newer.0.pending (rw (← same) at new.1.live)
                   ]
             ];

@@ -9,7 +9,8 @@ use Rattle.scq_core.specs.Table.{ring_slots}
 use Rattle.scq_core.specs.Start.{start_of}
 use Rattle.scq_core.specs.Laws.{Offers}
 use Rattle.scq_law.proofs.Base.Ghosts.{Ghost, pending, failed, start_ghost}
-use Rattle.scq_law.proofs.Base.TicketEvents.{TicketEvent, putting}
+use Rattle.scq_core.specs.Stances.{putting}
+use Rattle.scq_law.proofs.Base.TicketEvents.{TicketEvent}
 use Rattle.scq_law.proofs.Base.EventFacts.{stance}
 use Rattle.scq_law.proofs.Base.Traces.{Trace}
 use Rattle.scq_law.proofs.Base.Based.{IsBased, based}
