@@ -18,3 +18,6 @@ pub mod Drawn
 pub mod Gates
 pub mod Views
 pub mod Opening
+pub mod StartWords
+pub mod Slots
+pub mod Starting

@@ -9,3 +9,4 @@ pub mod Seats
 pub mod Rings
 pub mod Standing
 pub mod Kept
+pub mod Making
