@@ -21,3 +21,4 @@ pub mod Opening
 pub mod StartWords
 pub mod Slots
 pub mod Starting
+pub mod Keeping

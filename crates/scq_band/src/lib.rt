@@ -11,6 +11,7 @@ mod dequeue;
 mod enqueue;
 mod gate;
 mod hand;
+mod lending;
 mod making;
 mod notes;
 mod numbers;
