@@ -7,6 +7,7 @@
 #![tactic(auto)]
 
 mod band;
+mod calls;
 mod dequeue;
 mod enqueue;
 mod gate;
@@ -24,6 +25,7 @@ mod steps;
 mod view;
 
 pub use band::Band;
+pub use calls::Spent;
 pub use numbers::Numbers;
 pub use seat::Seat;
 pub use slot::Slot;
