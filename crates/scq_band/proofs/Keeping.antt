@@ -1,24 +1,26 @@
 -- What a seat keeps, after its slots were turned, after an exchange of the buffer in the first, and after a call.
 use Rattle.std.proofs.Common.{◌≡◌, ◌⊎◌, ℕ, zero, suc, ◌+◌, ◌-◌, ◌^◌, ◌<◌, ◌≤◌, true, false, ◌==◌, List, [], ◌∷◌, ◌++◌, length, refl, sym, ◌∙◌, ap, subst, inl, inr, arith, eq-eqb, ne_eqb}
-use Rattle.std.specs.Prelude.{Some, None, Option, if◌then◌else◌, max, slice_set, slice_get, slice_index_or}
+use Rattle.std.specs.Prelude.{Some, None, Option, IfSome, if◌then◌else◌, max, slice_set, slice_get, slice_index_or}
 use Rattle.std.proofs.lemmas.Bool.{cases_eq, cases_lt}
 use Rattle.std.proofs.Math.Nat.{max-eq_left, max-eq_right}
 use Rattle.std.proofs.lemmas.List.{length-append, length-set}
 use Rattle.atomic_table.specs.Seated.{TableId}
 use Rattle.atomic_table.specs.Table.{Me, rest}
-use Rattle.scq_core.specs.Table.{hand_without}
+use Rattle.scq_word.specs.Sizes.{n_of}
+use Rattle.scq_core.specs.Table.{hand_without, ends}
+use Rattle.scq_core.specs.declared.ended.Ended.TheVariants.{Nothing}
 use Rattle.scq_core.specs.declared.phase.Phase.TheVariants.{Idle}
 use Rattle.scq_law.specs.Hands.{times}
 use Rattle.scq_band.specs.declared.numbers.Numbers.{Numbers}
 use Rattle.scq_band.specs.declared.slot.Slot.{Slot}
 use Rattle.scq_band.specs.declared.rule.Key.{Key}
-use Rattle.scq_band.specs.Numbers.{known_of, changed, finishes}
-use Rattle.scq_band.specs.Known.{Known}
+use Rattle.scq_band.specs.Numbers.{known_of, changed, finishes, sees, passes, drew, empties}
+use Rattle.scq_band.specs.Known.{Member, Known}
 use Rattle.scq_band.specs.Steps.{my, front_index, bytes_in, front_bytes}
-use Rattle.scq_band.specs.Seats.{IsAlone, put_at, spent_at}
+use Rattle.scq_band.specs.Seats.{IsAlone, HasGotAfter, with_part, seated, put_at, got_at, nothing_at, drew_head, spent_at}
 use Rattle.scq_band.specs.Turns.{Fronts}
 use Rattle.scq_band.specs.Buffers.{LiesIn}
-use Rattle.scq_band.specs.Standing.{Standing, in_hand, with_buffer, bytes_of, bytes_in_hand, after_put, after_spent_put, IsAsGiven}
+use Rattle.scq_band.specs.Standing.{Standing, in_hand, with_buffer, bytes_of, bytes_in_hand, after_put, after_get, after_nothing, after_spent_put, HasTaken, IsAsGiven}
 use Rattle.scq_band.specs.Kept.{in_order, buffer_in, hand_of, standing_of, AllGiven, AreSmall, IsKept, IsRotation}
 use Rattle.scq_band.proofs.Slots.{times-append, times-without, length-without, fronted, held_times, put_hand, times-rotated, length-rotated, buffer-rotated, given-rotated, exchanged_hand}
 
@@ -320,3 +322,159 @@ module _ {B : Type 0} where
           bytes = sym (ap (bytes_in contents) b.has);
         },
       )
+
+module _ {B : Type 0} (contents : B → List ℕ) (IsSame : B → B → Type 0) where
+  -- after a get
+  pub kept_got : (key : Key B) (me me' : Me (Slot B) Known) (indices later : List ℕ) (room room' : ℕ) (numbers numbers' : List Numbers) (spent : Option ℕ)
+      (r h i : ℕ)
+      → IsKept IsSame key me indices room numbers spent → HasGotAfter (LiesIn contents IsSame key.given.value.items) r h i me me'
+      → ((j : ℕ) → times j (my me'.0).part.hand ≤ 1) → i < n_of key.setup.order → later ≡ indices ++ i ∷ [] → room' ≡ room
+      → r < length numbers → numbers' ≡ changed (λ x. sees h (passes (h + 1) x)) r numbers
+      → IsKept IsSame key me' later room' numbers' spent
+  kept_got key me me' indices later room room' numbers numbers' spent r h i kept got once low more space there new =
+      let hand = (my me.0).part.hand in
+      let view = got.view in
+      let come = got.slots.come in
+      let held_now : (my me'.0).part.hand ≡ hand ++ i ∷ [] = ap (λ (u : Known). (my u).part.hand) view in
+      let size : (j : ℕ) → times j later ≡ times j (my me'.0).part.hand =
+      λ j.
+      ap (times j) more ∙ times-append j indices (i ∷ []) ∙ ap (λ n. n + times j (i ∷ [])) (kept.same j) ∙ sym (times-append j hand (i ∷ []))
+      ∙ ap (times j) (sym held_now) in
+      let known : numbers' ≡ me'.0.numbers = new ∙ sym (changed_twice (sees h) (passes (h + 1)) r numbers there)
+      ∙ ap (λ (ns : List Numbers). changed (sees h) r (changed (passes (h + 1)) r ns)) kept.numbers ∙ ap (λ (u : Known). u.numbers) (sym view) in
+      record {
+        alone = record { seats = ap (λ (u : Known). u.seats) view ∙ ap (λ (x : Member). x ∷ []) (ap my (sym view)); out = ap (λ (u : Known). (my u).home) view ∙ kept.alone.out };
+        idle = ap (λ (u : Known). (my u).part.phase) view;
+        order = more ∙ ap (λ (l : List ℕ). l ++ i ∷ []) kept.order ∙ ap in_order (sym come);
+        same = size;
+        count =
+            let a = ap length more ∙ length-append indices (i ∷ []) in
+            let b = ap length held_now ∙ length-append hand (i ∷ []) in
+            let was = kept.count in
+            omega arith;
+        once = λ j. let s = size j in let o = once j in omega arith;
+        low =
+            λ j some.
+            elim (cases_eq j i) [
+              | inl same ↦ rw same low
+              | inr other ↦
+                  let away : times j (i ∷ []) ≡ 0 = rw (ne_eqb i j (λ e. other (sym e))) refl in
+                  let s = ap (times j) more ∙ times-append j indices (i ∷ []) in
+                  kept.low j (omega (arith, s, away, some))
+            ];
+        holds_all = let all = kept.holds_all in omega arith;
+        numbers = known;
+        rings = ap length new ∙ length-set numbers r _ ∙ kept.rings;
+        small = subst AreSmall (sym new) (small_changed (λ x. sees h (passes (h + 1) x)) r numbers (λ y small. small) kept.small);
+        spent = kept.spent ∙ ap (λ (u : Known). (my u).part.spent) (sym view);
+        given =
+            subst (λ (l : List (ℕ × Slot B)). AllGiven IsSame key.given.value.items l) (sym come) (
+              (λ b is.
+                  let lies = got.slots.lies in
+                  let same : lies.buffer ≡ b = cc in
+                  record { first = lies.first; was = lies.was; same = subst (λ (y : B). IsSame lies.first y) same lies.same }),
+              kept.given,
+            );
+      }
+
+  -- an index that is not in the hand
+  in_hand-none : (slots : List (ℕ × Slot B)) (hand : List ℕ) (i : ℕ) → times i hand ≡ 0 → in_hand (hand_of slots hand) i ≡ None
+  in_hand-none slots [] i none = refl
+  in_hand-none slots (x ∷ xs) i none =
+      elim (cases_eq x i) [
+        | inl here ↦ let some : 1 + times i xs ≡ 0 = rw (eq-eqb x i here) at none in absurd (omega (arith, some))
+        | inr away ↦
+            let rest : 0 + times i xs ≡ 0 = rw (ne_eqb x i away) at none in
+            rw (ne_eqb x i away) (in_hand-none slots xs i (omega (arith, rest)))
+      ]
+
+  -- a slot that comes leaves every other index its buffer
+  come_hand : (slots : List (ℕ × Slot B)) (i : ℕ) (x : Slot B) (hand : List ℕ) → times i hand ≡ 0
+      → hand_of ((i, x) ∷ slots) (hand ++ i ∷ []) ≡ hand_of slots hand ++ (i, x.buffer) ∷ []
+  come_hand slots i x [] none = rw (eq-eqb i i refl) refl
+  come_hand slots i x (j ∷ js) none =
+      elim (cases_eq j i) [
+        | inl here ↦ let some : 1 + times i js ≡ 0 = rw (eq-eqb j i here) at none in absurd (omega (arith, some))
+        | inr away ↦
+            let rest : 0 + times i js ≡ 0 = rw (ne_eqb j i away) at none in
+            rw (ne_eqb i j (λ e. away (sym e)))
+            (ap (λ (l : List (ℕ × Option B)). (j, buffer_in slots j) ∷ l) (come_hand slots i x js (omega (arith, rest))))
+      ]
+
+  -- what contracts see of a seat after a get
+  pub got_standing : (table later : TableId) (key : Key B) (me me' : Me (Slot B) Known) (numbers : List Numbers) (s : Standing B) (r h i : ℕ)
+      → standing_of table key me ≡ s → later ≡ table → HasGotAfter (LiesIn contents IsSame key.given.value.items) r h i me me'
+      → ((j : ℕ) → times j (my me'.0).part.hand ≤ 1) → r < length me.0.numbers
+      → HasTaken contents IsSame r h i s (standing_of later key me')
+  got_standing table later key me me' numbers s r h i is same got once there =
+      let hand = (my me.0).part.hand in
+      let lies = got.slots.lies in
+      let b = lies.buffer in
+      let w = got.content in
+      let x = got.slots.value in
+      let held_now : (my me'.0).part.hand ≡ hand ++ i ∷ [] = ap (λ (u : Known). (my u).part.hand) got.view in
+      let none : times i hand ≡ 0 =
+      let o = once i in
+      let l = ap (times i) held_now ∙ times-append i hand (i ∷ []) in
+      let one : times i (i ∷ []) ≡ 1 = rw (eq-eqb i i refl) refl in
+      omega (arith, o, l, one) in
+      let here : HasTaken contents IsSame r h i (standing_of table key me) (standing_of later key me') =
+      record {
+        buffer = b;
+        given = record { first = lies.first; was = lies.was; same = lies.same };
+        seat =
+            ap (standing_of later key) (ap (λ (u : Known). (u, me'.1)) got.view ∙ ap (λ (l : List (ℕ × Slot B)). (got_at r h i w (drew_head r h me.0), l)) got.slots.come)
+            ∙ ap (λ t. standing_of t key (got_at r h i w (drew_head r h me.0), (i, x) ∷ me.1)) same
+            ∙ ap (λ (l : List (ℕ × Option B)). record (standing_of table key (got_at r h i w (drew_head r h me.0), (i, x) ∷ me.1)) { hand = l })
+            (come_hand me.1 i x hand none ∙ ap (λ (o : Option B). hand_of me.1 hand ++ (i, o) ∷ []) lies.laid)
+            ∙ ap (λ (ns : List Numbers). record (after_get r h i b w (standing_of table key me)) { numbers = ns })
+            (changed_twice (sees h) (passes (h + 1)) r me.0.numbers there)
+            ∙ ap (λ (z : List ℕ). after_get r h i b z (standing_of table key me)) (sym lies.bytes);
+        came = in_hand-none me.1 hand i none;
+      } in
+      subst (λ (z : Standing B). HasTaken contents IsSame r h i z (standing_of later key me')) is here
+
+pub known_here : (ns : List Numbers) (r : ℕ) (y : Numbers) → r < length ns → known_of (slice_set ns r y) r ≡ y
+known_here [] r y low = absurd (omega arith)
+known_here (n ∷ ns) zero y low = refl
+known_here (n ∷ ns) (suc r) y low = known_here ns r y (omega arith)
+
+-- the view of a get that has found nothing, with the last ticket that it drew, if any
+abbrev pub none_at : ℕ → Option ℕ → Known → Known
+none_at r drawn v = seated (with_part (ends (Nothing r) (my v).part) (my v)) (changed (λ x. empties (drew drawn x)) r v.numbers) v
+
+pub found_none : (r : ℕ) (drawn : Option ℕ) (v u : Known) → r < length v.numbers → (drawn ≡ None → u ≡ nothing_at r v)
+    → ((t : ℕ) → drawn ≡ Some t → u ≡ nothing_at r (drew_head r t v))
+    → u ≡ none_at r drawn v
+found_none r None v u low first later = first refl
+found_none r (Some t) v u low first later =
+    later t refl
+    ∙ ap (λ (ns : List Numbers). seated (with_part (ends (Nothing r) (my v).part) (my v)) ns v) (changed_twice empties (passes (t + 1)) r v.numbers low)
+
+none_small : (drawn : Option ℕ) (x : Numbers) → x.finished < 2 ^ 60 → (empties (drew drawn x)).finished < 2 ^ 60
+none_small None x small = small
+none_small (Some t) x small = small
+
+pub if_drawn : (P : ℕ → Type 0) (drawn : Option ℕ) → ((t : ℕ) → drawn ≡ Some t → P t) → IfSome drawn P
+if_drawn P None holds = tt
+if_drawn P (Some t) holds = holds t refl
+
+module _ {B : Type 0} (IsSame : B → B → Type 0) where
+  pub kept_none : (key : Key B) (me me' : Me (Slot B) Known) (indices : List ℕ) (room : ℕ) (numbers numbers' : List Numbers) (spent : Option ℕ) (r : ℕ)
+      (drawn : Option ℕ)
+      → IsKept IsSame key me indices room numbers spent → me'.0 ≡ none_at r drawn me.0 → me'.1 ≡ me.1
+      → numbers' ≡ changed (λ x. empties (drew drawn x)) r numbers
+      → IsKept IsSame key me' indices room numbers' spent
+  kept_none key me me' indices room numbers numbers' spent r drawn kept none same new =
+      let f : Numbers → Numbers = λ x. empties (drew drawn x) in
+      kept_still IsSame key me' me.0 (none_at r drawn me.0) me.1 indices room room numbers numbers' spent spent kept refl
+      (record { seats = refl; out = kept.alone.out }) refl refl (new ∙ ap (changed f r) kept.numbers) (ap length new ∙ length-set numbers r _)
+      (subst AreSmall (sym new) (small_changed f r numbers (none_small drawn) kept.small)) kept.spent
+      (ap (λ (u : Known). (u, me'.1)) none ∙ ap (λ (l : List (ℕ × Slot B)). (none_at r drawn me.0, l)) same)
+
+  pub none_standing : (table later : TableId) (key : Key B) (me me' : Me (Slot B) Known) (s : Standing B) (r : ℕ) (drawn : Option ℕ)
+      → standing_of table key me ≡ s → later ≡ table → me'.0 ≡ none_at r drawn me.0 → me'.1 ≡ me.1
+      → standing_of later key me' ≡ after_nothing r drawn s
+  none_standing table later key me me' s r drawn is same none slots =
+      ap (standing_of later key) (ap (λ (u : Known). (u, me'.1)) none ∙ ap (λ (l : List (ℕ × Slot B)). (none_at r drawn me.0, l)) slots)
+      ∙ ap (λ t. standing_of t key (none_at r drawn me.0, me.1)) same ∙ ap (after_nothing r drawn) is

@@ -50,6 +50,7 @@ pub record Ground (c : Setup) (m : Machine) (k : ℕ) (t : Phase) : Type 0 where
   pub stay : FinishedStay c m (moved c m k t)
   pub reach : IsReachable c (moved c m k t)
   pub fits : length ((moved c m k t).part k).hand ≤ n_of c.order
+  pub once : (i : ℕ) → times i ((moved c m k t).part k).hand ≤ 1
 
 -- a ticket is above what is known of its counter
 draws_above : (c : Setup) (m : Machine) (t : Phase) (numbers : List Numbers) → AllTrue c m numbers → Draws t (read m.cells (location_of c t)) numbers
@@ -71,10 +72,9 @@ rings_told c t x y v (inl none) = inl (ap (map (turned_member c t x y)) none)
 rings_told c t x y v (inr all) = inr (learned_length c t x v.numbers ∙ all)
 
 -- the hand of the one seat of the view that a turn makes
-hand_of_made : (c : Setup) (t : Phase) (x : ℕ) (y : List ℕ) (v : Known) (m : Member) → v.seats ≡ m ∷ [] → length (after c t x y m.part).hand ≤ n_of c.order
-    → length (my (made c t x y v)).part.hand ≤ n_of c.order
-hand_of_made c t x y v m alone fits =
-    subst (λ (xs : List Member). length (my_of (map (turned_member c t x y) xs)).part.hand ≤ n_of c.order) (sym alone) fits
+hand_of_made : (P : List ℕ → Type 0) (c : Setup) (t : Phase) (x : ℕ) (y : List ℕ) (v : Known) (m : Member) → v.seats ≡ m ∷ [] → P (after c t x y m.part).hand
+    → P (my (made c t x y v)).part.hand
+hand_of_made P c t x y v m alone holds = subst (λ (xs : List Member). P (my_of (map (turned_member c t x y) xs)).part.hand) (sym alone) holds
 
 module _ {S : Type 0} (Lies : ℕ → S → List ℕ → Type 0) where
   -- the seats of another view, after a turn
@@ -199,8 +199,13 @@ module _ {S : Type 0} (Lies : ℕ → S → List ℕ → Type 0) where
         ready = g.ready;
         draws = draws_above c m t me.0.numbers mine.numbers;
         fits =
-            hand_of_made c t (read m.cells l) (beside m.cells l) me.0 may.member may.alone
+            hand_of_made (λ h. length h ≤ n_of c.order) c t (read m.cells l) (beside m.cells l) me.0 may.member may.alone
             (subst (λ (p : Part). length (after c t (read m.cells l) (beside m.cells l) p).hand ≤ n_of c.order) x_is.part
             (subst (λ (p : Part). length p.hand ≤ n_of c.order) (updated_here m.part k _) g.fits));
+        once =
+            λ i.
+            hand_of_made (λ h. times i h ≤ 1) c t (read m.cells l) (beside m.cells l) me.0 may.member may.alone
+            (subst (λ (p : Part). times i (after c t (read m.cells l) (beside m.cells l) p).hand ≤ 1) x_is.part
+            (subst (λ (p : Part). times i p.hand ≤ 1) (updated_here m.part k _) (g.once i)));
       } in
       (w, h.act, h.valid, shown, subst (λ n. Turned Lies c t me n (w, carried_after me.1 h.act)) (sym found) tells)

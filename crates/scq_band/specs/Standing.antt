@@ -5,7 +5,7 @@ use Rattle.scq_word.specs.declared.setup.Setup.{Setup}
 use Rattle.scq_core.specs.declared.ended.Ended.{Ended}
 use Rattle.scq_core.specs.declared.ended.Ended.TheVariants.{Done, Got, Nothing, Spent}
 use Rattle.scq_band.specs.declared.numbers.Numbers.{Numbers}
-use Rattle.scq_band.specs.Numbers.{known_of, first_numbers, changed, finishes, sees, passes, empties}
+use Rattle.scq_band.specs.Numbers.{known_of, first_numbers, changed, finishes, sees, passes, drew, empties}
 
 -- which band: its table, the setup that it was made for, and the buffers that it was given, that of index i at i
 pub record Identity (B : Type 0) : Type 0 where
@@ -35,11 +35,6 @@ pub record Standing (B : Type 0) : Type 0 where
 pub record NoteStanding : Type 0 where
   pub table : TableId
   pub numbers : List Numbers
-
--- what is known of the rings once a ticket was drawn from a ring's Head
-abbrev pub after_draw : ℕ → Option ℕ → List Numbers → List Numbers
-after_draw ring None numbers = numbers
-after_draw ring (Some ticket) numbers = changed (passes (ticket + 1)) ring numbers
 
 module _ {B : Type 0} where
   -- a seat of a new band, and those below a number, in order
@@ -97,13 +92,13 @@ module _ {B : Type 0} where
       record s {
         calls = s.calls ++ Got ring place bytes ∷ [];
         hand = s.hand ++ (index, Some buffer) ∷ [];
-        numbers = changed (sees place) ring (after_draw ring (Some place) s.numbers);
+        numbers = changed (λ x. sees place (passes (place + 1) x)) ring s.numbers;
       }
 
   -- a seat whose get has found nothing, with the last ticket that it drew, if any
   abbrev pub after_nothing : ℕ → Option ℕ → Standing B → Standing B
   after_nothing ring drawn s =
-      record s { calls = s.calls ++ Nothing ring ∷ []; numbers = changed empties ring (after_draw ring drawn s.numbers) }
+      record s { calls = s.calls ++ Nothing ring ∷ []; numbers = changed (λ x. empties (drew drawn x)) ring s.numbers }
 
   -- a seat whose put, or get, drew a ticket at or past the limit
   abbrev pub after_spent_put : ℕ → ℕ → Standing B → Standing B
@@ -113,7 +108,7 @@ module _ {B : Type 0} where
   after_spent_get ring ticket s =
       record s {
         calls = s.calls ++ Spent ring ticket false ∷ [];
-        numbers = after_draw ring (Some ticket) s.numbers;
+        numbers = changed (passes (ticket + 1)) ring s.numbers;
         spent = Some ticket;
       }
 

@@ -25,7 +25,7 @@ mod steps;
 mod view;
 
 pub use band::Band;
-pub use calls::Spent;
+pub use calls::{DeqRefusal, Spent};
 pub use numbers::Numbers;
 pub use seat::Seat;
 pub use slot::Slot;

@@ -1,6 +1,6 @@
 //! What is known of the rings.
-ghost use Rattle.std.specs.Prelude.{◌≡◌, ◌+◌, ◌<◌, ◌^◌, max};
-ghost use Rattle.scq_band.specs.Numbers.{first_numbers_of, finishes, sees, passes, empties, larger};
+ghost use Rattle.std.specs.Prelude.{◌≡◌, ◌+◌, ◌<◌, ◌^◌, max, IfSome};
+ghost use Rattle.scq_band.specs.Numbers.{first_numbers_of, finishes, sees, passes, drew, empties, larger};
 
 use scq_word::Setup;
 
@@ -64,24 +64,33 @@ impl Numbers {
         }
     }
 
-    /// Head is at or past a number.
+    /// A ticket was drawn from Head.
     #[inline(always)]
-    pub(crate) fn passes(self, head: u64) -> Numbers
-        ensures { result ≡ passes head self }
+    pub(crate) fn draws(self, ticket: u64) -> Numbers
+        requires { ticket + 1 < 2 ^ 64 }
+        ensures { result ≡ passes (ticket + 1) self }
     {
         Numbers {
-            head: higher(self.head, head),
+            head: higher(self.head, ticket + 1),
             ..self
         }
     }
 
-    /// Nothing that is known to be finished was left.
+    /// Nothing that is known to be finished was left, after the last ticket that was drawn, if any.
     #[inline(always)]
-    pub(crate) fn empties(self) -> Numbers
-        requires { self.finished < 2 ^ 60 }
-        ensures { result ≡ empties self }
+    pub(crate) fn finds_none(self, drawn: Option<u64>) -> Numbers
+        requires finished { self.finished < 2 ^ 60 }
+        requires drawn { IfSome drawn (λ ticket. ticket + 1 < 2 ^ 64) }
+        ensures { result ≡ empties (drew drawn self) }
     {
-        self.passes(self.finished + 1)
+        let past = match drawn {
+            None => self,
+            Some(ticket) => self.draws(ticket),
+        };
+        Numbers {
+            head: higher(past.head, past.finished + 1),
+            ..past
+        }
     }
 
     /// The larger of each number.
