@@ -1,5 +1,5 @@
 -- When the value of a slot is the buffer that was given for its index, with certain bytes.
-use Rattle.std.specs.Prelude.{◌≡◌, ℕ, List, Some, slice_get}
+use Rattle.std.specs.Prelude.{◌≡◌, ℕ, List, [], Option, Some, None, map, slice_get}
 use Rattle.scq_band.specs.declared.slot.Slot.{Slot}
 
 -- the buffer in it is the same as the one that stood there when the table was made, and has the bytes w
@@ -10,3 +10,13 @@ pub record LiesIn {B : Type 0} (contents : B → List ℕ) (IsSame : B → B →
   pub laid : slot.buffer ≡ Some buffer
   pub same : IsSame first buffer
   pub bytes : contents buffer ≡ w
+
+module _ {B : Type 0} (contents : B → List ℕ) where
+  -- the bytes of the buffer in a slot, and none where it is lifted
+  abbrev pub bytes_in : Option B → List ℕ
+  bytes_in None = []
+  bytes_in (Some b) = contents b
+
+  -- the bytes of the buffers that were given, in order: the contents of the opening puts
+  abbrev pub opening_of : List (Slot B) → List (List ℕ)
+  opening_of given = map (λ slot. bytes_in slot.buffer) given
