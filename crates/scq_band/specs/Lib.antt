@@ -7,3 +7,5 @@ pub mod Buffers
 pub mod Steps
 pub mod Seats
 pub mod Rings
+pub mod Standing
+pub mod Kept

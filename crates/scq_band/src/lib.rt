@@ -6,6 +6,7 @@
 //! no function makes or closes the table yet, so there is no call to make from outside.
 #![tactic(auto)]
 
+mod band;
 mod dequeue;
 mod enqueue;
 mod gate;
@@ -13,10 +14,13 @@ mod notes;
 mod numbers;
 mod ring;
 mod rule;
+mod seat;
 mod slot;
 mod steps;
 mod view;
 
+pub use band::Band;
 pub use numbers::Numbers;
+pub use seat::Seat;
 pub use slot::Slot;
 pub use view::View;

@@ -5,10 +5,10 @@ use scq_word::{Buffer, Setup};
 use std::marker::Brand;
 use std::snapshot::Snapshot;
 
-/// What the table is told once: its setup, and the slots that it was made with.
+/// What the table is told once: its setup, and the buffers that it was given, that of index i at i.
 pub struct Key<B> {
     pub setup: Setup,
-    pub given: Snapshot<Vec<Slot<B>>>,
+    pub given: Snapshot<Vec<B>>,
 }
 
 /// The words and the views show a state of the machine that steps reach.
