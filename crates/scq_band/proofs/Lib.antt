@@ -18,3 +18,10 @@ pub mod Drawn
 pub mod Gates
 pub mod Views
 pub mod Opening
+pub mod Bringing
+pub mod AllSeats
+pub mod ClosedRecords
+pub mod ClosedCounts
+pub mod LeftBuffers
+pub mod OutBuffers
+pub mod GoingHome

@@ -9,3 +9,5 @@ pub mod Seats
 pub mod Rings
 pub mod Standing
 pub mod Kept
+pub mod Homes
+pub mod Closing

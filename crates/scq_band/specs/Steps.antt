@@ -10,7 +10,6 @@ use Rattle.scq_word.specs.Words.{packed}
 use Rattle.scq_band.specs.declared.slot.Slot.{Slot}
 use Rattle.atomic_table.specs.Table.{Me}
 use Rattle.scq_band.specs.Layout.{ring_of_word}
-use Rattle.scq_band.specs.Buffers.{bytes_in}
 use Rattle.scq_band.specs.Known.{Member, Known}
 
 -- the one seat that stands in a view, and what it is in the middle of
@@ -30,9 +29,13 @@ front_index [] = 0
 front_index (x ∷ xs) = x.0
 
 module _ {B : Type 0} (contents : B → List ℕ) where
+  abbrev pub bytes_in : Option B → List ℕ
+  bytes_in None = []
+  bytes_in (Some b) = contents b
+
   abbrev pub front_bytes : List (ℕ × Slot B) → List ℕ
   front_bytes [] = []
-  front_bytes (x ∷ xs) = bytes_in contents x.1.buffer
+  front_bytes (x ∷ xs) = bytes_in x.1.buffer
 
 -- a load begins a get
 abbrev pub loading : ℕ → Phase → Phase

@@ -7,6 +7,7 @@
 #![tactic(auto)]
 
 mod band;
+mod closing;
 mod dequeue;
 mod enqueue;
 mod gate;

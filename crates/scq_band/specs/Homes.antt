@@ -1,0 +1,53 @@
+-- For private calls: the slots of a seat go home, before the table closes.
+use Rattle.std.specs.Prelude.{◌≡◌, ◌⊎◌, ℕ, ◌+◌, ◌<◌, ◌≤◌, if◌then◌else◌, is_none, List, [], ◌∷◌, ◌++◌, map, Some, None}
+use Rattle.std.specs.List.{Contains}
+use Rattle.std.specs.List.Sorted.{IsPermutation}
+use Rattle.atomic_table.specs.Table.{Me}
+use Rattle.scq_law.specs.Hands.{times}
+use Rattle.scq_band.specs.declared.slot.Slot.{Slot}
+use Rattle.scq_band.specs.Known.{Known}
+use Rattle.scq_band.specs.Steps.{my, front_index}
+use Rattle.scq_band.specs.Turns.{Fronts}
+use Rattle.scq_band.specs.Standing.{IsAsGiven}
+use Rattle.scq_band.specs.Kept.{in_order, AllGiven}
+use Rattle.scq_band.specs.Closing.{indices_of}
+
+-- the view of a seat after the slots of these indices have gone home
+abbrev pub at_home : List ℕ → Known → Known
+at_home indices v = record v { seats = record (my v) { home = (my v).home ++ indices } ∷ [] }
+
+module _ {S : Type 0} (Lies : ℕ → S → List ℕ → Type 0) where
+  -- one seat stands in the view, it has the index of the slot that stands first, and the buffer of that index is in it
+  pub record MayBring (me : Me S Known) : Type 0 where
+    pub seats : me.0.seats ≡ my me.0 ∷ []
+    pub held : 0 < times (front_index me.1) (my me.0).part.hand
+    pub content : List ℕ
+    pub front : Fronts Lies (front_index me.1) content me.1
+
+module _ {B : Type 0} where
+  -- how often a slot of this index is lifted
+  abbrev pub times_lifted : ℕ → List (ℕ × Slot B) → ℕ
+  times_lifted i [] = 0
+  times_lifted i (x ∷ xs) = (if is_none x.1.buffer then times i (x.0 ∷ []) else 0) + times_lifted i xs
+
+  -- the first slot, of this index, has its buffer, which was in it or has come from those that are out
+  pub record IsLaidBack (i : ℕ) (slots : List (ℕ × Slot B)) (out : List (ℕ × B)) (later : List (ℕ × Slot B)) (left : List (ℕ × B)) : Type 0 where
+    pub buffer : B
+    pub others : List (ℕ × Slot B)
+    pub laid : later ≡ (i, record { buffer = Some buffer }) ∷ others
+    pub was : ((slots ≡ (i, record { buffer = Some buffer }) ∷ others) × (left ≡ out))
+        ⊎ ((slots ≡ (i, record { buffer = None }) ∷ others) × IsPermutation out ((i, buffer) ∷ left))
+
+  -- each buffer that is out is the one that was given for its index
+  abbrev pub AllOutGiven : (B → B → Type 0) → List B → List (ℕ × B) → Type 0
+  AllOutGiven IsSame buffers out = (o : ℕ × B) → Contains out o → IsAsGiven IsSame buffers o.0 o.1
+
+  -- a seat stands alone, with the indices of its slots, which are of its hand; their buffers are the ones that were given, and
+  -- those that are lifted are out
+  pub record MayLeave (IsSame : B → B → Type 0) (buffers : List B) (me : Me (Slot B) Known) (indices : List ℕ) (out : List (ℕ × B)) : Type 0 where
+    pub seats : me.0.seats ≡ my me.0 ∷ []
+    pub order : indices ≡ in_order me.1
+    pub held : (i : ℕ) → times i indices ≤ times i (my me.0).part.hand
+    pub given : AllGiven IsSame buffers me.1
+    pub out_given : AllOutGiven IsSame buffers out
+    pub lifted : (i : ℕ) → times_lifted i me.1 ≤ times i (indices_of out)

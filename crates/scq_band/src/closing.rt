@@ -1,0 +1,87 @@
+//! The end of a table: each slot that is out goes home, and the seats' views are joined into one.
+ghost use Rattle.std.specs.Prelude.{◌≡◌, ℕ, ◌+◌, ◌<◌, is_none, IsTrue, [], ◌∷◌};
+ghost use Rattle.std.specs.List.Sorted.{IsPermutation};
+ghost use Rattle.atomic_table.specs.Table.{rest};
+ghost use Rattle.scq_law.specs.Hands.{times};
+ghost use Rattle.scq_band.specs.declared.slot.Slot.{Slot};
+ghost use Rattle.scq_band.specs.Buffers.{LiesIn};
+ghost use Rattle.scq_band.specs.Steps.{front_index};
+ghost use Rattle.scq_band.specs.Closing.{indices_of};
+ghost use Rattle.scq_band.specs.Homes.{at_home, MayBring, IsLaidBack, times_lifted, AllOutGiven, MayLeave};
+
+use crate::rule::{Token, Words};
+use crate::slot::Slot;
+use scq_word::Buffer;
+use std::marker::Brand;
+
+/// The slot that stands first goes home.
+fn bring<B: Buffer>(words: &Words<B>, token: &mut Token<B>)
+    requires own { token.old.table_id ≡ words.now.table_id }
+    requires room { 0 < words.now.table_id.words }
+    requires may { MayBring (LiesIn B.contents B.IsSameBuffer words.now.key.given.value.items) token.old.me }
+    ensures own { (token.new.table_id ≡ token.old.table_id) × (token.new.id ≡ token.old.id) }
+    ensures home { token.new.me ≡ (at_home (front_index token.old.me.1 ∷ []) token.old.me.0, rest token.old.me.1) }
+{
+    words.load::<Brand>(token, 0);
+}
+
+/// The buffer of an index, taken from those that are out.
+fn taken_out<B>(out: &mut Vec<(u32, B)>, index: u32) -> B
+    requires { 0 < times index (indices_of out.old.items) }
+    ensures { IsPermutation out.old.items ((index, result) ∷ out.new.items) }
+{
+    let mut at = 0;
+    while at < out.len() {
+        if out[at].0 == index {
+            let (_, buffer) = out.swap_remove(at);
+            return buffer;
+        }
+        at += 1;
+    }
+    unreachable!()
+}
+
+/// The slot that stands first, of this index, has its buffer again where it is lifted.
+fn lay_back<B: Buffer>(words: &Words<B>, token: &mut Token<B>, index: u32, out: &mut Vec<(u32, B)>)
+    requires own { token.old.table_id ≡ words.now.table_id }
+    requires first { (slot : Slot B) × (token.old.me.1 ≡ (index, slot) ∷ rest token.old.me.1)
+        × (IsTrue (is_none slot.buffer) → 0 < times index (indices_of out.old.items)) }
+    ensures own { (token.new.table_id ≡ token.old.table_id) × (token.new.id ≡ token.old.id) }
+    ensures view { token.new.me.0 ≡ token.old.me.0 }
+    ensures laid { IsLaidBack index token.old.me.1 out.old.items token.new.me.1 out.new.items }
+{
+    let Slot { buffer } = words.exchange(token, index as usize, Slot { buffer: None });
+    let buffer = match buffer {
+        Some(buffer) => buffer,
+        None => taken_out(out, index),
+    };
+    let Slot { buffer: hole } = words.exchange(
+        token,
+        index as usize,
+        Slot {
+            buffer: Some(buffer),
+        },
+    );
+    let None = hole else { unreachable!() };
+}
+
+/// All slots of a seat go home, each with its buffer.
+fn bring_all<B: Buffer>(
+    words: &Words<B>,
+    token: &mut Token<B>,
+    mut hand: Vec<u32>,
+    out: &mut Vec<(u32, B)>,
+)
+    requires own { token.old.table_id ≡ words.now.table_id }
+    requires room { 0 < words.now.table_id.words }
+    requires may { MayLeave B.IsSameBuffer words.now.key.given.value.items token.old.me hand.items out.old.items }
+    ensures own { (token.new.table_id ≡ token.old.table_id) × (token.new.id ≡ token.old.id) }
+    ensures home { token.new.me ≡ (at_home (indices_of token.old.me.1) token.old.me.0, []) }
+    ensures less { (i : ℕ) → times i (indices_of out.new.items) + times_lifted i token.old.me.1 ≡ times i (indices_of out.old.items) }
+    ensures given { AllOutGiven B.IsSameBuffer words.now.key.given.value.items out.new.items }
+{
+    while let Some(index) = hand.pop() {
+        lay_back(words, token, index, out);
+        bring(words, token);
+    }
+}
