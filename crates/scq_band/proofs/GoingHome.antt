@@ -29,7 +29,7 @@ times-permuted : {A : Type 0} (i : ℕ) (xs ys : List (ℕ × A)) → IsPermutat
 times-permuted {A} i xs ys perm =
     times-sum i ys ∙ sum_by-IsPermutation (λ (o : ℕ × A). if o.0 == i then 1 else 0) xs ys perm ∙ sym (times-sum i xs)
 
-times-append : (i : ℕ) (xs ys : List ℕ) → times i (xs ++ ys) ≡ times i xs + times i ys
+pub times-append : (i : ℕ) (xs ys : List ℕ) → times i (xs ++ ys) ≡ times i xs + times i ys
 times-append i [] ys = omega arith
 times-append i (x ∷ xs) ys = let rest = times-append i xs ys in omega arith
 
@@ -46,7 +46,7 @@ last_same (x ∷ xs) (y ∷ ys) a b e =
     let rest = last_same xs ys a b behind in
     (ap (λ (h : ℕ). h ∷ xs) first ∙ ap (λ (l : List ℕ). y ∷ l) rest.0, rest.1)
 
-contains_behind : {A : Type 0} (x y : A) (xs : List A) → Contains xs y → Contains (x ∷ xs) y
+pub contains_behind : {A : Type 0} (x y : A) (xs : List A) → Contains xs y → Contains (x ∷ xs) y
 contains_behind x y xs has = (suc has.0, (let low = has.1 in omega arith), has.2)
 
 -- where no slot is left

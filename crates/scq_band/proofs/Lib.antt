@@ -25,3 +25,5 @@ pub mod ClosedCounts
 pub mod LeftBuffers
 pub mod OutBuffers
 pub mod GoingHome
+pub mod SeatsHome
+pub mod Gathering

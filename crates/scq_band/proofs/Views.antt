@@ -51,7 +51,7 @@ joined_true c m xs ys one other r z e =
       | inr h ↦ rw h.4 (larger_true c m r h.0 h.1 (one r h.0 h.2) (other r h.1 h.3))
     ]
 
-joined_length : (xs ys : List Numbers) → length (joined xs ys) ≡ length xs
+pub joined_length : (xs ys : List Numbers) → length (joined xs ys) ≡ length xs
 joined_length [] ys = refl
 joined_length (x ∷ xs) [] = refl
 joined_length (x ∷ xs) (y ∷ ys) = ap suc (joined_length xs ys)

@@ -1,14 +1,16 @@
 -- For private calls: the slots of a seat go home, before the table closes.
-use Rattle.std.specs.Prelude.{◌≡◌, ◌⊎◌, ℕ, ◌+◌, ◌<◌, ◌≤◌, if◌then◌else◌, is_none, List, [], ◌∷◌, ◌++◌, map, Some, None}
+use Rattle.std.specs.Prelude.{◌≡◌, ◌⊎◌, ℕ, ◌+◌, ◌<◌, ◌≤◌, if◌then◌else◌, is_none, List, [], ◌∷◌, ◌++◌, map, length, Some, None, slice_get}
 use Rattle.std.specs.List.{Contains}
 use Rattle.std.specs.List.Sorted.{IsPermutation}
 use Rattle.atomic_table.specs.Table.{Me}
+use Rattle.scq_core.specs.declared.phase.Phase.TheVariants.{Idle}
 use Rattle.scq_law.specs.Hands.{times}
 use Rattle.scq_band.specs.declared.slot.Slot.{Slot}
-use Rattle.scq_band.specs.Known.{Known}
+use Rattle.scq_band.specs.declared.numbers.Numbers.{Numbers}
+use Rattle.scq_band.specs.Known.{Member, Known}
 use Rattle.scq_band.specs.Steps.{my, front_index}
 use Rattle.scq_band.specs.Turns.{Fronts}
-use Rattle.scq_band.specs.Standing.{IsAsGiven}
+use Rattle.scq_band.specs.Standing.{Standing, IsAsGiven}
 use Rattle.scq_band.specs.Kept.{in_order, AllGiven}
 use Rattle.scq_band.specs.Closing.{indices_of}
 
@@ -51,3 +53,41 @@ module _ {B : Type 0} where
     pub given : AllGiven IsSame buffers me.1
     pub out_given : AllOutGiven IsSame buffers out
     pub lifted : (i : ℕ) → times_lifted i me.1 ≤ times i (indices_of out)
+
+module _ {B : Type 0} where
+  -- the member of a closed view that a seat became: what contracts see of it stays, and all its slots are at home
+  pub record IsMemberOf (s : Standing B) (x : Member) : Type 0 where
+    pub number : x.number ≡ s.number
+    pub calls : x.part.calls ≡ s.calls
+    pub hand : x.part.hand ≡ indices_of s.hand
+    pub spent : x.part.spent ≡ s.spent
+    pub retired : x.retired ≡ s.retired
+    pub idle : x.part.phase ≡ Idle
+    pub brought : (i : ℕ) → 0 < times i x.part.hand → Contains x.home i
+
+  -- the members of a view are those of these seats, one by one
+  abbrev pub AreMembersOf : List (Standing B) → List Member → Type 0
+  AreMembersOf [] [] = Unit {0}
+  AreMembersOf [] (x ∷ xs) = ⊥
+  AreMembersOf (s ∷ ss) [] = ⊥
+  AreMembersOf (s ∷ ss) (x ∷ xs) = IsMemberOf s x × AreMembersOf ss xs
+
+  -- what each of these seats knows of Head is known
+  abbrev pub HeadsKnown : List (Standing B) → List Numbers → Type 0
+  HeadsKnown [] numbers = Unit {0}
+  HeadsKnown (s ∷ ss) numbers =
+      ((r : ℕ) (x : Numbers) → slice_get s.numbers r ≡ Some x → (y : Numbers) × (slice_get numbers r ≡ Some y) × (x.head ≤ y.head))
+      × HeadsKnown ss numbers
+
+  -- the view in which these seats stand, with their slots at home
+  pub record HasAll (rings : ℕ) (seats : List (Standing B)) (v : Known) : Type 0 where
+    pub members : AreMembersOf seats v.seats
+    pub heads : HeadsKnown seats v.numbers
+    pub rings_known : length v.numbers ≡ rings
+
+  -- of all these seats some are left, and the others stand in one view with their slots at home
+  pub record AreGathered (rings : ℕ) (all left : List (Standing B)) (v : Known) : Type 0 where
+    pub done : List (Standing B)
+    pub split : all ≡ left ++ done
+    pub has : HasAll rings done v
+    pub some : v.seats ≡ [] → ⊥

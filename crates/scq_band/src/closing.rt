@@ -1,15 +1,18 @@
 //! The end of a table: each slot that is out goes home, and the seats' views are joined into one.
-ghost use Rattle.std.specs.Prelude.{◌≡◌, ℕ, ◌+◌, ◌<◌, is_none, IsTrue, [], ◌∷◌};
+ghost use Rattle.std.specs.Prelude.{◌≡◌, ℕ, ◌+◌, ◌<◌, ◌≤◌, is_none, IsTrue, [], ◌∷◌, length, vec_len, sum_by, All};
 ghost use Rattle.std.specs.List.Sorted.{IsPermutation};
 ghost use Rattle.atomic_table.specs.Table.{rest};
 ghost use Rattle.scq_law.specs.Hands.{times};
 ghost use Rattle.scq_band.specs.declared.slot.Slot.{Slot};
 ghost use Rattle.scq_band.specs.Buffers.{LiesIn};
-ghost use Rattle.scq_band.specs.Steps.{front_index};
-ghost use Rattle.scq_band.specs.Closing.{indices_of};
-ghost use Rattle.scq_band.specs.Homes.{at_home, MayBring, IsLaidBack, times_lifted, AllOutGiven, MayLeave};
+ghost use Rattle.scq_band.specs.Steps.{my, front_index};
+ghost use Rattle.scq_band.specs.Kept.{identity_of};
+ghost use Rattle.scq_band.specs.Closing.{indices_of, lifted_of};
+ghost use Rattle.scq_band.specs.Homes.{at_home, MayBring, IsLaidBack, times_lifted, AllOutGiven, MayLeave, IsMemberOf, HasAll};
 
+use crate::notes::Gathers;
 use crate::rule::{Token, Words};
+use crate::seat::Seat;
 use crate::slot::Slot;
 use scq_word::Buffer;
 use std::marker::Brand;
@@ -84,4 +87,56 @@ fn bring_all<B: Buffer>(
         lay_back(words, token, index, out);
         bring(words, token);
     }
+}
+
+/// The token of a seat, with all its slots at home.
+fn one_home<B: Buffer>(words: &Words<B>, seat: Seat<B>, out: &mut Vec<(u32, B)>) -> Token<B>
+    requires band { seat.band ≡ identity_of words.now.table_id words.now.key }
+    requires room { 0 < words.now.table_id.words }
+    requires lifted { (i : ℕ) → times i (lifted_of seat.hand) ≤ times i (indices_of out.old.items) }
+    requires given { AllOutGiven B.IsSameBuffer words.now.key.given.value.items out.old.items }
+    ensures own { result.table_id ≡ words.now.table_id }
+    ensures alone { result.me.0.seats ≡ my result.me.0 ∷ [] }
+    ensures member { IsMemberOf seat (my result.me.0) }
+    ensures numbers { (result.me.0.numbers ≡ seat.numbers) × (length seat.numbers ≡ words.now.key.setup.rings) }
+    ensures none { result.me.1 ≡ [] }
+    ensures less { (i : ℕ) → times i (indices_of out.new.items) + times i (lifted_of seat.hand) ≡ times i (indices_of out.old.items) }
+    ensures given { AllOutGiven B.IsSameBuffer words.now.key.given.value.items out.new.items }
+{
+    let Seat {
+        mut token,
+        key: _,
+        hand,
+        numbers: _,
+        spent: _,
+    } = seat;
+    bring_all(words, &mut token, hand, out);
+    token
+}
+
+/// The tokens of all seats as one: the view of each stands in its view. What was lifted is laid back.
+pub fn gather<B: Buffer>(
+    words: &Words<B>,
+    mut seats: Vec<Seat<B>>,
+    mut out: Vec<(u32, B)>,
+) -> Token<B>
+    requires bands { All (λ s. s.band ≡ identity_of words.now.table_id words.now.key) seats.items }
+    requires some { 0 < vec_len seats }
+    requires room { 0 < words.now.table_id.words }
+    requires lifted { (i : ℕ) → times i (indices_of out.items) ≡ sum_by (λ s. times i (lifted_of s.hand)) seats.items }
+    requires given { AllOutGiven B.IsSameBuffer words.now.key.given.value.items out.items }
+    ensures own { result.table_id ≡ words.now.table_id }
+    ensures all { HasAll words.now.key.setup.rings seats.items result.me.0 }
+{
+    let Some(last) = seats.pop() else {
+        unreachable!()
+    };
+    let mut first = one_home(words, last, &mut out);
+    while let Some(seat) = seats.pop() {
+        let token = one_home(words, seat, &mut out);
+        words.join_seat::<Gathers>(&mut first, token);
+    }
+    seats.destroy_empty();
+    out.destroy_empty();
+    first
 }
