@@ -27,3 +27,5 @@ pub mod OutBuffers
 pub mod GoingHome
 pub mod SeatsHome
 pub mod Gathering
+pub mod Unloading
+pub mod LeftWords

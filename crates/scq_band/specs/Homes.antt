@@ -27,6 +27,10 @@ module _ {S : Type 0} (Lies : ℕ → S → List ℕ → Type 0) where
     pub front : Fronts Lies (front_index me.1) content me.1
 
 module _ {B : Type 0} where
+  -- the slot with a buffer in it
+  abbrev pub full_slot : B → Slot B
+  full_slot b = record { buffer = Some b }
+
   -- how often a slot of this index is lifted
   abbrev pub times_lifted : ℕ → List (ℕ × Slot B) → ℕ
   times_lifted i [] = 0

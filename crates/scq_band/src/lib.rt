@@ -7,6 +7,7 @@
 #![tactic(auto)]
 
 mod band;
+mod closed;
 mod closing;
 mod dequeue;
 mod enqueue;
