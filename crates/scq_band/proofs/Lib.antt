@@ -29,3 +29,6 @@ pub mod SeatsHome
 pub mod Gathering
 pub mod Unloading
 pub mod LeftWords
+pub mod StartWords
+pub mod Slots
+pub mod Starting

@@ -56,7 +56,7 @@ members_length : (n : ℕ) → length (first_members n) ≡ n
 members_length zero = refl
 members_length (suc n) = ap suc (members_length n)
 
-numbers_length : (c : Setup) (n : ℕ) → length (first_numbers c n) ≡ n
+pub numbers_length : (c : Setup) (n : ℕ) → length (first_numbers c n) ≡ n
 numbers_length c zero = refl
 numbers_length c (suc n) = length-append (first_numbers c n) (first_numbers_of c n ∷ []) ∙ (let rest = numbers_length c n in omega arith)
 

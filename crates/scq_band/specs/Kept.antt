@@ -76,7 +76,8 @@ pub record IsKept {B : Type 0} (IsSame : B → B → Type 0) (key : Key B) (me :
   pub given : AllGiven IsSame key.given.value.items me.1
 
 -- what a band keeps: the words and slots of its setup, and empty lists with room for what it hands out when it closes
-pub record IsBand {B : Type 0} (table : TableId) (key : Key B) (buffers : List B) (room : ℕ) (left : List ℕ) (places : ℕ) : Type 0 where
+pub record IsBand {B : Type 0} (table : TableId) (key : Key B) (setup : Setup) (buffers : List B) (room : ℕ) (left : List ℕ) (places : ℕ) : Type 0 where
+  pub same : setup ≡ key.setup
   pub words : table.words ≡ word_count key.setup
   pub slots : table.slots ≡ n_of key.setup.order
   pub given : length key.given.value.items ≡ n_of key.setup.order
@@ -84,3 +85,10 @@ pub record IsBand {B : Type 0} (table : TableId) (key : Key B) (buffers : List B
   pub holds_all : n_of key.setup.order ≤ room
   pub none_left : left ≡ []
   pub each_ring : key.setup.rings ≤ places
+
+-- the slots in another turn
+pub record IsRotation {S : Type 0} (slots later : List (ℕ × S)) : Type 0 where
+  pub front : List (ℕ × S)
+  pub behind : List (ℕ × S)
+  pub was : slots ≡ front ++ behind
+  pub turned : later ≡ behind ++ front

@@ -11,3 +11,4 @@ pub mod Standing
 pub mod Kept
 pub mod Homes
 pub mod Closing
+pub mod Making

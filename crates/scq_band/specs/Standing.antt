@@ -66,6 +66,14 @@ module _ {B : Type 0} where
   in_hand [] i = None
   in_hand (x ∷ xs) i = if x.0 == i then Some x.1 else in_hand xs i
 
+  -- the bytes of the buffer that is laid for an index in a hand
+  abbrev pub bytes_of : (B → List ℕ) → Option (Option B) → List ℕ
+  bytes_of contents (Some (Some buffer)) = contents buffer
+  bytes_of contents held = []
+
+  abbrev pub bytes_in_hand : (B → List ℕ) → List (ℕ × Option B) → ℕ → List ℕ
+  bytes_in_hand contents hand i = bytes_of contents (in_hand hand i)
+
   -- a hand without an index
   abbrev pub without_index : ℕ → List (ℕ × Option B) → List (ℕ × Option B)
   without_index i hand = filter (λ x. not (x.0 == i)) hand

@@ -12,12 +12,15 @@ mod closing;
 mod dequeue;
 mod enqueue;
 mod gate;
+mod hand;
+mod making;
 mod notes;
 mod numbers;
 mod ring;
 mod rule;
 mod seat;
 mod slot;
+mod splitting;
 mod steps;
 mod view;
 

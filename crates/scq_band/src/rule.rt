@@ -11,6 +11,15 @@ pub struct Key<B> {
     pub given: Snapshot<Vec<B>>,
 }
 
+impl<B> Drop for Key<B> {
+    fn drop(self) {
+        let Key {
+            setup: _,
+            given: _given,
+        } = self;
+    }
+}
+
 /// The words and the views show a state of the machine that steps reach.
 pub struct Rule {}
 
