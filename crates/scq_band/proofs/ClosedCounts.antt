@@ -2,6 +2,7 @@
 -- sums over its seats are sums over the records and hands; then each fact is a law of the machine.
 use Rattle.std.proofs.Common.{◌≡◌, ◌≢◌, ◌⊎◌, ℕ, zero, suc, ◌+◌, ◌<◌, ◌≤◌, Bool, true, false, ◌==◌, List, [], ◌∷◌, ◌++◌, map, length, refl, sym, ◌∙◌, ap, subst, inl, inr, arith}
 use Rattle.std.specs.Prelude.{Option, Some, None, if◌then◌else◌, slice_get, slice_index, sum, sum_by}
+use Rattle.std.proofs.lemmas.Bool.{cases_lt}
 use Rattle.std.proofs.lemmas.List.Sums.{sum_by-cons}
 use Rattle.scq_word.specs.declared.setup.Setup.{Setup}
 use Rattle.scq_word.specs.Sizes.{n_of}
@@ -14,12 +15,14 @@ use Rattle.scq_core.specs.Machine.{Part, Machine}
 use Rattle.scq_core.specs.Laws.{total}
 use Rattle.scq_core.specs.Reach.{IsReachable}
 use Rattle.scq_law.specs.Bounds.{tally, was_put, is_putting, openings, enqueues}
+use Rattle.scq_law.specs.Hands.{times, Home, hand_of, in_slot, IsHome, OneHand}
 use Rattle.scq_law.specs.Sums.{sum_to}
 use Rattle.scq_law.specs.Kept.{was_done, was_got, has_placed, gets_of, puts_of, left_in, left_below}
 use Rattle.scq_law.proofs.Balance.KeptLaws.{balanced, all_kept}
+use Rattle.scq_law.proofs.Places.HandLaws.{one_hand}
 use Rattle.scq_law.proofs.Tickets.SpentLaws.{spent_kept}
 use Rattle.scq_band.specs.Known.{Member}
-use Rattle.scq_band.specs.Closing.{IsCall, puts_on, gets_on, begun_on, IsBalance, IsAllThere, IsPastTheBound, EachSpentIsPastTheBound}
+use Rattle.scq_band.specs.Closing.{IsCall, puts_on, gets_on, begun_on, IsBalance, IsAllThere, IsPastTheBound, EachSpentIsPastTheBound, EachIsInOneHand}
 use Rattle.scq_band.proofs.AllSeats.{AreAll, total_all}
 use Rattle.scq_band.proofs.ClosedRecords.{map_back, map_on, records_of, AllRest}
 
@@ -141,3 +144,79 @@ module _ (c : Setup) (m : Machine) (xs : List Member) (reach : IsReachable c m) 
         );
         past = rw (begun_all law.0) law.3;
       }
+
+  -- no index stands twice in all hands
+  pub each_in_one_hand : EachIsInOneHand c (hands_of xs)
+  each_in_one_hand =
+      record {
+        low =
+            λ i some.
+            let at = one_seat i some in
+            (one_hand c m reach).in_hands i at.0 at.1;
+        once = λ i. rw (sums i) (at_most i);
+      }
+    where
+      sums : (i : ℕ) → sum_by (times i) (hands_of xs) ≡ total (λ p. times i p.hand) m.part c.seats
+      sums i = sum_by-map (times i) (λ (x : Member). x.part.hand) xs ∙ sym (total_all c m xs (λ (p : Part). times i p.hand) all)
+
+      -- some seat of those below n has it, or none does
+      somewhere : (i n : ℕ) → 0 < total (λ p. times i p.hand) m.part n → (k : ℕ) × (0 < times i (m.part k).hand)
+      somewhere i zero some = absurd (omega arith)
+      somewhere i (suc n) some =
+          elim (cases_lt 0 (times i (m.part n).hand)) [
+            | inl here ↦ (n, here)
+            | inr none ↦ somewhere i n (omega arith)
+          ]
+
+      one_seat : (i : ℕ) → 0 < sum_by (times i) (hands_of xs) → (k : ℕ) × (0 < times i (m.part k).hand)
+      one_seat i some = somewhere i c.seats (let same = sums i in omega (arith, some, same))
+
+      -- none below n has it where the seat n has
+      alone_below : (i k n : ℕ) → i < n_of c.order → 0 < times i (m.part k).hand → n ≤ k → total (λ p. times i p.hand) m.part n ≡ 0
+      alone_below i k zero small here below = refl
+      alone_below i k (suc n) small here below =
+          let rest_below = alone_below i k n small here (omega arith) in
+          elim (cases_lt 0 (times i (m.part n).hand)) [
+            | inl there ↦
+                let same : hand_of n ≡ hand_of k = (one_hand c m reach).alone i (hand_of n) (hand_of k) small there here in
+                let number : n ≡ k = cc in
+                absurd (omega arith)
+            | inr none ↦ omega arith
+          ]
+
+      single : (i k : ℕ) → i < n_of c.order → times i (m.part k).hand ≤ 1
+      single i k small =
+          elim (cases_lt 0 (times i (m.part k).hand)) [
+            | inl some ↦ held_once i k small some
+            | inr none ↦ omega arith
+          ]
+        where
+          held_once : (j q : ℕ) → j < n_of c.order → 0 < times j (m.part q).hand → times j (m.part q).hand ≤ 1
+          held_once j q low some = go at.0 at.1
+            where
+              at : (h : Home) × IsHome c m j h
+              at = (one_hand c m reach).home j low
+
+              go : (h : Home) → IsHome c m j h → times j (m.part q).hand ≤ 1
+              go (hand_of p) is =
+                  let same : hand_of p ≡ hand_of q = (one_hand c m reach).alone j (hand_of p) (hand_of q) low (let one = is.1 in omega (arith, one)) some in
+                  let number : p ≡ q = cc in
+                  let once : times j (m.part q).hand ≡ 1 = ap (λ (b : ℕ). times j (m.part b).hand) (sym number) ∙ is.1 in
+                  omega (arith, once)
+              go (in_slot r s) is =
+                  let same : in_slot r s ≡ hand_of q = (one_hand c m reach).alone j (in_slot r s) (hand_of q) low (is.1, is.2) some in absurd (cc)
+
+      few : (i n : ℕ) → total (λ p. times i p.hand) m.part n ≤ 1
+      few i zero = omega arith
+      few i (suc n) =
+          elim (cases_lt 0 (times i (m.part n).hand)) [
+            | inl here ↦
+                let small = (one_hand c m reach).in_hands i n here in
+                let none = alone_below i n n small here (omega arith) in
+                let one = single i n small in
+                omega (arith, none, one)
+            | inr none ↦ let rest_few = few i n in omega (arith, rest_few, none)
+          ]
+
+      at_most : (i : ℕ) → total (λ p. times i p.hand) m.part c.seats ≤ 1
+      at_most i = few i c.seats

@@ -20,7 +20,7 @@ use Rattle.scq_law.proofs.Places.HandLaws.{one_hand}
 use Rattle.scq_law.proofs.Places.EntryLaws.{stands_placed}
 use Rattle.scq_band.specs.Known.{Member}
 use Rattle.scq_band.specs.Shown.{Scene, Has, Owns, Stored}
-use Rattle.scq_band.specs.Closing.{HasEnded, IsLeft, Standing, EachLeftIsItsPut}
+use Rattle.scq_band.specs.Closing.{HasEnded, IsLeft, LeftPut, EachLeftIsItsPut}
 use Rattle.scq_band.proofs.AllSeats.{AreAll, seat_at, total_all, member_at}
 use Rattle.scq_band.proofs.ClosedRecords.{records_of, AllRest, was_put_by, call_ended}
 use Rattle.scq_band.proofs.ClosedCounts.{sum_by-map, hands_of}

@@ -29,6 +29,7 @@ pub mod SeatsHome
 pub mod Gathering
 pub mod Unloading
 pub mod LeftWords
+pub mod Closes
 pub mod StartWords
 pub mod Slots
 pub mod Starting

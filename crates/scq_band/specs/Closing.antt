@@ -1,6 +1,7 @@
 -- What the records of all seats say together once a band is closed, when no seat is in the middle of a call. The records stand in
 -- the order in which the seats were given. A call is told by its seat's number in that order and by its own in the record, from 0.
-use Rattle.std.specs.Prelude.{◌≡◌, ◌⊎◌, ℕ, ◌+◌, ◌<◌, Bool, if◌then◌else◌, is_none, List, [], ◌∷◌, map, length, Option, Some, slice_get, slice_index, slice_index_or, sum, sum_by}
+use Rattle.std.specs.Prelude.{◌≡◌, ◌⊎◌, ℕ, ◌+◌, ◌<◌, ◌≤◌, Bool, if◌then◌else◌, is_none, List, [], ◌∷◌, map, length, Option, Some, slice_get, slice_index, slice_index_or, sum, sum_by}
+use Rattle.std.specs.List.{Contains}
 use Rattle.scq_word.specs.declared.setup.Setup.{Setup}
 use Rattle.scq_word.specs.Sizes.{n_of}
 use Rattle.scq_word.specs.Bounds.{ticket_bound}
@@ -11,6 +12,7 @@ use Rattle.scq_law.specs.Hands.{times}
 use Rattle.scq_law.specs.Bounds.{tally, was_put, openings}
 use Rattle.scq_law.specs.Kept.{was_done, was_got}
 use Rattle.scq_band.specs.declared.numbers.Numbers.{Numbers}
+use Rattle.scq_band.specs.Standing.{Identity, Standing, IsAsGiven}
 
 -- this call ended so
 abbrev pub IsCall : List (List Ended) → ℕ → ℕ → Ended → Type 0
@@ -102,15 +104,20 @@ abbrev pub IsLeft : List (List ℕ) → ℕ → Type 0
 IsLeft hands i = sum_by (times i) hands ≡ 0
 
 -- a put that was not got: its ring and its place
-pub record Standing (c : Setup) (opening : List (List ℕ)) (records : List (List Ended)) (w : List ℕ) : Type 0 where
+pub record LeftPut (c : Setup) (opening : List (List ℕ)) (records : List (List Ended)) (w : List ℕ) : Type 0 where
   pub ring : ℕ
   pub place : ℕ
   pub put : WasPut c opening records ring place w
   pub not_got : (v : List ℕ) → HasEnded records (Got ring place v) → ⊥
 
+-- each hand has indices of the setup alone, and no index stands twice in all hands
+pub record EachIsInOneHand (c : Setup) (hands : List (List ℕ)) : Type 0 where
+  pub low : (i : ℕ) → 0 < sum_by (times i) hands → i < n_of c.order
+  pub once : (i : ℕ) → sum_by (times i) hands ≤ 1
+
 -- each index that is in no hand stands for a put that was not got, whose bytes are in its buffer, and each for another
 pub record EachLeftIsItsPut (c : Setup) (opening : List (List ℕ)) (records : List (List Ended)) (hands bytes : List (List ℕ)) : Type 0 where
-  pub put : (i : ℕ) → i < n_of c.order → IsLeft hands i → Standing c opening records (slice_index_or bytes i [])
+  pub put : (i : ℕ) → i < n_of c.order → IsLeft hands i → LeftPut c opening records (slice_index_or bytes i [])
   pub apart : (i j : ℕ) (a : i < n_of c.order) (b : j < n_of c.order) (x : IsLeft hands i) (y : IsLeft hands j)
       → (put i a x).ring ≡ (put j b y).ring → (put i a x).place ≡ (put j b y).place → i ≡ j
 
@@ -119,3 +126,21 @@ abbrev pub AreTheSame : {B : Type 0} → (B → B → Type 0) → List B → Lis
 AreTheSame {B} IsSame given buffers =
     (length buffers ≡ length given)
     × ((i : ℕ) (first last : B) → slice_get given i ≡ Some first → slice_get buffers i ≡ Some last → IsSame first last)
+
+-- the records of all seats, their hands, what they know, and the spent tickets that they keep
+abbrev pub all_calls : {B : Type 0} → List (Standing B) → List (List Ended)
+all_calls seats = map (λ s. s.calls) seats
+
+abbrev pub all_hands : {B : Type 0} → List (Standing B) → List (List ℕ)
+all_hands seats = map (λ s. indices_of s.hand) seats
+
+abbrev pub all_known : {B : Type 0} → List (Standing B) → List (List Numbers)
+all_known seats = map (λ s. s.numbers) seats
+
+abbrev pub all_spent : {B : Type 0} → List (Standing B) → List (Option ℕ)
+all_spent seats = map (λ s. s.spent) seats
+
+-- the buffers that are out are just those that are lifted, each the same as the one given for its index
+pub record AreTheLifted {B : Type 0} (IsSame : B → B → Type 0) (band : Identity B) (seats : List (Standing B)) (out : List (ℕ × B)) : Type 0 where
+  pub lifted : (i : ℕ) → times i (indices_of out) ≡ sum_by (λ (s : Standing B). times i (lifted_of s.hand)) seats
+  pub same : (o : ℕ × B) → Contains out o → IsAsGiven IsSame band.given o.0 o.1

@@ -1,15 +1,17 @@
 //! The end of a table: each slot that is out goes home, and the seats' views are joined into one.
-ghost use Rattle.std.specs.Prelude.{◌≡◌, ℕ, ◌+◌, ◌<◌, ◌≤◌, is_none, IsTrue, [], ◌∷◌, length, vec_len, sum_by, All};
+ghost use Rattle.std.specs.Prelude.{◌≡◌, ℕ, ◌+◌, ◌<◌, ◌≤◌, is_none, IsTrue, [], ◌∷◌, map, length, vec_len, sum_by, All};
 ghost use Rattle.std.specs.List.Sorted.{IsPermutation};
 ghost use Rattle.atomic_table.specs.Table.{rest};
 ghost use Rattle.scq_law.specs.Hands.{times};
 ghost use Rattle.scq_band.specs.declared.slot.Slot.{Slot};
-ghost use Rattle.scq_band.specs.Buffers.{LiesIn};
+ghost use Rattle.scq_band.specs.Buffers.{LiesIn, opening_of};
 ghost use Rattle.scq_band.specs.Steps.{my, front_index};
 ghost use Rattle.scq_band.specs.Kept.{identity_of};
-ghost use Rattle.scq_band.specs.Closing.{indices_of, lifted_of};
+ghost use Rattle.scq_band.specs.Closing.{indices_of, lifted_of, EachGetHasItsPut, NoneIsGotTwice, EachPutPassedIsGot, IsBalance, IsAllThere, EachIsInOneHand, EachSpentIsPastTheBound, EachLeftIsItsPut, AreTheSame, AreTheLifted, all_calls, all_hands, all_known, all_spent};
 ghost use Rattle.scq_band.specs.Homes.{at_home, MayBring, IsLaidBack, times_lifted, AllOutGiven, MayLeave, IsMemberOf, HasAll};
 
+use crate::band::Band;
+use crate::closed::{count_left, unload};
 use crate::notes::Gathers;
 use crate::rule::{Token, Words};
 use crate::seat::Seat;
@@ -139,4 +141,45 @@ pub fn gather<B: Buffer>(
     seats.destroy_empty();
     out.destroy_empty();
     first
+}
+
+/// What is left of a band: its buffers in order of index, and for each ring how many indices were left in it.
+pub struct BandClosed<B> {
+    pub buffers: Vec<B>,
+    pub left: Vec<u64>,
+}
+
+impl<B: Buffer> Band<B> {
+    /// Closes a band whose seats all come back. The buffers that are lifted come in `out`, each with its index; they are laid
+    /// back, and all buffers are handed out. Takes no memory.
+    ///
+    /// The clauses read the seats' records, hands and numbers together, in the order in which the seats are given.
+    pub fn close(self, seats: Vec<Seat<B>>, out: Vec<(u32, B)>) -> BandClosed<B>
+        requires seats { All (λ s. s.band ≡ self) seats.items }
+        requires all { vec_len seats ≡ self.setup.seats }
+        requires out { AreTheLifted B.IsSameBuffer self seats.items out.items }
+        ensures buffers { AreTheSame B.IsSameBuffer self.given result.buffers.items }
+        ensures gets { EachGetHasItsPut self.setup (opening_of B.contents self.given) (all_calls seats.items) }
+        ensures once { NoneIsGotTwice (all_calls seats.items) }
+        ensures passed { EachPutPassedIsGot self.setup (opening_of B.contents self.given) (all_calls seats.items) (all_known seats.items) }
+        ensures balance { IsBalance self.setup (all_calls seats.items) result.left.items }
+        ensures all_there { IsAllThere self.setup (all_hands seats.items) result.left.items }
+        ensures hands { EachIsInOneHand self.setup (all_hands seats.items) }
+        ensures left { EachLeftIsItsPut self.setup (opening_of B.contents self.given) (all_calls seats.items) (all_hands seats.items)
+            (map B.contents result.buffers.items) }
+        ensures spent { EachSpentIsPastTheBound self.setup (all_calls seats.items) (all_spent seats.items) }
+    {
+        let Band {
+            table,
+            setup,
+            mut buffers,
+            mut left,
+        } = self;
+        let all = gather(&table.shared, seats, out);
+        let mut closed = table.close_with(all);
+        count_left(&closed, &setup, &mut left);
+        unload(&mut closed, &mut buffers);
+        closed.free();
+        BandClosed { buffers, left }
+    }
 }

@@ -25,6 +25,7 @@ mod steps;
 mod view;
 
 pub use band::Band;
+pub use closing::BandClosed;
 pub use numbers::Numbers;
 pub use seat::Seat;
 pub use slot::Slot;
