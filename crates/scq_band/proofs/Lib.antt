@@ -33,3 +33,4 @@ pub mod Closes
 pub mod StartWords
 pub mod Slots
 pub mod Starting
+pub mod Keeping

@@ -7,12 +7,14 @@
 #![tactic(auto)]
 
 mod band;
+mod calls;
 mod closed;
 mod closing;
 mod dequeue;
 mod enqueue;
 mod gate;
 mod hand;
+mod lending;
 mod making;
 mod notes;
 mod numbers;
@@ -25,6 +27,7 @@ mod steps;
 mod view;
 
 pub use band::Band;
+pub use calls::Spent;
 pub use closing::BandClosed;
 pub use numbers::Numbers;
 pub use seat::Seat;
