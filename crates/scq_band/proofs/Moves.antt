@@ -119,13 +119,14 @@ module _ {S : Type 0} (Lies : ℕ → S → List ℕ → Type 0) where
   )
 
   -- the rule after the turn
-  moved_shown : (c : Setup) (s : State S Known) (id : ℕ) (me : Me S Known) (t : Phase) (may : MayTurn c me.0 t) (sh : Shown Lies c s)
+  moved_shown : (opening : List (List ℕ)) (c : Setup) (s : State S Known) (id : ℕ) (me : Me S Known) (t : Phase) (may : MayTurn c me.0 t)
+      (sh : Shown Lies opening c s)
       → get_elem? s.views id ≡ some me.0
       → IsMember Lies c sh.scene s.homes id 0 may.member → Ground c sh.scene.state may.member.number t
       → (h : Handles Lies c sh.scene.state s.homes me.1 may.member.number t)
-      → Shown Lies c (stepped s (at c (location_of c t)) (writes c t (read sh.scene.state.cells (location_of c t))) id me.1
+      → Shown Lies opening c (stepped s (at c (location_of c t)) (writes c t (read sh.scene.state.cells (location_of c t))) id me.1
       (made c t (read sh.scene.state.cells (location_of c t)) (beside sh.scene.state.cells (location_of c t)) me.0) h.act)
-  moved_shown c s id me t may sh here x_is g h =
+  moved_shown opening c s id me t may sh here x_is g h =
       let m = sh.scene.state in
       let k = may.member.number in
       let l = location_of c t in
@@ -133,6 +134,7 @@ module _ {S : Type 0} (Lies : ℕ → S → List ℕ → Type 0) where
       record {
         scene = record sh.scene { state = moved c m k t };
         reachable = g.reach;
+        begun = sh.begun;
         words = written_shown c s.words m.cells l (writes c t (read m.cells l)) (stores t (read m.cells l) (beside m.cells l)) g.location sh.words;
         awake_seats = gate ∙ sh.awake_seats;
         room = h.room ∙ sh.room;
@@ -168,13 +170,14 @@ module _ {S : Type 0} (Lies : ℕ → S → List ℕ → Type 0) where
       }
 
   -- a turn may be made, whatever the table is when its word changes
-  pub moves : (c : Setup) (slots id : ℕ) (me : Me S Known) (t : Phase) (i : ℕ) (f : ℕ → ℕ) (may : MayTurn c me.0 t) → Carries Lies t me.1
+  pub moves : {opening : List (List ℕ)} (c : Setup) (slots id : ℕ) (me : Me S Known) (t : Phase) (i : ℕ) (f : ℕ → ℕ) (may : MayTurn c me.0 t)
+      → Carries Lies t me.1
       → i ≡ at c (location_of c t)
       → ((m : Machine) → IsReachable c m → Busy c m.cells may.member.part.hand t
       → f (read m.cells (location_of c t)) ≡ writes c t (read m.cells (location_of c t)))
       → ((m : Machine) (k : ℕ) (s : Step) → IsReachable c m → k < c.seats → turn_of c (m.part k) s ≡ Some t → Ground c m k t)
-      → Allows (Shown Lies c) slots id me i f (Turned Lies c t me)
-  moves c slots id me t i f may carries word does grounds s sh many here small =
+      → Allows (Shown Lies opening c) slots id me i f (Turned Lies c t me)
+  moves {opening} c slots id me t i f may carries word does grounds s sh many here small =
       let m = sh.scene.state in
       let k = may.member.number in
       let l = location_of c t in
@@ -188,9 +191,10 @@ module _ {S : Type 0} (Lies : ℕ → S → List ℕ → Type 0) where
       let busy : Busy c m.cells may.member.part.hand t = subst (λ (p : Part). Busy c m.cells p.hand t) x_is.part g.busy in
       let wrote : f (slice_index s.words i) ≡ writes c t (read m.cells l) = ap f found ∙ does m sh.reachable busy in
       let w = made c t (read m.cells l) (beside m.cells l) me.0 in
-      let shown : Shown Lies c (stepped s i (f (slice_index s.words i)) id me.1 w h.act) =
-      subst (λ (v : ℕ). Shown Lies c (stepped s i v id me.1 w h.act)) (sym wrote)
-      (subst (λ (j : ℕ). Shown Lies c (stepped s j (writes c t (read m.cells l)) id me.1 w h.act)) (sym word) (moved_shown c s id me t may sh here x_is g h)) in
+      let shown : Shown Lies opening c (stepped s i (f (slice_index s.words i)) id me.1 w h.act) =
+      subst (λ (v : ℕ). Shown Lies opening c (stepped s i v id me.1 w h.act)) (sym wrote)
+      (subst (λ (j : ℕ). Shown Lies opening c (stepped s j (writes c t (read m.cells l)) id me.1 w h.act)) (sym word)
+      (moved_shown opening c s id me t may sh here x_is g h)) in
       let tells : Turned Lies c t me (read m.cells l) (w, carried_after me.1 h.act) = record {
         beside = beside m.cells l;
         view = refl;

@@ -9,4 +9,6 @@ pub mod Seats
 pub mod Rings
 pub mod Standing
 pub mod Kept
+pub mod Homes
+pub mod Closing
 pub mod Making

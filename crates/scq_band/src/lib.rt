@@ -8,6 +8,8 @@
 
 mod band;
 mod calls;
+mod closed;
+mod closing;
 mod dequeue;
 mod enqueue;
 mod gate;
@@ -26,6 +28,7 @@ mod view;
 
 pub use band::Band;
 pub use calls::{DeqRefusal, Spent};
+pub use closing::BandClosed;
 pub use numbers::Numbers;
 pub use seat::Seat;
 pub use slot::Slot;

@@ -25,9 +25,9 @@ pub struct Rule {}
 
 impl<B: Buffer> TableRule<Slot<B>, View, Key<B>> for Rule {
     ghost use Rattle.scq_band.specs.Shown.{Shown, first_view};
-    ghost use Rattle.scq_band.specs.Buffers.{LiesIn};
+    ghost use Rattle.scq_band.specs.Buffers.{LiesIn, opening_of};
 
-    ghost holds = { λ key. Shown (LiesIn B.contents B.IsSameBuffer key.given.value.items) key.setup };
+    ghost holds = { λ key. Shown (LiesIn B.contents B.IsSameBuffer key.given.value.items) (opening_of B.contents key.given.value.items) key.setup };
 
     ghost first = { λ key. first_view key.setup };
 }
