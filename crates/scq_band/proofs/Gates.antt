@@ -50,16 +50,17 @@ awake_less gone k calls (suc n) low none =
 
 module _ {S : Type 0} (Lies : ℕ → S → List ℕ → Type 0) where
   -- the gate may be read
-  pub looks : (c : Setup) (slots id : ℕ) (me : Me S Known)
-      → Allows (Shown Lies c) slots id me 0 (λ n. n) (λ n later. (later.0 ≡ looked n me.0) × (later.1 ≡ me.1))
-  looks c slots id me s sh many here small =
+  pub looks : {opening : List (List ℕ)} (c : Setup) (slots id : ℕ) (me : Me S Known)
+      → Allows (Shown Lies opening c) slots id me 0 (λ n. n) (λ n later. (later.0 ≡ looked n me.0) × (later.1 ≡ me.1))
+  looks {opening} c slots id me s sh many here small =
       let same : slice_set s.words 0 (slice_index s.words 0) ≡ s.words = set-get_or s.words 0 0 in
-      let shown : Shown Lies c (stepped s 0 (slice_index s.words 0) id me.1 (looked (slice_index s.words 0) me.0) keeps) =
-      subst (λ (ws : List ℕ). Shown Lies c (record { words = ws; homes = s.homes; views = slice_set s.views id (looked (slice_index s.words 0) me.0) }))
+      let shown : Shown Lies opening c (stepped s 0 (slice_index s.words 0) id me.1 (looked (slice_index s.words 0) me.0) keeps) =
+      subst (λ (ws : List ℕ). Shown Lies opening c (record { words = ws; homes = s.homes; views = slice_set s.views id (looked (slice_index s.words 0) me.0) }))
       (sym same)
       (record {
         scene = sh.scene;
         reachable = sh.reachable;
+        begun = sh.begun;
         words = sh.words;
         awake_seats = sh.awake_seats;
         room = sh.room;
@@ -101,9 +102,9 @@ module _ {S : Type 0} (Lies : ℕ → S → List ℕ → Type 0) where
       )
 
   -- a seat that has not retired may retire
-  pub retires : (c : Setup) (slots id : ℕ) (me : Me S Known) → IsAlone me.0 → (my me.0).retired ≡ None
-      → Allows (Shown Lies c) slots id me 0 (λ n. (n + (2 ^ 64 - 1)) % 2 ^ 64) (λ n later. (later.0 ≡ retired_at me.0) × (later.1 ≡ me.1))
-  retires c slots id me alone stays s sh many here small =
+  pub retires : {opening : List (List ℕ)} (c : Setup) (slots id : ℕ) (me : Me S Known) → IsAlone me.0 → (my me.0).retired ≡ None
+      → Allows (Shown Lies opening c) slots id me 0 (λ n. (n + (2 ^ 64 - 1)) % 2 ^ 64) (λ n later. (later.0 ≡ retired_at me.0) × (later.1 ≡ me.1))
+  retires {opening} c slots id me alone stays s sh many here small =
       let z = sh.scene in
       let x = my me.0 in
       let k = x.number in
@@ -118,9 +119,10 @@ module _ {S : Type 0} (Lies : ℕ → S → List ℕ → Type 0) where
       let few : 0 < length s.words = omega (arith, sh.words.count) in
       let gate : slice_index (slice_set s.words 0 (word - 1)) 0 ≡ word - 1 = get_or-set_same s.words 0 (word - 1) 0 few in
       let zz : Scene = record z { gone = updated z.gone k (Some calls) } in
-      let shown : Shown Lies c (stepped s 0 (word - 1) id me.1 (retired_at me.0) keeps) = record {
+      let shown : Shown Lies opening c (stepped s 0 (word - 1) id me.1 (retired_at me.0) keeps) = record {
         scene = zz;
         reachable = sh.reachable;
+        begun = sh.begun;
         words = gate_shown c s.words z.state.cells (word - 1) sh.words;
         awake_seats = gate ∙ omega (arith, less, is);
         room = sh.room;
@@ -156,7 +158,7 @@ module _ {S : Type 0} (Lies : ℕ → S → List ℕ → Type 0) where
             ];
         stored = sh.stored;
       } in
-      (retired_at me.0, keeps, tt, subst (λ (v : ℕ). Shown Lies c (stepped s 0 v id me.1 (retired_at me.0) keeps)) (sym wrote) shown, (refl, refl))
+      (retired_at me.0, keeps, tt, subst (λ (v : ℕ). Shown Lies opening c (stepped s 0 v id me.1 (retired_at me.0) keeps)) (sym wrote) shown, (refl, refl))
     where
       rings_of : (v : Known) → IsAlone v → (v.seats ≡ []) ⊎ (length v.numbers ≡ c.rings)
           → ((retired_at v).seats ≡ []) ⊎ (length (retired_at v).numbers ≡ c.rings)

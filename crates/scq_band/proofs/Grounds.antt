@@ -1,5 +1,5 @@
 -- What the laws of the machine give for each enabled turn of a seat, in the form that the rule's steps use.
-use Rattle.std.proofs.Common.{◌≡◌, ℕ, ◌<◌, false, List, refl, sym, ◌∙◌, ap, subst}
+use Rattle.std.proofs.Common.{◌≡◌, ℕ, ◌<◌, ◌≤◌, false, List, refl, sym, ◌∙◌, ap, subst, inl, inr, arith}
 use Rattle.std.specs.Prelude.{Some}
 use Rattle.std.specs.Option.{option_map}
 use Rattle.scq_word.specs.declared.setup.Setup.{Setup}
@@ -20,6 +20,8 @@ use Rattle.scq_core.proofs.Indices.{has_indices}
 use Rattle.scq_core.proofs.Readiness.{ring_low, ready_turn}
 use Rattle.scq_law.specs.Later as later
 use Rattle.scq_law.proofs.Places.HandLaws.{one_hand}
+use Rattle.scq_law.specs.Hands.{times, Home, hand_of, in_slot, IsHome, IsSeen, OneHand}
+use Rattle.std.proofs.lemmas.Bool.{cases_eq}
 use Rattle.scq_law.proofs.Places.PlaceLaws.{places_once}
 use Rattle.scq_law.proofs.Places.EntryLaws.{takes_phase, stands_at_turn}
 use Rattle.scq_law.proofs.Places.LaterLaws.{finished_stays}
@@ -93,6 +95,24 @@ finds_of c m hand (AtD8 r h from) busy stands = tt
 finds_of c m hand (AtD9 r h from to) busy stands = busy.2
 finds_of c m hand (AtD10 r h leaving) busy stands = tt
 
+-- an index stands at most once in a hand
+each_once : (c : Setup) (m : Machine) (k i : ℕ) → OneHand c m → times i (m.part k).hand ≤ 1
+each_once c m k i one =
+    elim (cases_eq (times i (m.part k).hand) 0) [
+      | inl none ↦ omega (arith, none)
+      | inr some ↦
+          let low = one.in_hands i k (omega (arith, some)) in
+          let home = one.home i low in
+          let same = one.alone i (hand_of k) home.0 low (omega (arith, some)) (seen_of home.0 home.1) in
+          let here : IsHome c m i (hand_of k) = subst (λ (h : Home). IsHome c m i h) (sym same) home.1 in
+          let single = here.1 in
+          omega (arith, single)
+    ]
+  where
+    seen_of : (h : Home) → IsHome c m i h → IsSeen c m i h
+    seen_of (hand_of j) is = let one_there = is.1 in omega (arith, one_there)
+    seen_of (in_slot r s) is = (is.1, is.2)
+
 pub ground : (c : Setup) (m : Machine) (k : ℕ) (s : Step) (t : Phase) → IsReachable c m → k < c.seats → turn_of c (m.part k) s ≡ Some t → Ground c m k t
 ground c m k s t reach low enabled =
     let calm = steady c m reach in
@@ -120,6 +140,7 @@ ground c m k s t reach low enabled =
           (later.by_step {n' = moved c m k t} k s (later.at_once) low (ap (option_map (moved c m k)) enabled)) is;
       reach = next;
       fits = hand_fits c (moved c m k t) k next;
+      once = λ i. each_once c (moved c m k t) k i (one_hand c (moved c m k t) next);
     }
 
 -- the locations of a ring of the setup

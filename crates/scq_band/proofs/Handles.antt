@@ -68,16 +68,16 @@ module _ {S : Type 0} (Lies : ℕ → S → List ℕ → Type 0) where
       }
 
   -- a slot whose value was left where it was
-  has_else : (homes : List (maybe.Option S)) (i j : ℕ) (x : maybe.Option S) (w : List ℕ) → j ≢ i → Has Lies homes j w → Has Lies (slice_set homes i x) j w
+  pub has_else : (homes : List (maybe.Option S)) (i j : ℕ) (x : maybe.Option S) (w : List ℕ) → j ≢ i → Has Lies homes j w → Has Lies (slice_set homes i x) j w
   has_else homes i j x w apart has =
       record { value = has.value; here = set_else homes i j x apart ∙ has.here; lies = has.lies }
 
   -- two homes of one index are one
-  in_hand_alone : (c : Setup) (m : Machine) (i k j : ℕ) → OneHand c m → i < n_of c.order → 0 < times i (m.part k).hand → 0 < times i (m.part j).hand → j ≢ k → ⊥
+  pub in_hand_alone : (c : Setup) (m : Machine) (i k j : ℕ) → OneHand c m → i < n_of c.order → 0 < times i (m.part k).hand → 0 < times i (m.part j).hand → j ≢ k → ⊥
   in_hand_alone c m i k j one small here there apart =
       let same : hand_of j ≡ hand_of k = one.alone i (hand_of j) (hand_of k) small there here in apart (cc)
 
-  hand_or_entry : (c : Setup) (m : Machine) (i k r s : ℕ) → OneHand c m → i < n_of c.order → 0 < times i (m.part k).hand → s < ring_slots c
+  pub hand_or_entry : (c : Setup) (m : Machine) (i k r s : ℕ) → OneHand c m → i < n_of c.order → 0 < times i (m.part k).hand → s < ring_slots c
       → index_in (ring_slots c) (m.cells.entries.word r s) ≡ i → ⊥
   hand_or_entry c m i k r s one small here low is =
       let same : hand_of k ≡ in_slot r s = one.alone i (hand_of k) (in_slot r s) small here (low, is) in absurd (cc)

@@ -50,6 +50,7 @@ pub record Ground (c : Setup) (m : Machine) (k : ℕ) (t : Phase) : Type 0 where
   pub stay : FinishedStay c m (moved c m k t)
   pub reach : IsReachable c (moved c m k t)
   pub fits : length ((moved c m k t).part k).hand ≤ n_of c.order
+  pub once : (i : ℕ) → times i ((moved c m k t).part k).hand ≤ 1
 
 -- a ticket is above what is known of its counter
 draws_above : (c : Setup) (m : Machine) (t : Phase) (numbers : List Numbers) → AllTrue c m numbers → Draws t (read m.cells (location_of c t)) numbers
@@ -71,10 +72,9 @@ rings_told c t x y v (inl none) = inl (ap (map (turned_member c t x y)) none)
 rings_told c t x y v (inr all) = inr (learned_length c t x v.numbers ∙ all)
 
 -- the hand of the one seat of the view that a turn makes
-hand_of_made : (c : Setup) (t : Phase) (x : ℕ) (y : List ℕ) (v : Known) (m : Member) → v.seats ≡ m ∷ [] → length (after c t x y m.part).hand ≤ n_of c.order
-    → length (my (made c t x y v)).part.hand ≤ n_of c.order
-hand_of_made c t x y v m alone fits =
-    subst (λ (xs : List Member). length (my_of (map (turned_member c t x y) xs)).part.hand ≤ n_of c.order) (sym alone) fits
+hand_of_made : (P : List ℕ → Type 0) (c : Setup) (t : Phase) (x : ℕ) (y : List ℕ) (v : Known) (m : Member) → v.seats ≡ m ∷ [] → P (after c t x y m.part).hand
+    → P (my (made c t x y v)).part.hand
+hand_of_made P c t x y v m alone holds = subst (λ (xs : List Member). P (my_of (map (turned_member c t x y) xs)).part.hand) (sym alone) holds
 
 module _ {S : Type 0} (Lies : ℕ → S → List ℕ → Type 0) where
   -- the seats of another view, after a turn
@@ -119,13 +119,14 @@ module _ {S : Type 0} (Lies : ℕ → S → List ℕ → Type 0) where
   )
 
   -- the rule after the turn
-  moved_shown : (c : Setup) (s : State S Known) (id : ℕ) (me : Me S Known) (t : Phase) (may : MayTurn c me.0 t) (sh : Shown Lies c s)
+  moved_shown : (opening : List (List ℕ)) (c : Setup) (s : State S Known) (id : ℕ) (me : Me S Known) (t : Phase) (may : MayTurn c me.0 t)
+      (sh : Shown Lies opening c s)
       → get_elem? s.views id ≡ some me.0
       → IsMember Lies c sh.scene s.homes id 0 may.member → Ground c sh.scene.state may.member.number t
       → (h : Handles Lies c sh.scene.state s.homes me.1 may.member.number t)
-      → Shown Lies c (stepped s (at c (location_of c t)) (writes c t (read sh.scene.state.cells (location_of c t))) id me.1
+      → Shown Lies opening c (stepped s (at c (location_of c t)) (writes c t (read sh.scene.state.cells (location_of c t))) id me.1
       (made c t (read sh.scene.state.cells (location_of c t)) (beside sh.scene.state.cells (location_of c t)) me.0) h.act)
-  moved_shown c s id me t may sh here x_is g h =
+  moved_shown opening c s id me t may sh here x_is g h =
       let m = sh.scene.state in
       let k = may.member.number in
       let l = location_of c t in
@@ -133,6 +134,7 @@ module _ {S : Type 0} (Lies : ℕ → S → List ℕ → Type 0) where
       record {
         scene = record sh.scene { state = moved c m k t };
         reachable = g.reach;
+        begun = sh.begun;
         words = written_shown c s.words m.cells l (writes c t (read m.cells l)) (stores t (read m.cells l) (beside m.cells l)) g.location sh.words;
         awake_seats = gate ∙ sh.awake_seats;
         room = h.room ∙ sh.room;
@@ -168,13 +170,14 @@ module _ {S : Type 0} (Lies : ℕ → S → List ℕ → Type 0) where
       }
 
   -- a turn may be made, whatever the table is when its word changes
-  pub moves : (c : Setup) (slots id : ℕ) (me : Me S Known) (t : Phase) (i : ℕ) (f : ℕ → ℕ) (may : MayTurn c me.0 t) → Carries Lies t me.1
+  pub moves : {opening : List (List ℕ)} (c : Setup) (slots id : ℕ) (me : Me S Known) (t : Phase) (i : ℕ) (f : ℕ → ℕ) (may : MayTurn c me.0 t)
+      → Carries Lies t me.1
       → i ≡ at c (location_of c t)
       → ((m : Machine) → IsReachable c m → Busy c m.cells may.member.part.hand t
       → f (read m.cells (location_of c t)) ≡ writes c t (read m.cells (location_of c t)))
       → ((m : Machine) (k : ℕ) (s : Step) → IsReachable c m → k < c.seats → turn_of c (m.part k) s ≡ Some t → Ground c m k t)
-      → Allows (Shown Lies c) slots id me i f (Turned Lies c t me)
-  moves c slots id me t i f may carries word does grounds s sh many here small =
+      → Allows (Shown Lies opening c) slots id me i f (Turned Lies c t me)
+  moves {opening} c slots id me t i f may carries word does grounds s sh many here small =
       let m = sh.scene.state in
       let k = may.member.number in
       let l = location_of c t in
@@ -188,9 +191,10 @@ module _ {S : Type 0} (Lies : ℕ → S → List ℕ → Type 0) where
       let busy : Busy c m.cells may.member.part.hand t = subst (λ (p : Part). Busy c m.cells p.hand t) x_is.part g.busy in
       let wrote : f (slice_index s.words i) ≡ writes c t (read m.cells l) = ap f found ∙ does m sh.reachable busy in
       let w = made c t (read m.cells l) (beside m.cells l) me.0 in
-      let shown : Shown Lies c (stepped s i (f (slice_index s.words i)) id me.1 w h.act) =
-      subst (λ (v : ℕ). Shown Lies c (stepped s i v id me.1 w h.act)) (sym wrote)
-      (subst (λ (j : ℕ). Shown Lies c (stepped s j (writes c t (read m.cells l)) id me.1 w h.act)) (sym word) (moved_shown c s id me t may sh here x_is g h)) in
+      let shown : Shown Lies opening c (stepped s i (f (slice_index s.words i)) id me.1 w h.act) =
+      subst (λ (v : ℕ). Shown Lies opening c (stepped s i v id me.1 w h.act)) (sym wrote)
+      (subst (λ (j : ℕ). Shown Lies opening c (stepped s j (writes c t (read m.cells l)) id me.1 w h.act)) (sym word)
+      (moved_shown opening c s id me t may sh here x_is g h)) in
       let tells : Turned Lies c t me (read m.cells l) (w, carried_after me.1 h.act) = record {
         beside = beside m.cells l;
         view = refl;
@@ -199,8 +203,13 @@ module _ {S : Type 0} (Lies : ℕ → S → List ℕ → Type 0) where
         ready = g.ready;
         draws = draws_above c m t me.0.numbers mine.numbers;
         fits =
-            hand_of_made c t (read m.cells l) (beside m.cells l) me.0 may.member may.alone
+            hand_of_made (λ h. length h ≤ n_of c.order) c t (read m.cells l) (beside m.cells l) me.0 may.member may.alone
             (subst (λ (p : Part). length (after c t (read m.cells l) (beside m.cells l) p).hand ≤ n_of c.order) x_is.part
             (subst (λ (p : Part). length p.hand ≤ n_of c.order) (updated_here m.part k _) g.fits));
+        once =
+            λ i.
+            hand_of_made (λ h. times i h ≤ 1) c t (read m.cells l) (beside m.cells l) me.0 may.member may.alone
+            (subst (λ (p : Part). times i (after c t (read m.cells l) (beside m.cells l) p).hand ≤ 1) x_is.part
+            (subst (λ (p : Part). times i p.hand ≤ 1) (updated_here m.part k _) (g.once i)));
       } in
       (w, h.act, h.valid, shown, subst (λ n. Turned Lies c t me n (w, carried_after me.1 h.act)) (sym found) tells)

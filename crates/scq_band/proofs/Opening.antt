@@ -56,7 +56,7 @@ members_length : (n : ℕ) → length (first_members n) ≡ n
 members_length zero = refl
 members_length (suc n) = ap suc (members_length n)
 
-numbers_length : (c : Setup) (n : ℕ) → length (first_numbers c n) ≡ n
+pub numbers_length : (c : Setup) (n : ℕ) → length (first_numbers c n) ≡ n
 numbers_length c zero = refl
 numbers_length c (suc n) = length-append (first_numbers c n) (first_numbers_of c n ∷ []) ∙ (let rest = numbers_length c n in omega arith)
 
@@ -109,13 +109,14 @@ module _ {S : Type 0} (Lies : ℕ → S → List ℕ → Type 0) where
   pub opens : (c : Setup) (ws : List ℕ) (xs : List S) (contents : List (List ℕ)) → length ws ≡ word_count c
       → ((i : ℕ) → i < word_count c → slice_index ws i ≡ first_word c i)
       → length xs ≡ n_of c.order → length contents ≡ n_of c.order → ((j : ℕ) → j < n_of c.order → Has Lies (map some xs) j (slice_index_or contents j []))
-      → Shown Lies c (opening ws xs (first_view c))
+      → Shown Lies contents c (opening ws xs (first_view c))
   opens c ws xs contents count each many all has =
       let z : Scene = record { state = start_of c contents; gone = λ k. None; owner = λ k. (0, k) } in
       let gate : slice_index ws 0 ≡ c.seats = each 0 (omega arith) ∙ gate_first c in
       record {
         scene = z;
         reachable = at_start contents all;
+        begun = refl;
         words = record { count = count; shows = λ l here. each (at c l) (at_low c l here) ∙ first_word-at c l here ∙ same_words c contents l };
         awake_seats = gate ∙ sym (awake_all c.seats);
         room = length_map xs ∙ many;

@@ -51,18 +51,19 @@ joined_true c m xs ys one other r z e =
       | inr h ↦ rw h.4 (larger_true c m r h.0 h.1 (one r h.0 h.2) (other r h.1 h.3))
     ]
 
-joined_length : (xs ys : List Numbers) → length (joined xs ys) ≡ length xs
+pub joined_length : (xs ys : List Numbers) → length (joined xs ys) ≡ length xs
 joined_length [] ys = refl
 joined_length (x ∷ xs) [] = refl
 joined_length (x ∷ xs) (y ∷ ys) = ap suc (joined_length xs ys)
 
 module _ {S : Type 0} (Lies : ℕ → S → List ℕ → Type 0) where
   -- a note may be copied off any view
-  pub copies : (c : Setup) (id : ℕ) (v : Known) → Splits (Shown Lies c) id v v (note_of v)
+  pub copies : {opening : List (List ℕ)} (c : Setup) (id : ℕ) (v : Known) → Splits (Shown Lies opening c) id v v (note_of v)
   copies c id v s sh here =
       record {
         scene = sh.scene;
         reachable = sh.reachable;
+        begun = sh.begun;
         words = sh.words;
         awake_seats = sh.awake_seats;
         room = sh.room;
@@ -125,7 +126,8 @@ module _ {S : Type 0} (Lies : ℕ → S → List ℕ → Type 0) where
       )
 
   -- a view in which a seat stands may take in another
-  pub joins : (c : Setup) (id : ℕ) (v : Known) (other : ℕ) (w : Known) → (v.seats ≡ [] → ⊥) → Joins (Shown Lies c) id v other w (both_of v w) nobody
+  pub joins : {opening : List (List ℕ)} (c : Setup) (id : ℕ) (v : Known) (other : ℕ) (w : Known) → (v.seats ≡ [] → ⊥)
+      → Joins (Shown Lies opening c) id v other w (both_of v w) nobody
   joins c id v other w full s sh here apart there =
       let z = sh.scene in
       let zz = joined_scene id other (length v.seats) z in
@@ -134,6 +136,7 @@ module _ {S : Type 0} (Lies : ℕ → S → List ℕ → Type 0) where
       record {
         scene = zz;
         reachable = sh.reachable;
+        begun = sh.begun;
         words = sh.words;
         awake_seats = sh.awake_seats;
         room = sh.room;
@@ -195,7 +198,8 @@ module _ {S : Type 0} (Lies : ℕ → S → List ℕ → Type 0) where
       )
 
   -- the first seat of a view may be split off
-  pub peels : (c : Setup) (id : ℕ) (v : Known) (x : Member) (xs : List Member) → v.seats ≡ x ∷ xs → Splits (Shown Lies c) id v (others_of v) (first_of v)
+  pub peels : {opening : List (List ℕ)} (c : Setup) (id : ℕ) (v : Known) (x : Member) (xs : List Member) → v.seats ≡ x ∷ xs
+      → Splits (Shown Lies opening c) id v (others_of v) (first_of v)
   peels c id v x xs seats s sh here =
       let z = sh.scene in
       let mine = sh.views id v here in
@@ -234,6 +238,7 @@ module _ {S : Type 0} (Lies : ℕ → S → List ℕ → Type 0) where
       record {
         scene = zz;
         reachable = sh.reachable;
+        begun = sh.begun;
         words = sh.words;
         awake_seats = sh.awake_seats;
         room = sh.room;

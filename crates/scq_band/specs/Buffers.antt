@@ -1,12 +1,16 @@
 -- When the value of a slot is the buffer that was given for its index, with certain bytes.
-use Rattle.std.specs.Prelude.{◌≡◌, ℕ, List, Some, slice_get}
+use Rattle.std.specs.Prelude.{◌≡◌, ℕ, List, Some, map, slice_get}
 use Rattle.scq_band.specs.declared.slot.Slot.{Slot}
 
--- the buffer in it is the same as the one that stood there when the table was made, and has the bytes w
-pub record LiesIn {B : Type 0} (contents : B → List ℕ) (IsSame : B → B → Type 0) (given : List (Slot B)) (i : ℕ) (slot : Slot B) (w : List ℕ) : Type 0 where
+-- the buffer in it is the same as the one that was given for index i, and has the bytes w
+pub record LiesIn {B : Type 0} (contents : B → List ℕ) (IsSame : B → B → Type 0) (given : List B) (i : ℕ) (slot : Slot B) (w : List ℕ) : Type 0 where
   pub first : B
   pub buffer : B
-  pub was : slice_get given i ≡ Some (record { buffer = Some first })
+  pub was : slice_get given i ≡ Some first
   pub laid : slot.buffer ≡ Some buffer
   pub same : IsSame first buffer
   pub bytes : contents buffer ≡ w
+
+-- the bytes of the buffers that were given, in order: the contents of the opening puts
+abbrev pub opening_of : {B : Type 0} → (B → List ℕ) → List B → List (List ℕ)
+opening_of contents given = map contents given

@@ -7,3 +7,8 @@ pub mod Buffers
 pub mod Steps
 pub mod Seats
 pub mod Rings
+pub mod Standing
+pub mod Kept
+pub mod Homes
+pub mod Closing
+pub mod Making

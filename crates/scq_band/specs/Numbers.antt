@@ -1,6 +1,6 @@
 -- The three numbers that a view knows of each ring: a finished place, what Tail is above, and what Head has reached. Each is
 -- true for good once it is true, and only rises.
-use Rattle.std.specs.Prelude.{◌≡◌, ℕ, zero, suc, ◌+◌, ◌-◌, ◌<◌, ◌≤◌, ◌⊎◌, ◌==◌, if◌then◌else◌, max, List, [], ◌∷◌, ◌++◌, slice_index_or, slice_set}
+use Rattle.std.specs.Prelude.{◌≡◌, ℕ, zero, suc, ◌+◌, ◌-◌, ◌<◌, ◌≤◌, ◌⊎◌, ◌==◌, if◌then◌else◌, max, Option, Some, None, List, [], ◌∷◌, ◌++◌, slice_index_or, slice_set}
 use Rattle.scq_word.specs.declared.setup.Setup.{Setup}
 use Rattle.scq_word.specs.Sizes.{n_of}
 use Rattle.scq_core.specs.Machine.{Machine}
@@ -43,6 +43,11 @@ sees place x = record x { seen = max x.seen place }
 -- Head is at or past a number
 abbrev pub passes : ℕ → Numbers → Numbers
 passes head x = record x { head = max x.head head }
+
+-- the last ticket that was drawn from Head, if any, is behind it
+abbrev pub drew : Option ℕ → Numbers → Numbers
+drew None x = x
+drew (Some ticket) x = passes (ticket + 1) x
 
 -- nothing finished that was known was left: Head is past it
 abbrev pub empties : Numbers → Numbers

@@ -70,9 +70,11 @@ module _ {S : Type 0} (Lies : ℕ → S → List ℕ → Type 0) where
     pub numbers : (r : ℕ) (x : Numbers) → slice_get v.numbers r ≡ Some x → IsTrue c z.state r x
     pub last_gate : (n : ℕ) → v.gate ≡ Some n → word ≤ n
 
-  pub record Shown (c : Setup) (s : State S Known) : Type 0 where
+  -- `opening` has the contents of the opening puts
+  pub record Shown (opening : List (List ℕ)) (c : Setup) (s : State S Known) : Type 0 where
     pub scene : Scene
     pub reachable : IsReachable c scene.state
+    pub begun : scene.state.opening ≡ opening
     pub words : ShowsWords c s.words scene.state.cells
     pub awake_seats : slice_index s.words 0 ≡ awake scene.gone c.seats
     pub room : length s.homes ≡ n_of c.order

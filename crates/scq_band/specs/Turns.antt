@@ -10,6 +10,7 @@ use Rattle.scq_core.specs.declared.step.Step.{Step}
 use Rattle.scq_core.specs.Table.{ring_slots, zero_level, reset_level, turn_of, after}
 use Rattle.scq_core.specs.Turn.{IsReady}
 use Rattle.scq_core.specs.Laws.{IsAbove}
+use Rattle.scq_law.specs.Hands.{times}
 use Rattle.scq_band.specs.declared.numbers.Numbers.{Numbers}
 use Rattle.scq_band.specs.Known.{Member, Known}
 use Rattle.scq_band.specs.Steps.{my}
@@ -92,3 +93,5 @@ module _ {S : Type 0} (Lies : ℕ → S → List ℕ → Type 0) where
     pub draws : Draws t x me.0.numbers
     -- its hand has room for no more than all indices
     pub fits : length (my later.0).part.hand ≤ n_of c.order
+    -- and has each of them once
+    pub once : (i : ℕ) → times i (my later.0).part.hand ≤ 1

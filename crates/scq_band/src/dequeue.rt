@@ -1,6 +1,7 @@
 //! A dequeue, step by step.
 ghost use Rattle.std.specs.Prelude.{◌≡◌, ℕ, ◌+◌, ◌/◌, ◌^◌, ◌<◌, ◌≤◌, IfSome, IfNone, IfOk, IfErr, IsTrue, IsFalse, Some, None, Err, slice_get, length, true, false};
 ghost use Rattle.scq_word.specs.Sizes.{n_of, slots_of};
+ghost use Rattle.scq_law.specs.Hands.{times};
 ghost use Rattle.scq_word.specs.Tickets.{cycle_of};
 ghost use Rattle.scq_word.specs.Entries.{IsIndexOrMark};
 ghost use Rattle.scq_word.specs.declared.setup.Setup.{Setup};
@@ -54,6 +55,7 @@ fn takes<B: Buffer>(words: &Words<B>, token: &mut Token<B>, ring: Ring, ticket: 
         (λ index. HasGot (LiesIn B.contents B.IsSameBuffer words.now.key.given.value.items) ring.number ticket index token.old.me token.new.me) }
     ensures small { IfSome result (λ index. index < n_of words.now.key.setup.order) }
     ensures fits { IfSome result (λ index. length (my token.new.me.0).part.hand ≤ n_of words.now.key.setup.order) }
+    ensures once { IfSome result (λ index. (i : ℕ) → times i (my token.new.me.0).part.hand ≤ 1) }
     ensures given_up { IfNone result (token.new.me.0 ≡ goes_to (AtD6 ring.number ticket) token.old.me.0) }
     ensures slots { IfNone result (token.new.me.1 ≡ token.old.me.1) }
 {
@@ -154,12 +156,14 @@ pub fn dequeue<B: Buffer>(
         (λ r. HasGotAfter (LiesIn B.contents B.IsSameBuffer words.now.key.given.value.items) ring.number r.0 r.1 token.old.me token.new.me) }
     ensures small { IfOk result (λ r. (r.0 < words.now.key.setup.limit) × (r.1 < n_of words.now.key.setup.order)) }
     ensures fits { IfOk result (λ r. length (my token.new.me.0).part.hand ≤ n_of words.now.key.setup.order) }
+    ensures once { IfOk result (λ r. (i : ℕ) → times i (my token.new.me.0).part.hand ≤ 1) }
     ensures above { IfOk result (λ r. (known : Numbers) → slice_get token.old.me.0.numbers ring.number ≡ Some known → known.head ≤ r.0) }
     ensures nothing { result ≡ Err (Without.Nothing None) → token.new.me.0 ≡ nothing_at ring.number token.old.me.0 }
     ensures nothing_left { (ticket : ℕ) → result ≡ Err (Without.Nothing (Some ticket)) → (token.new.me.0 ≡ nothing_at ring.number (drew_head ring.number ticket token.old.me.0))
         × (ticket < words.now.key.setup.limit) }
     ensures spent { (ticket : ℕ) → result ≡ Err (Without.Spent ticket)
         → (token.new.me.0 ≡ drawn_spent ring.number ticket token.old.me.0) × (words.now.key.setup.limit ≤ ticket) }
+    ensures short { (ticket : ℕ) → result ≡ Err (Without.Spent ticket) → ticket + 1 < 2 ^ 64 }
     ensures kept { IfErr result (λ e. token.new.me.1 ≡ token.old.me.1) }
 {
     if load(words, token, ring.threshold()) < ZERO_LEVEL {

@@ -6,17 +6,30 @@
 //! no function makes or closes the table yet, so there is no call to make from outside.
 #![tactic(auto)]
 
+mod band;
+mod calls;
+mod closed;
+mod closing;
 mod dequeue;
 mod enqueue;
 mod gate;
+mod hand;
+mod lending;
+mod making;
 mod notes;
 mod numbers;
 mod ring;
 mod rule;
+mod seat;
 mod slot;
+mod splitting;
 mod steps;
 mod view;
 
+pub use band::Band;
+pub use calls::{DeqRefusal, Spent};
+pub use closing::BandClosed;
 pub use numbers::Numbers;
+pub use seat::Seat;
 pub use slot::Slot;
 pub use view::View;

@@ -1,3 +1,9 @@
+//! What is known of the rings.
+ghost use Rattle.std.specs.Prelude.{◌≡◌, ◌+◌, ◌<◌, ◌^◌, max, IfSome};
+ghost use Rattle.scq_band.specs.Numbers.{first_numbers_of, finishes, sees, passes, drew, empties, larger};
+
+use scq_word::Setup;
+
 /// What a seat knows of one ring. Each number only rises, and stays true.
 ///
 /// `finished` is the highest place at which it knows that a put has ended, `seen` the highest place at which
@@ -7,4 +13,94 @@ pub struct Numbers {
     pub finished: u64,
     pub seen: u64,
     pub head: u64,
+}
+
+// The larger of two.
+#[inline(always)]
+fn higher(a: u64, b: u64) -> u64
+    ensures { result ≡ max a b }
+{
+    if a < b { b } else { a }
+}
+
+impl Numbers {
+    /// What is known before the first call.
+    pub(crate) fn first(setup: &Setup, ring: u32) -> Numbers
+        ensures { result ≡ first_numbers_of setup.now ring }
+    {
+        let slots = u64::from(setup.shape().slots());
+        let opening = if ring == 0 {
+            u64::from(setup.shape().n())
+        } else {
+            0
+        };
+        Numbers {
+            finished: slots + opening - 1,
+            seen: slots + opening - 1,
+            head: slots,
+        }
+    }
+
+    /// A put of the seat's own has ended at a place.
+    #[inline(always)]
+    pub(crate) fn finishes(self, place: u64) -> Numbers
+        ensures { result ≡ finishes place self }
+    {
+        Numbers {
+            finished: higher(self.finished, place),
+            seen: higher(self.seen, place),
+            head: self.head,
+        }
+    }
+
+    /// The seat has got an index at a place.
+    #[inline(always)]
+    pub(crate) fn sees(self, place: u64) -> Numbers
+        ensures { result ≡ sees place self }
+    {
+        Numbers {
+            seen: higher(self.seen, place),
+            ..self
+        }
+    }
+
+    /// A ticket was drawn from Head.
+    #[inline(always)]
+    pub(crate) fn draws(self, ticket: u64) -> Numbers
+        requires { ticket + 1 < 2 ^ 64 }
+        ensures { result ≡ passes (ticket + 1) self }
+    {
+        Numbers {
+            head: higher(self.head, ticket + 1),
+            ..self
+        }
+    }
+
+    /// Nothing that is known to be finished was left, after the last ticket that was drawn, if any.
+    #[inline(always)]
+    pub(crate) fn finds_none(self, drawn: Option<u64>) -> Numbers
+        requires finished { self.finished < 2 ^ 60 }
+        requires drawn { IfSome drawn (λ ticket. ticket + 1 < 2 ^ 64) }
+        ensures { result ≡ empties (drew drawn self) }
+    {
+        let past = match drawn {
+            None => self,
+            Some(ticket) => self.draws(ticket),
+        };
+        Numbers {
+            head: higher(past.head, past.finished + 1),
+            ..past
+        }
+    }
+
+    /// The larger of each number.
+    pub(crate) fn larger(self, other: Numbers) -> Numbers
+        ensures { result ≡ larger self other }
+    {
+        Numbers {
+            finished: higher(self.finished, other.finished),
+            seen: higher(self.seen, other.seen),
+            head: higher(self.head, other.head),
+        }
+    }
 }

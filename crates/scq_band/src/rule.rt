@@ -5,10 +5,19 @@ use scq_word::{Buffer, Setup};
 use std::marker::Brand;
 use std::snapshot::Snapshot;
 
-/// What the table is told once: its setup, and the slots that it was made with.
+/// What the table is told once: its setup, and the buffers that it was given, that of index i at i.
 pub struct Key<B> {
     pub setup: Setup,
-    pub given: Snapshot<Vec<Slot<B>>>,
+    pub given: Snapshot<Vec<B>>,
+}
+
+impl<B> Drop for Key<B> {
+    fn drop(self) {
+        let Key {
+            setup: _,
+            given: _given,
+        } = self;
+    }
 }
 
 /// The words and the views show a state of the machine that steps reach.
@@ -16,9 +25,9 @@ pub struct Rule {}
 
 impl<B: Buffer> TableRule<Slot<B>, View, Key<B>> for Rule {
     ghost use Rattle.scq_band.specs.Shown.{Shown, first_view};
-    ghost use Rattle.scq_band.specs.Buffers.{LiesIn};
+    ghost use Rattle.scq_band.specs.Buffers.{LiesIn, opening_of};
 
-    ghost holds = { λ key. Shown (LiesIn B.contents B.IsSameBuffer key.given.value.items) key.setup };
+    ghost holds = { λ key. Shown (LiesIn B.contents B.IsSameBuffer key.given.value.items) (opening_of B.contents key.given.value.items) key.setup };
 
     ghost first = { λ key. first_view key.setup };
 }

@@ -119,6 +119,20 @@ returns-then-ticket-ring-clause-spent g c ticket is =
     c.draw-ticket.ensures.turned in
     rw (← same) (now, (omega arith))
 
+pub returns-then-ticket-ring-clause-short : goal.returns-then-ticket-ring-clause-short
+returns-then-ticket-ring-clause-short g c ticket is =
+    let k = c.args.words.now.key.setup in
+    let r = c.args.ring.number in
+    let Lie = LiesIn g.B.Buffer.contents g.B.Buffer.IsSameBuffer c.args.words.now.key.given.value.items in
+    let w = c.draws.token.me.0 in
+    let l = least_of (my_phase w) in
+    let here = c.draws.invariant.3 in
+    let turn = ap (drawing (ring_of_word k c.head.result) (front_index c.draws.token.me.1) (front_bytes g.B.Buffer.contents c.draws.token.me.1))
+    (ap my_phase here) in
+    let same : c.draw-ticket.result ≡ ticket = cc in
+    let ready = (turned_as Lie k _ (AtD2 r l) c.draws.token.me c.draw-ticket.new.token.me c.draw-ticket.result turn c.draw-ticket.ensures.turned).ready in
+    rw (← same) ready
+
 pub returns-in-Some-clause-got : goal.returns-in-Some-clause-got
 returns-in-Some-clause-got g c =
     let k = c.args.words.now.key.setup in

@@ -1,0 +1,207 @@
+-- A seat whose first slot has its buffer again may bring it home, and goes on with the others; what is out grows less by as many
+-- as were lifted.
+use Rattle.std.proofs.Common.{◌≡◌, ◌≢◌, ◌⊎◌, ℕ, zero, suc, ◌+◌, ◌<◌, ◌≤◌, Bool, true, false, ◌==◌, List, [], ◌∷◌, ◌++◌, map, length, refl, sym, ◌∙◌, ap, subst, inl, inr, arith, append_assoc, append-nil, eq-eqb}
+use Rattle.std.specs.Prelude.{Option, Some, None, is_none, if◌then◌else◌, sum_by, IsTrue}
+use Rattle.std.specs.List.{Contains}
+use Rattle.std.specs.List.Sorted.{IsPermutation}
+use Rattle.std.proofs.lemmas.List.Sums.{sum_by-cons}
+use Rattle.std.proofs.lemmas.List.Sorted.{IsPermutation-sym, Contains-permutation, sum_by-IsPermutation}
+use Rattle.atomic_table.specs.Table.{Me, rest}
+use Rattle.scq_law.specs.Hands.{times}
+use Rattle.scq_band.specs.declared.slot.Slot.{Slot}
+use Rattle.scq_band.specs.Buffers.{LiesIn}
+use Rattle.scq_band.specs.Known.{Known}
+use Rattle.scq_band.specs.Steps.{my, front_index}
+use Rattle.scq_band.specs.Standing.{IsAsGiven}
+use Rattle.scq_band.specs.Kept.{in_order, AllGiven}
+use Rattle.scq_band.specs.Closing.{indices_of}
+use Rattle.scq_band.specs.Homes.{at_home, MayBring, times_lifted, IsLaidBack, AllOutGiven, MayLeave}
+
+-- how often an index stands, as a sum
+times-sum : {A : Type 0} (i : ℕ) (xs : List (ℕ × A)) → times i (indices_of xs) ≡ sum_by (λ (o : ℕ × A). if o.0 == i then 1 else 0) xs
+times-sum i [] = refl
+times-sum {A} i (x ∷ xs) =
+    let rest = times-sum i xs in
+    let cons = sum_by-cons (λ (o : ℕ × A). if o.0 == i then 1 else 0) x xs in
+    omega arith
+
+times-permuted : {A : Type 0} (i : ℕ) (xs ys : List (ℕ × A)) → IsPermutation xs ys → times i (indices_of ys) ≡ times i (indices_of xs)
+times-permuted {A} i xs ys perm =
+    times-sum i ys ∙ sum_by-IsPermutation (λ (o : ℕ × A). if o.0 == i then 1 else 0) xs ys perm ∙ sym (times-sum i xs)
+
+pub times-append : (i : ℕ) (xs ys : List ℕ) → times i (xs ++ ys) ≡ times i xs + times i ys
+times-append i [] ys = omega arith
+times-append i (x ∷ xs) ys = let rest = times-append i xs ys in omega arith
+
+-- the last of two lists that are one, and what stands before it
+last_same : (xs ys : List ℕ) (a b : ℕ) → xs ++ a ∷ [] ≡ ys ++ b ∷ [] → (xs ≡ ys) × (a ≡ b)
+last_same [] [] a b e = let same : a ≡ b = cc in (refl, same)
+last_same [] (y ∷ []) a b e = absurd (cc)
+last_same [] (y ∷ (z ∷ ys)) a b e = absurd (cc)
+last_same (x ∷ []) [] a b e = absurd (cc)
+last_same (x ∷ (z ∷ xs)) [] a b e = absurd (cc)
+last_same (x ∷ xs) (y ∷ ys) a b e =
+    let first : x ≡ y = cc in
+    let behind : xs ++ a ∷ [] ≡ ys ++ b ∷ [] = cc in
+    let rest = last_same xs ys a b behind in
+    (ap (λ (h : ℕ). h ∷ xs) first ∙ ap (λ (l : List ℕ). y ∷ l) rest.0, rest.1)
+
+pub contains_behind : {A : Type 0} (x y : A) (xs : List A) → Contains xs y → Contains (x ∷ xs) y
+contains_behind x y xs has = (suc has.0, (let low = has.1 in omega arith), has.2)
+
+-- where no slot is left
+pub home_none : (v : Known) → v.seats ≡ my v ∷ [] → at_home [] v ≡ v
+home_none v alone =
+    ap (λ (h : List ℕ). record v { seats = record (my v) { home = h } ∷ [] }) (append-nil (my v).home)
+    ∙ ap (λ ys. record v { seats = ys }) (sym alone)
+
+module _ {B : Type 0} where
+  -- the slot that stands first is that of the last index
+  pub first_slot : (slots : List (ℕ × Slot B)) (others : List ℕ) (i : ℕ) → others ++ i ∷ [] ≡ in_order slots
+      → (slot : Slot B) × (slots ≡ (i, slot) ∷ rest slots) × (others ≡ in_order (rest slots))
+  first_slot [] [] i e = absurd (cc)
+  first_slot [] (x ∷ others) i e = absurd (cc)
+  first_slot (x ∷ xs) others i e =
+      let both = last_same others (in_order xs) i x.0 e in
+      (x.1, ap (λ (j : ℕ). (j, x.1) ∷ xs) (sym both.1), both.0)
+
+  -- a seat whose first slot is lifted has its buffer among those that are out
+  pub is_out : (IsSame : B → B → Type 0) (buffers : List B) (me : Me (Slot B) Known) (others : List ℕ) (i : ℕ) (out : List (ℕ × B)) (slot : Slot B)
+      → MayLeave IsSame buffers me (others ++ i ∷ []) out → me.1 ≡ (i, slot) ∷ rest me.1 → IsTrue (is_none slot.buffer) → 0 < times i (indices_of out)
+  is_out IsSame buffers me others i out slot may is lifted =
+      let some = may.lifted i in
+      let front : times_lifted i me.1 ≡ times_lifted i ((i, slot) ∷ rest me.1) = ap (times_lifted i) is in
+      let one : times_lifted i ((i, slot) ∷ rest me.1) ≡ 1 + times_lifted i (rest me.1) = rw (lifted, eq-eqb i i refl) refl in
+      omega arith
+
+  -- after the first slot has gone home
+  pub record Leaves (contents : B → List ℕ) (IsSame : B → B → Type 0) (buffers : List B) (me : Me (Slot B) Known) (others : List ℕ) (i : ℕ)
+      (out : List (ℕ × B)) (later : List (ℕ × Slot B)) (left : List (ℕ × B)) : Type 0 where
+    pub bring : MayBring (LiesIn contents IsSame buffers) (me.0, later)
+    pub may : MayLeave IsSame buffers (at_home (front_index later ∷ []) me.0, rest later) others left
+    pub out_less : (j : ℕ) → times j (indices_of left) + times_lifted j me.1 ≡ times j (indices_of out) + times_lifted j (rest later)
+    pub home : at_home (indices_of (rest later)) (at_home (front_index later ∷ []) me.0) ≡ at_home (indices_of me.1) me.0
+
+  module _ (contents : B → List ℕ) (IsSame : B → B → Type 0) (buffers : List B) (v : Known) (others : List ℕ) (i : ℕ) (b : B) (xs : List (ℕ × Slot B)) where
+    -- the slot has its buffer, and those that are left are these
+    leaves_with : (slot : Slot B) (out left : List (ℕ × B)) → MayLeave IsSame buffers (v, (i, slot) ∷ xs) (others ++ i ∷ []) out → IsAsGiven IsSame buffers i b
+        → AllOutGiven IsSame buffers left
+        → ((j : ℕ) → times j (indices_of left) + times_lifted j ((i, slot) ∷ xs) ≡ times j (indices_of out) + times_lifted j xs)
+        → Leaves contents IsSame buffers (v, (i, slot) ∷ xs) others i out ((i, record { buffer = Some b }) ∷ xs) left
+    leaves_with slot out left may its given less =
+        let rests = last_same others (in_order xs) i i may.order in
+        let split = λ (j : ℕ). times-append j others (i ∷ []) in
+        record {
+          bring =
+              record {
+                seats = may.seats;
+                held =
+                    let more = may.held i in
+                    let one : times i (i ∷ []) ≡ 1 = rw (eq-eqb i i refl) refl in
+                    let both = split i in
+                    omega arith;
+                content = contents b;
+                front = (refl, record { first = its.first; buffer = b; was = its.was; laid = refl; same = its.same; bytes = refl });
+              };
+          may =
+              record {
+                seats = refl;
+                order = rests.0;
+                held = λ j. let more = may.held j in let both = split j in omega arith;
+                given = may.given.1;
+                out_given = given;
+                lifted =
+                    λ j.
+                    let was = may.lifted j in
+                    let now = less j in
+                    omega arith;
+              };
+          out_less = less;
+          home = ap (λ (h : List ℕ). record v { seats = record (my v) { home = h } ∷ [] }) (append_assoc (my v).home (i ∷ []) (indices_of xs));
+        }
+
+    left_given : (out left : List (ℕ × B)) → IsPermutation out ((i, b) ∷ left) → AllOutGiven IsSame buffers out
+        → IsAsGiven IsSame buffers i b × AllOutGiven IsSame buffers left
+    left_given out left perm given =
+        let back = IsPermutation-sym out ((i, b) ∷ left) perm in (
+          given (i, b) (Contains-permutation ((i, b) ∷ left) out (i, b) back (0, omega arith, refl)),
+          λ o has. given o (Contains-permutation ((i, b) ∷ left) out o back (contains_behind (i, b) o left has)),
+        )
+
+  -- the first slot goes home
+  pub leaves : (contents : B → List ℕ) (IsSame : B → B → Type 0) (buffers : List B) (me : Me (Slot B) Known) (others : List ℕ) (i : ℕ) (out : List (ℕ × B))
+      (later : List (ℕ × Slot B)) (left : List (ℕ × B)) → MayLeave IsSame buffers me (others ++ i ∷ []) out → IsLaidBack i me.1 out later left
+      → Leaves contents IsSame buffers me others i out later left
+  leaves contents IsSame buffers me others i out later left may l =
+      subst (λ (ys : List (ℕ × Slot B)). Leaves contents IsSame buffers me others i out ys left) (sym l.laid)
+      (elim l.was [
+        | inl was ↦
+            let full : Slot B = record { buffer = Some l.buffer } in
+            let mine = subst (λ (ys : List (ℕ × Slot B)). MayLeave IsSame buffers (me.0, ys) (others ++ i ∷ []) out) was.0 may in
+            let there = leaves_with contents IsSame buffers me.0 others i l.buffer l.others full out left mine (mine.given.0 l.buffer refl)
+            (subst (λ (o : List (ℕ × B)). AllOutGiven IsSame buffers o) (sym was.1) mine.out_given)
+            (λ j. let same : times j (indices_of left) ≡ times j (indices_of out) = ap (λ (o : List (ℕ × B)). times j (indices_of o)) was.1 in omega arith) in
+            subst (λ (ys : List (ℕ × Slot B)). Leaves contents IsSame buffers (me.0, ys) others i out ((i, full) ∷ l.others) left) (sym was.0) there
+        | inr was ↦
+            let full : Slot B = record { buffer = Some l.buffer } in
+            let empty : Slot B = record { buffer = None } in
+            let mine = subst (λ (ys : List (ℕ × Slot B)). MayLeave IsSame buffers (me.0, ys) (others ++ i ∷ []) out) was.0 may in
+            let both = left_given contents IsSame buffers me.0 others i l.buffer l.others out left was.1 mine.out_given in
+            let there = leaves_with contents IsSame buffers me.0 others i l.buffer l.others empty out left mine both.0 both.1
+            (λ j. let same = times-permuted j out ((i, l.buffer) ∷ left) was.1 in omega arith) in
+            subst (λ (ys : List (ℕ × Slot B)). Leaves contents IsSame buffers (me.0, ys) others i out ((i, full) ∷ l.others) left) (sym was.0) there
+      ])
+
+  pub in_order_none : (slots : List (ℕ × Slot B)) → [] ≡ in_order slots → slots ≡ []
+  in_order_none [] e = refl
+  in_order_none (x ∷ xs) e = absurd (never (in_order xs) x.0 e)
+    where
+      never : (l : List ℕ) (a : ℕ) → [] ≡ l ++ a ∷ [] → ⊥
+      never [] a e = cc
+      never (y ∷ ys) a e = cc
+
+  -- a slot is emptied, and has its buffer again
+  pub laid_back : (i : ℕ) (slots mid later : List (ℕ × Slot B)) (result : Slot B) (b : B) (out left : List (ℕ × B)) → slots ≡ (i, result) ∷ rest slots
+      → mid ≡ (i, record { buffer = None }) ∷ rest slots → later ≡ (i, record { buffer = Some b }) ∷ rest mid
+      → ((result.buffer ≡ Some b) × (left ≡ out)) ⊎ ((result.buffer ≡ None) × IsPermutation out ((i, b) ∷ left)) → IsLaidBack i slots out later left
+  laid_back i slots mid later result b out left at_first emptied filled was =
+      record {
+        buffer = b;
+        others = rest slots;
+        laid = filled ∙ ap (λ (ys : List (ℕ × Slot B)). (i, record { buffer = Some b }) ∷ rest ys) emptied;
+        was =
+            elim was [
+              | inl full ↦ inl (at_first ∙ ap (λ (o : Option B). (i, record { buffer = o }) ∷ rest slots) full.0, full.1)
+              | inr empty ↦ inr (at_first ∙ ap (λ (o : Option B). (i, record { buffer = o }) ∷ rest slots) empty.0, empty.1)
+            ];
+      }
+
+  -- the seat after its first slot has gone home
+  pub record GoneOn (IsSame : B → B → Type 0) (buffers : List B) (me : Me (Slot B) Known) (others : List ℕ) (out : List (ℕ × B)) (next : Me (Slot B) Known)
+      (left : List (ℕ × B)) : Type 0 where
+    pub may : MayLeave IsSame buffers next others left
+    pub home : at_home (indices_of next.1) next.0 ≡ at_home (indices_of me.1) me.0
+    pub less : (j : ℕ) → times j (indices_of left) + times_lifted j me.1 ≡ times j (indices_of out) + times_lifted j next.1
+
+  pub goes_on : (contents : B → List ℕ) (IsSame : B → B → Type 0) (buffers : List B) (me laid next : Me (Slot B) Known) (others : List ℕ) (i : ℕ)
+      (out left : List (ℕ × B)) → Leaves contents IsSame buffers me others i out laid.1 left → laid.0 ≡ me.0
+      → next ≡ (at_home (front_index laid.1 ∷ []) laid.0, rest laid.1) → GoneOn IsSame buffers me others out next left
+  goes_on contents IsSame buffers me laid next others i out left l view gone =
+      let here : GoneOn IsSame buffers me others out (at_home (front_index laid.1 ∷ []) me.0, rest laid.1) left =
+      record { may = l.may; home = l.home; less = l.out_less } in
+      let there : (at_home (front_index laid.1 ∷ []) me.0, rest laid.1) ≡ next =
+      ap (λ (v : Known). (at_home (front_index laid.1 ∷ []) v, rest laid.1)) (sym view) ∙ sym gone in
+      subst (λ (n : Me (Slot B) Known). GoneOn IsSame buffers me others out n left) there here
+
+  -- no index is left
+  pub none_left : (IsSame : B → B → Type 0) (buffers : List B) (me : Me (Slot B) Known) (indices : List ℕ) (out : List (ℕ × B))
+      → MayLeave IsSame buffers me indices out → length indices ≡ 0 → me ≡ (at_home (indices_of me.1) me.0, [])
+  none_left IsSame buffers me indices out may none =
+      let empty : me.1 ≡ [] = in_order_none me.1 (sym (no_items indices none) ∙ may.order) in
+      let same : at_home [] me.0 ≡ me.0 = home_none me.0 may.seats in
+      let view : at_home (indices_of me.1) me.0 ≡ me.0 = ap (λ (ys : List (ℕ × Slot B)). at_home (indices_of ys) me.0) empty ∙ same in
+      ap (λ (v : Known). (v, me.1)) (sym view) ∙ ap (λ (ys : List (ℕ × Slot B)). (at_home (indices_of me.1) me.0, ys)) empty
+    where
+      no_items : (l : List ℕ) → length l ≡ 0 → l ≡ []
+      no_items [] e = refl
+      no_items (x ∷ xs) e = absurd (omega arith)

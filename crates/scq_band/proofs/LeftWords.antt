@@ -1,0 +1,64 @@
+-- The indices that are left in a ring are counted in its words, slot by slot.
+use Rattle.std.proofs.Common.{◌≡◌, ℕ, suc, ◌+◌, ◌*◌, ◌<◌, Bool, true, false, List, length, refl, sym, ◌∙◌, ap, subst, inl, inr, arith}
+use Rattle.std.specs.Prelude.{Option, Some, None, is_some, if◌then◌else◌, slice_index}
+use Rattle.std.proofs.lemmas.Bool.{cases_Bool}
+use mathlib.Core.Option.{some}
+use lib.ListN.{get_elem?}
+use Rattle.scq_word.specs.declared.setup.Setup.{Setup}
+use Rattle.scq_word.specs.Words.{is_none_in}
+use Rattle.scq_word.specs.Entries.{index_of, IsIndexOrMark}
+use Rattle.scq_core.specs.Machine.{Cells, entry_of}
+use Rattle.scq_core.specs.Table.{ring_slots}
+use Rattle.scq_core.proofs.Indices.{HasIndices}
+use Rattle.scq_law.specs.Kept.{has_index, left_in}
+use Rattle.scq_law.specs.Sums.{sum_to}
+use Rattle.scq_law.proofs.Balance.Sums.{sum_same}
+use Rattle.scq_band.specs.Layout.{ring_words, at}
+use Rattle.scq_band.specs.Shown.{ShowsWords}
+use Rattle.scq_band.proofs.Layouts.{at_low}
+use Rattle.scq_band.proofs.Unloading.{read_word}
+
+-- whether an index stands in the word of a slot
+abbrev pub counted : Setup → List ℕ → ℕ → ℕ → ℕ
+counted c words r s = has_index c (slice_index words (at c (entry_of r s)))
+
+-- where the word of a slot stands
+pub word_of_slot : (c : Setup) (r s slots : ℕ) → slots ≡ ring_slots c → 4 + r * (3 + slots) + s ≡ at c (entry_of r s)
+unfolding at
+word_of_slot c r s slots is =
+    let all : r * (3 + slots) ≡ r * ring_words c = ap (λ k. r * k) (let each : 3 + slots ≡ ring_words c = omega (arith, is) in each) in
+    omega (arith, all)
+
+-- the word that is read has an index or the mark
+pub word_has : (c : Setup) (words : List ℕ) (r s i x : ℕ) → i ≡ at c (entry_of r s) → get_elem? words i ≡ some x → r < c.rings → s < ring_slots c
+    → (m : Cells) × ShowsWords c words m × HasIndices c m → IsIndexOrMark c.order x
+word_has c words r s i x at_slot here ring low shows =
+    let is : x ≡ shows.0.entries.word r s =
+    sym (read_word words i x here) ∙ ap (slice_index words) at_slot ∙ shows.1.shows (entry_of r s) (ring, low) in
+    subst (λ (w : ℕ). IsIndexOrMark c.order w) (sym is) (shows.2.entries r s)
+
+-- what one word counts
+counts_one : (c : Setup) (x : ℕ) (o : Option ℕ) → o ≡ index_of c.order x → has_index c x ≡ (if is_some o then 1 else 0)
+counts_one c x o is =
+    rw is (elim (cases_Bool (is_none_in (ring_slots c) x)) [ inl t ↦ rw t refl | inr f ↦ rw f refl ])
+
+pub counts_next : (c : Setup) (words : List ℕ) (r s i x left later : ℕ) (o : Option ℕ) → i ≡ at c (entry_of r s) → get_elem? words i ≡ some x
+    → o ≡ index_of c.order x → left ≡ sum_to (counted c words r) s → later ≡ left + (if is_some o then 1 else 0)
+    → later ≡ sum_to (counted c words r) (s + 1)
+counts_next c words r s i x left later o at_slot here is before now =
+    let word : slice_index words (at c (entry_of r s)) ≡ x = ap (slice_index words) (sym at_slot) ∙ read_word words i x here in
+    let one : counted c words r s ≡ (if is_some o then 1 else 0) = ap (has_index c) word ∙ counts_one c x o is in
+    let sums : later ≡ sum_to (counted c words r) (suc s) = omega (arith, before, now, one) in
+    sums ∙ ap (sum_to (counted c words r)) (let next : suc s ≡ s + 1 = omega arith in next)
+
+-- what all words of a ring count
+pub counts_all : (c : Setup) (words : List ℕ) (m : Cells) (r left : ℕ) → ShowsWords c words m → r < c.rings
+    → left ≡ sum_to (counted c words r) (ring_slots c) → left ≡ left_in c m r
+counts_all c words m r left shows ring is =
+    is ∙ sum_same (λ s. has_index c (m.entries.word r s)) (counted c words r) (ring_slots c) (λ s low. ap (has_index c) (shows.shows (entry_of r s) (ring, low)))
+
+-- and it is one of the table's
+pub slot_word_low : (c : Setup) (words : List ℕ) (r s i n : ℕ) → i ≡ at c (entry_of r s) → r < c.rings → s < ring_slots c → n ≡ length words
+    → (m : Cells) × ShowsWords c words m × HasIndices c m → i < n
+slot_word_low c words r s i n at_slot ring low many shows =
+    let below = at_low c (entry_of r s) (ring, low) in omega (arith, at_slot, below, many, shows.1.count)

@@ -1,0 +1,210 @@
+-- What a seat keeps is what it needs to go home, and what contracts see of it is in the view that it leaves.
+use Rattle.std.proofs.Common.{◌≡◌, ◌≢◌, ◌⊎◌, ℕ, zero, suc, ◌+◌, ◌<◌, ◌≤◌, Bool, true, false, ◌==◌, List, [], ◌∷◌, ◌++◌, map, length, refl, sym, ◌∙◌, ap, subst, inl, inr, arith, eq-eqb, ne_eqb, append-nil}
+use Rattle.std.specs.Prelude.{Option, Some, None, is_none, if◌then◌else◌, slice_get, sum_by, max}
+use Rattle.std.specs.List.{Contains}
+use Rattle.std.proofs.lemmas.Bool.{cases_eq, cases_Bool}
+use Rattle.atomic_table.specs.Seated.{TableId}
+use Rattle.atomic_table.specs.Table.{Me}
+use Rattle.scq_law.specs.Hands.{times}
+use Rattle.scq_band.specs.declared.numbers.Numbers.{Numbers}
+use Rattle.scq_band.specs.declared.rule.Key.{Key}
+use Rattle.scq_band.specs.declared.slot.Slot.{Slot}
+use Rattle.scq_band.specs.Numbers.{joined, larger}
+use Rattle.scq_band.specs.Known.{Member, Known, both_of}
+use Rattle.scq_band.specs.Steps.{my}
+use Rattle.scq_band.specs.Standing.{Standing, Identity, IsAsGiven}
+use Rattle.scq_band.specs.Kept.{in_order, buffer_in, hand_of, standing_of, identity_of, AllGiven, IsKept}
+use Rattle.scq_band.specs.Closing.{indices_of, lifted_of}
+use Rattle.scq_band.specs.Homes.{at_home, times_lifted, AllOutGiven, MayLeave, IsMemberOf, AreMembersOf, HeadsKnown, HasAll}
+use Rattle.scq_band.proofs.GoingHome.{times-append, contains_behind}
+use Rattle.scq_band.proofs.Views.{joined_length}
+
+-- an index that stands in a list is one of it
+pub contains_times : (xs : List ℕ) (i : ℕ) → 0 < times i xs → Contains xs i
+contains_times [] i some = absurd (omega arith)
+contains_times (x ∷ xs) i some =
+    elim (cases_eq x i) [
+      | inl same ↦ (0, omega arith, same)
+      | inr other ↦
+          let seen = rw (ne_eqb x i other) at some in
+          contains_behind x i xs (contains_times xs i (omega (arith, seen)))
+    ]
+
+-- a number under a test, where both sides are written otherwise
+same_if : (b : Bool) (n l m k : ℕ) → l ≡ (if b then n else 0) → m ≡ l → k ≡ n → m ≡ (if b then k else 0)
+same_if true n l m k e left right = left ∙ e ∙ sym right
+same_if false n l m k e left right = left ∙ e
+
+module _ {B : Type 0} where
+  -- the order of the slots changes nothing of how often an index stands
+  times-in_order : (slots : List (ℕ × Slot B)) (i : ℕ) → times i (in_order slots) ≡ times i (indices_of slots)
+  times-in_order [] i = refl
+  times-in_order (x ∷ xs) i =
+      let rest = times-in_order xs i in
+      let split = times-append i (in_order xs) (x.0 ∷ []) in
+      omega arith
+
+  -- the indices of a hand that contracts see
+  indices-hand_of : (slots : List (ℕ × Slot B)) (hand : List ℕ) → indices_of (hand_of slots hand) ≡ hand
+  indices-hand_of slots [] = refl
+  indices-hand_of slots (i ∷ hand) = ap (λ (l : List ℕ). i ∷ l) (indices-hand_of slots hand)
+
+  -- how often an index of a hand is lifted
+  lifted-hand_of : (slots : List (ℕ × Slot B)) (hand : List ℕ) (i : ℕ)
+      → times i (lifted_of (hand_of slots hand)) ≡ (if is_none (buffer_in slots i) then times i hand else 0)
+  lifted-hand_of slots [] i = elim (cases_Bool (is_none (buffer_in slots i))) [ inl t ↦ rw t refl | inr f ↦ rw f refl ]
+  lifted-hand_of slots (j ∷ hand) i =
+      let rest = lifted-hand_of slots hand i in
+      elim (cases_eq j i) [
+        | inl same ↦
+            elim (cases_Bool (is_none (buffer_in slots i))) [
+              | inl t ↦ let now = rw t at rest in rw (same, t) (omega (arith, now))
+              | inr f ↦ let now = rw f at rest in rw (same, f) now
+            ]
+        | inr other ↦
+            elim (cases_Bool (is_none (buffer_in slots j))) [
+              | inl t ↦
+                  rw (t, ne_eqb j i other) (same_if (is_none (buffer_in slots i)) (times i hand) (times i (lifted_of (hand_of slots hand)))
+                  (0 + times i (lifted_of (hand_of slots hand))) (0 + times i hand) rest (omega arith) (omega arith))
+              | inr f ↦
+                  rw (f, ne_eqb j i other) (same_if (is_none (buffer_in slots i)) (times i hand) (times i (lifted_of (hand_of slots hand)))
+                  (times i (lifted_of (hand_of slots hand))) (0 + times i hand) rest refl (omega arith))
+            ]
+      ]
+
+  lifted_few : (slots : List (ℕ × Slot B)) (i : ℕ) → times_lifted i slots ≤ times i (indices_of slots)
+  lifted_few [] i = omega arith
+  lifted_few (x ∷ xs) i =
+      let rest = lifted_few xs i in
+      elim (cases_Bool (is_none x.1.buffer)) [ inl t ↦ rw t (omega (arith, rest)) | inr f ↦ rw f (omega (arith, rest)) ]
+
+  -- how often an index is lifted, where each stands once
+  lifted_slots : (slots : List (ℕ × Slot B)) (i : ℕ) → times i (indices_of slots) ≤ 1
+      → times_lifted i slots ≡ (if is_none (buffer_in slots i) then times i (indices_of slots) else 0)
+  lifted_slots [] i once = refl
+  lifted_slots (x ∷ xs) i once =
+      elim (cases_eq x.0 i) [
+        | inl same ↦
+            let few = lifted_few xs i in
+            let here : times i (indices_of (x ∷ xs)) ≡ 1 + times i (indices_of xs) = rw (eq-eqb x.0 i same) refl in
+            elim (cases_Bool (is_none x.1.buffer)) [
+              | inl t ↦ rw (eq-eqb x.0 i same, t) (omega (arith, few, here, once))
+              | inr f ↦ rw (eq-eqb x.0 i same, f) (omega (arith, few, here, once))
+            ]
+        | inr other ↦
+            let there : times i (indices_of (x ∷ xs)) ≡ times i (indices_of xs) = rw (ne_eqb x.0 i other) (omega arith) in
+            let rest = lifted_slots xs i (omega (arith, there, once)) in
+            elim (cases_Bool (is_none x.1.buffer)) [
+              | inl t ↦
+                  rw (ne_eqb x.0 i other, t) (same_if (is_none (buffer_in xs i)) (times i (indices_of xs)) (times_lifted i xs) (0 + times_lifted i xs)
+                  (0 + times i (indices_of xs)) rest (omega arith) (omega arith))
+              | inr f ↦
+                  rw (ne_eqb x.0 i other, f) (same_if (is_none (buffer_in xs i)) (times i (indices_of xs)) (times_lifted i xs) (0 + times_lifted i xs)
+                  (0 + times i (indices_of xs)) rest (omega arith) (omega arith))
+            ]
+      ]
+
+  module _ (IsSame : B → B → Type 0) (key : Key B) (me : Me (Slot B) Known) (indices : List ℕ) (room : ℕ) (known : List Numbers) (spent : Option ℕ)
+      (kept : IsKept IsSame key me indices room known spent) where
+    -- the indices of the slots are those of the hand
+    times-hand : (i : ℕ) → times i (indices_of me.1) ≡ times i (my me.0).part.hand
+    times-hand i = sym (times-in_order me.1 i) ∙ ap (times i) (sym kept.order) ∙ kept.same i
+
+    pub lifted_as : (i : ℕ) → times i (lifted_of (hand_of me.1 (my me.0).part.hand)) ≡ times_lifted i me.1
+    lifted_as i =
+        let hand = times-hand i in
+        let order : times i indices ≡ times i (indices_of me.1) = ap (times i) kept.order ∙ times-in_order me.1 i in
+        let once : times i (indices_of me.1) ≤ 1 = let one = kept.once i in omega (arith, order, one) in
+        lifted-hand_of me.1 (my me.0).part.hand i ∙ ap (λ (n : ℕ). if is_none (buffer_in me.1 i) then n else 0) (sym hand)
+        ∙ sym (lifted_slots me.1 i once)
+
+    -- the seat may go home
+    pub may_leave : (buffers : List B) (out : List (ℕ × B)) → buffers ≡ key.given.value.items → AllOutGiven IsSame buffers out
+        → ((i : ℕ) → times i (lifted_of (hand_of me.1 (my me.0).part.hand)) ≤ times i (indices_of out))
+        → MayLeave IsSame buffers me indices out
+    may_leave buffers out are given lifted =
+        record {
+          seats = kept.alone.seats;
+          order = kept.order;
+          held = λ i. let same = kept.same i in omega (arith, same);
+          given = subst (λ (bs : List B). AllGiven IsSame bs me.1) (sym are) kept.given;
+          out_given = given;
+          lifted = λ i. let same = lifted_as i in let few = lifted i in omega (arith, same, few);
+        }
+
+    -- what it has become
+    pub is_member : (table : TableId) → IsMemberOf (standing_of table key me) (my (at_home (indices_of me.1) me.0))
+    is_member table =
+        record {
+          number = refl;
+          calls = refl;
+          hand = sym (indices-hand_of me.1 (my me.0).part.hand);
+          spent = refl;
+          retired = refl;
+          idle = kept.idle;
+          brought =
+              λ i some.
+              let hand = times-hand i in
+              let there = contains_times (indices_of me.1) i (omega (arith, hand, some)) in
+              subst (λ (h : List ℕ). Contains (h ++ indices_of me.1) i) (sym kept.alone.out) there;
+        }
+
+-- a number of the first list, and one of the second, are no larger than the joined one
+joined_first : (xs ys : List Numbers) (r : ℕ) (x : Numbers) → slice_get xs r ≡ Some x → (y : Numbers) × (slice_get (joined xs ys) r ≡ Some y) × (x.head ≤ y.head)
+joined_first [] ys r x e = absurd (cc)
+joined_first (a ∷ xs) [] r x e = (x, e, omega arith)
+joined_first (a ∷ xs) (b ∷ ys) zero x e =
+    let same : a ≡ x = cc in
+    let head : a.head ≡ x.head = ap (λ (n : Numbers). n.head) same in
+    (larger a b, refl, omega (arith, head))
+joined_first (a ∷ xs) (b ∷ ys) (suc r) x e = joined_first xs ys r x e
+
+joined_second : (xs ys : List Numbers) (r : ℕ) (x : Numbers) → length ys ≤ length xs → slice_get ys r ≡ Some x
+    → (y : Numbers) × (slice_get (joined xs ys) r ≡ Some y) × (x.head ≤ y.head)
+joined_second xs [] r x fits e = absurd (cc)
+joined_second [] (b ∷ ys) r x fits e = absurd (omega arith)
+joined_second (a ∷ xs) (b ∷ ys) zero x fits e =
+    let same : b ≡ x = cc in
+    let head : b.head ≡ x.head = ap (λ (n : Numbers). n.head) same in
+    (larger a b, refl, omega (arith, head))
+joined_second (a ∷ xs) (b ∷ ys) (suc r) x fits e = joined_second xs ys r x (omega arith) e
+
+module _ {B : Type 0} where
+  heads_joined : (ss : List (Standing B)) (xs ys : List Numbers) → HeadsKnown ss xs → HeadsKnown ss (joined xs ys)
+  heads_joined [] xs ys known = tt
+  heads_joined (s ∷ ss) xs ys known = (
+    λ r x e.
+        let one = known.0 r x e in
+        let both = joined_first xs ys r one.0 one.1 in
+        let up = one.2 in
+        let more = both.2 in
+        (both.0, both.1, omega (arith, up, more)),
+    heads_joined ss xs ys known.1,
+  )
+
+  -- the first seat alone
+  pub has_one : (rings : ℕ) (s : Standing B) (v : Known) → v.seats ≡ my v ∷ [] → IsMemberOf s (my v) → v.numbers ≡ s.numbers → length s.numbers ≡ rings
+      → HasAll rings (s ∷ []) v
+  has_one rings s v alone member numbers count =
+      record {
+        members = subst (λ (xs : List Member). AreMembersOf (s ∷ []) xs) (sym alone) (member, tt);
+        heads = (λ r x e. (x, ap (λ (ns : List Numbers). slice_get ns r) numbers ∙ e, omega arith), tt);
+        rings_known = ap length numbers ∙ count;
+      }
+
+  -- one more seat
+  pub has_more : (rings : ℕ) (s : Standing B) (ss : List (Standing B)) (v w : Known) → HasAll rings ss v → w.seats ≡ my w ∷ [] → IsMemberOf s (my w)
+      → w.numbers ≡ s.numbers → length s.numbers ≡ rings → HasAll rings (s ∷ ss) (both_of v w)
+  has_more rings s ss v w all alone member numbers count =
+      let known = all.rings_known in
+      let mine : length w.numbers ≡ length s.numbers = ap length numbers in
+      record {
+        members = subst (λ (xs : List Member). AreMembersOf (s ∷ ss) (xs ++ v.seats)) (sym alone) (member, all.members);
+        heads = (
+          λ r x e.
+              joined_second v.numbers w.numbers r x (omega (arith, known, mine, count))
+              (ap (λ (ns : List Numbers). slice_get ns r) numbers ∙ e),
+          heads_joined ss v.numbers w.numbers all.heads,
+        );
+        rings_known = joined_length v.numbers w.numbers ∙ known;
+      }

@@ -1,0 +1,124 @@
+-- What a band is made with: its first seats, and the slots of its buffers.
+use Rattle.std.proofs.Common.{◌≡◌, ℕ, zero, suc, ◌+◌, ◌-◌, ◌*◌, ◌^◌, ◌<◌, ◌≤◌, true, false, ◌==◌, List, [], ◌∷◌, ◌++◌, map, length, refl, sym, ◌∙◌, ap, subst, inl, inr, arith, eq-eqb, ne_eqb, ◌⊎◌}
+use Rattle.std.proofs.lemmas.List.{length-append}
+use Rattle.std.specs.Prelude.{Some, None, Option, All, if◌then◌else◌, slice_get, slice_index, slice_index_or, vec_capacity}
+use Rattle.std.proofs.lemmas.Bool.{cases_eq}
+use mathlib.Core.Option.{some}
+use mathlib.Core.Option as maybe
+use lib.ListN.{get_elem?}
+use Rattle.scq_word.specs.declared.setup.Setup.{Setup}
+use Rattle.scq_word.specs.Sizes.{n_of}
+use Rattle.scq_core.specs.Machine.{tail_of}
+use Rattle.scq_core.specs.Table.{ring_slots}
+use Rattle.scq_law.specs.Hands.{times}
+use Rattle.scq_band.specs.declared.numbers.Numbers.{Numbers}
+use Rattle.scq_band.specs.declared.slot.Slot.{Slot}
+use Rattle.scq_band.specs.declared.rule.Key.{Key}
+use Rattle.scq_band.specs.declared.making.Room.{Room}
+use Rattle.scq_band.specs.Numbers.{known_of, first_place, first_numbers_of, first_numbers}
+use Rattle.scq_band.specs.Layout.{at}
+use Rattle.scq_band.specs.Known.{first_of}
+use Rattle.scq_band.specs.Buffers.{LiesIn}
+use Rattle.scq_band.specs.Shown.{Has}
+use Rattle.scq_band.specs.Kept.{IsKept, AreSmall}
+use Rattle.scq_band.specs.Making.{laid, IsRoom, first_below}
+use Rattle.scq_band.proofs.Opening.{numbers_length}
+
+-- the places known at the start are below every limit
+small_place : (c : Setup) (r : ℕ) → first_place c r < 2 ^ 60
+small_place c r =
+    let low = c.limit_in_range in
+    elim (cases_eq r 0) [
+      | inl zeroth ↦ rw (eq-eqb r 0 zeroth) (omega (arith, low))
+      | inr other ↦ rw (ne_eqb r 0 other) (omega (arith, low))
+    ]
+
+known_snoc : (xs : List Numbers) (a : Numbers) (r : ℕ) → ((known_of (xs ++ a ∷ []) r ≡ known_of xs r) ⊎ (known_of (xs ++ a ∷ []) r ≡ a))
+known_snoc [] a zero = inr refl
+known_snoc [] a (suc r) = inl refl
+known_snoc (x ∷ xs) a zero = inl refl
+known_snoc (x ∷ xs) a (suc r) = known_snoc xs a r
+
+pub first_small : (c : Setup) (n : ℕ) → AreSmall (first_numbers c n)
+first_small c zero r = omega arith
+first_small c (suc n) r =
+    elim (known_snoc (first_numbers c n) (first_numbers_of c n) r) [
+      | inl old ↦ rw old (first_small c n r)
+      | inr new ↦ rw new (small_place c n)
+    ]
+
+module _ {B : Type 0} (IsSame : B → B → Type 0) where
+  -- a seat that was just split off
+  pub first_kept : (key : Key B) (k : ℕ) (room : Room) → IsRoom key.setup room
+      → IsKept IsSame key (first_of (first_below key.setup (suc k)), []) room.hand.items (vec_capacity room.hand) room.numbers.items None
+  first_kept key k room is =
+      record {
+        alone = record { seats = refl; out = refl };
+        idle = refl;
+        order = is.empty;
+        same = λ i. ap (λ l. times i l) is.empty;
+        count = ap length is.empty;
+        once = λ i. rw is.empty (omega arith);
+        low = λ i there. absurd (let none = ap (λ l. times i l) is.empty in omega (arith, none, there));
+        holds_all = is.holds_all;
+        numbers = is.known;
+        rings = ap length is.known ∙ numbers_length key.setup key.setup.rings;
+        small = λ r. rw is.known (first_small key.setup key.setup.rings r);
+        spent = refl;
+        given = tt;
+      }
+
+module _ {B : Type 0} (contents : B → List ℕ) where
+  record Stands (bs : List B) (j : ℕ) : Type 0 where
+    pub buffer : B
+    pub got : slice_get bs j ≡ Some buffer
+    pub home : get_elem? (map some (map laid bs)) j ≡ some (some (laid buffer))
+    pub bytes : contents buffer ≡ slice_index_or (map contents bs) j []
+
+  stands : (bs : List B) (j : ℕ) → j < length bs → Stands bs j
+  stands [] j low = absurd (omega arith)
+  stands (b ∷ bs) zero low = record { buffer = b; got = refl; home = refl; bytes = refl }
+  stands (b ∷ bs) (suc j) low =
+      let s = stands bs j (omega arith) in
+      record { buffer = s.buffer; got = s.got; home = s.home; bytes = s.bytes }
+
+  -- each slot has the buffer that was given for its index
+  pub stand_all : (IsSame : B → B → Type 0) → ((b : B) → IsSame b b) → (bs : List B) (j : ℕ) → j < length bs
+      → Has (LiesIn contents IsSame bs) (map some (map laid bs)) j (slice_index_or (map contents bs) j [])
+  stand_all IsSame itself bs j low =
+      let s = stands bs j low in
+      record {
+        value = laid s.buffer;
+        here = s.home;
+        lies = record { first = s.buffer; buffer = s.buffer; was = s.got; laid = refl; same = itself s.buffer; bytes = s.bytes };
+      }
+
+  pub length-map : {A C : Type 0} (f : A → C) (xs : List A) → length (map f xs) ≡ length xs
+  length-map f [] = refl
+  length-map f (x ∷ xs) = ap suc (length-map f xs)
+
+module _ {A : Type 0} (P : A → Type 0) where
+  at_last : (xs : List A) (x d : A) → slice_index_or (xs ++ x ∷ []) (length xs) d ≡ x
+  at_last [] x d = refl
+  at_last (y ∷ ys) x d = at_last ys x d
+
+  at_prefix : (xs ys : List A) (k : ℕ) (d : A) → k < length xs → slice_index_or (xs ++ ys) k d ≡ slice_index_or xs k d
+  at_prefix [] ys k d low = absurd (omega arith)
+  at_prefix (x ∷ xs) ys zero d low = refl
+  at_prefix (x ∷ xs) ys (suc k) d low = at_prefix xs ys k d (omega arith)
+
+  -- what holds of all holds of the last, and of those before it
+  pub all_last : (xs : List A) (x : A) → All P (xs ++ x ∷ []) → P x
+  all_last xs x all = subst P (at_last xs x x) (all (length xs) x (omega (arith, length-append xs (x ∷ []))))
+
+  pub all_prefix : (xs ys : List A) → All P (xs ++ ys) → All P xs
+  all_prefix xs ys all = λ k d low. subst P (at_prefix xs ys k d low) (all k d (omega (arith, length-append xs ys)))
+
+-- where Tail of a ring stands
+pub tail_at : (c : Setup) (r slots : ℕ) → slots ≡ ring_slots c → 1 + r * (3 + slots) ≡ at c (tail_of r)
+unfolding at
+tail_at c r slots same =
+    let three : 3 + slots ≡ suc (suc (suc (ring_slots c))) = omega (arith, same) in
+    let there = ap (λ w. 1 + r * w) three in
+    let start : 1 + r * suc (suc (suc (ring_slots c))) ≡ suc (r * suc (suc (suc (ring_slots c))) + 0) = omega arith in
+    there ∙ start

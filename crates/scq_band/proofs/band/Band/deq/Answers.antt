@@ -1,0 +1,156 @@
+use Rattle.std.proofs.Common.{◌≡◌, ◌<◌, ◌≤◌, ◌+◌, ◌^◌, ℕ, List, length, sym, ◌∙◌, ap, subst, arith}
+use Rattle.std.specs.Prelude.{Some, None, Err, slice_get, slice_set}
+use Rattle.scq_word.specs.declared.setup.Setup.{Setup}
+use Rattle.scq_word.specs.Sizes.{n_of}
+use Rattle.scq_band.specs.declared.numbers.Numbers.{Numbers}
+use Rattle.scq_band.specs.declared.dequeue.Without.TheVariants as without
+use Rattle.scq_band.specs.Buffers.{LiesIn}
+use Rattle.scq_band.specs.Numbers.{known_of, changed, sees, passes, drew, empties}
+use Rattle.scq_band.specs.Known.{Known}
+use Rattle.scq_band.specs.Seats.{HasGotAfter, nothing_at, drew_head}
+use Rattle.scq_band.specs.Standing.{Identity, Standing, FoundEmpty}
+use Rattle.scq_band.proofs.Keeping.{kept_got, got_standing, found_none, if_drawn, kept_none, none_standing, known_read, known_there, known_here}
+use Rattle.scq_band.proofs.band.Band.deq.Goals as goal
+
+pub invariant_of-seat : goal.invariant_of-seat
+invariant_of-seat g c =
+    let Same = g.B.Buffer.IsSameBuffer in
+    let key = c.seat.inside.key.value in
+    let me = c.seat.inside.token.me in
+    let r = c.args.ring in
+    let numbers = c.seat.inside.numbers.items in
+    let low : r < length numbers =
+    let rings = c.seat.invariant.rings in
+    let same = ap (λ (i : Identity g.row.B.Denot). i.setup.rings) (ap (λ (s : Standing g.row.B.Denot). s.band) c.seat.view_is ∙ c.requires.seat) in
+    let ring = c.requires.ring in
+    omega (arith, rings, same, ring) in
+    let me' = c.dequeue-found.new.token.me in
+    let place = c.in-Ok.place in
+    let index = c.in-Ok.index in
+    let contents = g.B.Buffer.contents in
+    let ident = ap (λ (s : Standing g.row.B.Denot). s.band) c.seat.view_is ∙ c.requires.seat ∙ sym c.self.view_is in
+    let got = subst (λ (bs : List g.row.B.Denot). HasGotAfter (LiesIn contents Same bs) r place index me me')
+    (sym (ap (λ (i : Identity g.row.B.Denot). i.given) ident))
+    (subst (λ n. HasGotAfter (LiesIn contents Same c.self.inside.table.shared.key.given.value.items) n place index me me') c.ring.ensures.number
+    c.in-Ok.ensures.got) in
+    let known = known_read numbers r c.index-known.result.now low c.index-known.ensures in
+    let new = ap (λ (x : Numbers). slice_set numbers r x) (c.sees.ensures ∙ ap (sees place) (c.draws.ensures ∙ ap (passes (place + 1)) known)) in
+    kept_got contents Same key me me' c.seat.inside.hand.items c.push_reserved.new.self.items _ _ numbers _ _ r place index c.seat.invariant got
+    c.in-Ok.ensures.once
+    (subst (λ (s : Setup). index < n_of s.order) (sym (ap (λ (i : Identity g.row.B.Denot). i.setup) ident)) c.in-Ok.ensures.small.1)
+    c.push_reserved.ensures.items c.push_reserved.ensures.capacity low new
+
+pub returns-in-Ok-clause-got : goal.returns-in-Ok-clause-got
+returns-in-Ok-clause-got g c =
+    let Same = g.B.Buffer.IsSameBuffer in
+    let key = c.seat.inside.key.value in
+    let me = c.seat.inside.token.me in
+    let r = c.args.ring in
+    let numbers = c.seat.inside.numbers.items in
+    let low : r < length numbers =
+    let rings = c.seat.invariant.rings in
+    let same = ap (λ (i : Identity g.row.B.Denot). i.setup.rings) (ap (λ (s : Standing g.row.B.Denot). s.band) c.seat.view_is ∙ c.requires.seat) in
+    let ring = c.requires.ring in
+    omega (arith, rings, same, ring) in
+    let me' = c.dequeue-found.new.token.me in
+    let place = c.in-Ok.place in
+    let index = c.in-Ok.index in
+    let contents = g.B.Buffer.contents in
+    let ident = ap (λ (s : Standing g.row.B.Denot). s.band) c.seat.view_is ∙ c.requires.seat ∙ sym c.self.view_is in
+    let got = subst (λ (bs : List g.row.B.Denot). HasGotAfter (LiesIn contents Same bs) r place index me me')
+    (sym (ap (λ (i : Identity g.row.B.Denot). i.given) ident))
+    (subst (λ n. HasGotAfter (LiesIn contents Same c.self.inside.table.shared.key.given.value.items) n place index me me') c.ring.ensures.number
+    c.in-Ok.ensures.got) in
+    let there : r < length me.0.numbers = let same = ap length (sym c.seat.invariant.numbers) in omega (arith, low, same) in
+    got_standing contents Same c.seat.inside.token.table_id c.dequeue-found.new.token.table_id key me me' numbers c.args.seat.now r place index c.seat.view_is
+    c.dequeue-found.ensures.own.0 got c.in-Ok.ensures.once there
+
+pub returns-in-Ok-clause-place : goal.returns-in-Ok-clause-place
+returns-in-Ok-clause-place g c =
+    let Same = g.B.Buffer.IsSameBuffer in
+    let key = c.seat.inside.key.value in
+    let me = c.seat.inside.token.me in
+    let r = c.args.ring in
+    let numbers = c.seat.inside.numbers.items in
+    let low : r < length numbers =
+    let rings = c.seat.invariant.rings in
+    let same = ap (λ (i : Identity g.row.B.Denot). i.setup.rings) (ap (λ (s : Standing g.row.B.Denot). s.band) c.seat.view_is ∙ c.requires.seat) in
+    let ring = c.requires.ring in
+    omega (arith, rings, same, ring) in
+    let there : r < length me.0.numbers = let same = ap length (sym c.seat.invariant.numbers) in omega (arith, low, same) in
+    let setup = ap (λ (i : Identity g.row.B.Denot). i.setup) c.self.view_is in
+    let it = ap (λ n. slice_get me.0.numbers n) c.ring.ensures.number ∙ known_there me.0.numbers r there in (
+      subst (λ (s : Setup). c.in-Ok.place < s.limit) setup c.in-Ok.ensures.small.0,
+      subst (λ (ns : List Numbers). (known_of ns r).head ≤ c.in-Ok.place) (ap (λ (s : Standing g.row.B.Denot). s.numbers) c.seat.view_is)
+          (c.in-Ok.ensures.above (known_of me.0.numbers r) it),
+    )
+
+pub finds_none-later-requires-clause-drawn : goal.finds_none-later-requires-clause-drawn
+finds_none-later-requires-clause-drawn g c =
+    let limit = c.self.inside.table.shared.key.setup.limit_in_range in
+    if_drawn (λ ticket. ticket + 1 < 2 ^ 64) c.in-Nothing.drawn
+    (λ t is.
+    let below = (c.dequeue-found.ensures.nothing_left t (c.in-Err.is ∙ ap (λ w. Err w) (c.in-Nothing.is ∙ ap without.Nothing is))).1 in
+    omega (arith, limit))
+
+pub invariant_of-seat-in-Nothing : goal.invariant_of-seat-in-Nothing
+invariant_of-seat-in-Nothing g c =
+    let Same = g.B.Buffer.IsSameBuffer in
+    let key = c.seat.inside.key.value in
+    let me = c.seat.inside.token.me in
+    let r = c.args.ring in
+    let numbers = c.seat.inside.numbers.items in
+    let low : r < length numbers =
+    let rings = c.seat.invariant.rings in
+    let same = ap (λ (i : Identity g.row.B.Denot). i.setup.rings) (ap (λ (s : Standing g.row.B.Denot). s.band) c.seat.view_is ∙ c.requires.seat) in
+    let ring = c.requires.ring in
+    omega (arith, rings, same, ring) in
+    let there : r < length me.0.numbers = let same = ap length (sym c.seat.invariant.numbers) in omega (arith, low, same) in
+    let found : (t : ℕ) → c.in-Nothing.drawn ≡ Some t → c.dequeue-found.result ≡ Err (without.Nothing (Some t)) =
+    λ t is. c.in-Err.is ∙ ap (λ w. Err w) (c.in-Nothing.is ∙ ap without.Nothing is) in
+    let seen = found_none r c.in-Nothing.drawn me.0 c.dequeue-found.new.token.me.0 there
+    (λ is. c.dequeue-found.ensures.nothing (c.in-Err.is ∙ ap (λ w. Err w) (c.in-Nothing.is ∙ ap without.Nothing is)) ∙ ap (λ n. nothing_at n me.0) c.ring.ensures.number)
+    (λ t is. (c.dequeue-found.ensures.nothing_left t (found t is)).0 ∙ ap (λ n. nothing_at n (drew_head n t me.0)) c.ring.ensures.number) in
+    let known = known_read numbers r c.index-known.result.now low c.index-known.ensures in
+    let drawn = c.in-Nothing.drawn in
+    let new = ap (λ (x : Numbers). slice_set numbers r x) (c.finds_none-later.ensures ∙ ap (λ x. empties (drew drawn x)) known) in
+    kept_none Same key me c.dequeue-found.new.token.me c.seat.inside.hand.items _ numbers _ _ r drawn c.seat.invariant seen c.in-Err.ensures.kept new
+
+pub returns-in-Nothing-clause-empty : goal.returns-in-Nothing-clause-empty
+returns-in-Nothing-clause-empty g c head is =
+    let Same = g.B.Buffer.IsSameBuffer in
+    let key = c.seat.inside.key.value in
+    let me = c.seat.inside.token.me in
+    let r = c.args.ring in
+    let numbers = c.seat.inside.numbers.items in
+    let low : r < length numbers =
+    let rings = c.seat.invariant.rings in
+    let same = ap (λ (i : Identity g.row.B.Denot). i.setup.rings) (ap (λ (s : Standing g.row.B.Denot). s.band) c.seat.view_is ∙ c.requires.seat) in
+    let ring = c.requires.ring in
+    omega (arith, rings, same, ring) in
+    let there : r < length me.0.numbers = let same = ap length (sym c.seat.invariant.numbers) in omega (arith, low, same) in
+    let found : (t : ℕ) → c.in-Nothing.drawn ≡ Some t → c.dequeue-found.result ≡ Err (without.Nothing (Some t)) =
+    λ t is. c.in-Err.is ∙ ap (λ w. Err w) (c.in-Nothing.is ∙ ap without.Nothing is) in
+    let seen = found_none r c.in-Nothing.drawn me.0 c.dequeue-found.new.token.me.0 there
+    (λ is. c.dequeue-found.ensures.nothing (c.in-Err.is ∙ ap (λ w. Err w) (c.in-Nothing.is ∙ ap without.Nothing is)) ∙ ap (λ n. nothing_at n me.0) c.ring.ensures.number)
+    (λ t is. (c.dequeue-found.ensures.nothing_left t (found t is)).0 ∙ ap (λ n. nothing_at n (drew_head n t me.0)) c.ring.ensures.number) in
+    let known = known_read numbers r c.index-known.result.now low c.index-known.ensures in
+    let drawn = c.in-Nothing.drawn in
+    let answered : c.finds_none-later.result.head ≡ head = cc in
+    let stands = none_standing Same c.seat.inside.token.table_id c.dequeue-found.new.token.table_id key me c.dequeue-found.new.token.me c.args.seat.now r drawn
+    c.seat.view_is c.dequeue-found.ensures.own.0 seen c.in-Err.ensures.kept in
+    let later = ap (λ (u : Known). u.numbers) seen in
+    let end : (known_of c.dequeue-found.new.token.me.0.numbers r).head ≡ (empties (drew drawn (known_of numbers r))).head =
+    ap (λ (ns : List Numbers). (known_of ns r).head) (later ∙ ap (changed (λ x. empties (drew drawn x)) r) (sym c.seat.invariant.numbers))
+    ∙ ap (λ (x : Numbers). x.head) (known_here numbers r (empties (drew drawn (known_of numbers r))) low) in
+    let setup = ap (λ (s : Standing g.row.B.Denot). s.band) c.seat.view_is ∙ c.requires.seat ∙ sym c.self.view_is in
+    record {
+      drawn = drawn;
+      seat = stands;
+      known = sym answered ∙ ap (λ (x : Numbers). x.head) (c.finds_none-later.ensures ∙ ap (λ x. empties (drew drawn x)) known) ∙ sym end;
+      below =
+          λ t drew_it.
+          let low_ticket = (c.dequeue-found.ensures.nothing_left t (found t drew_it)).1 in
+          subst (λ (s : Setup). t < s.limit)
+          (ap (λ (i : Identity g.row.B.Denot). i.setup) (c.self.view_is ∙ sym c.requires.seat)) low_ticket;
+    }

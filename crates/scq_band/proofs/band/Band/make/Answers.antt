@@ -1,0 +1,33 @@
+use Rattle.std.proofs.Common.{◌≡◌, ℕ, ◌<◌, map, length, sym, ◌∙◌, ap, subst, arith}
+use Rattle.std.specs.Prelude.{vec_len}
+use Rattle.scq_word.specs.Sizes.{n_of}
+use Rattle.atomic_table.specs.Table.{opening}
+use Rattle.scq_band.specs.Buffers.{LiesIn, opening_of}
+use Rattle.scq_band.specs.Shown.{Shown, first_view}
+use Rattle.scq_band.specs.Making.{laid, lifted, AllLaid}
+use Rattle.scq_band.proofs.Opening.{opens}
+use Rattle.scq_band.proofs.Starting.{stand_all, length-map}
+use Rattle.scq_band.proofs.StartWords.{all_laid, lifted-laid}
+use Rattle.scq_band.proofs.band.Band.make.Goals as goal
+
+pub new-requires : goal.new-requires
+new-requires g c =
+    let k = c.args.setup in
+    let bs = c.args.buffers.items in
+    let contents = g.B.Buffer.contents in
+    let Same = g.B.Buffer.IsSameBuffer in
+    let itself = (g.met.B.Buffer g.world.𝓛 g.world.𝓜 g.world.𝓡 ((λ s x. x), (λ x. x), (λ x. x), (λ x. x))).same_as_itself in
+    let all : length bs ≡ n_of k.order = let whole = c.args.buffers.ok in let many = c.requires in omega (arith, whole, many) in
+    let memory = c.in-Ok.ensures in
+    let base : Shown (LiesIn contents Same bs) (opening_of contents bs) k (opening c.in-Ok.memory.words.items (map laid bs) (first_view k)) =
+    opens (LiesIn contents Same bs) k c.in-Ok.memory.words.items (map laid bs) (map contents bs) memory.count memory.each_word (length-map contents laid bs ∙ all)
+    (length-map contents contents bs ∙ all) (λ j low. stand_all contents Same itself bs j (omega (arith, all, low))) in
+    rw (c.of.ensures, c.as_slice.ensures.value, c.lay_all.ensures.slots) base
+
+pub lift_all-requires-clause-laid : goal.lift_all-requires-clause-laid
+lift_all-requires-clause-laid g c =
+    subst AllLaid (sym (c.in-Err-new.ensures.err ∙ c.lay_all.ensures.slots)) (all_laid c.args.buffers.items)
+
+pub returns-clause-refused : goal.returns-clause-refused
+returns-clause-refused g c =
+    c.lift_all.ensures ∙ ap lifted (c.in-Err-new.ensures.err ∙ c.lay_all.ensures.slots) ∙ lifted-laid c.args.buffers.items

@@ -1,0 +1,18 @@
+use Rattle.std.proofs.Common.{◌≡◌, ℕ, vec_len, sum_by, All}
+use Rattle.scq_law.specs.Hands.{times}
+use Rattle.scq_band.specs.Standing.{Standing}
+use Rattle.scq_band.specs.Kept.{identity_of}
+use Rattle.scq_band.specs.Closing.{indices_of, lifted_of}
+use Rattle.scq_band.specs.Homes.{AllOutGiven, AreGathered}
+use Rattle.scq_band.proofs.closing.gather.Given as goal
+
+abbrev pub invariant-loop-seat : goal.invariant-loop-seat
+invariant-loop-seat g l =
+    (l.first.table_id ≡ l.words.table_id)
+    × All (λ (s : Standing g.row.B.Denot). s.band ≡ identity_of l.words.table_id l.words.key) l.seats.items
+    × ((i : ℕ) → times i (indices_of l.out.items) ≡ sum_by (λ (s : Standing g.row.B.Denot). times i (lifted_of s.hand)) l.seats.items)
+    × AllOutGiven g.B.Buffer.IsSameBuffer l.words.key.given.value.items l.out.items
+    × AreGathered l.words.key.setup.rings l.fn.seats.items l.seats.items l.first.me.0
+
+abbrev pub decreases-loop-seat : goal.decreases-loop-seat
+decreases-loop-seat g l = vec_len l.seats

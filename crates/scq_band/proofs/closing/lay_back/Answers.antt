@@ -1,0 +1,24 @@
+use Rattle.std.proofs.Common.{◌≡◌, ◌∙◌, sym, ap, ℕ, List, ◌∷◌, inl, inr}
+use Rattle.std.specs.Prelude.{None}
+use Rattle.atomic_table.specs.Table.{rest}
+use Rattle.scq_band.specs.declared.slot.Slot.{Slot}
+use Rattle.scq_band.proofs.GoingHome.{laid_back}
+use Rattle.scq_band.proofs.closing.lay_back.Goals as goal
+use Rattle.scq_band.proofs.closing.lay_back.Goals.{in-Some, in-None}
+
+pub exchange-hole-requires : goal.exchange-hole-requires
+exchange-hole-requires g c =
+    let e = c.exchange-buffer.ensures in
+    let hole : Slot g.row.B.Denot = record { buffer = None } in
+    let now : c.exchange-buffer.new.seat.me.1 ≡ (c.args.index, hole) ∷ rest c.args.token.now.me.1 = ap (λ q. q.1) e.3 in (
+      e.0 ∙ c.requires.own,
+      (hole, now ∙ ap (λ (ys : List (ℕ × Slot g.row.B.Denot)). (c.args.index, hole) ∷ ys) (sym (ap rest now))),
+    )
+
+pub returns-clause-laid : goal.returns-clause-laid
+returns-clause-laid g c =
+    let e = c.exchange-buffer.ensures in
+    let h = c.exchange-hole.ensures in
+    laid_back c.args.index c.args.token.now.me.1 c.exchange-buffer.new.seat.me.1 c.exchange-hole.new.seat.me.1 c.exchange-buffer.result c.match-buffer.buffer
+    c.args.out.now.items c.match-buffer.out.items e.2 (ap (λ q. q.1) e.3) (ap (λ q. q.1) h.3)
+    (elim c.match-buffer.branch [ in-Some w ↦ inl (cc, cc) | in-None w ↦ inr (cc, rw (w.out-is, w.buffer-is) w.taken_out-buffer.ensures) ])

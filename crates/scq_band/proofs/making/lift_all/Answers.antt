@@ -1,0 +1,30 @@
+use Rattle.std.proofs.Common.{◌≡◌, ◌++◌, List, [], ◌∷◌, reverse, sym, ◌∙◌, ap, subst, arith}
+use Rattle.std.proofs.lemmas.List.{reverse-append, append_assoc}
+use Rattle.scq_band.specs.declared.slot.Slot.{Slot}
+use Rattle.scq_band.specs.Making.{lifted, AllLaid}
+use Rattle.scq_band.proofs.StartWords.{laid-prefix, laid-last, lifted-snoc}
+use Rattle.scq_band.proofs.making.lift_all.Goals as goal
+
+pub loop-slot-preserved : goal.loop-slot-preserved
+loop-slot-preserved g c =
+    let rest = c.pop.new.self.items in
+    let slot = c.in-Some.slot in
+    let b = c.in-Some-buffer.buffer in
+    let was : c.loop-slot.slots.items ≡ rest ++ slot ∷ [] = c.in-Some.ensures.items in
+    let bs = c.loop-slot.buffers.items in
+    let pushed : c.push_reserved.new.self.items ≡ bs ++ b ∷ [] = c.push_reserved.ensures.items in
+    let turned : reverse c.push_reserved.new.self.items ≡ b ∷ reverse bs = ap reverse pushed ∙ reverse-append bs (b ∷ []) in
+    let all : lifted c.loop-slot.slots.items ≡ lifted rest ++ b ∷ [] = ap lifted was ∙ lifted-snoc rest slot b c.in-Some-buffer.is in (
+      laid-prefix rest (slot ∷ []) (subst AllLaid was c.loop-slot.invariant.0),
+      ap (λ zs. lifted rest ++ zs) turned ∙ sym (append_assoc (lifted rest) (b ∷ []) (reverse bs)) ∙ ap (λ zs. zs ++ reverse bs) (sym all)
+          ∙ c.loop-slot.invariant.1,
+      (let few = c.loop-slot.invariant.2 in
+          let less = c.in-Some.ensures.len in
+          let more = c.push_reserved.ensures.len in
+          let same = c.push_reserved.ensures.capacity in
+          omega arith),
+    )
+
+pub unreachable-requires : goal.unreachable-requires
+unreachable-requires g c =
+    laid-last c.pop.new.self.items c.in-Some.slot (subst AllLaid c.in-Some.ensures.items c.loop-slot.invariant.0) c.in_default-buffer.is

@@ -1,0 +1,146 @@
+-- What the records of all seats say together once a band is closed, when no seat is in the middle of a call. The records stand in
+-- the order in which the seats were given. A call is told by its seat's number in that order and by its own in the record, from 0.
+use Rattle.std.specs.Prelude.{◌≡◌, ◌⊎◌, ℕ, ◌+◌, ◌<◌, ◌≤◌, Bool, if◌then◌else◌, is_none, List, [], ◌∷◌, map, length, Option, Some, slice_get, slice_index, slice_index_or, sum, sum_by}
+use Rattle.std.specs.List.{Contains}
+use Rattle.scq_word.specs.declared.setup.Setup.{Setup}
+use Rattle.scq_word.specs.Sizes.{n_of}
+use Rattle.scq_word.specs.Bounds.{ticket_bound}
+use Rattle.scq_core.specs.declared.ended.Ended.{Ended}
+use Rattle.scq_core.specs.declared.ended.Ended.TheVariants.{Done, Got, Spent}
+use Rattle.scq_core.specs.Table.{ring_slots}
+use Rattle.scq_law.specs.Hands.{times}
+use Rattle.scq_law.specs.Bounds.{tally, was_put, openings}
+use Rattle.scq_law.specs.Kept.{was_done, was_got}
+use Rattle.scq_band.specs.declared.numbers.Numbers.{Numbers}
+use Rattle.scq_band.specs.Standing.{Identity, Standing, IsAsGiven}
+
+-- this call ended so
+abbrev pub IsCall : List (List Ended) → ℕ → ℕ → Ended → Type 0
+IsCall records seat number ended = (calls : List Ended) × (slice_get records seat ≡ Some calls) × (slice_get calls number ≡ Some ended)
+
+-- some call ended so
+pub record HasEnded (records : List (List Ended)) (ended : Ended) : Type 0 where
+  pub seat : ℕ
+  pub number : ℕ
+  pub is : IsCall records seat number ended
+
+-- the opening put of an index: at the place 2n + index of ring 0, with the bytes that its buffer was given with
+pub record IsOpeningPut (c : Setup) (opening : List (List ℕ)) (r p : ℕ) (w : List ℕ) : Type 0 where
+  pub index : ℕ
+  pub ring : r ≡ 0
+  pub place : p ≡ ring_slots c + index
+  pub bytes : slice_get opening index ≡ Some w
+
+-- a put placed these bytes at the place p of ring r: an opening put, or a call
+abbrev pub WasPut : Setup → List (List ℕ) → List (List Ended) → ℕ → ℕ → List ℕ → Type 0
+WasPut c opening records r p w = IsOpeningPut c opening r p w ⊎ HasEnded records (Done r p w)
+
+-- some seat knows that Head of ring r is past the place p
+pub record IsKnownPassed (known : List (List Numbers)) (r p : ℕ) : Type 0 where
+  pub seat : ℕ
+  pub numbers : List Numbers
+  pub its : slice_get known seat ≡ Some numbers
+  pub ring : Numbers
+  pub at : slice_get numbers r ≡ Some ring
+  pub passed : p < ring.head
+
+-- each place that was got is the place of a put with the same bytes
+abbrev pub EachGetHasItsPut : Setup → List (List ℕ) → List (List Ended) → Type 0
+EachGetHasItsPut c opening records = (r p : ℕ) (w : List ℕ) → HasEnded records (Got r p w) → WasPut c opening records r p w
+
+-- no place was got twice
+abbrev pub NoneIsGotTwice : List (List Ended) → Type 0
+NoneIsGotTwice records =
+    (r p : ℕ) (v w : List ℕ) (a x b y : ℕ) → IsCall records a x (Got r p v) → IsCall records b y (Got r p w) → (a ≡ b) × (x ≡ y)
+
+-- each put whose place some seat knows to be below Head was got
+abbrev pub EachPutPassedIsGot : Setup → List (List ℕ) → List (List Ended) → List (List Numbers) → Type 0
+EachPutPassedIsGot c opening records known =
+    (r p : ℕ) (w : List ℕ) → WasPut c opening records r p w → IsKnownPassed known r p → HasEnded records (Got r p w)
+
+-- how many puts of a ring placed an index, the opening puts among them, how many gets took one, and how many puts were begun
+abbrev pub puts_on : Setup → List (List Ended) → ℕ → ℕ
+puts_on c records r = sum_by (tally (was_done r)) records + openings c r
+
+abbrev pub gets_on : List (List Ended) → ℕ → ℕ
+gets_on records r = sum_by (tally (was_got r)) records
+
+abbrev pub begun_on : Setup → List (List Ended) → ℕ → ℕ
+begun_on c records r = sum_by (tally (was_put r)) records + openings c r
+
+-- on each ring, what is left and what was got is what was put
+pub record IsBalance (c : Setup) (records : List (List Ended)) (left : List ℕ) : Type 0 where
+  pub rings : length left ≡ c.rings
+  pub balance : (r : ℕ) → r < c.rings → slice_index left r + gets_on records r ≡ puts_on c records r
+
+-- what is left in all rings and the indices in all hands are n together
+abbrev pub IsAllThere : Setup → List (List ℕ) → List ℕ → Type 0
+IsAllThere c hands left = sum left + sum_by length hands ≡ n_of c.order
+
+-- the call of a seat that ended with Spent and this ticket, on a ring whose ticket bound for the puts begun there is past the limit
+pub record IsPastTheBound (c : Setup) (records : List (List Ended)) (seat ticket : ℕ) : Type 0 where
+  pub ring : ℕ
+  pub low : ring < c.rings
+  pub number : ℕ
+  pub is_put : Bool
+  pub call : IsCall records seat number (Spent ring ticket is_put)
+  pub past : c.limit < ticket_bound c.order c.seats (begun_on c records ring)
+
+-- where a seat keeps a spent ticket, the bound of the ticket's ring is past the limit
+abbrev pub EachSpentIsPastTheBound : Setup → List (List Ended) → List (Option ℕ) → Type 0
+EachSpentIsPastTheBound c records kept =
+    (seat ticket : ℕ) → slice_get kept seat ≡ Some (Some ticket) → IsPastTheBound c records seat ticket
+
+-- the indices of a hand, or of buffers that are out; and those of a hand that are lifted
+abbrev pub indices_of : {A : Type 0} → List (ℕ × A) → List ℕ
+indices_of {A} hand = map (λ (x : ℕ × A). x.0) hand
+
+abbrev pub lifted_of : {B : Type 0} → List (ℕ × Option B) → List ℕ
+lifted_of [] = []
+lifted_of (x ∷ xs) = if is_none x.1 then x.0 ∷ lifted_of xs else lifted_of xs
+
+-- an index that is in no hand
+abbrev pub IsLeft : List (List ℕ) → ℕ → Type 0
+IsLeft hands i = sum_by (times i) hands ≡ 0
+
+-- a put that was not got: its ring and its place
+pub record LeftPut (c : Setup) (opening : List (List ℕ)) (records : List (List Ended)) (w : List ℕ) : Type 0 where
+  pub ring : ℕ
+  pub place : ℕ
+  pub put : WasPut c opening records ring place w
+  pub not_got : (v : List ℕ) → HasEnded records (Got ring place v) → ⊥
+
+-- each hand has indices of the setup alone, and no index stands twice in all hands
+pub record EachIsInOneHand (c : Setup) (hands : List (List ℕ)) : Type 0 where
+  pub low : (i : ℕ) → 0 < sum_by (times i) hands → i < n_of c.order
+  pub once : (i : ℕ) → sum_by (times i) hands ≤ 1
+
+-- each index that is in no hand stands for a put that was not got, whose bytes are in its buffer, and each for another
+pub record EachLeftIsItsPut (c : Setup) (opening : List (List ℕ)) (records : List (List Ended)) (hands bytes : List (List ℕ)) : Type 0 where
+  pub put : (i : ℕ) → i < n_of c.order → IsLeft hands i → LeftPut c opening records (slice_index_or bytes i [])
+  pub apart : (i j : ℕ) (a : i < n_of c.order) (b : j < n_of c.order) (x : IsLeft hands i) (y : IsLeft hands j)
+      → (put i a x).ring ≡ (put j b y).ring → (put i a x).place ≡ (put j b y).place → i ≡ j
+
+-- the buffers, in order of index, are the same as the ones given
+abbrev pub AreTheSame : {B : Type 0} → (B → B → Type 0) → List B → List B → Type 0
+AreTheSame {B} IsSame given buffers =
+    (length buffers ≡ length given)
+    × ((i : ℕ) (first last : B) → slice_get given i ≡ Some first → slice_get buffers i ≡ Some last → IsSame first last)
+
+-- the records of all seats, their hands, what they know, and the spent tickets that they keep
+abbrev pub all_calls : {B : Type 0} → List (Standing B) → List (List Ended)
+all_calls seats = map (λ s. s.calls) seats
+
+abbrev pub all_hands : {B : Type 0} → List (Standing B) → List (List ℕ)
+all_hands seats = map (λ s. indices_of s.hand) seats
+
+abbrev pub all_known : {B : Type 0} → List (Standing B) → List (List Numbers)
+all_known seats = map (λ s. s.numbers) seats
+
+abbrev pub all_spent : {B : Type 0} → List (Standing B) → List (Option ℕ)
+all_spent seats = map (λ s. s.spent) seats
+
+-- the buffers that are out are just those that are lifted, each the same as the one given for its index
+pub record AreTheLifted {B : Type 0} (IsSame : B → B → Type 0) (band : Identity B) (seats : List (Standing B)) (out : List (ℕ × B)) : Type 0 where
+  pub lifted : (i : ℕ) → times i (indices_of out) ≡ sum_by (λ (s : Standing B). times i (lifted_of s.hand)) seats
+  pub same : (o : ℕ × B) → Contains out o → IsAsGiven IsSame band.given o.0 o.1

@@ -1,0 +1,94 @@
+-- For private calls: what contracts see of a band and of a seat, out of the table, and what a seat keeps beside its token.
+use Rattle.std.specs.Prelude.{◌≡◌, ℕ, ◌+◌, ◌<◌, ◌≤◌, ◌^◌, ◌==◌, if◌then◌else◌, List, [], ◌∷◌, ◌++◌, map, length, Option, Some, None, slice_get}
+use Rattle.atomic_table.specs.Seated.{TableId}
+use Rattle.atomic_table.specs.Table.{Me}
+use Rattle.scq_word.specs.declared.setup.Setup.{Setup}
+use Rattle.scq_word.specs.Sizes.{n_of}
+use Rattle.scq_core.specs.declared.phase.Phase.TheVariants.{Idle}
+use Rattle.scq_law.specs.Hands.{times}
+use Rattle.scq_band.specs.declared.numbers.Numbers.{Numbers}
+use Rattle.scq_band.specs.declared.slot.Slot.{Slot}
+use Rattle.scq_band.specs.declared.rule.Key.{Key}
+use Rattle.scq_band.specs.Numbers.{known_of}
+use Rattle.scq_band.specs.Layout.{word_count}
+use Rattle.scq_band.specs.Known.{Known}
+use Rattle.scq_band.specs.Steps.{my}
+use Rattle.scq_band.specs.Seats.{IsAlone}
+use Rattle.scq_band.specs.Standing.{Identity, Standing, IsAsGiven}
+
+-- the indices of the slots that a seat holds, that of the one that stands first at the end
+abbrev pub in_order : {S : Type 0} → List (ℕ × S) → List ℕ
+in_order [] = []
+in_order (x ∷ xs) = in_order xs ++ x.0 ∷ []
+
+module _ {B : Type 0} where
+  -- the buffer in the slot of an index
+  abbrev pub buffer_in : List (ℕ × Slot B) → ℕ → Option B
+  buffer_in [] i = None
+  buffer_in (x ∷ xs) i = if x.0 == i then x.1.buffer else buffer_in xs i
+
+  -- the indices of a hand, each with the buffer in its slot
+  abbrev pub hand_of : List (ℕ × Slot B) → List ℕ → List (ℕ × Option B)
+  hand_of slots hand = map (λ i. (i, buffer_in slots i)) hand
+
+  abbrev pub identity_of : TableId → Key B → Identity B
+  identity_of table key = record { table = table; setup = key.setup; given = key.given.value.items }
+
+  abbrev pub standing_of : TableId → Key B → Me (Slot B) Known → Standing B
+  standing_of table key me =
+      record {
+        band = identity_of table key;
+        number = (my me.0).number;
+        calls = (my me.0).part.calls;
+        hand = hand_of me.1 (my me.0).part.hand;
+        numbers = me.0.numbers;
+        spent = (my me.0).part.spent;
+        gates = me.0.gates;
+        gate = me.0.gate;
+        retired = (my me.0).retired;
+      }
+
+  -- each buffer that is laid in one of the slots is the same as the one given for its index
+  abbrev pub AllGiven : (B → B → Type 0) → List B → List (ℕ × Slot B) → Type 0
+  AllGiven IsSame given [] = Unit {0}
+  AllGiven IsSame given (x ∷ xs) = ((b : B) → x.1.buffer ≡ Some b → IsAsGiven IsSame given x.0 b) × AllGiven IsSame given xs
+
+-- which numbers a seat can count on from: a known finished place is below the largest limit
+abbrev pub AreSmall : List Numbers → Type 0
+AreSmall numbers = (r : ℕ) → (known_of numbers r).finished < 2 ^ 60
+
+-- what a seat keeps: its indices in the order of its slots, with room for all; its numbers; its spent ticket
+pub record IsKept {B : Type 0} (IsSame : B → B → Type 0) (key : Key B) (me : Me (Slot B) Known) (indices : List ℕ) (room : ℕ) (known : List Numbers) (kept : Option ℕ)
+    : Type 0 where
+  pub alone : IsAlone me.0
+  pub idle : (my me.0).part.phase ≡ Idle
+  pub order : indices ≡ in_order me.1
+  -- they are the indices of its hand, each once
+  pub same : (i : ℕ) → times i indices ≡ times i (my me.0).part.hand
+  pub count : length indices ≡ length (my me.0).part.hand
+  pub once : (i : ℕ) → times i indices ≤ 1
+  pub low : (i : ℕ) → 0 < times i indices → i < n_of key.setup.order
+  pub holds_all : n_of key.setup.order ≤ room
+  pub numbers : known ≡ me.0.numbers
+  pub rings : length known ≡ key.setup.rings
+  pub small : AreSmall known
+  pub spent : kept ≡ (my me.0).part.spent
+  pub given : AllGiven IsSame key.given.value.items me.1
+
+-- what a band keeps: the words and slots of its setup, and empty lists with room for what it hands out when it closes
+pub record IsBand {B : Type 0} (table : TableId) (key : Key B) (setup : Setup) (buffers : List B) (room : ℕ) (left : List ℕ) (places : ℕ) : Type 0 where
+  pub same : setup ≡ key.setup
+  pub words : table.words ≡ word_count key.setup
+  pub slots : table.slots ≡ n_of key.setup.order
+  pub given : length key.given.value.items ≡ n_of key.setup.order
+  pub no_buffer : buffers ≡ []
+  pub holds_all : n_of key.setup.order ≤ room
+  pub none_left : left ≡ []
+  pub each_ring : key.setup.rings ≤ places
+
+-- the slots in another turn
+pub record IsRotation {S : Type 0} (slots later : List (ℕ × S)) : Type 0 where
+  pub front : List (ℕ × S)
+  pub behind : List (ℕ × S)
+  pub was : slots ≡ front ++ behind
+  pub turned : later ≡ behind ++ front

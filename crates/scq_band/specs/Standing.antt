@@ -1,0 +1,139 @@
+-- What contracts see of a band and of its seats, and what each call makes of a seat.
+use Rattle.std.specs.Prelude.{◌≡◌, ℕ, ◌+◌, ◌<◌, ◌≤◌, true, false, not, ◌==◌, if◌then◌else◌, max, List, [], ◌∷◌, ◌++◌, map, filter, length, Option, Some, None, zero, suc, slice_get}
+use Rattle.atomic_table.specs.Seated.{TableId}
+use Rattle.scq_word.specs.declared.setup.Setup.{Setup}
+use Rattle.scq_core.specs.declared.ended.Ended.{Ended}
+use Rattle.scq_core.specs.declared.ended.Ended.TheVariants.{Done, Got, Nothing, Spent}
+use Rattle.scq_band.specs.declared.numbers.Numbers.{Numbers}
+use Rattle.scq_band.specs.Numbers.{known_of, first_numbers, changed, finishes, sees, passes, drew, empties}
+
+-- which band: its table, the setup that it was made for, and the buffers that it was given, that of index i at i
+pub record Identity (B : Type 0) : Type 0 where
+  pub table : TableId
+  pub setup : Setup
+  pub given : List B
+
+-- what contracts see of a seat
+pub record Standing (B : Type 0) : Type 0 where
+  pub band : Identity B
+  pub number : ℕ
+  -- its record
+  pub calls : List Ended
+  -- the indices in its hand, in the order in which they came, each with its buffer unless that is lifted
+  pub hand : List (ℕ × Option B)
+  -- what it knows of each ring
+  pub numbers : List Numbers
+  -- the spent ticket that it keeps
+  pub spent : Option ℕ
+  -- how often it read the gate, and what the last reading found; before the first, the number of seats
+  pub gates : ℕ
+  pub gate : Option ℕ
+  -- how many calls stood in its record when it retired
+  pub retired : Option ℕ
+
+-- what contracts see of a note
+pub record NoteStanding : Type 0 where
+  pub table : TableId
+  pub numbers : List Numbers
+
+module _ {B : Type 0} where
+  -- a seat of a new band, and those below a number, in order
+  abbrev pub first_standing : Identity B → ℕ → Standing B
+  first_standing band k =
+      record {
+        band = band;
+        number = k;
+        calls = [];
+        hand = [];
+        numbers = first_numbers band.setup band.setup.rings;
+        spent = None;
+        gates = 0;
+        gate = Some band.setup.seats;
+        retired = None;
+      }
+
+  abbrev pub first_standings : Identity B → ℕ → List (Standing B)
+  first_standings band zero = []
+  first_standings band (suc k) = first_standings band k ++ first_standing band k ∷ []
+
+  -- what a hand has of an index: nothing, or a buffer, or the place of one that is lifted
+  abbrev pub in_hand : List (ℕ × Option B) → ℕ → Option (Option B)
+  in_hand [] i = None
+  in_hand (x ∷ xs) i = if x.0 == i then Some x.1 else in_hand xs i
+
+  -- the bytes of the buffer that is laid for an index in a hand
+  abbrev pub bytes_of : (B → List ℕ) → Option (Option B) → List ℕ
+  bytes_of contents (Some (Some buffer)) = contents buffer
+  bytes_of contents held = []
+
+  abbrev pub bytes_in_hand : (B → List ℕ) → List (ℕ × Option B) → ℕ → List ℕ
+  bytes_in_hand contents hand i = bytes_of contents (in_hand hand i)
+
+  -- a hand without an index
+  abbrev pub without_index : ℕ → List (ℕ × Option B) → List (ℕ × Option B)
+  without_index i hand = filter (λ x. not (x.0 == i)) hand
+
+  -- a hand in which the buffer of an index was laid, or lifted
+  abbrev pub with_buffer : ℕ → Option B → List (ℕ × Option B) → List (ℕ × Option B)
+  with_buffer i buffer hand = map (λ x. if x.0 == i then (x.0, buffer) else x) hand
+
+  -- a seat whose put of an index has ended at a place, with the bytes of its buffer
+  abbrev pub after_put : ℕ → ℕ → ℕ → List ℕ → Standing B → Standing B
+  after_put ring index place bytes s =
+      record s {
+        calls = s.calls ++ Done ring place bytes ∷ [];
+        hand = without_index index s.hand;
+        numbers = changed (finishes place) ring s.numbers;
+      }
+
+  -- a seat whose get has ended with an index at a place, and whose buffer came with these bytes
+  abbrev pub after_get : ℕ → ℕ → ℕ → B → List ℕ → Standing B → Standing B
+  after_get ring place index buffer bytes s =
+      record s {
+        calls = s.calls ++ Got ring place bytes ∷ [];
+        hand = s.hand ++ (index, Some buffer) ∷ [];
+        numbers = changed (λ x. sees place (passes (place + 1) x)) ring s.numbers;
+      }
+
+  -- a seat whose get has found nothing, with the last ticket that it drew, if any
+  abbrev pub after_nothing : ℕ → Option ℕ → Standing B → Standing B
+  after_nothing ring drawn s =
+      record s { calls = s.calls ++ Nothing ring ∷ []; numbers = changed (λ x. empties (drew drawn x)) ring s.numbers }
+
+  -- a seat whose put, or get, drew a ticket at or past the limit
+  abbrev pub after_spent_put : ℕ → ℕ → Standing B → Standing B
+  after_spent_put ring ticket s = record s { calls = s.calls ++ Spent ring ticket true ∷ []; spent = Some ticket }
+
+  abbrev pub after_spent_get : ℕ → ℕ → Standing B → Standing B
+  after_spent_get ring ticket s =
+      record s {
+        calls = s.calls ++ Spent ring ticket false ∷ [];
+        numbers = changed (passes (ticket + 1)) ring s.numbers;
+        spent = Some ticket;
+      }
+
+  -- a seat that read this number at the gate
+  abbrev pub after_look : ℕ → Standing B → Standing B
+  after_look found s = record s { gates = s.gates + 1; gate = Some found }
+
+  -- a buffer is the same as the one given for an index
+  pub record IsAsGiven (IsSame : B → B → Type 0) (given : List B) (index : ℕ) (buffer : B) : Type 0 where
+    pub first : B
+    pub was : slice_get given index ≡ Some first
+    pub same : IsSame first buffer
+
+  -- a seat that has got an index at a place: its buffer is the same as the one given for the index
+  pub record HasTaken (contents : B → List ℕ) (IsSame : B → B → Type 0) (ring place index : ℕ) (old new : Standing B) : Type 0 where
+    pub buffer : B
+    pub given : IsAsGiven IsSame old.band.given index buffer
+    pub seat : new ≡ after_get ring place index buffer (contents buffer) old
+    -- it was not in the hand before
+    pub came : in_hand old.hand index ≡ None
+
+  -- a seat that has found a ring empty: the head number answered is the larger of the known head, past the tickets that it drew,
+  -- and of one more than the known finished place
+  pub record FoundEmpty (ring head : ℕ) (old new : Standing B) : Type 0 where
+    pub drawn : Option ℕ
+    pub seat : new ≡ after_nothing ring drawn old
+    pub known : head ≡ (known_of new.numbers ring).head
+    pub below : (ticket : ℕ) → drawn ≡ Some ticket → ticket < old.band.setup.limit

@@ -1,0 +1,126 @@
+//! A band: the running rings, with their seats.
+ghost use Rattle.std.specs.Prelude.{◌≡◌, ℕ, ◌<◌, ◌==◌, length, Some, None, IfOk, IfErr, vec_len};
+ghost use Rattle.scq_word.specs.Sizes.{n_of};
+ghost use Rattle.scq_band.specs.Rings.{IsRing};
+ghost use Rattle.scq_band.specs.Standing.{first_standings, after_look};
+
+use crate::gate::{read_gate, retire};
+use crate::making::{Memory, lay_all, lift_all, reserved};
+use crate::ring::Ring;
+use crate::rule::{Key, Rule};
+use crate::seat::Seat;
+use crate::slot::Slot;
+use crate::splitting::split_all;
+use crate::view::View;
+use atomic_table::{Refused, Table};
+use scq_core::reset_level;
+use scq_word::{Buffer, NoMemory, Setup};
+use std::alloc::Global;
+use std::marker::Model;
+use std::snapshot::Snapshot;
+
+/// The running rings. Threads share it and make calls on it, each with a seat of its own.
+///
+/// `buffers` and `left` are empty lists, with room for what `close` hands out.
+pub struct Band<B: Buffer> {
+    pub(crate) table: Table<Slot<B>, View, Key<B>, Rule, Global>,
+    pub(crate) setup: Setup,
+    pub(crate) buffers: Vec<B>,
+    pub(crate) left: Vec<u64>,
+}
+
+impl<B: Buffer> Model for Band<B> {
+    ghost use Rattle.std.specs.Prelude.{vec_capacity};
+    ghost use Rattle.scq_band.specs.Standing.{Identity};
+
+    ghost Value = { Identity B };
+
+    ghost use Rattle.scq_band.specs.Kept.{identity_of, IsBand};
+
+    ghost view = { λ b. identity_of b.table.shared.table_id b.table.shared.key };
+
+    ghost invariant = { λ b. IsBand b.table.shared.table_id b.table.shared.key b.setup b.buffers.items (vec_capacity b.buffers) b.left.items (vec_capacity b.left) };
+}
+
+impl<B: Buffer> Band<B> {
+    /// A band with its seats, in the order of their numbers. Buffer i stands for index i; ring 0 has all indices, in order.
+    /// Without memory all buffers come back, in order.
+    pub fn make(
+        alloc: Global,
+        setup: Setup,
+        mut buffers: Vec<B>,
+    ) -> Result<(Band<B>, Vec<Seat<B>>), (Vec<B>, NoMemory)>
+        requires { vec_len buffers ≡ n_of setup.order }
+        ensures band { IfOk result (λ made. (made.0.setup ≡ setup) × (made.0.given ≡ buffers.items)) }
+        ensures seats { IfOk result (λ made. made.1.items ≡ first_standings made.0 setup.seats) }
+        ensures refused { IfErr result (λ refused. refused.0.items ≡ buffers.items) }
+    {
+        let Memory { words, left, rooms } = match reserved(alloc, setup) {
+            Ok(memory) => memory,
+            Err(wanted) => return Err((buffers, wanted)),
+        };
+        let Ok(mut slots) = Vec::with_capacity(alloc, buffers.len()) else {
+            return Err((buffers, NoMemory));
+        };
+        let Ok(seats) = Vec::with_capacity(alloc, rooms.len()) else {
+            slots.destroy_empty();
+            return Err((buffers, NoMemory));
+        };
+        let key = Key {
+            setup,
+            given: Snapshot::of(&buffers),
+        };
+        lay_all(&mut buffers, &mut slots);
+        match Table::new(alloc, words.as_slice(), slots, &key) {
+            Ok((table, first)) => {
+                let seats = split_all(&table.shared, first, &key, rooms, seats);
+                let band = Band {
+                    table,
+                    setup,
+                    buffers,
+                    left,
+                };
+                Ok((band, seats))
+            }
+            Err(Refused { slots }) => {
+                seats.destroy_empty();
+                lift_all(slots, &mut buffers);
+                Err((buffers, NoMemory))
+            }
+        }
+    }
+
+    // What a call needs of a ring.
+    #[inline(always)]
+    pub(crate) fn ring(&self, number: u32) -> Ring
+        requires { number < self.now.setup.rings }
+        ensures number { result.number ≡ number }
+        ensures ring { IsRing self.now.setup result }
+    {
+        let shape = self.setup.shape();
+        Ring {
+            number,
+            shape,
+            limit: self.setup.limit(),
+            tail: 1 + number as usize * (3 + shape.slots() as usize),
+            level: reset_level(&self.setup),
+        }
+    }
+
+    /// The seat retires.
+    pub fn retire(&self, seat: &mut Seat<B>)
+        requires seat { seat.old.band ≡ self.now }
+        requires stays { seat.old.retired ≡ None }
+        ensures { seat.new ≡ record seat.old { retired = Some (length seat.old.calls) } }
+    {
+        retire(&self.table.shared, &mut seat.token);
+    }
+
+    /// Whether every seat had retired when word 0 was read.
+    pub fn gate_closed(&self, seat: &mut Seat<B>) -> bool
+        requires seat { seat.old.band ≡ self.now }
+        ensures { (found : ℕ) × (seat.new ≡ after_look found seat.old) × (result ≡ (found == 0)) }
+    {
+        read_gate(&self.table.shared, &mut seat.token) == 0
+    }
+}

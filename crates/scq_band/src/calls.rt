@@ -1,0 +1,98 @@
+//! The calls on a ring.
+ghost use Rattle.std.specs.Prelude.{◌≡◌, ℕ, ◌<◌, ◌≤◌, Some, None, Err, IfOk, IfErr};
+ghost use Rattle.scq_word.specs.Sizes.{n_of};
+ghost use Rattle.scq_band.specs.Numbers.{known_of};
+ghost use Rattle.scq_band.specs.Standing.{in_hand, bytes_in_hand, after_put, after_spent_put, after_spent_get, HasTaken, FoundEmpty};
+
+use crate::band::Band;
+use crate::dequeue::{Without, dequeue};
+use crate::enqueue::enqueue;
+use crate::hand::bring_to_front;
+use crate::seat::Seat;
+use scq_word::Buffer;
+
+/// The ticket that a seat keeps: it was at or past the limit.
+#[derive(Clone, Copy, Debug, PartialEq, Eq)]
+pub struct Spent {
+    pub ticket: u64,
+}
+
+/// Why a get answers no index: the ring was empty, its Head being at or past this number, or the seat keeps a ticket at
+/// or past the limit.
+#[derive(Clone, Copy, Debug, PartialEq, Eq)]
+pub enum DeqRefusal {
+    Empty { head: u64 },
+    Spent { ticket: u64 },
+}
+
+impl<B: Buffer> Band<B> {
+    /// Puts an index that the seat has in its hand on a ring, with its buffer: answers its place, which is below the limit.
+    /// Spent where the ticket that was drawn is at or past the limit; the seat keeps it, and answers it from then on, with no
+    /// step made.
+    pub fn enq(&self, seat: &mut Seat<B>, ring: u32, index: u32) -> Result<u64, Spent>
+        requires seat { seat.old.band ≡ self.now }
+        requires ring { ring < self.now.setup.rings }
+        requires held { (buffer : B) × (in_hand seat.old.hand index ≡ Some (Some buffer)) }
+        ensures put { IfOk result (λ place. seat.new ≡ after_put ring index place (bytes_in_hand B.contents seat.old.hand index) seat.old) }
+        ensures place { IfOk result (λ place. (place < self.now.setup.limit) × ((known_of seat.old.numbers ring).seen < place)) }
+        ensures spent { IfErr result (λ spent. seat.old.spent ≡ None → (seat.new ≡ after_spent_put ring spent.ticket seat.old) × (self.now.setup.limit ≤ spent.ticket)) }
+        ensures kept { (ticket : ℕ) → seat.old.spent ≡ Some ticket → (result ≡ Err (record { ticket = ticket })) × (seat.new ≡ seat.old) }
+    {
+        if let Some(ticket) = seat.spent {
+            return Err(Spent { ticket });
+        }
+        bring_to_front(&mut seat.token, &mut seat.hand, index);
+        match enqueue(&self.table.shared, &mut seat.token, self.ring(ring), index) {
+            Ok(place) => {
+                seat.hand.pop();
+                let known = seat.numbers[ring as usize];
+                seat.numbers[ring as usize] = known.finishes(place);
+                Ok(place)
+            }
+            Err(ticket) => {
+                seat.spent = Some(ticket);
+                Err(Spent { ticket })
+            }
+        }
+    }
+
+    /// Gets an index from a ring, with its buffer: answers its place, which is below the limit, and the index.
+    /// Empty where the ring was found empty: its Head is at or past the number answered, so whatever the seat knew to be
+    /// finished there had been claimed. Spent as with `enq`.
+    pub fn deq(&self, seat: &mut Seat<B>, ring: u32) -> Result<(u64, u32), DeqRefusal>
+        requires seat { seat.old.band ≡ self.now }
+        requires ring { ring < self.now.setup.rings }
+        ensures got { IfOk result (λ r. HasTaken B.contents B.IsSameBuffer ring r.0 r.1 seat.old seat.new) }
+        ensures place { IfOk result (λ r. (r.0 < self.now.setup.limit) × ((known_of seat.old.numbers ring).head ≤ r.0)) }
+        ensures index { IfOk result (λ r. r.1 < n_of self.now.setup.order) }
+        ensures empty { (head : ℕ) → result ≡ Err (DeqRefusal.Empty head) → FoundEmpty ring head seat.old seat.new }
+        ensures spent { (ticket : ℕ) → result ≡ Err (DeqRefusal.Spent ticket) → seat.old.spent ≡ None
+            → (seat.new ≡ after_spent_get ring ticket seat.old) × (self.now.setup.limit ≤ ticket) }
+        ensures kept { (ticket : ℕ) → seat.old.spent ≡ Some ticket → (result ≡ Err (DeqRefusal.Spent ticket)) × (seat.new ≡ seat.old) }
+    {
+        if let Some(ticket) = seat.spent {
+            return Err(DeqRefusal::Spent { ticket });
+        }
+        let found = dequeue(&self.table.shared, &mut seat.token, self.ring(ring));
+        let known = seat.numbers[ring as usize];
+        match found {
+            Ok((place, index)) => {
+                seat.hand.push_reserved(index);
+                seat.numbers[ring as usize] = known.draws(place).sees(place);
+                Ok((place, index))
+            }
+            Err(end) => match end {
+                Without::Nothing(drawn) => {
+                    let later = known.finds_none(drawn);
+                    seat.numbers[ring as usize] = later;
+                    Err(DeqRefusal::Empty { head: later.head })
+                }
+                Without::Spent(ticket) => {
+                    seat.numbers[ring as usize] = known.draws(ticket);
+                    seat.spent = Some(ticket);
+                    Err(DeqRefusal::Spent { ticket })
+                }
+            },
+        }
+    }
+}

@@ -1,0 +1,185 @@
+//! The end of a table: each slot that is out goes home, and the seats' views are joined into one.
+ghost use Rattle.std.specs.Prelude.{◌≡◌, ℕ, ◌+◌, ◌<◌, ◌≤◌, is_none, IsTrue, [], ◌∷◌, map, length, vec_len, sum_by, All};
+ghost use Rattle.std.specs.List.Sorted.{IsPermutation};
+ghost use Rattle.atomic_table.specs.Table.{rest};
+ghost use Rattle.scq_law.specs.Hands.{times};
+ghost use Rattle.scq_band.specs.declared.slot.Slot.{Slot};
+ghost use Rattle.scq_band.specs.Buffers.{LiesIn, opening_of};
+ghost use Rattle.scq_band.specs.Steps.{my, front_index};
+ghost use Rattle.scq_band.specs.Kept.{identity_of};
+ghost use Rattle.scq_band.specs.Closing.{indices_of, lifted_of, EachGetHasItsPut, NoneIsGotTwice, EachPutPassedIsGot, IsBalance, IsAllThere, EachIsInOneHand, EachSpentIsPastTheBound, EachLeftIsItsPut, AreTheSame, AreTheLifted, all_calls, all_hands, all_known, all_spent};
+ghost use Rattle.scq_band.specs.Homes.{at_home, MayBring, IsLaidBack, times_lifted, AllOutGiven, MayLeave, IsMemberOf, HasAll};
+
+use crate::band::Band;
+use crate::closed::{count_left, unload};
+use crate::notes::Gathers;
+use crate::rule::{Token, Words};
+use crate::seat::Seat;
+use crate::slot::Slot;
+use scq_word::Buffer;
+use std::marker::Brand;
+
+/// The slot that stands first goes home.
+fn bring<B: Buffer>(words: &Words<B>, token: &mut Token<B>)
+    requires own { token.old.table_id ≡ words.now.table_id }
+    requires room { 0 < words.now.table_id.words }
+    requires may { MayBring (LiesIn B.contents B.IsSameBuffer words.now.key.given.value.items) token.old.me }
+    ensures own { (token.new.table_id ≡ token.old.table_id) × (token.new.id ≡ token.old.id) }
+    ensures home { token.new.me ≡ (at_home (front_index token.old.me.1 ∷ []) token.old.me.0, rest token.old.me.1) }
+{
+    words.load::<Brand>(token, 0);
+}
+
+/// The buffer of an index, taken from those that are out.
+fn taken_out<B>(out: &mut Vec<(u32, B)>, index: u32) -> B
+    requires { 0 < times index (indices_of out.old.items) }
+    ensures { IsPermutation out.old.items ((index, result) ∷ out.new.items) }
+{
+    let mut at = 0;
+    while at < out.len() {
+        if out[at].0 == index {
+            let (_, buffer) = out.swap_remove(at);
+            return buffer;
+        }
+        at += 1;
+    }
+    unreachable!()
+}
+
+/// The slot that stands first, of this index, has its buffer again where it is lifted.
+fn lay_back<B: Buffer>(words: &Words<B>, token: &mut Token<B>, index: u32, out: &mut Vec<(u32, B)>)
+    requires own { token.old.table_id ≡ words.now.table_id }
+    requires first { (slot : Slot B) × (token.old.me.1 ≡ (index, slot) ∷ rest token.old.me.1)
+        × (IsTrue (is_none slot.buffer) → 0 < times index (indices_of out.old.items)) }
+    ensures own { (token.new.table_id ≡ token.old.table_id) × (token.new.id ≡ token.old.id) }
+    ensures view { token.new.me.0 ≡ token.old.me.0 }
+    ensures laid { IsLaidBack index token.old.me.1 out.old.items token.new.me.1 out.new.items }
+{
+    let Slot { buffer } = words.exchange(token, index as usize, Slot { buffer: None });
+    let buffer = match buffer {
+        Some(buffer) => buffer,
+        None => taken_out(out, index),
+    };
+    let Slot { buffer: hole } = words.exchange(
+        token,
+        index as usize,
+        Slot {
+            buffer: Some(buffer),
+        },
+    );
+    let None = hole else { unreachable!() };
+}
+
+/// All slots of a seat go home, each with its buffer.
+fn bring_all<B: Buffer>(
+    words: &Words<B>,
+    token: &mut Token<B>,
+    mut hand: Vec<u32>,
+    out: &mut Vec<(u32, B)>,
+)
+    requires own { token.old.table_id ≡ words.now.table_id }
+    requires room { 0 < words.now.table_id.words }
+    requires may { MayLeave B.IsSameBuffer words.now.key.given.value.items token.old.me hand.items out.old.items }
+    ensures own { (token.new.table_id ≡ token.old.table_id) × (token.new.id ≡ token.old.id) }
+    ensures home { token.new.me ≡ (at_home (indices_of token.old.me.1) token.old.me.0, []) }
+    ensures less { (i : ℕ) → times i (indices_of out.new.items) + times_lifted i token.old.me.1 ≡ times i (indices_of out.old.items) }
+    ensures given { AllOutGiven B.IsSameBuffer words.now.key.given.value.items out.new.items }
+{
+    while let Some(index) = hand.pop() {
+        lay_back(words, token, index, out);
+        bring(words, token);
+    }
+}
+
+/// The token of a seat, with all its slots at home.
+fn one_home<B: Buffer>(words: &Words<B>, seat: Seat<B>, out: &mut Vec<(u32, B)>) -> Token<B>
+    requires band { seat.band ≡ identity_of words.now.table_id words.now.key }
+    requires room { 0 < words.now.table_id.words }
+    requires lifted { (i : ℕ) → times i (lifted_of seat.hand) ≤ times i (indices_of out.old.items) }
+    requires given { AllOutGiven B.IsSameBuffer words.now.key.given.value.items out.old.items }
+    ensures own { result.table_id ≡ words.now.table_id }
+    ensures alone { result.me.0.seats ≡ my result.me.0 ∷ [] }
+    ensures member { IsMemberOf seat (my result.me.0) }
+    ensures numbers { (result.me.0.numbers ≡ seat.numbers) × (length seat.numbers ≡ words.now.key.setup.rings) }
+    ensures none { result.me.1 ≡ [] }
+    ensures less { (i : ℕ) → times i (indices_of out.new.items) + times i (lifted_of seat.hand) ≡ times i (indices_of out.old.items) }
+    ensures given { AllOutGiven B.IsSameBuffer words.now.key.given.value.items out.new.items }
+{
+    let Seat {
+        mut token,
+        key: _,
+        hand,
+        numbers: _,
+        spent: _,
+    } = seat;
+    bring_all(words, &mut token, hand, out);
+    token
+}
+
+/// The tokens of all seats as one: the view of each stands in its view. What was lifted is laid back.
+pub fn gather<B: Buffer>(
+    words: &Words<B>,
+    mut seats: Vec<Seat<B>>,
+    mut out: Vec<(u32, B)>,
+) -> Token<B>
+    requires bands { All (λ s. s.band ≡ identity_of words.now.table_id words.now.key) seats.items }
+    requires some { 0 < vec_len seats }
+    requires room { 0 < words.now.table_id.words }
+    requires lifted { (i : ℕ) → times i (indices_of out.items) ≡ sum_by (λ s. times i (lifted_of s.hand)) seats.items }
+    requires given { AllOutGiven B.IsSameBuffer words.now.key.given.value.items out.items }
+    ensures own { result.table_id ≡ words.now.table_id }
+    ensures all { HasAll words.now.key.setup.rings seats.items result.me.0 }
+{
+    let Some(last) = seats.pop() else {
+        unreachable!()
+    };
+    let mut first = one_home(words, last, &mut out);
+    while let Some(seat) = seats.pop() {
+        let token = one_home(words, seat, &mut out);
+        words.join_seat::<Gathers>(&mut first, token);
+    }
+    seats.destroy_empty();
+    out.destroy_empty();
+    first
+}
+
+/// What is left of a band: its buffers in order of index, and for each ring how many indices were left in it.
+pub struct BandClosed<B> {
+    pub buffers: Vec<B>,
+    pub left: Vec<u64>,
+}
+
+impl<B: Buffer> Band<B> {
+    /// Closes a band whose seats all come back. The buffers that are lifted come in `out`, each with its index; they are laid
+    /// back, and all buffers are handed out. Takes no memory.
+    ///
+    /// The clauses read the seats' records, hands and numbers together, in the order in which the seats are given.
+    pub fn close(self, seats: Vec<Seat<B>>, out: Vec<(u32, B)>) -> BandClosed<B>
+        requires seats { All (λ s. s.band ≡ self) seats.items }
+        requires all { vec_len seats ≡ self.setup.seats }
+        requires out { AreTheLifted B.IsSameBuffer self seats.items out.items }
+        ensures buffers { AreTheSame B.IsSameBuffer self.given result.buffers.items }
+        ensures gets { EachGetHasItsPut self.setup (opening_of B.contents self.given) (all_calls seats.items) }
+        ensures once { NoneIsGotTwice (all_calls seats.items) }
+        ensures passed { EachPutPassedIsGot self.setup (opening_of B.contents self.given) (all_calls seats.items) (all_known seats.items) }
+        ensures balance { IsBalance self.setup (all_calls seats.items) result.left.items }
+        ensures all_there { IsAllThere self.setup (all_hands seats.items) result.left.items }
+        ensures hands { EachIsInOneHand self.setup (all_hands seats.items) }
+        ensures left { EachLeftIsItsPut self.setup (opening_of B.contents self.given) (all_calls seats.items) (all_hands seats.items)
+            (map B.contents result.buffers.items) }
+        ensures spent { EachSpentIsPastTheBound self.setup (all_calls seats.items) (all_spent seats.items) }
+    {
+        let Band {
+            table,
+            setup,
+            mut buffers,
+            mut left,
+        } = self;
+        let all = gather(&table.shared, seats, out);
+        let mut closed = table.close_with(all);
+        count_left(&closed, &setup, &mut left);
+        unload(&mut closed, &mut buffers);
+        closed.free();
+        BandClosed { buffers, left }
+    }
+}

@@ -1,0 +1,25 @@
+//! The slots that a seat holds, with their indices in the order of the table.
+ghost use Rattle.std.specs.Prelude.{◌≡◌, ◌<◌, vec_capacity};
+ghost use Rattle.scq_law.specs.Hands.{times};
+ghost use Rattle.scq_band.specs.Steps.{front_index};
+ghost use Rattle.scq_band.specs.Kept.{in_order, IsRotation};
+
+use crate::rule::Token;
+use scq_word::Buffer;
+
+/// Turns the slots until that of the index stands first.
+#[inline(always)]
+pub fn bring_to_front<B: Buffer>(token: &mut Token<B>, hand: &mut Vec<u32>, index: u32)
+    requires order { hand.old.items ≡ in_order token.old.me.1 }
+    requires held { 0 < times index hand.old.items }
+    ensures own { (token.new.table_id ≡ token.old.table_id) × (token.new.id ≡ token.old.id) × (token.new.me.0 ≡ token.old.me.0) }
+    ensures turned { IsRotation token.old.me.1 token.new.me.1 }
+    ensures order { hand.new.items ≡ in_order token.new.me.1 }
+    ensures first { front_index token.new.me.1 ≡ index }
+    ensures room { vec_capacity hand.new ≡ vec_capacity hand.old }
+{
+    while hand[hand.len() - 1] != index {
+        hand.rotate_right(1);
+        token.turn();
+    }
+}

@@ -1,0 +1,46 @@
+//! Buffers that are lifted out of a seat's hand, and laid back.
+ghost use Rattle.std.specs.Prelude.{◌≡◌, Some, None};
+ghost use Rattle.scq_band.specs.Standing.{in_hand, with_buffer, IsAsGiven};
+
+use crate::band::Band;
+use crate::hand::bring_to_front;
+use crate::seat::Seat;
+use crate::slot::Slot;
+use scq_word::Buffer;
+
+impl<B: Buffer> Band<B> {
+    /// The buffer of an index in the seat's hand.
+    pub fn lift(&self, seat: &mut Seat<B>, index: u32) -> B
+        requires seat { seat.old.band ≡ self.now }
+        requires laid { (buffer : B) × (in_hand seat.old.hand index ≡ Some (Some buffer)) }
+        ensures buffer { in_hand seat.old.hand index ≡ Some (Some result) }
+        ensures given { IsAsGiven B.IsSameBuffer self.now.given index result }
+        ensures lifted { seat.new ≡ record seat.old { hand = with_buffer index None seat.old.hand } }
+    {
+        bring_to_front(&mut seat.token, &mut seat.hand, index);
+        let Slot { buffer } = self
+            .table
+            .shared
+            .exchange(&mut seat.token, index as usize, Slot { buffer: None });
+        let Some(buffer) = buffer else { unreachable!() };
+        buffer
+    }
+
+    /// Lays a buffer back that was lifted.
+    pub fn lay(&self, seat: &mut Seat<B>, index: u32, buffer: B)
+        requires seat { seat.old.band ≡ self.now }
+        requires lifted { in_hand seat.old.hand index ≡ Some None }
+        requires given { IsAsGiven B.IsSameBuffer self.now.given index buffer }
+        ensures laid { seat.new ≡ record seat.old { hand = with_buffer index (Some buffer) seat.old.hand } }
+    {
+        bring_to_front(&mut seat.token, &mut seat.hand, index);
+        let laid = Slot {
+            buffer: Some(buffer),
+        };
+        let Slot { buffer: hole } = self
+            .table
+            .shared
+            .exchange(&mut seat.token, index as usize, laid);
+        let None = hole else { unreachable!() };
+    }
+}
