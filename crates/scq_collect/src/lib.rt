@@ -7,6 +7,8 @@
 
 mod answered;
 mod collecting;
+mod handled;
+mod merging;
 #[cfg(test)]
 mod tests;
 mod text;
@@ -14,4 +16,6 @@ mod totals;
 
 pub use answered::Answered;
 pub use collecting::collect;
+pub use handled::Handled;
+pub use merging::Merged;
 pub use text::{output, push_totals};
