@@ -2,4 +2,6 @@ pub mod Begun
 pub mod Gathered
 pub mod Judging
 pub mod Lines
+pub mod Places
+pub mod Sorting
 pub mod Sums

@@ -3,3 +3,4 @@ pub mod Judged
 pub mod Collected
 pub mod Kinds
 pub mod Merging
+pub mod Walk

@@ -8,6 +8,7 @@ use Rattle.scq_topics.specs.declared.kind.Kind.{Kind}
 use Rattle.scq_topics.specs.Topics.{kind_of}
 use Rattle.scq_frames.specs.declared.message.Message.{Message}
 use Rattle.scq_collect.specs.Kinds.{same_kind}
+use Rattle.scq_collect.specs.declared.answered.Answered.{Answered}
 use Rattle.scq_collect.specs.declared.handled.Handled.{Handled}
 
 -- one place stands before another: by file, and in one file by line
@@ -34,6 +35,10 @@ HoldOnce lists members = IsPermutation (flat_map (λ list. list) lists) members
 -- where a message stands
 abbrev pub place_of : Message → ℕ × ℕ
 place_of m = (m.file, m.line)
+
+-- where the message of an answer stands
+abbrev pub place_of_answer : Answered → ℕ × ℕ
+place_of_answer a = (a.file, a.line)
 
 -- whether a member answers the message: it is of the same file, line, topic and payload, and of the topic's kind
 abbrev pub is_answer_to : List (List ℕ × Kind) → Message → Handled → Bool

@@ -17,5 +17,5 @@ mod totals;
 pub use answered::Answered;
 pub use collecting::collect;
 pub use handled::Handled;
-pub use merging::Merged;
+pub use merging::{Merged, merge};
 pub use text::{output, push_totals};
