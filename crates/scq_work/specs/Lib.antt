@@ -1,0 +1,4 @@
+pub mod Jobs
+pub mod Dealings
+pub mod Files
+pub mod Reading
