@@ -1,0 +1,13 @@
+-- Lists in which one element is replaced.
+use Rattle.std.proofs.Common.{◌≡◌, ◌≢◌, ◌∙◌, refl, sym, ap, subst, inl, inr, arith, ℕ, ◌+◌, ◌<◌, List, [], ◌∷◌, length, get_or, set, get_or-set_same, get_or-set_other}
+use Rattle.std.proofs.lemmas.Bool.{cases_eq}
+use Rattle.std.proofs.lemmas.List.{length-set}
+use Rattle.std.specs.Prelude.{slice_index_or}
+
+-- what holds of the new element there and of the others where they were holds everywhere
+pub set-each : {X : Type 0} (P : ℕ → X → Type 0) (xs : List X) (at : ℕ) (y d : X) → at < length xs → P at y → ((k : ℕ) → k < length xs → k ≢ at → P k (slice_index_or xs k d))
+    → (k : ℕ) → k < length xs → P k (slice_index_or (set xs at y) k d)
+set-each P xs at y d within here others k less = elim (cases_eq k at) [
+  | inl same ↦ subst (λ j. P j (get_or (set xs at y) j d)) (sym same) (subst (P at) (sym (get_or-set_same xs at y d within)) here)
+  | inr apart ↦ subst (P k) (sym (get_or-set_other xs at k y d apart)) (others k less apart)
+]
