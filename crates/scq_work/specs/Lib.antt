@@ -1,4 +1,5 @@
 pub mod Jobs
 pub mod Dealings
 pub mod Files
+pub mod Desks
 pub mod Reading

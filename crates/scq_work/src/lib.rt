@@ -5,6 +5,8 @@
 //! answers, each message of the files is answered once, in order, and each fault has its cause.
 #![tactic(auto)]
 
+mod dealing;
+mod desk;
 mod gate;
 mod job;
 mod own_file;

@@ -24,11 +24,7 @@ use std::sync::{Mutex, Wait};
 const MOST_BYTES: u64 = 1 << 30;
 
 /// Puts a copy of a message behind the others.
-fn keep_copy(
-    alloc: Global,
-    message: &Message,
-    given: &mut Vec<Message>,
-) -> Result<(), NoMemory>
+fn keep_copy(alloc: Global, message: &Message, given: &mut Vec<Message>) -> Result<(), NoMemory>
     ensures ok { OnOk result (given.new.items ≡ given.old.items ++ message.now ∷ []) }
     ensures err { OnErr result (given.new.items ≡ given.old.items) }
 {

@@ -16,19 +16,19 @@ returns-clause-read g c =
     let P : FileEnd → Type 0 = λ end. IsRead c.args.job.now.topics c.args.job.now.size faults left file.number file.was.value new given end in
     elim c.match-end.branch [
       | in-Ok w ↦ subst P (sym w.file-is) (rw (← c.requires.unread) (record {
-          ends = record { judged = w.in-Ok.ensures.judged; ended = w.in-Ok.ensures.end; kept = said.kept (λ e. absurd (cc)) };
-          gave = w.in-Ok.ensures.given;
-          all = said.all;
-        }))
+        ends = record { judged = w.in-Ok.ensures.judged; ended = w.in-Ok.ensures.end; kept = said.kept (λ e. absurd (cc)) };
+        gave = w.in-Ok.ensures.given;
+        all = said.all;
+      }))
       | in-Err w ↦ subst P (sym w.file-is) (rw (← c.requires.unread) (record {
-          ends = record {
-            judged = w.in-Err.ensures.judged;
-            rose = λ e. said.read_fault (w.in-Err.is ∙ ap Err e);
-            kept = λ other. said.kept (λ e. other (cc));
-            long = λ line len e. said.too_long line len (w.in-Err.is ∙ ap Err e);
-            large = λ bytes e. said.too_large bytes (w.in-Err.is ∙ ap Err e);
-          };
-          gave = tt;
-          all = said.all;
-        }))
+        ends = record {
+          judged = w.in-Err.ensures.judged;
+          rose = λ e. said.read_fault (w.in-Err.is ∙ ap Err e);
+          kept = λ other. said.kept (λ e. other (cc));
+          long = λ line len e. said.too_long line len (w.in-Err.is ∙ ap Err e);
+          large = λ bytes e. said.too_large bytes (w.in-Err.is ∙ ap Err e);
+        };
+        gave = tt;
+        all = said.all;
+      }))
     ]
