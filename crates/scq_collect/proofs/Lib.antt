@@ -3,5 +3,6 @@ pub mod Gathered
 pub mod Judging
 pub mod Lines
 pub mod Places
+pub mod Rows
 pub mod Sorting
 pub mod Sums

@@ -1,4 +1,4 @@
-use scq_word::Bytes;
+use scq_topics::ReplyBytes;
 
 /// The answer to a message: its file and line, both numbered from 1, its topic's number, how many
 /// bytes its payload has, and the reply.
@@ -8,5 +8,5 @@ pub struct Answered {
     pub line: u32,
     pub topic: u32,
     pub bytes: u64,
-    pub reply: Bytes,
+    pub reply: ReplyBytes,
 }

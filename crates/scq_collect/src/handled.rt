@@ -2,8 +2,8 @@ ghost use Rattle.std.specs.Prelude.{◌≡◌};
 ghost use Rattle.scq_topics.specs.Reply.{reply_of};
 
 use scq_frames::Message;
-use scq_topics::{Kind, reply};
-use scq_word::{Bytes, NoMemory};
+use scq_topics::{Kind, ReplyBytes, reply};
+use scq_word::NoMemory;
 use std::alloc::Global;
 
 /// A message with its reply, which is that of the kind: by its type no `Handled` has another.
@@ -11,7 +11,7 @@ use std::alloc::Global;
 pub struct Handled {
     pub message: Message,
     pub kind: Kind,
-    pub reply: Bytes,
+    pub reply: ReplyBytes,
     pub ghost computed: { reply ≡ reply_of kind message.payload },
 }
 

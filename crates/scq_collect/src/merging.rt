@@ -10,8 +10,8 @@ ghost use Rattle.scq_collect.specs.Merging.{IsBefore, IsInOrder, IsMerged, IsSor
 
 use crate::{Answered, Handled};
 use scq_frames::Message;
-use scq_topics::{Kind, Topics, reply};
-use scq_word::{Bytes, NoMemory};
+use scq_topics::{ReplyBytes, Topics, reply};
+use scq_word::NoMemory;
 use std::alloc::Global;
 
 /// The answers to messages, merged, and to how many of them the reply had to be computed again.
@@ -142,7 +142,7 @@ fn answer_with(
     requires { is_answer_to topics.now message.now member.now ≡ true }
     ensures { IfOk result (λ a. a ≡ answer_of topics.now message.now) }
 {
-    let reply = Bytes::copy_of(alloc, member.reply.bytes())?;
+    let reply = ReplyBytes::copy_of(alloc, member.reply.bytes())?;
     Ok(Answered {
         file: message.file,
         line: message.line,

@@ -2,8 +2,7 @@
 use crate::{Answered, collect, output};
 use scq_frames::FrameFault;
 use scq_outside::PlainSource;
-use scq_topics::Topics;
-use scq_word::Bytes;
+use scq_topics::{ReplyBytes, Topics};
 use std::alloc::Global;
 use std::test::Fail;
 
@@ -20,7 +19,7 @@ fn is_text(alloc: Global, topics: &str, rows: &[Row<'_>], wanted: &[u8]) -> Resu
             line: *line,
             topic: (*topic).min(topics.len()),
             bytes: *bytes,
-            reply: Bytes::copy_of(alloc, *reply)?,
+            reply: ReplyBytes::copy_of(alloc, *reply)?,
         })?;
     }
     let text = output(alloc, &topics, answered.as_slice())?;

@@ -5,10 +5,13 @@ ghost use Rattle.scq_collect.specs.Output.{answers_to, count_on, bytes_on, one_t
 
 use crate::Answered;
 use crate::totals::{Totals, totals_of};
-use itoa::Buffer;
+use itoa::{Buffer, write_digits};
 use scq_topics::Topics;
 use scq_word::{Bytes, NoMemory};
 use std::alloc::Global;
+
+/// The most bytes of a position: two numbers of 10 digits, a colon and a space.
+const MOST_POSITION: usize = 22;
 
 /// The text of the answers: a line for each, in their order, and then a line of totals for each
 /// declared topic and for all others together. It fails only for want of memory.
@@ -48,7 +51,7 @@ fn push_line(text: &mut Vec<u8>, topics: &Topics, member: &Answered) -> Result<(
     requires { member.now.topic ≤ length topics.now }
     ensures { OnOk result (text.new.items ≡ text.old.items ++ reply_line topics.now member.now) }
 {
-    push_position(text, member)?;
+    push_position(text, member.file, member.line)?;
     text.extend_from_slice(topics.name(member.topic))?;
     text.extend_from_slice(b" ")?;
     text.extend_from_slice(member.reply.bytes())?;
@@ -56,14 +59,16 @@ fn push_line(text: &mut Vec<u8>, topics: &Topics, member: &Answered) -> Result<(
     Ok(())
 }
 
-/// Adds where an answer's message stands: `file:line `.
-fn push_position(text: &mut Vec<u8>, member: &Answered) -> Result<(), NoMemory>
-    ensures { OnOk result (text.new.items ≡ text.old.items ++ (decimal member.now.file ++ codes ":" ++ decimal member.now.line ++ codes " ")) }
+/// Adds where an answer's message stands: `file:line `. Its digits are written from the last to the
+/// first, so that the bytes are pushed once.
+fn push_position(text: &mut Vec<u8>, file: u32, line: u32) -> Result<(), NoMemory>
+    ensures { OnOk result (text.new.items ≡ text.old.items ++ (decimal file ++ codes ":" ++ decimal line ++ codes " ")) }
 {
-    push_number(text, u128::from(member.file))?;
-    text.extend_from_slice(b":")?;
-    push_number(text, u128::from(member.line))?;
-    text.extend_from_slice(b" ")?;
+    let mut bytes = [b' '; MOST_POSITION];
+    let from = write_digits(u64::from(line), &mut bytes, MOST_POSITION - 1);
+    bytes[from - 1] = b':';
+    let start = write_digits(u64::from(file), &mut bytes, from - 1);
+    text.extend_from_slice(&bytes[start..])?;
     Ok(())
 }
 

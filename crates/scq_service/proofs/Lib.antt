@@ -3,5 +3,6 @@ pub mod Files
 pub mod Pieces
 pub mod Progress
 pub mod Readings
+mod Rows
 pub mod Steps
 pub mod Writings

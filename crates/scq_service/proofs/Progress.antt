@@ -1,6 +1,6 @@
 -- How far the reading of files has come, and what one file more adds.
 use Rattle.std.proofs.Common.{◌≡◌, ◌≢◌, ℕ, ◌-◌, ◌<◌, ◌≤◌, ◌^◌, List, length, take, Option, Some, None}
-use Rattle.std.specs.Prelude.{IsSomeAnd, slice_get}
+use Rattle.std.specs.Prelude.{◌+◌, IsSomeAnd, slice_get}
 use Rattle.std.specs.List.{All}
 use Rattle.std.specs.Option.{option_map}
 use Rattle.scq_topics.specs.declared.kind.Kind.{Kind}
@@ -39,7 +39,7 @@ module _ {S : Type 0} (size : ℕ) (faults : S → ℕ) (left : S → Option (Li
     pub quiet : All (λ source. faults source ≡ 0) (take (file - 1) sources)
     pub failed : fault ≡ frame.ReadFault → IsSomeAnd (slice_get sources (file - 1)) (λ source. 0 < faults source)
     pub long : (line len : ℕ) → fault ≡ frame.TooLong line len → (0 < line) × (size < len)
-    pub large : (bytes : ℕ) → fault ≡ frame.TooLarge bytes → 2 ^ 30 < bytes
+    pub large : (bytes : ℕ) → fault ≡ frame.TooLarge bytes → bytes ≡ 2 ^ 30 + 1
 
   abbrev pub IsStill : Option (ℕ × FrameFault) → List S → Type 0
   IsStill None sources = All (λ source. faults source ≡ 0) sources × All (λ source. NothingLeft (left source)) sources

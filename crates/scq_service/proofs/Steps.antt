@@ -170,7 +170,7 @@ module _ {S : Type 0} (size : ℕ) (faults : S → ℕ) (left : S → Option (Li
   -- the next file has the first fault
   pub still-refused : (sources : List S) (source : S) (fault : FrameFault) (file : ℕ) → file ≡ length sources + 1 → All (λ source. faults source ≡ 0) sources
       → (fault ≡ frame.ReadFault → 0 < faults source) → ((line len : ℕ) → fault ≡ frame.TooLong line len → (0 < line) × (size < len))
-      → ((bytes : ℕ) → fault ≡ frame.TooLarge bytes → 2 ^ 30 < bytes) → IsMet size faults left topics file fault (sources ++ source ∷ [])
+      → ((bytes : ℕ) → fault ≡ frame.TooLarge bytes → bytes ≡ 2 ^ 30 + 1) → IsMet size faults left topics file fault (sources ++ source ∷ [])
   still-refused sources source fault file is quiet failed long large =
       let before : file - 1 ≡ length sources = omega (arith, is) in
       let A : List S → Type 0 = λ xs. All (λ source. faults source ≡ 0) xs in

@@ -102,7 +102,7 @@ ReadsOver size faults left names r (Some (TooLong file line len limit)) =
     IsRefused size faults left names r file (TooLong file line len limit) × (r.read ≡ 0) × (limit ≡ size) × (0 < line) × (size < len)
     × IfGot names r (λ contents. IsTroubled size contents file (LongPayload line len))
 ReadsOver size faults left names r (Some (TooLarge file limit)) =
-    IsRefused size faults left names r file (TooLarge file limit) × (limit ≡ 2 ^ 30) × (2 ^ 30 < r.read)
+    IsRefused size faults left names r file (TooLarge file limit) × (limit ≡ 2 ^ 30) × (r.read ≡ 2 ^ 30 + 1)
     × IfGot names r (λ contents. IsTroubled size contents file ManyBytes × IsReadOf left r.read contents r.sources file)
 ReadsOver size faults left names r (Some NoMemory) = r.read ≡ 0
 ReadsOver size faults left names r (Some WriteFault) = ⊥

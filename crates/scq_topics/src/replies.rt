@@ -1,17 +1,17 @@
 ghost use Rattle.std.specs.Prelude.{◌≡◌, IfOk, decimal};
 ghost use Rattle.scq_topics.specs.Reply.{reply_of};
 
-use crate::Kind;
 use crate::sum::token_sum;
 use crate::words::word_count;
+use crate::{Kind, ReplyBytes};
 use itoa::Buffer;
-use scq_word::{Bytes, NoMemory};
+use scq_word::NoMemory;
 use sha2::{Digest, Sha256};
 use std::alloc::Global;
 
-/// The reply to a payload, in one pass over it and one allocation. It fails only for want of
+/// The reply to a payload, in one pass over it and at most one allocation. It fails only for want of
 /// memory.
-pub fn reply(alloc: Global, kind: Kind, payload: &[u8]) -> Result<Bytes, NoMemory>
+pub fn reply(alloc: Global, kind: Kind, payload: &[u8]) -> Result<ReplyBytes, NoMemory>
     ensures { IfOk result (λ bytes. bytes ≡ reply_of kind payload.now) }
 {
     match kind {
@@ -19,23 +19,23 @@ pub fn reply(alloc: Global, kind: Kind, payload: &[u8]) -> Result<Bytes, NoMemor
         Kind::Words => number(alloc, word_count(payload) as u64),
         Kind::Sum => match token_sum(payload) {
             Some(sum) => number(alloc, sum),
-            None => Bytes::copy_of(alloc, b"bad"),
+            None => ReplyBytes::copy_of(alloc, b"bad"),
         },
         Kind::Sha256 => digest(alloc, payload),
-        Kind::Echo => Bytes::copy_of(alloc, payload),
+        Kind::Echo => ReplyBytes::copy_of(alloc, payload),
     }
 }
 
 /// Three kinds call it, and as a call of its own it took a fifth of the time of a short reply.
 #[inline(always)]
-fn number(alloc: Global, n: u64) -> Result<Bytes, NoMemory>
+fn number(alloc: Global, n: u64) -> Result<ReplyBytes, NoMemory>
     ensures { IfOk result (λ bytes. bytes ≡ decimal n) }
 {
-    Bytes::copy_of(alloc, Buffer::new().format(n).as_bytes())
+    ReplyBytes::copy_of(alloc, Buffer::new().format(n).as_bytes())
 }
 
-fn digest(alloc: Global, payload: &[u8]) -> Result<Bytes, NoMemory>
+fn digest(alloc: Global, payload: &[u8]) -> Result<ReplyBytes, NoMemory>
     ensures { IfOk result (λ bytes. bytes ≡ reply_of Kind.Sha256 payload.now) }
 {
-    Ok(Bytes::from(hex::encode(alloc, Sha256::digest(payload))?.into_bytes()))
+    Ok(ReplyBytes::from(hex::encode(alloc, Sha256::digest(payload))?.into_bytes()))
 }
