@@ -3,6 +3,7 @@ pub mod Gathered
 pub mod Judging
 pub mod Lines
 pub mod Places
-pub mod Rows
+pub mod Positions
+mod Rows
 pub mod Sorting
 pub mod Sums

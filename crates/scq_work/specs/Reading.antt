@@ -28,7 +28,7 @@ pub record IsStopped {S : Type 0} (size : ℕ) (faults : S → ℕ) (left : S �
   pub kept : fault ≢ ReadFault → faults new ≡ faults old
   pub long : (line len : ℕ) → fault ≡ TooLong line len → (0 < line) × (size < len)
   pub large : (bytes : ℕ) → fault ≡ TooLarge bytes
-      → (2 ^ 30 < bytes) × (option_map length (left old) ≡ option_map (λ rest. bytes + length rest) (left new))
+      → (bytes ≡ 2 ^ 30 + 1) × (option_map length (left old) ≡ option_map (λ rest. bytes + length rest) (left new))
 
 -- it ended so
 abbrev pub EndsSo : {S : Type 0} → ℕ → (S → ℕ) → (S → Option (List ℕ)) → S → S → FileEnd → Type 0

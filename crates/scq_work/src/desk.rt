@@ -17,8 +17,7 @@ pub struct Desk<S> {
 }
 
 impl<S> Desk<S> {
-    ghost use Rattle.std.specs.Prelude.{◌≡◌, ◌+◌, ◌<◌, ◌++◌, ◌∷◌, [], vec_len, vec_capacity};
-    ghost use Rattle.std.specs.Option.{option_to_list};
+    ghost use Rattle.std.specs.Prelude.{◌≡◌, ◌+◌, ◌<◌, ◌++◌, ◌∷◌, [], IfNone, IfSome, vec_len, vec_capacity};
 
     /// Lays a file on the desk.
     pub fn lay(&mut self, file: OwnFile<S>)
@@ -32,7 +31,8 @@ impl<S> Desk<S> {
 
     /// Takes the last file off the desk.
     pub fn lift(&mut self) -> Option<OwnFile<S>>
-        ensures { self.old.files.items ≡ self.new.files.items ++ option_to_list result }
+        ensures some { IfSome result (λ file. self.old.files.items ≡ self.new.files.items ++ file ∷ []) }
+        ensures none { IfNone result (self.old.files.items ≡ []) }
     {
         self.files.pop()
     }

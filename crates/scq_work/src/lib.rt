@@ -8,12 +8,15 @@
 mod dealing;
 mod desk;
 mod gate;
+mod gathering;
 mod job;
 mod own_file;
 mod reading;
 mod waiting;
+mod work;
+mod worked;
 mod worker;
 
 pub use gate::{FreeGate, Gate, Point};
 pub use job::Job;
-pub use own_file::{FileEnd, OwnFile};
+pub use worked::{WorkEnd, WorkFault, Worked};

@@ -65,7 +65,7 @@ impl Worker {
         ensures judged { Judged job.now.size (S.left source.old) (S.left source.new) (result_err result) }
         ensures read_fault { IsErrOf result FrameFault.ReadFault → Rose (S.faults source.old) (S.faults source.new) }
         ensures too_long { (line len : ℕ) → IsErrOf result (FrameFault.TooLong line len) → (0 < line) × (job.now.size < len) }
-        ensures too_large { (bytes : ℕ) → IsErrOf result (FrameFault.TooLarge bytes) → (2 ^ 30 < bytes)
+        ensures too_large { (bytes : ℕ) → IsErrOf result (FrameFault.TooLarge bytes) → (bytes ≡ 2 ^ 30 + 1)
             × (option_map length (S.left source.old) ≡ option_map (λ left. bytes + length left) (S.left source.new)) }
         ensures kept { result ≢ Err FrameFault.ReadFault → S.faults source.new ≡ S.faults source.old }
     {

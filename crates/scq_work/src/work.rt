@@ -1,0 +1,123 @@
+ghost use Rattle.std.specs.Prelude.{◌≡◌, ◌⊎◌, ℕ, ◌+◌, ◌<◌, ◌≤◌, [], None, Some, false, length, map, slice_index_or, vec_len, vec_capacity, IfOk, IfErr, IfSome, OnOk};
+ghost use Rattle.std.specs.List.{All};
+ghost use Rattle.scq_collect.specs.Collected.{answer_of};
+ghost use Rattle.scq_collect.specs.Merging.{IsInOrder, IsMerged, place_of, place_of_answer, unanswered};
+ghost use Rattle.scq_collect.specs.Output.{answers_to};
+ghost use Rattle.scq_work.specs.Desks.{IsNew, ids_of};
+ghost use Rattle.scq_work.specs.Ends.{HasCause, HasMoved, all_left, fault_of_workers};
+ghost use Rattle.scq_work.specs.Reading.{IsRead, IsWhole};
+
+use crate::dealing::deal;
+use crate::desk::Desk;
+use crate::gathering::{Gathered, gather};
+use crate::waiting::Waiting;
+use crate::worker::Worker;
+use crate::{Gate, Job, WorkEnd, WorkFault, Worked};
+use scq_collect::{Handled, Merged, merge};
+use scq_frames::{FrameFault, Message};
+use scq_outside::Source;
+use scq_word::NoMemory;
+use std::alloc::Global;
+use std::snapshot::Snapshot;
+use std::sync::{Mutex, Wait};
+use std::thread;
+use std::thread::Threads;
+
+/// A desk for each worker, with room for so many files on each.
+fn make_desks<S>(alloc: Global, workers: u32, files: usize) -> Result<Vec<Desk<S>>, NoMemory>
+    ensures { IfOk result (λ desks. (length desks.items ≡ workers)
+        × All (λ d. (d.files.items ≡ []) × (vec_len d.files ≡ 0) × (files ≤ vec_capacity d.files)) desks.items) }
+{
+    let mut desks = Vec::with_capacity(alloc, workers as usize)?;
+    'desks: for number in 0..workers {
+        desks.push_reserved(make_desk(alloc, number, files)?);
+    }
+    Ok(desks)
+}
+
+fn make_desk<S>(alloc: Global, number: u32, files: usize) -> Result<Desk<S>, NoMemory>
+    ensures { IfOk result (λ d. (d.files.items ≡ []) × (vec_len d.files ≡ 0) × (files ≤ vec_capacity d.files)) }
+{
+    Ok(Desk {
+        worker: Worker::new(alloc, number),
+        files: Vec::with_capacity(alloc, files)?,
+    })
+}
+
+/// Lets each worker work, in threads of their own.
+fn run_all<R: Threads + Wait + Sync, S: Source, G: Gate>(
+    rt: &R,
+    alloc: Global,
+    job: &Job,
+    waiting: &Mutex<Waiting>,
+    gate: &G,
+    desks: &mut [Desk<S>],
+)
+    requires some { 0 < length desks.old }
+    requires unread { All (λ d. All IsNew d.files.items) desks.old }
+    ensures same { (w : ℕ) (d : _) → w < length desks.old → ids_of (slice_index_or desks.new w d).files.items ≡ ids_of (slice_index_or desks.old w d).files.items }
+    ensures read { (w : ℕ) (d : _) → w < length desks.old
+        → All (λ f. IsRead job.now.topics job.now.size S.faults S.left f.number f.was.value f.source f.given.items f.end) (slice_index_or desks.new w d).files.items }
+{
+    let threads = desks.len();
+    thread::for_each_mut(
+        rt,
+        desks,
+        threads,
+        &|_, desk| desk.run(rt, alloc, job, waiting, gate),
+    );
+}
+
+/// The fault of the workers: want of memory where any met it, else the first one.
+fn fault_of_all(starved: bool, first: Option<(u32, FrameFault)>) -> Option<WorkFault>
+    ensures { result ≡ fault_of_workers starved first }
+{
+    if starved {
+        return Some(WorkFault::NoMemory);
+    }
+    let (file, fault) = first?;
+    Some(match fault {
+        FrameFault::ReadFault => WorkFault::Read { file },
+        FrameFault::TooLong { line, len } => WorkFault::TooLong { file, line, len },
+        FrameFault::TooLarge { bytes } => WorkFault::TooLarge { file, bytes },
+        FrameFault::NoMemory => WorkFault::NoMemory,
+    })
+}
+
+/// Takes each worker's list of what it answered, and whether a worker wanted memory.
+fn take_lists<S>(
+    desks: Vec<Desk<S>>,
+    lists: &mut Vec<Vec<Handled>>,
+) -> Result<(), NoMemory> {
+    let mut left = desks;
+    'desks: while let Some(desk) = left.pop() {
+        let Desk { worker, files: _ } = desk;
+        if worker.starved {
+            return Err(NoMemory);
+        }
+        lists.push(worker.handled)?;
+    }
+    Ok(())
+}
+
+/// Merges what was answered, where there is no fault.
+fn conclude(
+    alloc: Global,
+    job: &Job,
+    given: Vec<Message>,
+    lists: Vec<Vec<Handled>>,
+    fault: Option<WorkFault>,
+) -> Result<Worked, WorkFault>
+    requires { fault ≡ None → All (λ m. m.topic ≤ length job.now.topics) given.items }
+    ensures sound { OnOk result (fault ≡ None) }
+    ensures cause { IfErr result (λ f. (f ≡ WorkFault.NoMemory) ⊎ (fault ≡ Some f)) }
+    ensures in_order { IsInOrder place_of given.items → IfOk result (λ w. w.answered.items ≡ map (answer_of job.now.topics) given.items) }
+{
+    if let Some(fault) = fault {
+        return Err(fault);
+    }
+    match merge(alloc, &job.topics, given, lists) {
+        Ok(Merged { answered, again }) => Ok(Worked { answered, again }),
+        Err(NoMemory) => Err(WorkFault::NoMemory),
+    }
+}
