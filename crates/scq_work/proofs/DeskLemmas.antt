@@ -33,7 +33,7 @@ other-first workers w at x xs apart = rw (others at w workers apart) refl where
   others : (at w workers : ℕ) → at % workers ≢ w → is_of workers w (at + 1) ≡ false
   others at w workers apart = let e : at + 1 - 1 ≡ at = omega arith in rw e (grind arith)
 
-drop-at : {A : Type 0} (xs : List A) (at : ℕ) (d : A) → at < length xs → drop at xs ≡ get_or xs at d ∷ drop (at + 1) xs
+pub drop-at : {A : Type 0} (xs : List A) (at : ℕ) (d : A) → at < length xs → drop at xs ≡ get_or xs at d ∷ drop (at + 1) xs
 drop-at xs at d within = rw (add-one, drop-cons xs at d) refl
 
 -- a front of a list, taken apart at its last element
@@ -54,3 +54,10 @@ laid workers w at files f x rest same number was are =
     ∙ ap (λ n. reverse (files_of workers w (at + 1 + 1) rest) ++ (n, f.was.value) ∷ []) number
     ∙ ap (λ y. reverse (files_of workers w (at + 1 + 1) rest) ++ (at + 1, y) ∷ []) was
     ∙ sym (own-first workers w at x rest same)
+
+-- where a file is left, the desk of its worker has one
+pub desk-empty : {S : Type 0} (workers w at : ℕ) (xs : List S) → 0 < length xs → at % workers ≡ w → [] ≡ reverse (files_of workers w (at + 1) xs) → ⊥
+desk-empty workers w at [] some same none = absurd (omega arith)
+desk-empty workers w at (x ∷ xs) some same none =
+    let n = ap length (none ∙ own-first workers w at x xs same) in
+    omega (arith, length-append (reverse (files_of workers w (at + 1 + 1) xs)) ((at + 1, x) ∷ []))

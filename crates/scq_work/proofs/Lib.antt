@@ -1,5 +1,5 @@
 pub mod Given
 pub mod Lists
 pub mod DeskLemmas
-pub mod Gathering
+pub mod SoFar
 pub mod Orders

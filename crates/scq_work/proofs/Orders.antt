@@ -48,8 +48,8 @@ own-past known file (m ∷ ms) others of past place within =
 given-past : {S : Type 0} (topics : List (List ℕ × Kind)) (left : S → Option (List ℕ)) (file : ℕ) (was : List S) (given : List Message) → AreGiven topics left (file + 1) was given → RisesPast file given
 unfolding Rises RisesPast
 given-past topics left file [] given none place within = subst (Rises place) (sym none) tt
-given-past topics left file (x ∷ xs) given gave =
-    subst (RisesPast file) (sym gave.whole) (own-past (length topics) file gave.own gave.others gave.of (given-past topics left (file + 1) xs gave.others gave.more))
+given-past topics left file (x ∷ xs) given gave place within =
+    subst (Rises place) (sym gave.whole) (own-past (length topics) file gave.own gave.others gave.of (given-past topics left (file + 1) xs gave.others gave.more) place within)
 
 -- messages that rise are in order
 in-order : (place : ℕ × ℕ) (ms : List Message) → Rises place ms → (k : ℕ) (d : Message) → k + 1 < length ms → IsBefore (place_of (slice_index_or ms k d)) (place_of (slice_index_or ms (k + 1) d))
@@ -57,7 +57,9 @@ unfolding Rises
 in-order place [] rises k d less = absurd (omega arith)
 in-order place (m ∷ []) rises k d less = absurd (omega arith)
 in-order place (m ∷ n ∷ ms) rises zero d less = rises.1.0
-in-order place (m ∷ n ∷ ms) rises (suc k) d less = in-order (place_of m) (n ∷ ms) rises.1 k d (omega arith)
+in-order place (m ∷ n ∷ ms) rises (suc k) d less =
+    let next : suc (k + 1) ≡ suc k + 1 = omega arith in
+    subst (λ j. IsBefore (place_of (slice_index_or (n ∷ ms) k d)) (place_of (slice_index_or (m ∷ n ∷ ms) j d))) next (in-order (place_of m) (n ∷ ms) rises.1 k d (omega arith))
 
 pub given-in-order : {S : Type 0} (topics : List (List ℕ × Kind)) (left : S → Option (List ℕ)) (was : List S) (given : List Message) → AreGiven topics left 1 was given → IsInOrder place_of given
 unfolding RisesPast

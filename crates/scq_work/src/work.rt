@@ -24,7 +24,7 @@ use std::thread;
 use std::thread::Threads;
 
 /// A desk for each worker, with room for so many files on each.
-fn make_desks<S>(alloc: Global, workers: u32, files: usize) -> Result<Vec<Desk<S>>, NoMemory>
+fn make_desks<S: Source>(alloc: Global, workers: u32, files: usize) -> Result<Vec<Desk<S>>, NoMemory>
     ensures { IfOk result (λ desks. (length desks.items ≡ workers)
         × All (λ d. (d.files.items ≡ []) × (vec_len d.files ≡ 0) × (files ≤ vec_capacity d.files)) desks.items) }
 {
@@ -35,7 +35,7 @@ fn make_desks<S>(alloc: Global, workers: u32, files: usize) -> Result<Vec<Desk<S
     Ok(desks)
 }
 
-fn make_desk<S>(alloc: Global, number: u32, files: usize) -> Result<Desk<S>, NoMemory>
+fn make_desk<S: Source>(alloc: Global, number: u32, files: usize) -> Result<Desk<S>, NoMemory>
     ensures { IfOk result (λ d. (d.files.items ≡ []) × (vec_len d.files ≡ 0) × (files ≤ vec_capacity d.files)) }
 {
     Ok(Desk {
@@ -60,12 +60,12 @@ fn run_all<R: Threads + Wait + Sync, S: Source, G: Gate>(
         → All (λ f. IsRead job.now.topics job.now.size S.faults S.left f.number f.was.value f.source f.given.items f.end) (slice_index_or desks.new w d).files.items }
 {
     let threads = desks.len();
-    thread::for_each_mut(
-        rt,
-        desks,
-        threads,
-        &|_, desk| desk.run(rt, alloc, job, waiting, gate),
-    );
+    let run = |_: usize, desk: &mut Desk<S>|
+        requires { All IsNew desk.now.files.items }
+        ensures { (ids_of desk.exit.now.files.items ≡ ids_of desk.entry.now.files.items)
+            × All (λ f. IsRead job.entry.now.topics job.entry.now.size S.faults S.left f.number f.was.value f.source f.given.items f.end) desk.exit.now.files.items }
+    { desk.run(rt, alloc, job, waiting, gate) };
+    thread::for_each_mut(rt, desks, threads, &run);
 }
 
 /// The fault of the workers: want of memory where any met it, else the first one.
@@ -85,7 +85,7 @@ fn fault_of_all(starved: bool, first: Option<(u32, FrameFault)>) -> Option<WorkF
 }
 
 /// Takes each worker's list of what it answered, and whether a worker wanted memory.
-fn take_lists<S>(
+fn take_lists<S: Source>(
     desks: Vec<Desk<S>>,
     lists: &mut Vec<Vec<Handled>>,
 ) -> Result<(), NoMemory> {

@@ -3,7 +3,7 @@ use Rattle.std.specs.Prelude.{vec_len, vec_capacity}
 use Rattle.std.specs.List.{All}
 use Rattle.scq_work.specs.Desks.{AreDealt}
 use Rattle.scq_work.specs.Reading.{IsRead}
-use Rattle.scq_work.proofs.Gathering.{SoFar}
+use Rattle.scq_work.proofs.SoFar.{SoFar}
 use Rattle.scq_work.proofs.gathering.gather.Given as goal
 
 -- the first files are gathered, and the desks have the others

@@ -1,7 +1,6 @@
 use Rattle.std.proofs.Common.{rules, inl, inr, refl, ◌∙◌, ◌≡◌, ap, sym, arith}
 use Rattle.std.proofs.lemmas.Grind.{common_steps}
 use Rattle.scq_work.proofs.worker.Worker.answer.Goals as goal
-use Rattle.scq_work.proofs.worker.Worker.answer.Goals.{in-Err-1, in-Ok-1}
 
 pub returns-else-is_err-clause-answered : goal.returns-else-is_err-clause-answered
 returns-else-is_err-clause-answered c = inl (record {

@@ -129,11 +129,12 @@ so-far-more {S} topics size faults left was at sources fault starved starved' gi
         cause = λ d. subst (λ y. IsStopped size faults left (slice_index_or was (file - 1) d) y f)
             (sym (get_or_append_left sources (new ∷ []) d (file - 1) (omega (arith, stops.first, c.0, s.count)))) (stops.cause d);
       })
-  cause None Unread ends so was_cause file f is other = absurd (other (cc))
+  cause None Unread ends so was_cause file f is other = let pair : (number, NoMemory) ≡ (file, f) = cc in absurd (other (sym (ap (λ (p : ℕ × FrameFault). p.1) pair)))
   cause None Whole ends so was_cause file f is other = absurd (cc)
   cause None (Stopped g) ends so was_cause file f is other =
-      let number_is : number ≡ file = cc in
-      let fault_is : g ≡ f = cc in
+      let pair : (number, g) ≡ (file, f) = cc in
+      let number_is : number ≡ file = ap (λ (p : ℕ × FrameFault). p.0) pair in
+      let fault_is : g ≡ f = ap (λ (p : ℕ × FrameFault). p.1) pair in
       let here : file - 1 ≡ at = omega (arith, number_is, is_next) in
       (omega (arith, number_is, is_next), record {
         first = omega (arith, number_is, is_next);
