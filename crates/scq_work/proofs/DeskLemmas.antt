@@ -4,6 +4,7 @@ use Rattle.std.specs.Prelude.{slice_index_or, ◌==◌, if◌then◌else◌}
 use Rattle.std.proofs.lemmas.List.{map-append, reverse-append, length-append, length-take-le, take-append-le, take_all, take-take, get_or-take, get_or_push}
 use Rattle.scq_work.specs.Files.{is_of, files_of}
 use Rattle.scq_work.specs.Desks.{ids_of, AreDealt}
+use Rattle.scq_work.specs.declared.desk.Desk.{Desk}
 use Rattle.scq_work.specs.declared.own_file.OwnFile.{OwnFile}
 
 -- files of the same numbers and sources, place by place
@@ -61,3 +62,10 @@ desk-empty workers w at [] some same none = absurd (omega arith)
 desk-empty workers w at (x ∷ xs) some same none =
     let n = ap length (none ∙ own-first workers w at x xs same) in
     omega (arith, length-append (reverse (files_of workers w (at + 1 + 1) xs)) ((at + 1, x) ∷ []))
+
+-- desks whose files are the same are dealt the same
+pub still-dealt : {S : Type 0} (file : ℕ) (sources : List S) (old new : List (Desk S)) → length new ≡ length old
+    → ((w : ℕ) (d : Desk S) → w < length old → ids_of (slice_index_or new w d).files.items ≡ ids_of (slice_index_or old w d).files.items) → AreDealt file sources old → AreDealt file sources new
+still-dealt file sources old new long same dealt w d less =
+    let within : w < length old = omega (arith, less, long) in
+    subst (λ m. ids_of (slice_index_or new w d).files.items ≡ reverse (files_of m w file sources)) (sym long) (same w d within ∙ dealt w d within)

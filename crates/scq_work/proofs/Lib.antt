@@ -3,3 +3,4 @@ pub mod Lists
 pub mod DeskLemmas
 pub mod SoFar
 pub mod Orders
+pub mod Faults

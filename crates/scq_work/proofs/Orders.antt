@@ -4,7 +4,7 @@ use Rattle.std.proofs.Common.{◌≡◌, ◌∙◌, refl, sym, ap, subst, inl, i
 use Rattle.std.specs.Prelude.{slice_index_or, IfSome, option_and_then}
 use Rattle.std.specs.List.{All}
 use Rattle.std.specs.Option.{option_map}
-use Rattle.std.proofs.lemmas.List.{map-append}
+use Rattle.std.proofs.lemmas.List.{map-append, get_or-map, length-map}
 use Rattle.std.proofs.lemmas.List.Elements.{All-append}
 use Rattle.scq_topics.specs.declared.kind.Kind.{Kind}
 use Rattle.scq_topics.specs.Topics.{topic_of}
@@ -13,7 +13,7 @@ use Rattle.scq_frames.specs.Numbered.{numbered}
 use Rattle.scq_frames.specs.Text.{Framed, messages_of}
 use Rattle.scq_collect.specs.declared.answered.Answered.{Answered}
 use Rattle.scq_collect.specs.Collected.{answer_of}
-use Rattle.scq_collect.specs.Merging.{IsBefore, IsInOrder, place_of}
+use Rattle.scq_collect.specs.Merging.{IsBefore, IsInOrder, place_of, place_of_answer}
 use Rattle.scq_collect.specs.Output.{answer_to, answers_to}
 use Rattle.scq_work.specs.Reading.{AreOf}
 use Rattle.scq_work.specs.Ends.{AreGiven, all_left}
@@ -96,3 +96,18 @@ given-answers {S} topics left file (x ∷ xs) given gave = both (left x) (all_le
       ap (map (answer_of topics)) gave.whole ∙ map-append (answer_of topics) gave.own gave.others
       ∙ ap (λ (front : List Answered). front ++ map (answer_of topics) gave.others) (ap (map (answer_of topics)) own ∙ numbered-answers topics file (messages_of bytes))
       ∙ ap (λ (last : List Answered). map (answer_to topics file) (messages_of bytes) ++ last) others
+
+-- some message, to read past a list
+no_message : Message
+no_message = record { file = 0; line = 0; topic = 0; payload = [] }
+
+-- answers stand as their messages do, and are on their topics
+pub answers-in-order : (topics : List (List ℕ × Kind)) (given : List Message) → IsInOrder place_of given → IsInOrder place_of_answer (map (answer_of topics) given)
+answers-in-order topics given order k d less =
+    let long : k + 1 < length given = omega (arith, length-map given (answer_of topics)) in
+    rw (get_or-map (answer_of topics) given k no_message d (omega arith), get_or-map (answer_of topics) given (k + 1) no_message d long) (order k no_message long)
+
+pub answers-known : (topics : List (List ℕ × Kind)) (given : List Message) → All (λ m. m.topic ≤ length topics) given → All (λ a. a.topic ≤ length topics) (map (answer_of topics) given)
+answers-known topics given known k d less =
+    let long : k < length given = omega (arith, length-map given (answer_of topics)) in
+    rw (get_or-map (answer_of topics) given k no_message d long) (known k no_message long)

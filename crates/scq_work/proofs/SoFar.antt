@@ -121,27 +121,31 @@ so-far-more {S} topics size faults left was at sources fault starved starved' gi
       → (file : ℕ) (f : FrameFault) → option_or fault (end_fault number end) ≡ Some (file, f) → f ≢ NoMemory → (file ≤ at + 1) × StopsAt size faults left was (sources ++ new ∷ []) file f
   cause (Some x) end ends so was_cause file f is other =
       let c = was_cause file f is other in
-      let stops = c.1 in
-      (omega (arith, c.0), record {
-        first = stops.first;
-        last = stops.last;
-        before = λ k d less. subst (IsWhole size faults left (slice_index_or was k d)) (sym (get_or_append_left sources (new ∷ []) d k (omega (arith, less, c.0, s.count)))) (stops.before k d less);
-        cause = λ d. subst (λ y. IsStopped size faults left (slice_index_or was (file - 1) d) y f)
-            (sym (get_or_append_left sources (new ∷ []) d (file - 1) (omega (arith, stops.first, c.0, s.count)))) (stops.cause d);
-      })
+      let stops = c.1 in (
+        omega (arith, c.0),
+        record {
+          first = stops.first;
+          last = stops.last;
+          before = λ k d less. subst (IsWhole size faults left (slice_index_or was k d)) (sym (get_or_append_left sources (new ∷ []) d k (omega (arith, less, c.0, s.count)))) (stops.before k d less);
+          cause = λ d. subst (λ y. IsStopped size faults left (slice_index_or was (file - 1) d) y f)
+              (sym (get_or_append_left sources (new ∷ []) d (file - 1) (omega (arith, stops.first, c.0, s.count)))) (stops.cause d);
+        },
+      )
   cause None Unread ends so was_cause file f is other = let pair : (number, NoMemory) ≡ (file, f) = cc in absurd (other (sym (ap (λ (p : ℕ × FrameFault). p.1) pair)))
   cause None Whole ends so was_cause file f is other = absurd (cc)
   cause None (Stopped g) ends so was_cause file f is other =
       let pair : (number, g) ≡ (file, f) = cc in
       let number_is : number ≡ file = ap (λ (p : ℕ × FrameFault). p.0) pair in
       let fault_is : g ≡ f = ap (λ (p : ℕ × FrameFault). p.1) pair in
-      let here : file - 1 ≡ at = omega (arith, number_is, is_next) in
-      (omega (arith, number_is, is_next), record {
-        first = omega (arith, number_is, is_next);
-        last = omega (arith, number_is, is_next, within);
-        before = λ k d less. subst (IsWhole size faults left (slice_index_or was k d)) (sym (get_or_append_left sources (new ∷ []) d k (omega (arith, less, number_is, is_next, s.count))))
-            (so refl k d (omega (arith, less, number_is, is_next)));
-        cause = λ d. subst (λ j. IsStopped size faults left (slice_index_or was j d) (slice_index_or (sources ++ new ∷ []) j d) f) (sym here)
-            (subst (λ y. IsStopped size faults left (slice_index_or was at d) y f) (sym (get_or_push sources new d at s.count))
-            (subst (λ x. IsStopped size faults left x new f) (sym (is_old d)) (subst (IsStopped size faults left old new) fault_is ends)));
-      })
+      let here : file - 1 ≡ at = omega (arith, number_is, is_next) in (
+        omega (arith, number_is, is_next),
+        record {
+          first = omega (arith, number_is, is_next);
+          last = omega (arith, number_is, is_next, within);
+          before = λ k d less. subst (IsWhole size faults left (slice_index_or was k d)) (sym (get_or_append_left sources (new ∷ []) d k (omega (arith, less, number_is, is_next, s.count))))
+              (so refl k d (omega (arith, less, number_is, is_next)));
+          cause = λ d. subst (λ j. IsStopped size faults left (slice_index_or was j d) (slice_index_or (sources ++ new ∷ []) j d) f) (sym here)
+              (subst (λ y. IsStopped size faults left (slice_index_or was at d) y f) (sym (get_or_push sources new d at s.count))
+              (subst (λ x. IsStopped size faults left x new f) (sym (is_old d)) (subst (IsStopped size faults left old new) fault_is ends)));
+        },
+      )

@@ -36,7 +36,6 @@ impl<S> Gathered<S> {
     ghost use Rattle.std.specs.Prelude.{◌≡◌, ◌+◌, ◌<◌, ◌++◌, ◌∷◌, [], false, vec_len, vec_capacity};
     ghost use Rattle.std.specs.Option.{option_or};
 
-
     /// Takes in a file behind the others.
     fn take_in(&mut self, file: OwnFile<S>)
         requires { vec_len self.old.sources < vec_capacity self.old.sources }

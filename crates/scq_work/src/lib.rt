@@ -13,10 +13,11 @@ mod job;
 mod own_file;
 mod reading;
 mod waiting;
-mod work;
 mod worked;
 mod worker;
+mod working;
 
 pub use gate::{FreeGate, Gate, Point};
 pub use job::Job;
 pub use worked::{WorkEnd, WorkFault, Worked};
+pub use working::work;

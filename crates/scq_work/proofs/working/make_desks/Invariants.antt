@@ -1,7 +1,7 @@
 use Rattle.std.proofs.Common.{◌≡◌, ◌≤◌, [], length}
 use Rattle.std.specs.Prelude.{vec_len, vec_capacity}
 use Rattle.std.specs.List.{All}
-use Rattle.scq_work.proofs.work.make_desks.Given as goal
+use Rattle.scq_work.proofs.working.make_desks.Given as goal
 
 -- the desks so far are empty, and have room
 abbrev pub invariant-desks : goal.invariant-desks

@@ -24,7 +24,11 @@ use std::thread;
 use std::thread::Threads;
 
 /// A desk for each worker, with room for so many files on each.
-fn make_desks<S: Source>(alloc: Global, workers: u32, files: usize) -> Result<Vec<Desk<S>>, NoMemory>
+fn make_desks<S: Source>(
+    alloc: Global,
+    workers: u32,
+    files: usize,
+) -> Result<Vec<Desk<S>>, NoMemory>
     ensures { IfOk result (λ desks. (length desks.items ≡ workers)
         × All (λ d. (d.files.items ≡ []) × (vec_len d.files ≡ 0) × (files ≤ vec_capacity d.files)) desks.items) }
 {
@@ -120,4 +124,107 @@ fn conclude(
         Ok(Merged { answered, again }) => Ok(Worked { answered, again }),
         Err(NoMemory) => Err(WorkFault::NoMemory),
     }
+}
+
+/// What the work needs room for: what the workers share, their desks, and the list of their lists.
+#[derive(Drop)]
+struct Room<S> {
+    waiting: Waiting,
+    desks: Vec<Desk<S>>,
+    lists: Vec<Vec<Handled>>,
+}
+
+fn make_room<S: Source>(alloc: Global, job: &Job, files: usize) -> Result<Room<S>, NoMemory>
+    ensures desks { IfOk result (λ room. length room.desks.items ≡ job.now.workers) }
+    ensures empty { IfOk result (λ room. All (λ d. (d.files.items ≡ []) × (vec_len d.files ≡ 0) × (files ≤ vec_capacity d.files)) room.desks.items) }
+{
+    Ok(Room {
+        waiting: Waiting::new(alloc, 1 << job.order)?,
+        desks: make_desks(alloc, job.workers, files)?,
+        lists: Vec::with_capacity(alloc, job.workers as usize)?,
+    })
+}
+
+/// Answers the messages of all sources by the job's workers, each of which reads its own files: file f, from
+/// 1, is that of worker (f - 1) mod the number of workers. The sources come back in their order in every
+/// case. It may wait.
+pub fn work<R: Threads + Wait + Sync, S: Source, G: Gate>(
+    rt: &R,
+    alloc: Global,
+    job: &Job,
+    sources: Vec<S>,
+    gate: &G,
+) -> WorkEnd<S>
+    requires { vec_len sources ≤ 64 }
+    ensures count { length result.sources.items ≡ length sources.items }
+    ensures moved { (k : ℕ) (d : S) → k < length sources.items → HasMoved S.left (slice_index_or sources.items k d) (slice_index_or result.sources.items k d) }
+
+    // Each source was read to its end, and where the bytes of all are visible the answers are those of one
+    // thread. Of every source they are in order of file and line, on known topics.
+    ensures whole { OnOk result.result ((k : ℕ) (d : S) → k < length sources.items
+        → IsWhole job.now.size S.faults S.left (slice_index_or sources.items k d) (slice_index_or result.sources.items k d)) }
+    ensures answers { IfOk result.result (λ w. IfSome (all_left S.left sources.items) (λ contents. w.answered.items ≡ answers_to job.now.topics 1 contents)) }
+    ensures in_order { IfOk result.result (λ w. IsInOrder place_of_answer w.answered.items) }
+    ensures known { IfOk result.result (λ w. All (λ a. a.topic ≤ length job.now.topics) w.answered.items) }
+
+    // A fault is that of its file, and those in front of it were read to their ends.
+    ensures cause { IfErr result.result (λ fault. HasCause job.now.size S.faults S.left sources.items result.sources.items fault) }
+{
+    match make_room(alloc, job, sources.len()) {
+        Ok(room) => work_in(rt, alloc, job, sources, gate, room),
+        Err(NoMemory) => WorkEnd {
+            sources,
+            result: Err(WorkFault::NoMemory),
+        },
+    }
+}
+
+/// The same, once there is room.
+fn work_in<R: Threads + Wait + Sync, S: Source, G: Gate>(
+    rt: &R,
+    alloc: Global,
+    job: &Job,
+    sources: Vec<S>,
+    gate: &G,
+    room: Room<S>,
+) -> WorkEnd<S>
+    requires few { vec_len sources ≤ 64 }
+    requires desks { length room.desks.items ≡ job.now.workers }
+    requires empty { All (λ d. (d.files.items ≡ []) × (vec_len d.files ≡ 0) × (vec_len sources ≤ vec_capacity d.files)) room.desks.items }
+    ensures count { length result.sources.items ≡ length sources.items }
+    ensures moved { (k : ℕ) (d : S) → k < length sources.items → HasMoved S.left (slice_index_or sources.items k d) (slice_index_or result.sources.items k d) }
+    ensures whole { OnOk result.result ((k : ℕ) (d : S) → k < length sources.items
+        → IsWhole job.now.size S.faults S.left (slice_index_or sources.items k d) (slice_index_or result.sources.items k d)) }
+    ensures answers { IfOk result.result (λ w. IfSome (all_left S.left sources.items) (λ contents. w.answered.items ≡ answers_to job.now.topics 1 contents)) }
+    ensures in_order { IfOk result.result (λ w. IsInOrder place_of_answer w.answered.items) }
+    ensures known { IfOk result.result (λ w. All (λ a. a.topic ≤ length job.now.topics) w.answered.items) }
+    ensures cause { IfErr result.result (λ fault. HasCause job.now.size S.faults S.left sources.items result.sources.items fault) }
+{
+    let Room {
+        waiting,
+        mut desks,
+        mut lists,
+    } = room;
+    let waiting = Mutex::new(waiting);
+    let was = Snapshot::of(&sources);
+    let count = sources.len();
+    let mut left = sources;
+    deal(alloc, &was, &mut left, desks.as_mut_slice());
+    run_all(rt, alloc, job, &waiting, gate, desks.as_mut_slice());
+    let mut gathered = Gathered {
+        sources: left,
+        given: Vec::new(alloc),
+        fault: None,
+        starved: false,
+    };
+    gather(job, &was, desks.as_mut_slice(), count, &mut gathered);
+    let Gathered {
+        sources,
+        given,
+        fault,
+        starved,
+    } = gathered;
+    let starved = take_lists(desks, &mut lists).is_err() || starved;
+    let result = conclude(alloc, job, given, lists, fault_of_all(starved, fault));
+    WorkEnd { sources, result }
 }
