@@ -8,6 +8,8 @@
 mod answered;
 mod collecting;
 mod handled;
+#[cfg(test)]
+mod merge_tests;
 mod merging;
 #[cfg(test)]
 mod tests;

@@ -12,6 +12,8 @@ mod gathering;
 mod job;
 mod own_file;
 mod reading;
+#[cfg(test)]
+mod tests;
 mod waiting;
 mod worked;
 mod worker;
