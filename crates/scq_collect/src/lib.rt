@@ -7,6 +7,10 @@
 
 mod answered;
 mod collecting;
+mod handled;
+#[cfg(test)]
+mod merge_tests;
+mod merging;
 #[cfg(test)]
 mod tests;
 mod text;
@@ -14,4 +18,6 @@ mod totals;
 
 pub use answered::Answered;
 pub use collecting::collect;
+pub use handled::Handled;
+pub use merging::{Merged, merge};
 pub use text::{output, push_totals};

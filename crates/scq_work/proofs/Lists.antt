@@ -1,0 +1,25 @@
+-- Lists in which one element is replaced.
+use Rattle.std.proofs.Common.{◌≡◌, ◌≢◌, ◌∙◌, refl, sym, ap, subst, inl, inr, arith, ℕ, ◌+◌, ◌<◌, List, [], ◌∷◌, ◌++◌, ◌≤◌, length, take, drop, get_or, set, get_or-set_same, get_or-set_other}
+use Rattle.std.proofs.lemmas.Bool.{cases_eq}
+use Rattle.std.proofs.lemmas.List.{length-append, get_or_append_left, get_or_push, take-append-le, take_all}
+use Rattle.std.specs.Prelude.{slice_index_or}
+use Rattle.std.specs.List.{All}
+
+-- what holds of the new element there and of the others where they were holds everywhere
+pub set-each : {X : Type 0} (P : ℕ → X → Type 0) (xs : List X) (at : ℕ) (y d : X) → at < length xs → P at y → ((k : ℕ) → k < length xs → k ≢ at → P k (slice_index_or xs k d))
+    → (k : ℕ) → k < length xs → P k (slice_index_or (set xs at y) k d)
+set-each P xs at y d within here others k less = elim (cases_eq k at) [
+  | inl same ↦ subst (λ j. P j (get_or (set xs at y) j d)) (sym same) (subst (P at) (sym (get_or-set_same xs at y d within)) here)
+  | inr apart ↦ subst (P k) (sym (get_or-set_other xs at k y d apart)) (others k less apart)
+]
+
+-- what holds of all holds of those in front, and of the last
+pub all-front : {X : Type 0} (P : X → Type 0) (xs : List X) (y : X) → All P (xs ++ y ∷ []) → All P xs
+all-front P xs y all k d less = subst P (get_or_append_left xs (y ∷ []) d k less) (all k d (omega (arith, less, length-append xs (y ∷ []))))
+
+pub all-last : {X : Type 0} (P : X → Type 0) (xs : List X) (y : X) → All P (xs ++ y ∷ []) → P y
+all-last P xs y all = subst P (get_or_push xs y y (length xs) refl) (all (length xs) y (omega (arith, length-append xs (y ∷ []))))
+
+-- what a whole slice was written back as
+pub written-back : {X : Type 0} (n : ℕ) (new old : List X) → length new ≡ n → take n (new ++ drop (length new) old) ≡ new
+written-back n new old long = take-append-le n new (drop (length new) old) (omega (arith, long)) ∙ take_all n new (omega (arith, long))

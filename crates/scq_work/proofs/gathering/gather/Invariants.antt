@@ -1,0 +1,21 @@
+use Rattle.std.proofs.Common.{◌≡◌, ◌+◌, ◌≤◌, length, drop}
+use Rattle.std.specs.Prelude.{vec_len, vec_capacity}
+use Rattle.std.specs.List.{All}
+use Rattle.scq_work.specs.Desks.{AreDealt}
+use Rattle.scq_work.specs.Reading.{IsRead}
+use Rattle.scq_work.proofs.SoFar.{SoFar}
+use Rattle.scq_work.proofs.gathering.gather.Given as goal
+
+-- the first files are gathered, and the desks have the others
+abbrev pub invariant-files : goal.invariant-files
+invariant-files g l =
+    let faults = g.S.Source.faults in
+    let left = g.S.Source.left in
+    record {
+      long : length l.desks ≡ length l.fn.desks;
+      dealt : AreDealt (l.at + 1) (drop l.at l.was.value.items) l.desks;
+      read : All (λ d. All (λ f. IsRead l.job.topics l.job.size faults left f.number f.was.value f.source f.given.items f.end) d.files.items) l.desks;
+      count : vec_len l.gathered.sources ≡ l.at;
+      capacity : vec_capacity l.gathered.sources ≡ vec_capacity l.fn.gathered.sources;
+      so_far : SoFar l.job.topics l.job.size faults left l.was.value.items l.at l.gathered.sources.items l.gathered.fault l.gathered.starved l.gathered.given.items;
+    }

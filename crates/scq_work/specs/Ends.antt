@@ -1,0 +1,70 @@
+-- How the reading of files ended that have these sources, before and after. Files are numbered from 1.
+use Rattle.std.specs.Prelude.{◌≡◌, ◌≢◌, ℕ, ◌+◌, ◌-◌, ◌<◌, ◌≤◌, Bool, true, false, List, [], ◌∷◌, ◌++◌, Option, Some, None, IfSome, option_and_then, length, map, slice_index_or}
+use Rattle.std.specs.Option.{option_map}
+use Rattle.scq_topics.specs.declared.kind.Kind.{Kind}
+use Rattle.scq_topics.specs.Topics.{topic_of}
+use Rattle.scq_frames.specs.declared.fault.FrameFault.{FrameFault}
+use Rattle.scq_frames.specs.declared.fault.FrameFault.TheVariants as frame
+use Rattle.scq_frames.specs.declared.message.Message.{Message}
+use Rattle.scq_frames.specs.Numbered.{numbered}
+use Rattle.scq_frames.specs.Text.{messages_of}
+use Rattle.scq_work.specs.Reading.{AreOf, IsWhole, IsStopped}
+use Rattle.scq_work.specs.declared.own_file.FileEnd.{FileEnd}
+use Rattle.scq_work.specs.declared.own_file.FileEnd.TheVariants.{Unread, Whole, Stopped}
+use Rattle.scq_work.specs.declared.worked.WorkFault.{WorkFault}
+use Rattle.scq_work.specs.declared.worked.WorkFault.TheVariants.{Read, TooLong, TooLarge, NoMemory}
+
+-- the fault of a file by how its reading ended. One that nobody read wants memory: its worker left it.
+abbrev pub end_fault : ℕ → FileEnd → Option (ℕ × FrameFault)
+end_fault file Unread = Some (file, frame.NoMemory)
+end_fault file Whole = None
+end_fault file (Stopped fault) = Some (file, fault)
+
+-- the fault of several workers: want of memory where any met it, else that of the first file, in order,
+-- that has any
+abbrev pub fault_of_workers : Bool → Option (ℕ × FrameFault) → Option WorkFault
+fault_of_workers true first = Some NoMemory
+fault_of_workers false None = None
+fault_of_workers false (Some (file, frame.ReadFault)) = Some (Read file)
+fault_of_workers false (Some (file, frame.TooLong line len)) = Some (TooLong file line len)
+fault_of_workers false (Some (file, frame.TooLarge bytes)) = Some (TooLarge file bytes)
+fault_of_workers false (Some (file, frame.NoMemory)) = Some NoMemory
+
+-- a source gave some bytes, and has the others left
+pub record HasMoved {S : Type 0} (left : S → Option (List ℕ)) (old new : S) : Type 0 where
+  pub bytes : List ℕ
+  pub moved : left old ≡ option_map (λ rest. bytes ++ rest) (left new)
+
+-- the files before this one were read to their ends, and the reading of this one stopped at the fault
+pub record StopsAt {S : Type 0} (size : ℕ) (faults : S → ℕ) (left : S → Option (List ℕ)) (olds news : List S) (file : ℕ) (fault : FrameFault) : Type 0 where
+  pub first : 0 < file
+  pub last : file ≤ length olds
+  pub before : (k : ℕ) (d : S) → k + 1 < file → IsWhole size faults left (slice_index_or olds k d) (slice_index_or news k d)
+  pub cause : (d : S) → IsStopped size faults left (slice_index_or olds (file - 1) d) (slice_index_or news (file - 1) d) fault
+
+-- the cause of each fault
+abbrev pub HasCause : {S : Type 0} → ℕ → (S → ℕ) → (S → Option (List ℕ)) → List S → List S → WorkFault → Type 0
+HasCause size faults left olds news (Read file) = StopsAt size faults left olds news file frame.ReadFault
+HasCause size faults left olds news (TooLong file line len) = StopsAt size faults left olds news file (frame.TooLong line len)
+HasCause size faults left olds news (TooLarge file bytes) = StopsAt size faults left olds news file (frame.TooLarge bytes)
+HasCause size faults left olds news NoMemory = Unit {0}
+
+-- what all sources have left, where that of each is visible
+abbrev pub all_left : {S : Type 0} → (S → Option (List ℕ)) → List S → Option (List (List ℕ))
+all_left left [] = Some []
+all_left left (source ∷ sources) = option_and_then (λ content. option_map (λ more. content ∷ more) (all_left left sources)) (left source)
+
+-- the messages that a file gave, and behind them others that are so: its own are on known topics, in order,
+-- and all of its messages where its bytes are visible
+pub record FileGave {S : Type 0} (topics : List (List ℕ × Kind)) (left : S → Option (List ℕ)) (file : ℕ) (source : S) (Others : List Message → Type 0) (given : List Message) : Type 0 where
+  pub own : List Message
+  pub others : List Message
+  pub whole : given ≡ own ++ others
+  pub of : AreOf (length topics) file 0 own
+  pub all : IfSome (left source) (λ bytes. own ≡ map (numbered file (topic_of topics)) (messages_of bytes))
+  pub more : Others others
+
+-- the messages of files of which the first has this number, one file behind the other
+abbrev pub AreGiven : {S : Type 0} → List (List ℕ × Kind) → (S → Option (List ℕ)) → ℕ → List S → List Message → Type 0
+AreGiven topics left file [] given = given ≡ []
+AreGiven topics left file (source ∷ sources) given = FileGave topics left file source (λ others. AreGiven topics left (file + 1) sources others) given

@@ -1,0 +1,22 @@
+/// Where a worker stands when it calls the gate.
+#[derive(Clone, Copy, Debug, PartialEq, Eq)]
+pub enum Point {
+    /// It has shared a message.
+    AfterSend,
+    /// It is about to take one.
+    BeforeTake,
+    /// It is about to leave.
+    BeforeLeave,
+}
+
+/// What workers call at each point. It has no meaning for what is answered: a test may hold workers in it.
+pub trait Gate: Sync {
+    fn at(&self, worker: u32, point: Point);
+}
+
+/// The gate that does nothing.
+pub struct FreeGate;
+
+impl Gate for FreeGate {
+    fn at(&self, _worker: u32, _point: Point) {}
+}

@@ -1,0 +1,41 @@
+ghost use Rattle.scq_work.specs.Jobs.{IsJob};
+
+use scq_topics::Topics;
+
+/// What workers are to do: messages are answered by `workers` workers through 2^order buffers, and a
+/// payload may have `size` bytes.
+#[derive(Drop)]
+pub struct Job {
+    pub order: u32,
+    pub size: u32,
+    pub workers: u32,
+    pub topics: Topics,
+    pub ghost valid: { IsJob order size workers },
+}
+
+impl Job {
+    ghost use Rattle.std.specs.Prelude.{◌≡◌, ◌↔◌, IsNone, IfSome};
+
+    /// None exactly where the order isn't in 1 to 12, the size isn't in 1 to 65,536, or the workers
+    /// aren't in 1 to the number of buffers.
+    pub fn new(order: u32, size: u32, workers: u32, topics: Topics) -> Option<Job>
+        ensures refused { IsNone result ↔ ¬ IsJob order size workers }
+        ensures order { IfSome result (λ job. job.order ≡ order) }
+        ensures size { IfSome result (λ job. job.size ≡ size) }
+        ensures workers { IfSome result (λ job. job.workers ≡ workers) }
+        ensures topics { IfSome result (λ job. job.topics ≡ topics) }
+    {
+        if !(1..=12).contains(&order) || !(1..=65_536).contains(&size) {
+            return None;
+        }
+        if workers == 0 || workers > 1 << order {
+            return None;
+        }
+        Some(Job {
+            order,
+            size,
+            workers,
+            topics,
+        })
+    }
+}
