@@ -1,8 +1,7 @@
 -- A slot that is out goes home before the table closes. Plan: its index is in the seat's hand, so it is in no entry and in no
 -- other hand; so no line of the rule speaks of this slot but the seat's own.
-use Rattle.std.proofs.Common.{◌≡◌, ◌≢◌, ◌⊎◌, ℕ, ◌<◌, false, List, [], ◌∷◌, ◌++◌, length, refl, sym, ◌∙◌, ap, subst, inl, inr, arith}
+use Rattle.std.proofs.Common.{◌≡◌, ◌≢◌, ◌⊎◌, ℕ, ◌<◌, List, [], ◌∷◌, length, refl, sym, ◌∙◌, ap, subst, inl, inr, arith}
 use Rattle.std.specs.Prelude.{slice_set, slice_index}
-use Rattle.std.specs.List.{Contains}
 use Rattle.std.proofs.lemmas.Bool.{cases_eq}
 use Rattle.std.proofs.lemmas.List.{length-set, set-get_or}
 use Rattle.std.proofs.lemmas.List.Elements.{Contains-push_cases}
@@ -14,14 +13,12 @@ use Rattle.atomic_table.proofs.Lists.{at_set, set_here}
 use Rattle.scq_word.specs.declared.setup.Setup.{Setup}
 use Rattle.scq_word.specs.Sizes.{n_of}
 use Rattle.scq_word.specs.Words.{index_in}
-use Rattle.scq_core.specs.Machine.{Machine}
 use Rattle.scq_core.specs.Table.{ring_slots}
 use Rattle.scq_law.specs.Hands.{times, OneHand}
 use Rattle.scq_law.proofs.Places.HandLaws.{one_hand}
 use Rattle.scq_band.specs.Known.{Member, Known}
-use Rattle.scq_band.specs.Shown.{Scene, Has, IsMember, Owns, IsView, Shown}
+use Rattle.scq_band.specs.Shown.{Scene, Has, Owns, IsView, Shown}
 use Rattle.scq_band.specs.Steps.{my, front_index}
-use Rattle.scq_band.specs.Turns.{Fronts}
 use Rattle.scq_band.specs.Homes.{at_home, MayBring}
 use Rattle.scq_band.proofs.Handles.{has_else, in_hand_alone, hand_or_entry}
 

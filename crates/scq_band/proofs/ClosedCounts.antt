@@ -1,12 +1,11 @@
 -- What is left in the rings, beside all seats' records and hands, once no seat is in the middle of a call. Plan: the machine's
 -- sums over its seats are sums over the records and hands; then each fact is a law of the machine.
-use Rattle.std.proofs.Common.{◌≡◌, ◌≢◌, ◌⊎◌, ℕ, zero, suc, ◌+◌, ◌<◌, ◌≤◌, Bool, true, false, ◌==◌, List, [], ◌∷◌, ◌++◌, map, length, refl, sym, ◌∙◌, ap, subst, inl, inr, arith}
-use Rattle.std.specs.Prelude.{Option, Some, None, if◌then◌else◌, slice_get, slice_index, sum, sum_by}
+use Rattle.std.proofs.Common.{◌≡◌, ℕ, zero, suc, ◌+◌, ◌<◌, ◌≤◌, List, [], ◌∷◌, ◌++◌, map, length, refl, sym, ◌∙◌, ap, subst, inl, inr, arith}
+use Rattle.std.specs.Prelude.{Option, Some, slice_get, slice_index, sum, sum_by}
 use Rattle.std.proofs.lemmas.Bool.{cases_lt}
 use Rattle.std.proofs.lemmas.List.Sums.{sum_by-cons}
 use Rattle.scq_word.specs.declared.setup.Setup.{Setup}
 use Rattle.scq_word.specs.Sizes.{n_of}
-use Rattle.scq_word.specs.Bounds.{ticket_bound}
 use Rattle.scq_core.specs.declared.ended.Ended.{Ended}
 use Rattle.scq_core.specs.declared.ended.Ended.TheVariants.{Spent}
 use Rattle.scq_core.specs.declared.phase.Phase.{Phase}
@@ -14,15 +13,15 @@ use Rattle.scq_core.specs.declared.phase.Phase.TheVariants.{Idle}
 use Rattle.scq_core.specs.Machine.{Part, Machine}
 use Rattle.scq_core.specs.Laws.{total}
 use Rattle.scq_core.specs.Reach.{IsReachable}
-use Rattle.scq_law.specs.Bounds.{tally, was_put, is_putting, openings, enqueues}
-use Rattle.scq_law.specs.Hands.{times, Home, hand_of, in_slot, IsHome, OneHand}
+use Rattle.scq_law.specs.Bounds.{tally, was_put, is_putting, enqueues}
+use Rattle.scq_law.specs.Hands.{times, Home, hand_of, in_slot, IsHome}
 use Rattle.scq_law.specs.Sums.{sum_to}
 use Rattle.scq_law.specs.Kept.{was_done, was_got, has_placed, gets_of, puts_of, left_in, left_below}
 use Rattle.scq_law.proofs.Balance.KeptLaws.{balanced, all_kept}
 use Rattle.scq_law.proofs.Places.HandLaws.{one_hand}
 use Rattle.scq_law.proofs.Tickets.SpentLaws.{spent_kept}
 use Rattle.scq_band.specs.Known.{Member}
-use Rattle.scq_band.specs.Closing.{IsCall, puts_on, gets_on, begun_on, IsBalance, IsAllThere, IsPastTheBound, EachSpentIsPastTheBound, EachIsInOneHand}
+use Rattle.scq_band.specs.Closing.{gets_on, begun_on, IsBalance, IsAllThere, EachSpentIsPastTheBound, EachIsInOneHand}
 use Rattle.scq_band.proofs.AllSeats.{AreAll, total_all}
 use Rattle.scq_band.proofs.ClosedRecords.{map_back, map_on, records_of, AllRest}
 

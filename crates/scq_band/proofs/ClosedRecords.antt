@@ -1,28 +1,26 @@
 -- What all seats' records say together once no seat is in the middle of a call. Plan: a call of the machine's seat is one of
 -- the records' and the other way round; then each fact is a law of the machine, read in the records.
-use Rattle.std.proofs.Common.{◌≡◌, ◌≢◌, ◌⊎◌, ℕ, zero, suc, ◌+◌, ◌-◌, ◌<◌, ◌≤◌, Bool, true, false, ◌==◌, List, [], ◌∷◌, map, length, refl, sym, ◌∙◌, ap, subst, inl, inr, arith, eq-eqb, ne_eqb}
-use Rattle.std.specs.Prelude.{Option, Some, None, if◌then◌else◌, slice_get, slice_index, slice_index_or, sum, sum_by}
-use Rattle.std.specs.Option.{option_map}
-use Rattle.std.proofs.lemmas.Bool.{cases_eq, cases_lt}
-use Rattle.std.proofs.lemmas.List.Sums.{sum_by-cons}
+use Rattle.std.proofs.Common.{◌≡◌, ℕ, zero, suc, ◌-◌, ◌<◌, ◌≤◌, List, [], ◌∷◌, map, length, refl, sym, ◌∙◌, ap, subst, inl, inr, arith}
+use Rattle.std.specs.Prelude.{Some, slice_get, slice_index_or}
+use Rattle.std.proofs.lemmas.Bool.{cases_lt}
 use Rattle.scq_word.specs.declared.setup.Setup.{Setup}
 use Rattle.scq_word.specs.Sizes.{n_of}
 use Rattle.scq_core.specs.declared.ended.Ended.{Ended}
-use Rattle.scq_core.specs.declared.ended.Ended.TheVariants.{Done, Got, Spent}
+use Rattle.scq_core.specs.declared.ended.Ended.TheVariants.{Done, Got}
 use Rattle.scq_core.specs.declared.phase.Phase.{Phase}
 use Rattle.scq_core.specs.declared.phase.Phase.TheVariants.{Idle}
 use Rattle.scq_core.specs.Machine.{Part, Machine}
 use Rattle.scq_core.specs.Table.{ring_slots}
 use Rattle.scq_core.specs.Start.{idle_part}
 use Rattle.scq_core.specs.Reach.{IsReachable}
-use Rattle.scq_law.specs.Places.{Maker, opening_put, call_of, HasLanded, IsPlacedBy, at_opening, in_record, under_way, IsTakenBy, IsTaken, AllIdle}
+use Rattle.scq_law.specs.Places.{Maker, opening_put, call_of, HasLanded, IsPlacedBy, at_opening, in_record, under_way, AllIdle}
 use Rattle.scq_law.proofs.Base.Traces.{has_trace}
 use Rattle.scq_law.proofs.Places.Throughout.{reached}
 use Rattle.scq_law.proofs.Places.PlaceLaws.{places_once, got_below}
 use Rattle.scq_band.specs.declared.numbers.Numbers.{Numbers}
 use Rattle.scq_band.specs.Known.{Member}
-use Rattle.scq_band.specs.Closing.{IsCall, HasEnded, IsOpeningPut, WasPut, IsKnownPassed, EachGetHasItsPut, NoneIsGotTwice, EachPutPassedIsGot}
-use Rattle.scq_band.proofs.AllSeats.{AreAll, seat_at, read_at}
+use Rattle.scq_band.specs.Closing.{IsCall, HasEnded, WasPut, EachGetHasItsPut, NoneIsGotTwice, EachPutPassedIsGot}
+use Rattle.scq_band.proofs.AllSeats.{AreAll, seat_at}
 
 -- what is read in a list of images
 pub map_back : {A B : Type 0} (f : A → B) (xs : List A) (a : ℕ) (y : B) → slice_get (map f xs) a ≡ Some y → (x : A) × (slice_get xs a ≡ Some x) × (f x ≡ y)
@@ -105,7 +103,8 @@ module _ (c : Setup) (m : Machine) (xs : List Member) (reach : IsReachable c m) 
       })
   was_put_by r p w a count (in_record k x is) = inr (ended_call k x (Done r p w) is)
   was_put_by r p w a count (under_way k has) =
-      let no : HasLanded Idle r p w = subst (λ (t : Phase). HasLanded t r p w) (idle k) has in absurd no
+      let no : HasLanded Idle r p w = subst (λ (t : Phase). HasLanded t r p w) (idle k) has in
+      let is = no.1 in absurd (cc)
 
   opening_at : (l : List (List ℕ)) (i : ℕ) (w : List ℕ) → slice_get l i ≡ Some w → (i < length l) × (w ≡ slice_index_or l i [])
   opening_at [] i w is = absurd (cc)

@@ -1,18 +1,16 @@
 -- A band that closes: its last state has all seats in one view, with every slot at home. So each clause on records, hands and
 -- buffers is a fact of that state.
-use Rattle.std.proofs.Common.{◌≡◌, ◌≢◌, ◌⊎◌, ℕ, zero, suc, ◌+◌, ◌<◌, ◌≤◌, List, [], ◌∷◌, map, length, refl, sym, ◌∙◌, ap, subst, inl, inr, arith}
-use Rattle.std.specs.Prelude.{Option, Some, None, slice_get, slice_index, slice_index_or, sum_by}
-use Rattle.std.specs.List.{Contains}
+use Rattle.std.proofs.Common.{◌≡◌, ℕ, zero, suc, ◌+◌, ◌<◌, ◌≤◌, Bool, true, false, List, [], ◌∷◌, map, length, refl, sym, ◌∙◌, ap, subst, inl, inr, arith}
+use Rattle.std.specs.Prelude.{Option, Some, None, is_none, if◌then◌else◌, slice_get, slice_index, slice_index_or}
+use Rattle.std.proofs.lemmas.Bool.{cases_eq}
 use Rattle.std.proofs.lemmas.Option.{slice_get_within, get_or_from_slice_get}
 use mathlib.Core.Option.{some}
-use mathlib.Core.Option as maybe
 use lib.ListN.{get_elem?}
 use Rattle.atomic_table.specs.Seated.{TableId}
 use Rattle.atomic_table.specs.Table.{State, Final, Seen}
 use Rattle.scq_word.specs.declared.setup.Setup.{Setup}
 use Rattle.scq_word.specs.Sizes.{n_of}
 use Rattle.scq_core.specs.declared.ended.Ended.{Ended}
-use Rattle.scq_core.specs.declared.phase.Phase.TheVariants.{Idle}
 use Rattle.scq_core.specs.Machine.{Cells, Machine}
 use Rattle.scq_core.proofs.Indices.{HasIndices, has_indices}
 use Rattle.scq_law.specs.Kept.{left_in}
@@ -20,13 +18,13 @@ use Rattle.scq_band.specs.declared.numbers.Numbers.{Numbers}
 use Rattle.scq_band.specs.declared.slot.Slot.{Slot}
 use Rattle.scq_band.specs.Buffers.{LiesIn, opening_of}
 use Rattle.scq_band.specs.Known.{Member, Known}
-use Rattle.scq_band.specs.Shown.{Scene, ShowsWords, Has, Owns, Shown}
+use Rattle.scq_band.specs.Shown.{ShowsWords, Has, Owns, Shown, awake}
 use Rattle.scq_band.specs.declared.rule.Key.{Key}
 use Rattle.scq_band.specs.Standing.{Identity, Standing}
 use Rattle.scq_band.specs.Kept.{identity_of}
-use Rattle.scq_band.specs.Homes.{full_slot, IsMemberOf, AreMembersOf, HeadsKnown, HasAll}
-use Rattle.scq_band.specs.Closing.{indices_of, EachGetHasItsPut, NoneIsGotTwice, EachPutPassedIsGot, IsBalance, IsAllThere, EachIsInOneHand, EachSpentIsPastTheBound, EachLeftIsItsPut, AreTheSame, all_calls, all_hands, all_known, all_spent}
-use Rattle.scq_band.proofs.AllSeats.{AreAll, are_all}
+use Rattle.scq_band.specs.Homes.{full_slot, IsMemberOf, AreMembersOf, HeadsKnown, GatesKnown, HasAll}
+use Rattle.scq_band.specs.Closing.{indices_of, EachGetHasItsPut, NoneIsGotTwice, EachPutPassedIsGot, IsBalance, IsAllThere, EachIsInOneHand, EachSpentIsPastTheBound, EachLeftIsItsPut, AreTheSame, AllRetiredWhereClosed, all_calls, all_hands, all_known, all_spent}
+use Rattle.scq_band.proofs.AllSeats.{AreAll, are_all, member_at}
 use Rattle.scq_band.proofs.ClosedRecords.{map_back, map_on, records_of, AllRest, gets_have_puts, none_twice, passed_is_got}
 use Rattle.scq_band.proofs.ClosedCounts.{hands_of, kept_by, IsLeftOf, is_balance, all_there, spent_past, each_in_one_hand}
 use Rattle.scq_band.proofs.Unloading.{read_some}
@@ -41,6 +39,20 @@ module _ {B : Type 0} where
   member_of (s ∷ ss) [] are a x e = absurd (cc)
   member_of (s ∷ ss) (y ∷ ys) are zero x e = let same : y ≡ x = cc in (s, subst (λ (u : Member). IsMemberOf s u) same are.0)
   member_of (s ∷ ss) (y ∷ ys) are (suc a) x e = member_of ss ys are.1 a x e
+
+  -- a seat and the member that it has become
+  seat_member : (seats : List (Standing B)) (xs : List Member) → AreMembersOf seats xs → (a : ℕ) (s : Standing B) → slice_get seats a ≡ Some s
+      → (x : Member) × (slice_get xs a ≡ Some x) × IsMemberOf s x
+  seat_member [] xs are a s e = absurd (cc)
+  seat_member (t ∷ ts) [] are a s e = absurd are
+  seat_member (t ∷ ts) (y ∷ ys) are zero s e = let same : t ≡ s = cc in (y, refl, subst (λ (u : Standing B). IsMemberOf u y) same are.0)
+  seat_member (t ∷ ts) (y ∷ ys) are (suc a) s e = seat_member ts ys are.1 a s e
+
+  gates_at : (ss : List (Standing B)) (gate : Option ℕ) → GatesKnown ss gate → (a : ℕ) (s : Standing B) → slice_get ss a ≡ Some s → (n : ℕ)
+      → s.gate ≡ Some n → (k : ℕ) × (gate ≡ Some k) × (k ≤ n)
+  gates_at [] gate known a s e n is = absurd (cc)
+  gates_at (t ∷ ts) gate known zero s e n is = let same : t ≡ s = cc in known.0 n (ap (λ (u : Standing B). u.gate) same ∙ is)
+  gates_at (t ∷ ts) gate known (suc a) s e n is = gates_at ts gate known.1 a s e n is
 
   members_count : (seats : List (Standing B)) (xs : List Member) → AreMembersOf seats xs → length xs ≡ length seats
   members_count [] [] are = refl
@@ -64,6 +76,23 @@ module _ {B : Type 0} where
   heads_at (s ∷ ss) known heads zero numbers e r x here =
       let same : s.numbers ≡ numbers = cc in heads.0 r x (ap (λ (l : List Numbers). slice_get l r) same ∙ here)
   heads_at (s ∷ ss) known heads (suc a) numbers e r x here = heads_at ss known heads.1 a numbers e r x here
+
+-- where no seat is awake each has retired
+none_awake : (gone : ℕ → Option ℕ) (n : ℕ) → awake gone n ≡ 0 → (k : ℕ) → k < n → (m : ℕ) × (gone k ≡ Some m)
+none_awake gone zero none k low = absurd (omega arith)
+none_awake gone (suc n) none k low =
+    elim (cases_eq k n) [
+      | inl same ↦ let last = is_gone (gone n) (awake gone n) none in (last.0, ap gone same ∙ last.1)
+      | inr other ↦ none_awake gone n (rest_gone (is_none (gone n)) (awake gone n) none) k (omega arith)
+    ]
+  where
+    is_gone : (x : Option ℕ) (a : ℕ) → (if is_none x then 1 else 0) + a ≡ 0 → (m : ℕ) × (x ≡ Some m)
+    is_gone None a e = absurd (omega arith)
+    is_gone (Some m) a e = (m, refl)
+
+    rest_gone : (b : Bool) (a : ℕ) → (if b then 1 else 0) + a ≡ 0 → a ≡ 0
+    rest_gone true a e = absurd (omega arith)
+    rest_gone false a e = omega arith
 
 length_images : {A C : Type 0} (f : A → C) (xs : List A) → length (map f xs) ≡ length xs
 length_images f [] = refl
@@ -131,6 +160,16 @@ module _ {B : Type 0} (contents : B → List ℕ) (IsSame : B → B → Type 0) 
       subst (λ (l : List (Option ℕ)). EachSpentIsPastTheBound c (all_calls seats) l) spents
       (subst (λ (l : List (List Ended)). EachSpentIsPastTheBound c l (kept_by v.seats)) calls (spent_past c m v.seats sh.reachable all rest))
 
+  pub closed_gate : AllRetiredWhereClosed seats
+  closed_gate a b reader other at_a is at_b =
+      let read = gates_at seats v.gate has.gates a reader at_a 0 is in
+      let word = (sh.views id v here).last_gate read.0 read.1 in
+      let none : awake sh.scene.gone c.seats ≡ 0 = omega (arith, sh.awake_seats, word, read.2) in
+      let x = seat_member seats v.seats has.members b other at_b in
+      let member = member_at (LiesIn contents IsSame given) c sh.scene s.homes id v.seats owns b x.0 x.1 in
+      let gone = none_awake sh.scene.gone c.seats none x.0.number member.low in
+      (gone.0, sym x.2.retired ∙ sym member.gone ∙ gone.1)
+
   -- each slot is at home
   pub closed_homes : (i : ℕ) → i < n_of c.order → (w : List ℕ) × Has (LiesIn contents IsSame given) s.homes i w
   closed_homes =
@@ -161,6 +200,7 @@ pub record EndsAs {B : Type 0} (contents : B → List ℕ) (IsSame : B → B →
   pub passed : EachPutPassedIsGot c (opening_of contents given) (all_calls seats) (all_known seats)
   pub hands : EachIsInOneHand c (all_hands seats)
   pub spent : EachSpentIsPastTheBound c (all_calls seats) (all_spent seats)
+  pub gate : AllRetiredWhereClosed seats
   pub counts : (left : List ℕ) → length left ≡ c.rings
       → ((m : Cells) → ShowsWords c ws m → (r : ℕ) → r < c.rings → slice_index left r ≡ left_in c m r)
       → IsBalance c (all_calls seats) left × IsAllThere c (all_hands seats) left
@@ -197,6 +237,7 @@ module _ {B : Type 0} where
         passed = closed_passed contents IsSame given c s id v seats sh here has count many;
         hands = closed_hands contents IsSame given c s id v seats sh here has count many;
         spent = closed_spent contents IsSame given c s id v seats sh here has count many;
+        gate = closed_gate contents IsSame given c s id v seats sh here has count many;
         counts =
             λ left rings each.
             let is : IsLeftOf c m left = record { rings = rings; each = each m.cells shows } in (

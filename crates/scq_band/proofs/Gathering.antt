@@ -1,34 +1,34 @@
 -- The seats are gathered into one view, one by one, the last one first.
-use Rattle.std.proofs.Common.{◌≡◌, ◌≢◌, ℕ, zero, suc, ◌+◌, ◌<◌, ◌≤◌, ◌==◌, List, [], ◌∷◌, ◌++◌, length, refl, sym, ◌∙◌, ap, subst, arith, append_assoc, eq-eqb}
-use Rattle.std.specs.Prelude.{if◌then◌else◌, sum_by}
+use Rattle.std.proofs.Common.{◌≡◌, ℕ, ◌+◌, ◌≤◌, List, [], ◌∷◌, ◌++◌, length, refl, sym, ◌∙◌, ap, arith, append_assoc, eq-eqb}
+use Rattle.std.specs.Prelude.{sum_by}
 use Rattle.std.proofs.lemmas.List.Sums.{sum_by_push}
 use Rattle.scq_law.specs.Hands.{times}
 use Rattle.scq_band.specs.Known.{Member, Known, both_of}
 use Rattle.scq_band.specs.Steps.{my}
 use Rattle.scq_band.specs.Standing.{Standing}
-use Rattle.scq_band.specs.Closing.{indices_of, lifted_of}
-use Rattle.scq_band.specs.Homes.{IsMemberOf, HasAll, AreGathered}
+use Rattle.scq_band.specs.Closing.{indices_of}
+use Rattle.scq_band.specs.Homes.{IsMemberOf, AreGathered}
 use Rattle.scq_band.proofs.SeatsHome.{has_one, has_more}
 
 module _ {B : Type 0} where
   pub gathered_first : (rings : ℕ) (all left : List (Standing B)) (s : Standing B) (w : Known) → all ≡ left ++ s ∷ [] → w.seats ≡ my w ∷ []
-      → IsMemberOf s (my w) → w.numbers ≡ s.numbers → length s.numbers ≡ rings → AreGathered rings all left w
-  gathered_first rings all left s w split alone member numbers count =
+      → IsMemberOf s (my w) → w.numbers ≡ s.numbers → length s.numbers ≡ rings → w.gate ≡ s.gate → AreGathered rings all left w
+  gathered_first rings all left s w split alone member numbers count gate =
       record {
         done = s ∷ [];
         split = split;
-        has = has_one rings s w alone member numbers count;
+        has = has_one rings s w alone member numbers count gate;
         some = λ none. let no : my w ∷ [] ≡ [] = sym alone ∙ none in cc;
       }
 
   pub gathered_more : (rings : ℕ) (all before left : List (Standing B)) (s : Standing B) (v w : Known) → AreGathered rings all before v
       → before ≡ left ++ s ∷ [] → w.seats ≡ my w ∷ [] → IsMemberOf s (my w) → w.numbers ≡ s.numbers → length s.numbers ≡ rings
-      → AreGathered rings all left (both_of v w)
-  gathered_more rings all before left s v w now last alone member numbers count =
+      → w.gate ≡ s.gate → AreGathered rings all left (both_of v w)
+  gathered_more rings all before left s v w now last alone member numbers count gate =
       record {
         done = s ∷ now.done;
         split = now.split ∙ ap (λ (l : List (Standing B)). l ++ now.done) last ∙ append_assoc left (s ∷ []) now.done;
-        has = has_more rings s now.done v w now.has alone member numbers count;
+        has = has_more rings s now.done v w now.has alone member numbers count gate;
         some =
             λ none.
             let no : my w ∷ v.seats ≡ [] = ap (λ (xs : List Member). xs ++ v.seats) (sym alone) ∙ none in

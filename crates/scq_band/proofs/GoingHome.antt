@@ -1,6 +1,6 @@
 -- A seat whose first slot has its buffer again may bring it home, and goes on with the others; what is out grows less by as many
 -- as were lifted.
-use Rattle.std.proofs.Common.{◌≡◌, ◌≢◌, ◌⊎◌, ℕ, zero, suc, ◌+◌, ◌<◌, ◌≤◌, Bool, true, false, ◌==◌, List, [], ◌∷◌, ◌++◌, map, length, refl, sym, ◌∙◌, ap, subst, inl, inr, arith, append_assoc, append-nil, eq-eqb}
+use Rattle.std.proofs.Common.{◌≡◌, ◌⊎◌, ℕ, suc, ◌+◌, ◌<◌, ◌==◌, List, [], ◌∷◌, ◌++◌, length, refl, sym, ◌∙◌, ap, subst, inl, inr, arith, append_assoc, append-nil, eq-eqb}
 use Rattle.std.specs.Prelude.{Option, Some, None, is_none, if◌then◌else◌, sum_by, IsTrue}
 use Rattle.std.specs.List.{Contains}
 use Rattle.std.specs.List.Sorted.{IsPermutation}
@@ -13,7 +13,7 @@ use Rattle.scq_band.specs.Buffers.{LiesIn}
 use Rattle.scq_band.specs.Known.{Known}
 use Rattle.scq_band.specs.Steps.{my, front_index}
 use Rattle.scq_band.specs.Standing.{IsAsGiven}
-use Rattle.scq_band.specs.Kept.{in_order, AllGiven}
+use Rattle.scq_band.specs.Kept.{in_order}
 use Rattle.scq_band.specs.Closing.{indices_of}
 use Rattle.scq_band.specs.Homes.{at_home, MayBring, times_lifted, IsLaidBack, AllOutGiven, MayLeave}
 

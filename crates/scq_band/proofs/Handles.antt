@@ -73,7 +73,8 @@ module _ {S : Type 0} (Lies : ℕ → S → List ℕ → Type 0) where
       record { value = has.value; here = set_else homes i j x apart ∙ has.here; lies = has.lies }
 
   -- two homes of one index are one
-  pub in_hand_alone : (c : Setup) (m : Machine) (i k j : ℕ) → OneHand c m → i < n_of c.order → 0 < times i (m.part k).hand → 0 < times i (m.part j).hand → j ≢ k → ⊥
+  pub in_hand_alone : (c : Setup) (m : Machine) (i k j : ℕ) → OneHand c m → i < n_of c.order → 0 < times i (m.part k).hand
+      → 0 < times i (m.part j).hand → j ≢ k → ⊥
   in_hand_alone c m i k j one small here there apart =
       let same : hand_of j ≡ hand_of k = one.alone i (hand_of j) (hand_of k) small there here in apart (cc)
 

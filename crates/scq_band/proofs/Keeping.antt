@@ -1,6 +1,6 @@
 -- What a seat keeps, after its slots were turned, after an exchange of the buffer in the first, and after a call.
-use Rattle.std.proofs.Common.{◌≡◌, ◌⊎◌, ℕ, zero, suc, ◌+◌, ◌-◌, ◌^◌, ◌<◌, ◌≤◌, true, false, ◌==◌, List, [], ◌∷◌, ◌++◌, length, refl, sym, ◌∙◌, ap, subst, inl, inr, arith, eq-eqb, ne_eqb}
-use Rattle.std.specs.Prelude.{Some, None, Option, IfSome, if◌then◌else◌, max, slice_set, slice_get, slice_index_or}
+use Rattle.std.proofs.Common.{◌≡◌, ◌⊎◌, ℕ, zero, suc, ◌+◌, ◌^◌, ◌<◌, ◌≤◌, true, List, [], ◌∷◌, ◌++◌, length, refl, sym, ◌∙◌, ap, subst, inl, inr, arith, eq-eqb, ne_eqb}
+use Rattle.std.specs.Prelude.{Some, None, Option, IfSome, max, slice_set, slice_get, slice_index_or}
 use Rattle.std.proofs.lemmas.Bool.{cases_eq, cases_lt}
 use Rattle.std.proofs.Math.Nat.{max-eq_left, max-eq_right}
 use Rattle.std.proofs.lemmas.List.{length-append, length-set}
@@ -184,7 +184,7 @@ changed_twice f g r [] low = refl
 changed_twice f g zero (n ∷ ns) low = refl
 changed_twice f g (suc r) (n ∷ ns) low = ap (λ (l : List Numbers). n ∷ l) (changed_twice f g r ns (omega arith))
 
-max_small : (a b : ℕ) → a < 2 ^ 60 → b < 2 ^ 60 → max a b < 2 ^ 60
+pub max_small : (a b : ℕ) → a < 2 ^ 60 → b < 2 ^ 60 → max a b < 2 ^ 60
 max_small a b one other =
     elim (cases_lt a b) [
       | inl low ↦ let same : max a b ≡ b = max-eq_right (omega (arith, low)) in rw same other

@@ -1,6 +1,6 @@
 -- Once all slots that were out are at home, each slot is; and an index that is in no hand stands for a put that was not got.
 -- Plan: an index is in a hand, whose slots were brought home, or in an entry, whose slot is at home with the put's bytes.
-use Rattle.std.proofs.Common.{◌≡◌, ◌≢◌, ◌⊎◌, ℕ, ◌+◌, ◌<◌, ◌≤◌, false, List, [], map, length, refl, sym, ◌∙◌, ap, subst, inl, inr, arith, ne_eqb}
+use Rattle.std.proofs.Common.{◌≡◌, ℕ, ◌<◌, false, List, [], length, sym, ◌∙◌, ap, subst, arith, ne_eqb}
 use Rattle.std.specs.Prelude.{Some, slice_get, slice_index_or, sum_by}
 use Rattle.std.specs.List.{Contains}
 use mathlib.Core.Option as maybe
@@ -20,7 +20,7 @@ use Rattle.scq_law.proofs.Places.HandLaws.{one_hand}
 use Rattle.scq_law.proofs.Places.EntryLaws.{stands_placed}
 use Rattle.scq_band.specs.Known.{Member}
 use Rattle.scq_band.specs.Shown.{Scene, Has, Owns, Stored}
-use Rattle.scq_band.specs.Closing.{HasEnded, IsLeft, LeftPut, EachLeftIsItsPut}
+use Rattle.scq_band.specs.Closing.{IsLeft, EachLeftIsItsPut}
 use Rattle.scq_band.proofs.AllSeats.{AreAll, seat_at, total_all, member_at}
 use Rattle.scq_band.proofs.ClosedRecords.{records_of, AllRest, was_put_by, call_ended}
 use Rattle.scq_band.proofs.ClosedCounts.{sum_by-map, hands_of}

@@ -1,6 +1,6 @@
 -- The indices that are left in a ring are counted in its words, slot by slot.
-use Rattle.std.proofs.Common.{◌≡◌, ℕ, suc, ◌+◌, ◌*◌, ◌<◌, Bool, true, false, List, length, refl, sym, ◌∙◌, ap, subst, inl, inr, arith}
-use Rattle.std.specs.Prelude.{Option, Some, None, is_some, if◌then◌else◌, slice_index}
+use Rattle.std.proofs.Common.{◌≡◌, ℕ, suc, ◌+◌, ◌*◌, ◌<◌, List, length, refl, sym, ◌∙◌, ap, subst, inl, inr, arith}
+use Rattle.std.specs.Prelude.{Option, is_some, if◌then◌else◌, slice_index}
 use Rattle.std.proofs.lemmas.Bool.{cases_Bool}
 use mathlib.Core.Option.{some}
 use lib.ListN.{get_elem?}
@@ -55,7 +55,8 @@ counts_next c words r s i x left later o at_slot here is before now =
 pub counts_all : (c : Setup) (words : List ℕ) (m : Cells) (r left : ℕ) → ShowsWords c words m → r < c.rings
     → left ≡ sum_to (counted c words r) (ring_slots c) → left ≡ left_in c m r
 counts_all c words m r left shows ring is =
-    is ∙ sum_same (λ s. has_index c (m.entries.word r s)) (counted c words r) (ring_slots c) (λ s low. ap (has_index c) (shows.shows (entry_of r s) (ring, low)))
+    is ∙ sum_same (λ s. has_index c (m.entries.word r s)) (counted c words r) (ring_slots c)
+    (λ s low. ap (has_index c) (shows.shows (entry_of r s) (ring, low)))
 
 -- and it is one of the table's
 pub slot_word_low : (c : Setup) (words : List ℕ) (r s i n : ℕ) → i ≡ at c (entry_of r s) → r < c.rings → s < ring_slots c → n ≡ length words

@@ -30,7 +30,9 @@ pub mod Gathering
 pub mod Unloading
 pub mod LeftWords
 pub mod Closes
+pub mod NewSeats
 pub mod StartWords
 pub mod Slots
 pub mod Starting
 pub mod Keeping
+pub mod Joining

@@ -1,6 +1,6 @@
 -- What a seat keeps is what it needs to go home, and what contracts see of it is in the view that it leaves.
-use Rattle.std.proofs.Common.{◌≡◌, ◌≢◌, ◌⊎◌, ℕ, zero, suc, ◌+◌, ◌<◌, ◌≤◌, Bool, true, false, ◌==◌, List, [], ◌∷◌, ◌++◌, map, length, refl, sym, ◌∙◌, ap, subst, inl, inr, arith, eq-eqb, ne_eqb, append-nil}
-use Rattle.std.specs.Prelude.{Option, Some, None, is_none, if◌then◌else◌, slice_get, sum_by, max}
+use Rattle.std.proofs.Common.{◌≡◌, ℕ, zero, suc, ◌+◌, ◌<◌, ◌≤◌, Bool, true, false, List, [], ◌∷◌, ◌++◌, length, refl, sym, ◌∙◌, ap, subst, inl, inr, arith, eq-eqb, ne_eqb}
+use Rattle.std.specs.Prelude.{Option, Some, None, is_none, if◌then◌else◌, slice_get, min}
 use Rattle.std.specs.List.{Contains}
 use Rattle.std.proofs.lemmas.Bool.{cases_eq, cases_Bool}
 use Rattle.atomic_table.specs.Seated.{TableId}
@@ -10,12 +10,12 @@ use Rattle.scq_band.specs.declared.numbers.Numbers.{Numbers}
 use Rattle.scq_band.specs.declared.rule.Key.{Key}
 use Rattle.scq_band.specs.declared.slot.Slot.{Slot}
 use Rattle.scq_band.specs.Numbers.{joined, larger}
-use Rattle.scq_band.specs.Known.{Member, Known, both_of}
+use Rattle.scq_band.specs.Known.{Member, Known, lower_gate, both_of}
 use Rattle.scq_band.specs.Steps.{my}
-use Rattle.scq_band.specs.Standing.{Standing, Identity, IsAsGiven}
-use Rattle.scq_band.specs.Kept.{in_order, buffer_in, hand_of, standing_of, identity_of, AllGiven, IsKept}
+use Rattle.scq_band.specs.Standing.{Standing}
+use Rattle.scq_band.specs.Kept.{in_order, buffer_in, hand_of, standing_of, AllGiven, IsKept}
 use Rattle.scq_band.specs.Closing.{indices_of, lifted_of}
-use Rattle.scq_band.specs.Homes.{at_home, times_lifted, AllOutGiven, MayLeave, IsMemberOf, AreMembersOf, HeadsKnown, HasAll}
+use Rattle.scq_band.specs.Homes.{at_home, times_lifted, AllOutGiven, MayLeave, IsMemberOf, AreMembersOf, HeadsKnown, GatesKnown, HasAll}
 use Rattle.scq_band.proofs.GoingHome.{times-append, contains_behind}
 use Rattle.scq_band.proofs.Views.{joined_length}
 
@@ -150,7 +150,8 @@ module _ {B : Type 0} where
         }
 
 -- a number of the first list, and one of the second, are no larger than the joined one
-joined_first : (xs ys : List Numbers) (r : ℕ) (x : Numbers) → slice_get xs r ≡ Some x → (y : Numbers) × (slice_get (joined xs ys) r ≡ Some y) × (x.head ≤ y.head)
+joined_first : (xs ys : List Numbers) (r : ℕ) (x : Numbers) → slice_get xs r ≡ Some x
+    → (y : Numbers) × (slice_get (joined xs ys) r ≡ Some y) × (x.head ≤ y.head)
 joined_first [] ys r x e = absurd (cc)
 joined_first (a ∷ xs) [] r x e = (x, e, omega arith)
 joined_first (a ∷ xs) (b ∷ ys) zero x e =
@@ -169,7 +170,28 @@ joined_second (a ∷ xs) (b ∷ ys) zero x fits e =
     (larger a b, refl, omega (arith, head))
 joined_second (a ∷ xs) (b ∷ ys) (suc r) x fits e = joined_second xs ys r x (omega arith) e
 
+-- the lower of two readings is no higher than each
+lower_first : (x y : Option ℕ) (k : ℕ) → x ≡ Some k → (j : ℕ) × (lower_gate x y ≡ Some j) × (j ≤ k)
+lower_first x None k is = (k, is, omega arith)
+lower_first None (Some b) k is = absurd (cc)
+lower_first (Some a) (Some b) k is = let same : a ≡ k = cc in (min a b, refl, omega (arith, same))
+
+lower_second : (x y : Option ℕ) (k : ℕ) → y ≡ Some k → (j : ℕ) × (lower_gate x y ≡ Some j) × (j ≤ k)
+lower_second x None k is = absurd (cc)
+lower_second None (Some b) k is = (k, is, omega arith)
+lower_second (Some a) (Some b) k is = let same : b ≡ k = cc in (min a b, refl, omega (arith, same))
+
 module _ {B : Type 0} where
+  gates_joined : (ss : List (Standing B)) (x y : Option ℕ) → GatesKnown ss x → GatesKnown ss (lower_gate x y)
+  gates_joined [] x y known = tt
+  gates_joined (s ∷ ss) x y known = (
+    λ n is.
+        let one = known.0 n is in
+        let both = lower_first x y one.0 one.1 in
+        (both.0, both.1, omega (arith, one.2, both.2)),
+    gates_joined ss x y known.1,
+  )
+
   heads_joined : (ss : List (Standing B)) (xs ys : List Numbers) → HeadsKnown ss xs → HeadsKnown ss (joined xs ys)
   heads_joined [] xs ys known = tt
   heads_joined (s ∷ ss) xs ys known = (
@@ -184,18 +206,19 @@ module _ {B : Type 0} where
 
   -- the first seat alone
   pub has_one : (rings : ℕ) (s : Standing B) (v : Known) → v.seats ≡ my v ∷ [] → IsMemberOf s (my v) → v.numbers ≡ s.numbers → length s.numbers ≡ rings
-      → HasAll rings (s ∷ []) v
-  has_one rings s v alone member numbers count =
+      → v.gate ≡ s.gate → HasAll rings (s ∷ []) v
+  has_one rings s v alone member numbers count gate =
       record {
         members = subst (λ (xs : List Member). AreMembersOf (s ∷ []) xs) (sym alone) (member, tt);
         heads = (λ r x e. (x, ap (λ (ns : List Numbers). slice_get ns r) numbers ∙ e, omega arith), tt);
         rings_known = ap length numbers ∙ count;
+        gates = (λ n is. (n, gate ∙ is, omega arith), tt);
       }
 
   -- one more seat
   pub has_more : (rings : ℕ) (s : Standing B) (ss : List (Standing B)) (v w : Known) → HasAll rings ss v → w.seats ≡ my w ∷ [] → IsMemberOf s (my w)
-      → w.numbers ≡ s.numbers → length s.numbers ≡ rings → HasAll rings (s ∷ ss) (both_of v w)
-  has_more rings s ss v w all alone member numbers count =
+      → w.numbers ≡ s.numbers → length s.numbers ≡ rings → w.gate ≡ s.gate → HasAll rings (s ∷ ss) (both_of v w)
+  has_more rings s ss v w all alone member numbers count gate =
       let known = all.rings_known in
       let mine : length w.numbers ≡ length s.numbers = ap length numbers in
       record {
@@ -207,4 +230,5 @@ module _ {B : Type 0} where
           heads_joined ss v.numbers w.numbers all.heads,
         );
         rings_known = joined_length v.numbers w.numbers ∙ known;
+        gates = (λ n is. lower_second v.gate w.gate n (gate ∙ is), gates_joined ss v.gate w.gate all.gates);
       }

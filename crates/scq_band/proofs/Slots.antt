@@ -1,6 +1,6 @@
 -- The slots that a seat holds, by their indices: how often an index stands among them, the buffer in its slot, and what a turn, an
 -- exchange, a slot that comes and one that goes leave of that.
-use Rattle.std.proofs.Common.{◌≡◌, ◌≢◌, ◌⊎◌, ℕ, zero, suc, ◌+◌, ◌-◌, ◌<◌, ◌≤◌, Bool, true, false, ◌==◌, List, [], ◌∷◌, ◌++◌, map, length, take, drop, filter, not, refl, sym, ◌∙◌, ap, subst, inl, inr, arith, eq-eqb, ne_eqb}
+use Rattle.std.proofs.Common.{◌≡◌, ◌≢◌, ℕ, suc, ◌+◌, ◌-◌, ◌<◌, ◌≤◌, true, ◌==◌, List, [], ◌∷◌, ◌++◌, length, take, drop, refl, sym, ◌∙◌, ap, subst, inl, inr, arith, eq-eqb, ne_eqb}
 use Rattle.std.specs.Prelude.{Some, None, Option, if◌then◌else◌, slice_index_or}
 use Rattle.std.proofs.lemmas.Bool.{cases_eq}
 use Rattle.std.proofs.lemmas.List.{length-append, append_assoc, append-nil}
@@ -9,7 +9,7 @@ use Rattle.scq_core.specs.Table.{hand_without, holds_index}
 use Rattle.scq_law.specs.Hands.{times}
 use Rattle.scq_band.specs.declared.slot.Slot.{Slot}
 use Rattle.scq_band.specs.Steps.{front_index}
-use Rattle.scq_band.specs.Standing.{in_hand, without_index, with_buffer, IsAsGiven}
+use Rattle.scq_band.specs.Standing.{in_hand, without_index, with_buffer}
 use Rattle.scq_band.specs.Kept.{in_order, buffer_in, hand_of, AllGiven, IsRotation}
 
 pub times-append : (i : ℕ) (xs ys : List ℕ) → times i (xs ++ ys) ≡ times i xs + times i ys

@@ -1,18 +1,15 @@
 -- What a band is made with: its first seats, and the slots of its buffers.
-use Rattle.std.proofs.Common.{◌≡◌, ℕ, zero, suc, ◌+◌, ◌-◌, ◌*◌, ◌^◌, ◌<◌, ◌≤◌, true, false, ◌==◌, List, [], ◌∷◌, ◌++◌, map, length, refl, sym, ◌∙◌, ap, subst, inl, inr, arith, eq-eqb, ne_eqb, ◌⊎◌}
+use Rattle.std.proofs.Common.{◌≡◌, ℕ, zero, suc, ◌+◌, ◌*◌, ◌^◌, ◌<◌, List, [], ◌∷◌, ◌++◌, map, length, refl, sym, ◌∙◌, ap, subst, inl, inr, arith, eq-eqb, ne_eqb, ◌⊎◌}
 use Rattle.std.proofs.lemmas.List.{length-append}
-use Rattle.std.specs.Prelude.{Some, None, Option, All, if◌then◌else◌, slice_get, slice_index, slice_index_or, vec_capacity}
-use Rattle.std.proofs.lemmas.Bool.{cases_eq}
+use Rattle.std.specs.Prelude.{Some, None, Option, All, slice_get, slice_index_or, vec_capacity}
+use Rattle.std.proofs.lemmas.Bool.{cases_eq, cases_lt}
 use mathlib.Core.Option.{some}
-use mathlib.Core.Option as maybe
 use lib.ListN.{get_elem?}
 use Rattle.scq_word.specs.declared.setup.Setup.{Setup}
-use Rattle.scq_word.specs.Sizes.{n_of}
 use Rattle.scq_core.specs.Machine.{tail_of}
 use Rattle.scq_core.specs.Table.{ring_slots}
 use Rattle.scq_law.specs.Hands.{times}
 use Rattle.scq_band.specs.declared.numbers.Numbers.{Numbers}
-use Rattle.scq_band.specs.declared.slot.Slot.{Slot}
 use Rattle.scq_band.specs.declared.rule.Key.{Key}
 use Rattle.scq_band.specs.declared.making.Room.{Room}
 use Rattle.scq_band.specs.Numbers.{known_of, first_place, first_numbers_of, first_numbers}
@@ -20,6 +17,7 @@ use Rattle.scq_band.specs.Layout.{at}
 use Rattle.scq_band.specs.Known.{first_of}
 use Rattle.scq_band.specs.Buffers.{LiesIn}
 use Rattle.scq_band.specs.Shown.{Has}
+use Rattle.scq_band.specs.Standing.{Identity, Standing, in_hand, first_standing, first_standings}
 use Rattle.scq_band.specs.Kept.{IsKept, AreSmall}
 use Rattle.scq_band.specs.Making.{laid, IsRoom, first_below}
 use Rattle.scq_band.proofs.Opening.{numbers_length}
@@ -122,3 +120,28 @@ tail_at c r slots same =
     let there = ap (λ w. 1 + r * w) three in
     let start : 1 + r * suc (suc (suc (ring_slots c))) ≡ suc (r * suc (suc (suc (ring_slots c))) + 0) = omega arith in
     there ∙ start
+
+-- the seats of a new band are its own
+pub first_own : {B : Type 0} (band : Identity B) (n : ℕ) → All (λ (s : Standing B). s.band ≡ band) (first_standings band n)
+first_own band zero = λ k d low. absurd (omega (arith, low))
+first_own {B} band (suc n) =
+    λ k d low.
+    let xs = first_standings band n in
+    let x = first_standing band n in
+    elim (cases_lt k (length xs)) [
+      | inl before ↦ subst (λ (s : Standing B). s.band ≡ band) (sym (at_prefix (λ (s : Standing B). s.band ≡ band) xs (x ∷ []) k d before)) (first_own band n k d before)
+      | inr after ↦
+          let last : k ≡ length xs = omega (arith, after, low, length-append xs (x ∷ [])) in
+          subst (λ (s : Standing B). s.band ≡ band)
+          (sym (ap (λ j. slice_index_or (xs ++ x ∷ []) j d) last ∙ at_last (λ (s : Standing B). s.band ≡ band) xs x d)) refl
+    ]
+
+-- an index that came is in the hand
+pub in_hand-come : {B : Type 0} (hand : List (ℕ × Option B)) (i : ℕ) (b : B) → in_hand hand i ≡ None
+    → in_hand (hand ++ (i, Some b) ∷ []) i ≡ Some (Some b)
+in_hand-come [] i b none = rw (eq-eqb i i refl) refl
+in_hand-come (x ∷ xs) i b none =
+    elim (cases_eq x.0 i) [
+      | inl here ↦ let never : Some x.1 ≡ None = rw (eq-eqb x.0 i here) at none in absurd (cc)
+      | inr away ↦ rw (ne_eqb x.0 i away) (in_hand-come xs i b (rw (ne_eqb x.0 i away) at none))
+    ]

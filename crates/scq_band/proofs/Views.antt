@@ -1,6 +1,6 @@
 -- Views are cut and joined: a note is copied off a view, a seat is split off the first view, and a view takes in another.
-use Rattle.std.proofs.Common.{◌≡◌, ◌≢◌, ◌⊎◌, ℕ, zero, suc, ◌+◌, ◌<◌, true, false, ◌==◌, List, [], ◌∷◌, ◌++◌, length, refl, sym, ◌∙◌, ap, subst, inl, inr, arith, eq-eqb, ne_eqb}
-use Rattle.std.specs.Prelude.{Some, max, if◌then◌else◌, slice_get, slice_set, slice_index}
+use Rattle.std.proofs.Common.{◌≡◌, ◌≢◌, ◌⊎◌, ℕ, zero, suc, ◌+◌, ◌<◌, ◌≤◌, true, false, ◌==◌, List, [], ◌∷◌, ◌++◌, length, refl, sym, ◌∙◌, ap, subst, inl, inr, arith, eq-eqb, ne_eqb}
+use Rattle.std.specs.Prelude.{Option, Some, None, min, max, if◌then◌else◌, slice_get, slice_set, slice_index}
 use Rattle.std.proofs.lemmas.Bool.{cases_lt}
 use Rattle.std.proofs.lemmas.List.{length-append, length-set}
 use Rattle.std.proofs.Math.Nat.{max-eq_left, max-eq_right}
@@ -16,7 +16,7 @@ use Rattle.scq_core.proofs.UpdatedLemmas.{updated_here, updated_else}
 use Rattle.scq_law.specs.Bounds.{IsFinished}
 use Rattle.scq_band.specs.declared.numbers.Numbers.{Numbers}
 use Rattle.scq_band.specs.Numbers.{first_place, IsTrue, larger, joined}
-use Rattle.scq_band.specs.Known.{Member, Known, nobody, note_of, behind_first, first_alone, others_of, first_of, both_of}
+use Rattle.scq_band.specs.Known.{Member, Known, nobody, note_of, behind_first, first_alone, others_of, first_of, lower_gate, both_of}
 use Rattle.scq_band.specs.Shown.{Scene, Owns, IsView, Shown}
 use Rattle.scq_band.proofs.Knowledge.{AllTrue}
 
@@ -55,6 +55,13 @@ pub joined_length : (xs ys : List Numbers) → length (joined xs ys) ≡ length 
 joined_length [] ys = refl
 joined_length (x ∷ xs) [] = refl
 joined_length (x ∷ xs) (y ∷ ys) = ap suc (joined_length xs ys)
+
+-- the lower of two readings is no lower than the gate
+lower_true : (word : ℕ) (x y : Option ℕ) → ((n : ℕ) → x ≡ Some n → word ≤ n) → ((n : ℕ) → y ≡ Some n → word ≤ n) → (n : ℕ) → lower_gate x y ≡ Some n → word ≤ n
+lower_true word x None one other n is = one n is
+lower_true word None (Some b) one other n is = other n is
+lower_true word (Some a) (Some b) one other n is =
+    let same : min a b ≡ n = cc in let left = one a refl in let right = other b refl in omega (arith, same, left, right)
 
 module _ {S : Type 0} (Lies : ℕ → S → List ℕ → Type 0) where
   -- a note may be copied off any view
@@ -156,7 +163,7 @@ module _ {S : Type 0} (Lies : ℕ → S → List ℕ → Type 0) where
                               (stay_there c z s.homes id other (length v.seats) id (λ e. apart (sym e)) v.seats mine.seats);
                           rings = inr (joined_length v.numbers w.numbers ∙ all_rings c v full mine.rings);
                           numbers = joined_true c z.state v.numbers w.numbers mine.numbers its.numbers;
-                          last_gate = mine.last_gate;
+                          last_gate = lower_true (slice_index s.words 0) v.gate w.gate mine.last_gate its.last_gate;
                         } in
                         rw at.0 (subst (λ (k : Known). IsView Lies c zz s.homes (slice_index s.words 0) id k) at.1 both)
                     | inr elsewhere ↦

@@ -127,6 +127,12 @@ AreTheSame {B} IsSame given buffers =
     (length buffers ≡ length given)
     × ((i : ℕ) (first last : B) → slice_get given i ≡ Some first → slice_get buffers i ≡ Some last → IsSame first last)
 
+-- where some seat read 0 at the gate, each seat has retired
+abbrev pub AllRetiredWhereClosed : {B : Type 0} → List (Standing B) → Type 0
+AllRetiredWhereClosed {B} seats =
+    (a b : ℕ) (reader other : Standing B) → slice_get seats a ≡ Some reader → reader.gate ≡ Some 0 → slice_get seats b ≡ Some other
+    → (calls : ℕ) × (other.retired ≡ Some calls)
+
 -- the records of all seats, their hands, what they know, and the spent tickets that they keep
 abbrev pub all_calls : {B : Type 0} → List (Standing B) → List (List Ended)
 all_calls seats = map (λ s. s.calls) seats

@@ -1,5 +1,5 @@
 -- For private calls: the slots of a seat go home, before the table closes.
-use Rattle.std.specs.Prelude.{◌≡◌, ◌⊎◌, ℕ, ◌+◌, ◌<◌, ◌≤◌, if◌then◌else◌, is_none, List, [], ◌∷◌, ◌++◌, map, length, Some, None, slice_get}
+use Rattle.std.specs.Prelude.{◌≡◌, ◌⊎◌, ℕ, ◌+◌, ◌<◌, ◌≤◌, if◌then◌else◌, is_none, List, [], ◌∷◌, ◌++◌, length, Option, Some, None, slice_get}
 use Rattle.std.specs.List.{Contains}
 use Rattle.std.specs.List.Sorted.{IsPermutation}
 use Rattle.atomic_table.specs.Table.{Me}
@@ -83,11 +83,17 @@ module _ {B : Type 0} where
       ((r : ℕ) (x : Numbers) → slice_get s.numbers r ≡ Some x → (y : Numbers) × (slice_get numbers r ≡ Some y) × (x.head ≤ y.head))
       × HeadsKnown ss numbers
 
+  -- what each of these seats read last at the gate, this reading is no higher
+  abbrev pub GatesKnown : List (Standing B) → Option ℕ → Type 0
+  GatesKnown [] gate = Unit {0}
+  GatesKnown (s ∷ ss) gate = ((n : ℕ) → s.gate ≡ Some n → (k : ℕ) × (gate ≡ Some k) × (k ≤ n)) × GatesKnown ss gate
+
   -- the view in which these seats stand, with their slots at home
   pub record HasAll (rings : ℕ) (seats : List (Standing B)) (v : Known) : Type 0 where
     pub members : AreMembersOf seats v.seats
     pub heads : HeadsKnown seats v.numbers
     pub rings_known : length v.numbers ≡ rings
+    pub gates : GatesKnown seats v.gate
 
   -- of all these seats some are left, and the others stand in one view with their slots at home
   pub record AreGathered (rings : ℕ) (all left : List (Standing B)) (v : Known) : Type 0 where

@@ -1,5 +1,5 @@
 -- For private calls: what contracts see of a band and of a seat, out of the table, and what a seat keeps beside its token.
-use Rattle.std.specs.Prelude.{◌≡◌, ℕ, ◌+◌, ◌<◌, ◌≤◌, ◌^◌, ◌==◌, if◌then◌else◌, List, [], ◌∷◌, ◌++◌, map, length, Option, Some, None, slice_get}
+use Rattle.std.specs.Prelude.{◌≡◌, ℕ, ◌<◌, ◌≤◌, ◌^◌, ◌==◌, if◌then◌else◌, List, [], ◌∷◌, ◌++◌, map, length, take, Option, Some, None}
 use Rattle.atomic_table.specs.Seated.{TableId}
 use Rattle.atomic_table.specs.Table.{Me}
 use Rattle.scq_word.specs.declared.setup.Setup.{Setup}
@@ -92,3 +92,13 @@ pub record IsRotation {S : Type 0} (slots later : List (ℕ × S)) : Type 0 wher
   pub behind : List (ℕ × S)
   pub was : slots ≡ front ++ behind
   pub turned : later ≡ behind ++ front
+
+-- the view of a note with these numbers
+abbrev pub note_with : List Numbers → Known
+note_with numbers = record { seats = []; numbers = numbers; gates = 0; gate = None }
+
+-- what a note keeps: the one view that its badge has, and in its first cells the numbers of each ring
+pub record IsNote (views : List Known) (cells : List Numbers) (rings : ℕ) : Type 0 where
+  pub is : views ≡ note_with (take rings cells) ∷ []
+  pub small : AreSmall (take rings cells)
+  pub few : rings ≤ length cells

@@ -1,6 +1,6 @@
 -- What a seat of the table knows, its view: the seats of the machine that stand in it with their parts, a lower bound of each
 -- ring's counters, and what it read at the gate. A note is a view in which no seat stands.
-use Rattle.std.specs.Prelude.{ℕ, List, [], ◌∷◌, ◌++◌, Option, None}
+use Rattle.std.specs.Prelude.{ℕ, List, [], ◌∷◌, ◌++◌, Option, Some, None, min}
 use Rattle.scq_core.specs.Machine.{Part}
 use Rattle.scq_band.specs.declared.numbers.Numbers.{Numbers}
 use Rattle.scq_band.specs.Numbers.{joined}
@@ -44,6 +44,13 @@ others_of v = record v { seats = behind_first v.seats }
 abbrev pub first_of : Known → Known
 first_of v = record v { seats = first_alone v.seats }
 
--- a view that has taken in another: the other's seats stand first, and each number is the larger
+-- the lower of two readings of the gate, where there are two
+abbrev pub lower_gate : Option ℕ → Option ℕ → Option ℕ
+lower_gate x None = x
+lower_gate None (Some b) = Some b
+lower_gate (Some a) (Some b) = Some (min a b)
+
+-- a view that has taken in another: the other's seats stand first, each number is the larger, and the gate's reading the lower
 abbrev pub both_of : Known → Known → Known
-both_of v w = record v { seats = w.seats ++ v.seats; numbers = joined v.numbers w.numbers }
+both_of v w =
+    record v { seats = w.seats ++ v.seats; numbers = joined v.numbers w.numbers; gate = lower_gate v.gate w.gate }

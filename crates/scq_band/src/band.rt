@@ -1,5 +1,5 @@
 //! A band: the running rings, with their seats.
-ghost use Rattle.std.specs.Prelude.{◌≡◌, ℕ, ◌<◌, ◌==◌, length, Some, None, IfOk, IfErr, vec_len};
+ghost use Rattle.std.specs.Prelude.{◌≡◌, ℕ, ◌<◌, ◌==◌, length, Some, None, All, IfOk, IfErr, vec_len};
 ghost use Rattle.scq_word.specs.Sizes.{n_of};
 ghost use Rattle.scq_band.specs.Rings.{IsRing};
 ghost use Rattle.scq_band.specs.Standing.{first_standings, after_look};
@@ -22,6 +22,7 @@ use std::snapshot::Snapshot;
 /// The running rings. Threads share it and make calls on it, each with a seat of its own.
 ///
 /// `buffers` and `left` are empty lists, with room for what `close` hands out.
+#[derive(Drop)]
 pub struct Band<B: Buffer> {
     pub(crate) table: Table<Slot<B>, View, Key<B>, Rule, Global>,
     pub(crate) setup: Setup,
@@ -53,6 +54,7 @@ impl<B: Buffer> Band<B> {
         requires { vec_len buffers ≡ n_of setup.order }
         ensures band { IfOk result (λ made. (made.0.setup ≡ setup) × (made.0.given ≡ buffers.items)) }
         ensures seats { IfOk result (λ made. made.1.items ≡ first_standings made.0 setup.seats) }
+        ensures own { IfOk result (λ made. All (λ s. s.band ≡ made.0) made.1.items) }
         ensures refused { IfErr result (λ refused. refused.0.items ≡ buffers.items) }
     {
         let Memory { words, left, rooms } = match reserved(alloc, setup) {

@@ -33,6 +33,7 @@ impl<B: Buffer> Band<B> {
         requires seat { seat.old.band ≡ self.now }
         requires ring { ring < self.now.setup.rings }
         requires held { (buffer : B) × (in_hand seat.old.hand index ≡ Some (Some buffer)) }
+        ensures band { seat.new.band ≡ seat.old.band }
         ensures put { IfOk result (λ place. seat.new ≡ after_put ring index place (bytes_in_hand B.contents seat.old.hand index) seat.old) }
         ensures place { IfOk result (λ place. (place < self.now.setup.limit) × ((known_of seat.old.numbers ring).seen < place)) }
         ensures spent { IfErr result (λ spent. seat.old.spent ≡ None → (seat.new ≡ after_spent_put ring spent.ticket seat.old) × (self.now.setup.limit ≤ spent.ticket)) }
@@ -62,6 +63,7 @@ impl<B: Buffer> Band<B> {
     pub fn deq(&self, seat: &mut Seat<B>, ring: u32) -> Result<(u64, u32), DeqRefusal>
         requires seat { seat.old.band ≡ self.now }
         requires ring { ring < self.now.setup.rings }
+        ensures band { seat.new.band ≡ seat.old.band }
         ensures got { IfOk result (λ r. HasTaken B.contents B.IsSameBuffer ring r.0 r.1 seat.old seat.new) }
         ensures place { IfOk result (λ r. (r.0 < self.now.setup.limit) × ((known_of seat.old.numbers ring).head ≤ r.0)) }
         ensures index { IfOk result (λ r. r.1 < n_of self.now.setup.order) }

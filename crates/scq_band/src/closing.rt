@@ -7,7 +7,7 @@ ghost use Rattle.scq_band.specs.declared.slot.Slot.{Slot};
 ghost use Rattle.scq_band.specs.Buffers.{LiesIn, opening_of};
 ghost use Rattle.scq_band.specs.Steps.{my, front_index};
 ghost use Rattle.scq_band.specs.Kept.{identity_of};
-ghost use Rattle.scq_band.specs.Closing.{indices_of, lifted_of, EachGetHasItsPut, NoneIsGotTwice, EachPutPassedIsGot, IsBalance, IsAllThere, EachIsInOneHand, EachSpentIsPastTheBound, EachLeftIsItsPut, AreTheSame, AreTheLifted, all_calls, all_hands, all_known, all_spent};
+ghost use Rattle.scq_band.specs.Closing.{indices_of, lifted_of, EachGetHasItsPut, NoneIsGotTwice, EachPutPassedIsGot, IsBalance, IsAllThere, EachIsInOneHand, EachSpentIsPastTheBound, EachLeftIsItsPut, AreTheSame, AreTheLifted, AllRetiredWhereClosed, all_calls, all_hands, all_known, all_spent};
 ghost use Rattle.scq_band.specs.Homes.{at_home, MayBring, IsLaidBack, times_lifted, AllOutGiven, MayLeave, IsMemberOf, HasAll};
 
 use crate::band::Band;
@@ -101,6 +101,7 @@ fn one_home<B: Buffer>(words: &Words<B>, seat: Seat<B>, out: &mut Vec<(u32, B)>)
     ensures alone { result.me.0.seats ≡ my result.me.0 ∷ [] }
     ensures member { IsMemberOf seat (my result.me.0) }
     ensures numbers { (result.me.0.numbers ≡ seat.numbers) × (length seat.numbers ≡ words.now.key.setup.rings) }
+    ensures gate { result.me.0.gate ≡ seat.gate }
     ensures none { result.me.1 ≡ [] }
     ensures less { (i : ℕ) → times i (indices_of out.new.items) + times i (lifted_of seat.hand) ≡ times i (indices_of out.old.items) }
     ensures given { AllOutGiven B.IsSameBuffer words.now.key.given.value.items out.new.items }
@@ -144,6 +145,7 @@ pub fn gather<B: Buffer>(
 }
 
 /// What is left of a band: its buffers in order of index, and for each ring how many indices were left in it.
+#[derive(Drop)]
 pub struct BandClosed<B> {
     pub buffers: Vec<B>,
     pub left: Vec<u64>,
@@ -167,6 +169,7 @@ impl<B: Buffer> Band<B> {
         ensures hands { EachIsInOneHand self.setup (all_hands seats.items) }
         ensures left { EachLeftIsItsPut self.setup (opening_of B.contents self.given) (all_calls seats.items) (all_hands seats.items)
             (map B.contents result.buffers.items) }
+        ensures gate { AllRetiredWhereClosed seats.items }
         ensures spent { EachSpentIsPastTheBound self.setup (all_calls seats.items) (all_spent seats.items) }
     {
         let Band {

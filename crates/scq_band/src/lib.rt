@@ -1,15 +1,18 @@
 //! The running rings: the words of the machine of `scq_core` in one table of atomic words, which threads step through seats. It
 //! stands on `scq_core` for the steps, on `scq_law` for what holds of every reachable state, and on the kit's `atomic_table`. The
-//! rule of the table (`specs/Shown`) is that words and views show a state that steps reach. What stands so far is the rule, the
-//! sixteen steps by six operations of the table, an enqueue and a dequeue made of them, the two calls that read and close the
-//! gate, and the notes in which a seat keeps what it knows; that the table of the start shows the machine's start is shown, but
-//! no function makes or closes the table yet, so there is no call to make from outside.
+//! rule of the table (`specs/Shown`) is that words and views show a state that steps reach. A band is made with its seats; a put
+//! and a get of a seat are made of the machine's sixteen steps, by six operations of the table; notes carry what one seat knows to
+//! another. The layer above uses the clauses of `Band`, which speak of a seat as its standing (`specs/Standing`), and of all seats
+//! together where the band closes (`specs/Closing`).
 #![tactic(auto)]
 
 mod band;
+mod band_note;
 mod calls;
 mod closed;
 mod closing;
+#[cfg(test)]
+mod closing_tests;
 mod dequeue;
 mod enqueue;
 mod gate;
@@ -27,9 +30,13 @@ mod steps;
 mod view;
 
 pub use band::Band;
+pub use band_note::BandNote;
 pub use calls::{DeqRefusal, Spent};
 pub use closing::BandClosed;
 pub use numbers::Numbers;
 pub use seat::Seat;
 pub use slot::Slot;
 pub use view::View;
+
+#[cfg(test)]
+mod tests;

@@ -7,7 +7,8 @@ use scq_word::Setup;
 /// What a seat knows of one ring. Each number only rises, and stays true.
 ///
 /// `finished` is the highest place at which it knows that a put has ended, `seen` the highest place at which
-/// it knows that an index was placed, and `head` a number that Head has reached.
+/// it knows that an index was placed; as long as it knows of none, each is the number before the ring's first
+/// place. `head` is a number that Head has reached.
 #[derive(Clone, Copy, Debug, PartialEq, Eq)]
 pub struct Numbers {
     pub finished: u64,

@@ -9,6 +9,7 @@ use std::snapshot::Snapshot;
 ///
 /// `hand` has the indices of the slots that its token holds, that of the one that stands first at the end, with room
 /// for all; `numbers` what it knows of each ring; `spent` the ticket that it keeps.
+#[derive(Drop)]
 pub struct Seat<B: Buffer> {
     pub(crate) token: Token<B>,
     pub(crate) key: Snapshot<Key<B>>,

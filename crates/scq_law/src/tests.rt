@@ -86,8 +86,7 @@ struct Line<'a> {
     seat: u32,
     steps: &'a str,
     ring: u32,
-    words: &'a str,
-    events: &'a str,
+    want: &'a str,
 }
 
 fn parse(line: &str) -> Result<Line, Fail>
@@ -95,16 +94,14 @@ fn parse(line: &str) -> Result<Line, Fail>
 {
     let (made, want) = line.split_once(" = ").ok_or("no words")?;
     let (seat, steps) = made.split_once(" ").ok_or("no seat")?;
-    let (words, events) = want.split_once(":").ok_or("no events")?;
     let seat = number(Some(seat))?;
-    let ring = number(words.split_whitespace().next())?;
+    let ring = number(want.split_whitespace().next())?;
     if seat < 2 && ring < 2 {
         Ok(Line {
             seat,
             steps,
             ring,
-            words,
-            events,
+            want,
         })
     } else {
         Err(Fail::from("no such seat or ring"))
@@ -236,26 +233,53 @@ fn judge(rt: &(impl Abort + AllocGlobal), limit: u64, steps: &[(u32, Step)]) -> 
     Ok(())
 }
 
+/// A line says what was replayed.
+fn same(rt: &(impl Abort + AllocGlobal), text: &str, want: &str) -> Result<(), Fail> {
+    assert_eq!(rt; text, want);
+    Ok(())
+}
+
 /// What was replayed up to a line, with the events after those that were seen before.
-fn compare(
-    rt: &(impl Abort + AllocGlobal),
+fn replayed_text(
+    alloc: Global,
     line: &Line,
     seen: usize,
     replayed: &Replayed,
-) -> Result<(), Fail>
+) -> Result<String, Fail>
     requires seat { line.now.seat < replayed.now.state.setup.seats }
     requires ring { line.now.ring < replayed.now.state.setup.rings }
     requires order { replayed.now.state.setup.order ≡ 1 }
 {
-    let alloc = rt.alloc();
     let words = shown(alloc, &replayed.state, line)?;
     let counts = counts(alloc, replayed, line.ring)?;
     let call = call(alloc, &replayed.state, line.seat)?;
     let events = events_text(alloc, replayed.events.get(seen..).ok_or("no events")?)?;
-    let recorded = format!(in alloc; "{words} {counts} {call}")?;
-    assert_eq!(rt; recorded.as_str(), line.words);
-    assert_eq!(rt; events.as_str(), line.events);
-    Ok(())
+    Ok(format!(in alloc; "{words} {counts} {call}:{events}")?)
+}
+
+/// What a line has to say of the steps up to it, and how many events there are then. A line that stops is the last.
+fn line_text(
+    alloc: Global,
+    limit: u64,
+    line: &Line,
+    seen: usize,
+    steps: &[(u32, Step)],
+) -> Result<(String, usize), Fail>
+    requires seat { line.now.seat < 2 }
+    requires ring { line.now.ring < 2 }
+    requires seats { All (λ (x : ℕ × StepOf). x.0 < 2) steps.now }
+    requires limit { (16 ≤ limit) × (limit ≤ 2 ^ 60) }
+{
+    match replayed(alloc, limit, steps) {
+        Ok(replayed) => Ok((
+            replayed_text(alloc, line, seen, &replayed)?,
+            replayed.events.len(),
+        )),
+        Err(ReplayFault::NotEnabled { at }) => {
+            Ok((format!(in alloc; "{} stops at {at}:", line.ring)?, seen))
+        }
+        Err(ReplayFault::NoMemory) => Err(Fail::from("memory")),
+    }
 }
 
 /// Replays a table line by line, and judges the history of each cut. Where a line stops, it is the last, by its last step.
@@ -268,17 +292,9 @@ fn run(rt: &(impl Abort + AllocGlobal), limit: u64, table: &str) -> Result<(), F
     for line in table.lines() {
         let line = parse(line)?;
         push_steps(alloc, line.seat, line.steps, &mut steps)?;
-        match replayed(alloc, limit, &steps) {
-            Ok(replayed) => {
-                compare(rt, &line, seen, &replayed)?;
-                seen = replayed.events.len();
-            }
-            Err(ReplayFault::NotEnabled { at }) => {
-                let stopped = format!(in alloc; "{} stops at {at}", line.ring)?;
-                assert_eq!(rt; stopped.as_str(), line.words);
-            }
-            Err(ReplayFault::NoMemory) => return Err(Fail::from("memory")),
-        }
+        let (text, events) = line_text(alloc, limit, &line, seen, &steps)?;
+        same(rt, text.as_str(), line.want)?;
+        seen = events;
     }
     judge_cuts(rt, limit, &steps)
 }

@@ -79,6 +79,48 @@ const OVERTAKEN: &str = "setup 1 2 2 1000\n0 D1 0\n0 D2\n0 D3\n0 D4\n1 D1 0\n1 D
     1 D1 1\n1 D2\n1 D3\n1 D5\n1 D6\n1 D7\n1 D10\n1 D1 1\n1 D2\n1 D3\n1 D5\n1 D6\n1 D7\n1 D10\n\
     1 D1 1\n1 D2\n1 D3\n1 D5\n1 D6\n1 D7\n1 D10\n0 D4\n1 E1 1 1 -\n1 E2\n1 E4\n1 E5\n1 E6\n";
 
+// Each seat has got an index from ring 0. Seat 0 draws a ticket for its put and stops, seat 1 puts behind it, and its get
+// makes that ticket useless, goes on and finds its own put; then seat 0 goes on with a new ticket.
+const PASSED_BY: &str =
+    "setup 1 2 2 1152921504606846976\n0 D1 0\n0 D2\n0 D3\n0 D4\n1 D1 0\n1 D2\n1 D3\n1 D4\n\
+    0 E1 1 0 -\n1 E1 1 1 -\n1 E2\n1 E4\n1 E5\n1 E6\n\
+    1 D1 1\n1 D2\n1 D3\n1 D5\n1 D6\n1 D10\n1 D2\n1 D3\n1 D4\n0 E2\n0 E1\n0 E2\n0 E4\n0 E5\n0 E6\n";
+
+#[test]
+fn a_ticket_that_was_passed_by_is_drawn_anew(rt: HostRuntime) -> Result<(), Fail> {
+    let rows = [
+        "9 0 E1 ring 1 head 4 tail 5 threshold -1 entries 7 7 7 7",
+        "14 1 E6 ring 1 head 4 tail 6 threshold 5 entries 7 13 7 7 done 5",
+        "23 1 D4 ring 1 head 6 tail 6 threshold 4 entries 15 15 7 7 got 5 -",
+        "29 0 E6 ring 1 head 6 tail 7 threshold 5 entries 15 15 12 7 done 6",
+    ];
+    let printed = shown(rt.alloc(), PASSED_BY.as_bytes())?;
+    let text = std::str::from_utf8(&printed)?;
+    for want in rows {
+        assert!(rt; text.lines().any(|line| line == want), "{want}");
+    }
+    Ok(())
+}
+
+// A put draws the ticket 16, which is the limit; from then on its seat begins no call.
+#[test]
+fn a_spent_ticket_is_printed_and_kept(rt: HostRuntime) -> Result<(), Fail> {
+    let round = "0 D1 0\n0 D2\n0 D3\n0 D4\n0 E1 0 0 -\n0 E2\n0 E4\n0 E5\n\
+        0 D1 0\n0 D2\n0 D3\n0 D4\n0 E1 0 1 -\n0 E2\n0 E4\n0 E5\n";
+    let mut text = Vec::new(rt.alloc());
+    add_lines(&mut text, "setup 1 1 1 16\n", 1).map_err(|_| "memory")?;
+    add_lines(&mut text, round, 5).map_err(|_| "memory")?;
+    let last = "0 D1 0\n0 D2\n0 D3\n0 D4\n0 E1 0 0 -\n";
+    add_lines(&mut text, last, 1).map_err(|_| "memory")?;
+    assert!(rt; shown(rt.alloc(), &text)?.ends_with(b" spent 16\n"));
+    add_lines(&mut text, "0 D1 0\n", 1).map_err(|_| "memory")?;
+    assert_eq!(rt;
+        shown(rt.alloc(), &text)?.as_slice(),
+        b"line 87: step not enabled".as_slice()
+    );
+    Ok(())
+}
+
 #[test]
 fn words_and_replies_are_printed(rt: HostRuntime) -> Result<(), Fail> {
     let rows = [
@@ -150,14 +192,17 @@ fn runs_are_judged(rt: HostRuntime) -> Result<(), Fail> {
         in_order: None,
         empty_right: None,
     };
+    let not_enabled = |at| Err(ReplayFault::NotEnabled { at });
     let mut steps = Vec::new(rt.alloc());
     steps.push((0, Step::D1 { ring: 0 }))?;
     steps.push((0, Step::D2))?;
+    steps.push((0, Step::D3))?;
+    steps.push((0, Step::D4))?;
     assert_eq!(rt; judged(rt.alloc(), &steps), Ok(holds));
     steps.push((0, Step::E2))?;
-    assert_eq!(rt;
-        judged(rt.alloc(), &steps),
-        Err(ReplayFault::NotEnabled { at: 2 })
-    );
+    assert_eq!(rt; judged(rt.alloc(), &steps), not_enabled(4));
+    let mut alone = Vec::new(rt.alloc());
+    alone.push((0, Step::E2))?;
+    assert_eq!(rt; judged(rt.alloc(), &alone), not_enabled(0));
     Ok(())
 }

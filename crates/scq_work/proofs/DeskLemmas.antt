@@ -1,6 +1,6 @@
 -- Files on desks: how their numbers and sources go along.
-use Rattle.std.proofs.Common.{◌≡◌, ◌≢◌, ◌∙◌, refl, sym, ap, subst, arith, true, false, zero, suc, ℕ, ◌+◌, ◌-◌, ◌%◌, ◌<◌, ◌≤◌, Bool, List, [], ◌∷◌, ◌++◌, length, map, reverse, take, drop, get_or, drop-cons, add-one}
-use Rattle.std.specs.Prelude.{slice_index_or, ◌==◌, if◌then◌else◌}
+use Rattle.std.proofs.Common.{◌≡◌, ◌≢◌, ◌∙◌, refl, sym, ap, subst, arith, true, false, zero, suc, ℕ, ◌+◌, ◌-◌, ◌%◌, ◌<◌, ◌≤◌, List, [], ◌∷◌, ◌++◌, length, reverse, take, drop, get_or, drop-cons, add-one}
+use Rattle.std.specs.Prelude.{slice_index_or}
 use Rattle.std.proofs.lemmas.List.{map-append, reverse-append, length-append, length-take-le, take-append-le, take_all, take-take, get_or-take, get_or_push}
 use Rattle.scq_work.specs.Files.{is_of, files_of}
 use Rattle.scq_work.specs.Desks.{ids_of, AreDealt}

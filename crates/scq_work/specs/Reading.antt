@@ -1,6 +1,6 @@
 -- How the reading of a file ended, by its source before and after. Sources have a count of faults, and
 -- what they have left may be visible. A payload may have `size` bytes.
-use Rattle.std.specs.Prelude.{◌≡◌, ◌≢◌, ℕ, ◌+◌, ◌^◌, ◌<◌, ◌≤◌, List, [], ◌∷◌, ◌++◌, Option, Some, None, IfSome, length, map}
+use Rattle.std.specs.Prelude.{◌≡◌, ◌≢◌, ℕ, ◌+◌, ◌^◌, ◌<◌, ◌≤◌, List, [], ◌∷◌, Option, Some, None, IfSome, length, map}
 use Rattle.std.specs.Option.{option_map}
 use Rattle.scq_outside.specs.Faults.{Rose}
 use Rattle.scq_topics.specs.declared.kind.Kind.{Kind}

@@ -1,13 +1,11 @@
-use Rattle.std.proofs.Common.{◌≡◌, ◌+◌, ◌*◌, ◌∙◌, sym, ap, subst, arith, ℕ, true, false}
-use Rattle.std.specs.Prelude.{if◌then◌else◌, is_some}
+use Rattle.std.proofs.Common.{◌≡◌, ◌∙◌, sym, ap, subst, arith, ℕ, true, false}
+use Rattle.std.specs.Prelude.{is_some}
 use Rattle.std.specs.Mem.Slots.{slots_items, slots_len}
 use Rattle.scq_word.specs.Entries.{index_of, IsIndexOrMark}
 use Rattle.scq_word.specs.Sizes.{slots_of}
 use Rattle.scq_word.specs.declared.entry.Entry.{Entry}
-use Rattle.scq_core.specs.Machine.{entry_of}
 use Rattle.scq_core.specs.Table.{ring_slots}
 use Rattle.scq_law.specs.Sums.{sum_to}
-use Rattle.scq_band.specs.Layout.{at}
 use Rattle.scq_band.proofs.LeftWords.{counted, word_of_slot, word_has, counts_next, counts_all, slot_word_low}
 use Rattle.scq_band.proofs.closed.left_in_ring.Goals as goal
 use Rattle.scq_band.proofs.closed.left_in_ring.Goals.{then-is_some, else-is_some}
@@ -18,7 +16,8 @@ unpack-requires g c =
     let slots : c.slots-slots.result ≡ ring_slots k = c.slots-slots.ensures ∙ ap slots_of c.shape-shape.ensures in
     let place = word_of_slot k c.args.ring c.loop-slot.slot c.slots-slots.result slots in
     subst (λ (o : ℕ). IsIndexOrMark o c.word.result) (sym c.shape-shape.ensures)
-    (word_has k (slots_items c.args.closed.now.words) c.args.ring c.loop-slot.slot _ c.word.result place c.word.ensures c.requires.ring (omega arith) c.requires.shows)
+    (word_has k (slots_items c.args.closed.now.words) c.args.ring c.loop-slot.slot _ c.word.result place c.word.ensures c.requires.ring (omega arith)
+    c.requires.shows)
 
 pub returns : goal.returns
 returns g c m shows =
@@ -33,7 +32,8 @@ word-requires g c =
     let k = c.args.setup.now in
     let slots : c.slots-slots.result ≡ ring_slots k = c.slots-slots.ensures ∙ ap slots_of c.shape-shape.ensures in
     let words = c.args.closed.now.words in (
-      slot_word_low k (slots_items words) c.args.ring c.loop-slot.slot _ (slots_len words) (word_of_slot k c.args.ring c.loop-slot.slot c.slots-slots.result slots)
+      slot_word_low k (slots_items words) c.args.ring c.loop-slot.slot _ (slots_len words)
+          (word_of_slot k c.args.ring c.loop-slot.slot c.slots-slots.result slots)
           c.requires.ring (omega arith) words.ok.0 c.requires.shows,
       c.requires.full,
     )

@@ -1,11 +1,9 @@
-use Rattle.std.proofs.Common.{◌≡◌, ◌∙◌, sym, ap, subst, ℕ, ◌+◌, List, ◌++◌, [], ◌∷◌, length, arith}
+use Rattle.std.proofs.Common.{◌≡◌, ◌∙◌, sym, ap, subst, ℕ, List, [], length, arith}
 use Rattle.atomic_table.specs.Table.{Me}
-use Rattle.scq_law.specs.Hands.{times}
 use Rattle.scq_band.specs.declared.slot.Slot.{Slot}
 use Rattle.scq_band.specs.Buffers.{LiesIn}
 use Rattle.scq_band.specs.Known.{Known}
-use Rattle.scq_band.specs.Closing.{indices_of}
-use Rattle.scq_band.specs.Homes.{at_home, times_lifted, MayBring, MayLeave}
+use Rattle.scq_band.specs.Homes.{times_lifted, MayBring, MayLeave}
 use Rattle.scq_band.proofs.GoingHome.{first_slot, is_out, leaves, goes_on, none_left}
 use Rattle.scq_band.proofs.closing.bring_all.Goals as goal
 

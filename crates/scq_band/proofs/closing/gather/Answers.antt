@@ -1,4 +1,4 @@
-use Rattle.std.proofs.Common.{◌≡◌, ◌∙◌, sym, ap, subst, ℕ, List, ◌++◌, [], ◌∷◌, length, arith}
+use Rattle.std.proofs.Common.{◌≡◌, ◌∙◌, sym, subst, length, arith}
 use Rattle.std.specs.Prelude.{Some}
 use Rattle.std.proofs.lemmas.List.Elements.{All-pop}
 use Rattle.atomic_table.specs.Table.{Me}
@@ -19,7 +19,8 @@ loop-seat-init g c =
     let w = c.one_home-first.result.me.0 in
     let e = c.one_home-first.ensures in
     let left = c.pop.new.self.items in
-    let bands = All-pop (λ (s : Standing g.row.B.Denot). s.band ≡ identity_of c.args.words.now.table_id c.args.words.now.key) c.args.seats.items left (Some c.in-Some.last)
+    let bands = All-pop (λ (s : Standing g.row.B.Denot). s.band ≡ identity_of c.args.words.now.table_id c.args.words.now.key) c.args.seats.items left
+    (Some c.in-Some.last)
     c.in-Some.ensures.items c.requires.bands in (
       e.own,
       bands.0,
@@ -27,7 +28,8 @@ loop-seat-init g c =
           out_less (λ (s : Standing g.row.B.Denot). times i (lifted_of s.hand)) c.args.seats.items left c.in-Some.last (times i (indices_of c.args.out.items))
           (times i (indices_of c.one_home-first.new.out.items)) (c.requires.lifted i) c.in-Some.ensures.items (e.less i),
       e.given,
-      gathered_first c.args.words.now.key.setup.rings c.args.seats.items left c.in-Some.last w c.in-Some.ensures.items e.alone e.member e.numbers.0 e.numbers.1,
+      gathered_first c.args.words.now.key.setup.rings c.args.seats.items left c.in-Some.last w c.in-Some.ensures.items e.alone e.member e.numbers.0 e.numbers.1
+          e.gate,
     )
 
 pub one_home-token-requires-clause-band : goal.one_home-token-requires-clause-band
@@ -61,10 +63,11 @@ loop-seat-preserved g c =
     let before = c.loop-seat.seats.items in
     let left = c.pop-in-loop-seat.new.self.items in
     let rings = c.args.words.now.key.setup.rings in
-    let bands = All-pop (λ (s : Standing g.row.B.Denot). s.band ≡ identity_of c.args.words.now.table_id c.args.words.now.key) before left (Some c.in-Some-pop.seat)
+    let bands = All-pop (λ (s : Standing g.row.B.Denot). s.band ≡ identity_of c.args.words.now.table_id c.args.words.now.key) before left
+    (Some c.in-Some-pop.seat)
     c.in-Some-pop.ensures.items c.loop-seat.invariant.1 in
     let more = gathered_more rings c.args.seats.items before left c.in-Some-pop.seat v w c.loop-seat.invariant.4 c.in-Some-pop.ensures.items e.alone e.member
-    e.numbers.0 e.numbers.1 in (
+    e.numbers.0 e.numbers.1 e.gate in (
       c.join_seat.ensures.0 ∙ c.loop-seat.invariant.0,
       bands.0,
       λ i.

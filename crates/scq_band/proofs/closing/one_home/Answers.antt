@@ -1,4 +1,4 @@
-use Rattle.std.proofs.Common.{◌≡◌, ◌≤◌, ◌∙◌, sym, ap, subst, ℕ, ◌+◌, List, arith}
+use Rattle.std.proofs.Common.{◌≡◌, ◌≤◌, ◌∙◌, sym, ap, subst, arith}
 use Rattle.std.specs.Prelude.{vec_capacity}
 use Rattle.atomic_table.specs.Table.{Me}
 use Rattle.scq_law.specs.Hands.{times}
@@ -6,7 +6,6 @@ use Rattle.scq_band.specs.declared.slot.Slot.{Slot}
 use Rattle.scq_band.specs.Known.{Known}
 use Rattle.scq_band.specs.Steps.{my}
 use Rattle.scq_band.specs.Standing.{Standing, Identity}
-use Rattle.scq_band.specs.Kept.{hand_of, standing_of}
 use Rattle.scq_band.specs.Closing.{indices_of, lifted_of}
 use Rattle.scq_band.specs.Homes.{at_home, times_lifted, IsMemberOf}
 use Rattle.scq_band.proofs.SeatsHome.{lifted_as, may_leave, is_member}

@@ -1,4 +1,4 @@
-use Rattle.std.proofs.Common.{◌≡◌, ◌<◌, ℕ, ◌∙◌, sym, ap, subst, arith, List}
+use Rattle.std.proofs.Common.{◌≡◌, ◌<◌, arith}
 use Rattle.scq_band.proofs.OutBuffers.{found, none_up_to, none_of}
 use Rattle.scq_law.specs.Hands.{times}
 use Rattle.scq_band.specs.Closing.{indices_of}
@@ -7,7 +7,8 @@ use Rattle.scq_band.proofs.closing.taken_out.Goals as goal
 pub returns-then-index : goal.returns-then-index
 returns-then-index g c =
     let is = c.loop-at.invariant.0 in
-    rw (← is, c.swap_remove-buffer.ensures.items) (found c.loop-at.out.items c.loop-at.at c.args.index c.index.result.now c.swap_remove-buffer.result (omega arith)
+    rw (← is, c.swap_remove-buffer.ensures.items) (found c.loop-at.out.items c.loop-at.at c.args.index c.index.result.now c.swap_remove-buffer.result
+    (omega arith)
     c.index.ensures c.if-index.true c.swap_remove-buffer.ensures.value)
 
 pub loop-at-preserved : goal.loop-at-preserved

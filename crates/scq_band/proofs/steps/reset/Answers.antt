@@ -14,7 +14,8 @@ store-requires g c =
     let Lie = LiesIn g.B.Buffer.contents g.B.Buffer.IsSameBuffer k.given.value.items in (
       c.requires.own,
       c.requires.low,
-      allows_map (Shown Lie (opening_of g.B.Buffer.contents k.given.value.items) k.setup) c.args.words.now.table_id.slots c.args.token.now.id c.args.token.now.me c.args.word (λ _. c.args.level)
+      allows_map (Shown Lie (opening_of g.B.Buffer.contents k.given.value.items) k.setup) c.args.words.now.table_id.slots c.args.token.now.id
+          c.args.token.now.me c.args.word (λ _. c.args.level)
           (Turned Lie k.setup t c.args.token.now.me) _
           (λ n later told. reset_tells Lie k.setup t c.args.token.now.me later n c.args.level c.requires.kind told)
           (moves Lie k.setup c.args.words.now.table_id.slots c.args.token.now.id c.args.token.now.me t c.args.word (λ _. c.args.level) c.requires.may

@@ -1,4 +1,4 @@
-use Rattle.std.proofs.Common.{◌≡◌, ◌≢◌, ◌∙◌, sym, ap, subst, refl, arith, ℕ, ◌+◌, ◌%◌, ◌<◌, ◌≤◌, List, [], ◌∷◌, ◌++◌, length, take, drop, reverse, get_or, set}
+use Rattle.std.proofs.Common.{◌≡◌, ◌∙◌, sym, ap, subst, refl, arith, ℕ, ◌+◌, ◌%◌, ◌<◌, ◌≤◌, List, ◌∷◌, length, take, drop, reverse, get_or, set}
 use Rattle.std.specs.Prelude.{slice_index_or, vec_len, vec_capacity}
 use Rattle.std.specs.List.{All}
 use Rattle.std.proofs.lemmas.List.{length-set, get_or_default}

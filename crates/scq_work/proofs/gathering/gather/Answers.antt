@@ -1,17 +1,15 @@
-use Rattle.std.proofs.Common.{◌≡◌, ◌≢◌, ◌∙◌, sym, ap, subst, refl, arith, ℕ, ◌+◌, ◌%◌, ◌<◌, ◌≤◌, List, [], ◌∷◌, ◌++◌, length, take, drop, reverse, get_or, set}
-use Rattle.std.specs.Prelude.{slice_index_or, vec_len, vec_capacity}
+use Rattle.std.proofs.Common.{◌≡◌, ◌∙◌, sym, ap, subst, refl, arith, ℕ, ◌+◌, ◌%◌, ◌<◌, List, [], ◌∷◌, length, drop, reverse, get_or, set}
+use Rattle.std.specs.Prelude.{slice_index_or}
 use Rattle.std.specs.List.{All}
-use Rattle.std.specs.Option.{option_or}
 use Rattle.std.proofs.lemmas.List.{length-set, length-drop, get_or_default, map-append}
 use Rattle.scq_work.specs.Files.{files_of}
-use Rattle.scq_work.specs.Desks.{AreDealt, ids_of}
-use Rattle.scq_work.specs.Ends.{end_fault}
+use Rattle.scq_work.specs.Desks.{ids_of}
 use Rattle.scq_work.specs.Reading.{IsRead}
 use Rattle.scq_work.specs.declared.desk.Desk.{Desk}
 use Rattle.scq_work.specs.declared.own_file.OwnFile.{OwnFile}
 use Rattle.scq_work.proofs.Lists.{all-front, all-last, set-each}
 use Rattle.scq_work.proofs.DeskLemmas.{desk-empty, drop-at, other-first, own-first}
-use Rattle.scq_work.proofs.SoFar.{SoFar, snoc-parts, so-far-more}
+use Rattle.scq_work.proofs.SoFar.{snoc-parts, so-far-more}
 use Rattle.scq_work.proofs.gathering.gather.Goals as goal
 use Rattle.scq_work.proofs.gathering.gather.Goals.{in-Some, in_default}
 

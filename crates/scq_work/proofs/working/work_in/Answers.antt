@@ -1,4 +1,4 @@
-use Rattle.std.proofs.Common.{◌≡◌, ◌≢◌, ◌∙◌, ◌⊎◌, inl, inr, refl, sym, ap, subst, arith, true, false, ℕ, ◌+◌, ◌<◌, ◌≤◌, List, length, map, Option, Some, None}
+use Rattle.std.proofs.Common.{◌≡◌, ◌∙◌, inl, inr, sym, ap, subst, arith, false, ◌≤◌, List, length, map, None}
 use Rattle.std.specs.Prelude.{slice_index_or, IfSome}
 use Rattle.std.specs.List.{All}
 use Rattle.scq_collect.specs.declared.answered.Answered.{Answered}
@@ -6,11 +6,10 @@ use Rattle.scq_collect.specs.Collected.{answer_of}
 use Rattle.scq_collect.specs.Merging.{IsInOrder, place_of_answer}
 use Rattle.scq_collect.specs.Output.{answers_to}
 use Rattle.scq_work.specs.Desks.{AreDealt}
-use Rattle.scq_work.specs.Ends.{AreGiven, HasCause, StopsAt, all_left, fault_of_workers}
+use Rattle.scq_work.specs.Ends.{AreGiven, HasCause, all_left}
 use Rattle.scq_work.specs.Reading.{IsRead, IsWhole}
 use Rattle.scq_work.specs.declared.desk.Desk.{Desk}
 use Rattle.scq_work.specs.declared.worked.WorkFault.{WorkFault}
-use Rattle.scq_work.specs.declared.worked.WorkFault.TheVariants.{NoMemory}
 use Rattle.scq_work.proofs.DeskLemmas.{still-dealt}
 use Rattle.scq_work.proofs.Faults.{caused, err-then, no-fault, ok-then, on-ok}
 use Rattle.scq_work.proofs.Lists.{written-back}

@@ -1,13 +1,11 @@
-use Rattle.std.proofs.Common.{◌≡◌, ◌<◌, ◌∙◌, sym, ap, subst, ℕ, List, map, length, arith}
-use Rattle.std.specs.Prelude.{slice_index, slice_get, Some}
-use Rattle.std.specs.List.{Contains}
+use Rattle.std.proofs.Common.{◌≡◌, ◌<◌, ◌∙◌, sym, ap, subst, ℕ, length, arith}
+use Rattle.std.specs.Prelude.{slice_index}
 use Rattle.std.specs.Mem.Slots.{slots_items}
 use Rattle.scq_word.specs.declared.setup.Setup.{Setup}
 use Rattle.scq_word.specs.Sizes.{n_of}
 use Rattle.scq_core.specs.Machine.{Cells}
 use Rattle.scq_core.proofs.Indices.{HasIndices}
 use Rattle.scq_law.specs.Kept.{left_in}
-use Rattle.scq_band.specs.Homes.{full_slot}
 use Rattle.scq_band.specs.Shown.{ShowsWords}
 use Rattle.scq_band.specs.Standing.{Identity, IsAsGiven}
 use Rattle.scq_band.proofs.Closes.{ended}
@@ -100,6 +98,16 @@ returns-clause-spent g c =
     c.args.seats.items words items c.self.view_is c.close_with-closed.ensures.values.2 c.gather-all.ensures.all seats c.self.invariant.given in
     e.spent
 
+pub returns-clause-gate : goal.returns-clause-gate
+returns-clause-gate g c =
+    let table = c.self.inside.table.shared in
+    let words = slots_items c.close_with-closed.result.words in
+    let items = slots_items c.close_with-closed.result.slots in
+    let seats : length c.args.seats.items ≡ c.args.self.setup.seats = omega (arith, c.args.seats.ok, c.requires.all) in
+    let e = ended g.B.Buffer.contents g.B.Buffer.IsSameBuffer table.table_id table.key c.args.self c.gather-all.result.id c.gather-all.result.me.0
+    c.args.seats.items words items c.self.view_is c.close_with-closed.ensures.values.2 c.gather-all.ensures.all seats c.self.invariant.given in
+    e.gate
+
 pub returns-clause-balance : goal.returns-clause-balance
 returns-clause-balance g c =
     let table = c.self.inside.table.shared in
@@ -109,7 +117,8 @@ returns-clause-balance g c =
     let e = ended g.B.Buffer.contents g.B.Buffer.IsSameBuffer table.table_id table.key c.args.self c.gather-all.result.id c.gather-all.result.me.0
     c.args.seats.items words items c.self.view_is c.close_with-closed.ensures.values.2 c.gather-all.ensures.all seats c.self.invariant.given in
     let setup : c.self.inside.setup ≡ c.args.self.setup = c.self.invariant.same ∙ ap (λ (b : Identity g.row.B.Denot). b.setup) c.self.view_is in
-    let each = subst (λ (k : Setup). (m : Cells) → ShowsWords k words m → (r : ℕ) → r < k.rings → slice_index c.count_left.new.left.items r ≡ left_in k m r) setup
+    let each = subst (λ (k : Setup). (m : Cells) → ShowsWords k words m → (r : ℕ) → r < k.rings
+    → slice_index c.count_left.new.left.items r ≡ left_in k m r) setup
     c.count_left.ensures.each in
     (e.counts c.count_left.new.left.items (c.count_left.ensures.rings ∙ ap (λ (k : Setup). k.rings) setup) each).0
 
@@ -122,7 +131,8 @@ returns-clause-all_there g c =
     let e = ended g.B.Buffer.contents g.B.Buffer.IsSameBuffer table.table_id table.key c.args.self c.gather-all.result.id c.gather-all.result.me.0
     c.args.seats.items words items c.self.view_is c.close_with-closed.ensures.values.2 c.gather-all.ensures.all seats c.self.invariant.given in
     let setup : c.self.inside.setup ≡ c.args.self.setup = c.self.invariant.same ∙ ap (λ (b : Identity g.row.B.Denot). b.setup) c.self.view_is in
-    let each = subst (λ (k : Setup). (m : Cells) → ShowsWords k words m → (r : ℕ) → r < k.rings → slice_index c.count_left.new.left.items r ≡ left_in k m r) setup
+    let each = subst (λ (k : Setup). (m : Cells) → ShowsWords k words m → (r : ℕ) → r < k.rings
+    → slice_index c.count_left.new.left.items r ≡ left_in k m r) setup
     c.count_left.ensures.each in
     (e.counts c.count_left.new.left.items (c.count_left.ensures.rings ∙ ap (λ (k : Setup). k.rings) setup) each).1
 

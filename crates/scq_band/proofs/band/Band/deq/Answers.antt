@@ -1,5 +1,5 @@
 use Rattle.std.proofs.Common.{◌≡◌, ◌<◌, ◌≤◌, ◌+◌, ◌^◌, ℕ, List, length, sym, ◌∙◌, ap, subst, arith}
-use Rattle.std.specs.Prelude.{Some, None, Err, slice_get, slice_set}
+use Rattle.std.specs.Prelude.{Some, Err, slice_get, slice_set}
 use Rattle.scq_word.specs.declared.setup.Setup.{Setup}
 use Rattle.scq_word.specs.Sizes.{n_of}
 use Rattle.scq_band.specs.declared.numbers.Numbers.{Numbers}
@@ -8,7 +8,7 @@ use Rattle.scq_band.specs.Buffers.{LiesIn}
 use Rattle.scq_band.specs.Numbers.{known_of, changed, sees, passes, drew, empties}
 use Rattle.scq_band.specs.Known.{Known}
 use Rattle.scq_band.specs.Seats.{HasGotAfter, nothing_at, drew_head}
-use Rattle.scq_band.specs.Standing.{Identity, Standing, FoundEmpty}
+use Rattle.scq_band.specs.Standing.{Identity, Standing}
 use Rattle.scq_band.proofs.Keeping.{kept_got, got_standing, found_none, if_drawn, kept_none, none_standing, known_read, known_there, known_here}
 use Rattle.scq_band.proofs.band.Band.deq.Goals as goal
 

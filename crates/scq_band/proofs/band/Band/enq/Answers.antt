@@ -1,5 +1,5 @@
 use Rattle.std.proofs.Common.{◌≡◌, ◌<◌, ◌≤◌, ◌-◌, ◌^◌, ◌++◌, ℕ, List, [], ◌∷◌, length, take, true, refl, sym, ◌∙◌, ap, subst, arith}
-use Rattle.std.specs.Prelude.{Some, Option, slice_get, slice_set, vec_len, vec_capacity}
+use Rattle.std.specs.Prelude.{Some, slice_get, slice_set, vec_len, vec_capacity}
 use Rattle.std.proofs.lemmas.List.{length-append}
 use Rattle.atomic_table.specs.Table.{rest}
 use Rattle.scq_word.specs.declared.setup.Setup.{Setup}

@@ -1,8 +1,7 @@
 use Rattle.std.proofs.Common.{◌≡◌, ℕ, List, ◌∷◌, sym, ◌∙◌, ap, subst}
-use Rattle.std.specs.Prelude.{Some, None, Option, vec_capacity}
+use Rattle.std.specs.Prelude.{Some, None, Option}
 use Rattle.atomic_table.specs.Table.{rest}
 use Rattle.scq_band.specs.declared.slot.Slot.{Slot}
-use Rattle.scq_band.specs.Steps.{my}
 use Rattle.scq_band.specs.Standing.{Identity, Standing, in_hand, IsAsGiven}
 use Rattle.scq_band.proofs.Keeping.{held, brought, kept_lent, same_slot, lent_standing}
 use Rattle.scq_band.proofs.band.Band.lift.Goals as goal

@@ -1,12 +1,13 @@
-use Rattle.std.proofs.Common.{◌≡◌, ℕ, ◌<◌, map, length, sym, ◌∙◌, ap, subst, arith}
-use Rattle.std.specs.Prelude.{vec_len}
+use Rattle.std.proofs.Common.{◌≡◌, List, All, map, length, sym, ◌∙◌, ap, subst, arith}
 use Rattle.scq_word.specs.Sizes.{n_of}
 use Rattle.atomic_table.specs.Table.{opening}
 use Rattle.scq_band.specs.Buffers.{LiesIn, opening_of}
 use Rattle.scq_band.specs.Shown.{Shown, first_view}
 use Rattle.scq_band.specs.Making.{laid, lifted, AllLaid}
 use Rattle.scq_band.proofs.Opening.{opens}
-use Rattle.scq_band.proofs.Starting.{stand_all, length-map}
+use Rattle.scq_band.specs.Standing.{Standing, first_standings}
+use Rattle.scq_band.specs.Kept.{identity_of}
+use Rattle.scq_band.proofs.Starting.{stand_all, length-map, first_own}
 use Rattle.scq_band.proofs.StartWords.{all_laid, lifted-laid}
 use Rattle.scq_band.proofs.band.Band.make.Goals as goal
 
@@ -31,3 +32,11 @@ lift_all-requires-clause-laid g c =
 pub returns-clause-refused : goal.returns-clause-refused
 returns-clause-refused g c =
     c.lift_all.ensures ∙ ap lifted (c.in-Err-new.ensures.err ∙ c.lay_all.ensures.slots) ∙ lifted-laid c.args.buffers.items
+
+pub returns-in-Ok-new-clause-own : goal.returns-in-Ok-new-clause-own
+returns-in-Ok-new-clause-own g c =
+    let band = identity_of c.in-Ok-new.table.shared.table_id c.in-Ok-new.table.shared.key in
+    let key = c.in-Ok-new.ensures.ok.5 in
+    subst (λ (ss : List (Standing g.row.B.Denot)). All (λ (s : Standing g.row.B.Denot). s.band ≡ band) ss)
+    (sym (c.split_all-seats.ensures ∙ ap (λ k. first_standings (identity_of c.in-Ok-new.table.shared.table_id k) k.setup.seats) (sym key)))
+    (first_own band c.in-Ok-new.table.shared.key.setup.seats)

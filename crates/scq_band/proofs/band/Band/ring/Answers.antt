@@ -1,7 +1,7 @@
 use Rattle.std.proofs.Common.{◌≡◌, ◌∙◌, ap}
 use Rattle.scq_word.specs.declared.setup.Setup.{Setup}
 use Rattle.scq_word.specs.Sizes.{slots_of}
-use Rattle.scq_core.specs.Table.{ring_slots, reset_level}
+use Rattle.scq_core.specs.Table.{reset_level}
 use Rattle.scq_band.specs.Standing.{Identity}
 use Rattle.scq_band.proofs.Starting.{tail_at}
 use Rattle.scq_band.proofs.band.Band.ring.Goals as goal

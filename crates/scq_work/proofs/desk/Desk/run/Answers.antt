@@ -1,4 +1,4 @@
-use Rattle.std.proofs.Common.{◌≡◌, ◌≤◌, ◌∙◌, sym, ap, subst, arith, List, length, take, drop, ◌++◌}
+use Rattle.std.proofs.Common.{◌≡◌, ◌∙◌, sym, ap, subst, arith, List, length, drop}
 use Rattle.std.proofs.lemmas.List.{take-append-le, take_all}
 use Rattle.scq_work.specs.Desks.{ids_of}
 use Rattle.std.specs.Prelude.{slice_index_or}

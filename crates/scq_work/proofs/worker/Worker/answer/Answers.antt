@@ -1,4 +1,4 @@
-use Rattle.std.proofs.Common.{rules, inl, inr, refl, ◌∙◌, ◌≡◌, ap, sym, arith}
+use Rattle.std.proofs.Common.{inl, ◌∙◌, arith}
 use Rattle.std.proofs.lemmas.Grind.{common_steps}
 use Rattle.scq_work.proofs.worker.Worker.answer.Goals as goal
 

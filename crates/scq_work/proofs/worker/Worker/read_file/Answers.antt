@@ -1,4 +1,4 @@
-use Rattle.std.proofs.Common.{◌∙◌, sym, ap, subst, refl}
+use Rattle.std.proofs.Common.{◌∙◌, sym, ap, subst}
 use Rattle.std.specs.Prelude.{Err}
 use Rattle.scq_work.specs.Reading.{IsRead}
 use Rattle.scq_work.specs.declared.own_file.FileEnd.{FileEnd}

@@ -1,17 +1,17 @@
-use Rattle.std.proofs.Common.{rules, ◌≡◌, ◌<◌, ◌≤◌, ◌∙◌, ap, sym, subst, arith, refl, ◌++◌, ◌∷◌, [], ◌^◌, List, length, Option, Some, None, IfSome, IfNone, Result, Ok, Err}
+use Rattle.std.proofs.Common.{rules, ◌≡◌, ◌≤◌, ◌∙◌, ap, sym, subst, arith, refl, ◌++◌, ◌∷◌, [], ◌^◌, List, length, Option, Some, None, IfSome, IfNone, Result, Ok, Err}
 use Rattle.std.specs.Option.{option_map, option_to_list}
 use Rattle.std.specs.Result.{result_err}
 use Rattle.scq_topics.specs.Topics.{topic_of}
 use Rattle.scq_frames.specs.declared.message.Message.{Message}
 use Rattle.scq_frames.specs.declared.fault.FrameFault.{FrameFault}
 use Rattle.scq_frames.specs.declared.fault.FrameFault.TheVariants.{NoMemory}
-use Rattle.scq_frames.specs.Framing.{Framing, visible_ahead, visible_size, IsNext, NothingLeft, fresh}
+use Rattle.scq_frames.specs.Framing.{Framing, visible_ahead, IsNext, fresh}
 use Rattle.scq_frames.specs.Coming.{Found}
-use Rattle.scq_frames.proofs.FindingLemmas.{Gave, Gave-found, Found-gave}
+use Rattle.scq_frames.proofs.FindingLemmas.{Gave-found, Found-gave}
 use Rattle.scq_collect.specs.Judged.{Judged}
 use Rattle.scq_collect.proofs.Judging.{judged-end, judged-fault, judged-long, judged-memory, sized}
 use Rattle.scq_work.specs.Reading.{AreOf}
-use Rattle.scq_work.proofs.Given.{HasGiven, AreOfUpTo, given-none, given-next, given-all, of-up_to, of-more, Fresh, fresh-framer}
+use Rattle.scq_work.proofs.Given.{AreOfUpTo, given-next, given-all, of-up_to, of-more, Fresh, fresh-framer}
 use Rattle.scq_work.proofs.worker.Worker.read_messages.Goals as goal
 
 pub messages-init : goal.messages-init

@@ -1,0 +1,74 @@
+//! A band that closes: what it hands out, against values worked out by hand.
+
+ghost use Rattle.std.specs.Prelude.{◌≡◌, length, refl};
+ghost use Rattle.std.proofs.Common.{sym, ◌∙◌};
+ghost use Rattle.std.specs.Vec.{with_items};
+ghost use Rattle.scq_word.specs.Written.{rewritten};
+
+use crate::Band;
+use scq_word::{Buffer, Setup};
+use std::test::Fail;
+
+/// Bytes on the heap, as the smallest buffer.
+#[derive(Drop)]
+struct Heap {
+    bytes: Vec<u8>,
+}
+
+impl Buffer for Heap {
+    ghost contents = { λ heap. heap.bytes.items };
+
+    ghost IsSameBuffer = { λ a b. length a.bytes.items ≡ length b.bytes.items };
+
+    ghost written = { λ heap bytes. record { bytes = with_items heap.bytes bytes } };
+
+    ghost same_as_itself = { λ a. refl };
+
+    ghost same_back = { λ a b same. sym same };
+
+    ghost same_along = { λ a b c first second. first ∙ second };
+
+    ghost same_length = { λ a b same. same };
+
+    ghost written_bytes = { λ a bytes same. rewritten a.bytes.items bytes a.bytes.len a.bytes.ok.0 same };
+
+    ghost written_same = { λ a bytes. sym a.bytes.ok.0 ∙ (with_items a.bytes bytes).ok.0 };
+
+    fn bytes(&self) -> &[u8] {
+        self.bytes.as_slice()
+    }
+
+    fn bytes_mut(&mut self) -> &mut [u8] {
+        self.bytes.as_mut_slice()
+    }
+}
+
+// A new band has all indices in ring 0, and its buffers come back in order.
+#[test]
+fn a_new_band_closes_full(rt: HostRuntime) -> Result<(), Fail> {
+    let alloc = rt.alloc();
+    for (order, rings, seats) in [(1, 1, 1), (1, 2, 2), (2, 3, 3)] {
+        let setup = Setup::new(order, rings, seats, 1 << 20)?;
+        let n = setup.shape().n() as usize;
+        let mut buffers = Vec::with_capacity(alloc, n)?;
+        for i in 0..n {
+            buffers.push(Heap {
+                bytes: vec![in alloc; i as u8; 1]?,
+            })?;
+        }
+        assert!(rt; buffers.len() == n);
+        let Ok((band, seats)) = Band::make(alloc, setup, buffers) else {
+            return Err(Fail::new("no memory"));
+        };
+        let closed = band.close(seats, Vec::new(alloc));
+        assert_eq!(rt; closed.left.len(), rings as usize);
+        for (ring, left) in closed.left.iter().enumerate() {
+            assert_eq!(rt; *left, if ring == 0 { n as u64 } else { 0 }, "ring {ring}");
+        }
+        assert_eq!(rt; closed.buffers.len(), n);
+        for (i, buffer) in closed.buffers.iter().enumerate() {
+            assert_eq!(rt; buffer.bytes(), [i as u8].as_slice(), "buffer {i}");
+        }
+    }
+    Ok(())
+}
