@@ -5,14 +5,16 @@ use Rattle.std.proofs.lemmas.Bool.{cases_eq}
 use Rattle.std.proofs.lemmas.List.{set-get_or, get_or-set_same}
 use mathlib.Core.Option.{some}
 use mathlib.Core.Option as maybe
-use Rattle.atomic_table.specs.Table.{Me, Allows, stepped, keeps}
+use lib.ListN.{get_elem?}
+use Rattle.atomic_table.specs.Table.{Me, State, Allows, stepped, keeps}
 use Rattle.atomic_table.proofs.Lists.{at_set}
 use Rattle.scq_word.specs.declared.setup.Setup.{Setup}
 use Rattle.scq_core.specs.Updated.{updated}
 use Rattle.scq_core.proofs.UpdatedLemmas.{updated_here, updated_else}
 use Rattle.scq_band.specs.Known.{Member, Known}
 use Rattle.scq_band.specs.Shown.{Scene, Owns, IsView, Shown, awake}
-use Rattle.scq_band.specs.Steps.{my}
+use Rattle.scq_band.specs.Standing.{IsReading}
+use Rattle.scq_band.specs.Steps.{my, my_of}
 use Rattle.scq_band.specs.Seats.{IsAlone, looked, retired_at}
 use Rattle.scq_band.proofs.WordLemmas.{gate_shown}
 use Rattle.scq_band.proofs.Operations.{less_one}
@@ -48,10 +50,40 @@ awake_less gone k calls (suc n) low none =
           rw (updated_else gone k (Some calls) n other) (omega arith)
     ]
 
+-- fewer than all are awake where one has retired
+pub awake_fewer : (gone : ℕ → Option ℕ) (k calls n : ℕ) → k < n → gone k ≡ Some calls → awake gone n < n
+awake_fewer gone k calls zero low is_some = absurd (omega arith)
+awake_fewer gone k calls (suc n) low is_some =
+    elim (cases_eq n k) [
+      | inl same ↦
+          let is : gone n ≡ Some calls = ap gone same ∙ is_some in
+          let few = awake_few gone n in
+          rw is (omega (arith, few))
+      | inr other ↦
+          let rest = awake_fewer gone k calls n (omega arith) is_some in
+          one_more (is_none (gone n)) (awake gone n) n rest
+    ]
+  where
+    one_more : (b : _) (a m : ℕ) → a < m → (if b then 1 else 0) + a < suc m
+    one_more true a m le = omega arith
+    one_more false a m le = omega arith
+
 module _ {S : Type 0} (Lies : ℕ → S → List ℕ → Type 0) where
+  -- what a reading of the gate tells a seat
+  reading : {opening : List (List ℕ)} (c : Setup) (id : ℕ) (v : Known) (s : State S Known) → Shown Lies opening c s → get_elem? s.views id ≡ some v
+      → IsReading c.seats v.gate (my v).retired (slice_index s.words 0)
+  reading c id v s sh here = record {
+    fell = (sh.views id v here).last_gate;
+    own = λ calls eq. rw sh.awake_seats (own v.seats (sh.views id v here).seats calls eq);
+  }
+    where
+      own : (xs : List Member) → Owns Lies c sh.scene s.homes id xs → (calls : ℕ) → (my_of xs).retired ≡ Some calls → awake sh.scene.gone c.seats < c.seats
+      own [] owns calls eq = absurd (cc)
+      own (x ∷ xs) owns calls eq = awake_fewer sh.scene.gone x.number calls c.seats owns.0.low (owns.0.gone ∙ eq)
+
   -- the gate may be read
   pub looks : {opening : List (List ℕ)} (c : Setup) (slots id : ℕ) (me : Me S Known)
-      → Allows (Shown Lies opening c) slots id me 0 (λ n. n) (λ n later. (later.0 ≡ looked n me.0) × (later.1 ≡ me.1))
+      → Allows (Shown Lies opening c) slots id me 0 (λ n. n) (λ n later. (later.0 ≡ looked n me.0) × (later.1 ≡ me.1) × IsReading c.seats me.0.gate (my me.0).retired n)
   looks {opening} c slots id me s sh many here small =
       let same : slice_set s.words 0 (slice_index s.words 0) ≡ s.words = set-get_or s.words 0 0 in
       let shown : Shown Lies opening c (stepped s 0 (slice_index s.words 0) id me.1 (looked (slice_index s.words 0) me.0) keeps) =
@@ -80,7 +112,7 @@ module _ {S : Type 0} (Lies : ℕ → S → List ℕ → Type 0) where
             ];
         stored = sh.stored;
       }) in
-      (looked (slice_index s.words 0) me.0, keeps, tt, shown, (refl, refl))
+      (looked (slice_index s.words 0) me.0, keeps, tt, shown, (refl, refl, reading c id me.0 s sh here))
 
   -- the seats of another view, after a seat has retired
   gone_else : (c : Setup) (z : Scene) (homes : List (maybe.Option S)) (id j k n : ℕ) → z.owner k ≡ (id, 0) → j ≢ id → (xs : List Member)

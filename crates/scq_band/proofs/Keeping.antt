@@ -1,4 +1,4 @@
--- What a seat keeps, after its slots were turned, after an exchange of the buffer in the first, and after a call.
+-- What a seat keeps after a call.
 use Rattle.std.proofs.Common.{◌≡◌, ◌⊎◌, ℕ, zero, suc, ◌+◌, ◌^◌, ◌<◌, ◌≤◌, true, List, [], ◌∷◌, ◌++◌, length, refl, sym, ◌∙◌, ap, subst, inl, inr, arith, eq-eqb, ne_eqb}
 use Rattle.std.specs.Prelude.{Some, None, Option, IfSome, max, slice_set, slice_get, slice_index_or}
 use Rattle.std.proofs.lemmas.Bool.{cases_eq, cases_lt}
@@ -16,143 +16,14 @@ use Rattle.scq_band.specs.declared.slot.Slot.{Slot}
 use Rattle.scq_band.specs.declared.rule.Key.{Key}
 use Rattle.scq_band.specs.Numbers.{known_of, changed, finishes, sees, passes, drew, empties}
 use Rattle.scq_band.specs.Known.{Member, Known}
-use Rattle.scq_band.specs.Steps.{my, front_index, bytes_in, front_bytes}
+use Rattle.scq_band.specs.Steps.{my, bytes_in, front_bytes}
 use Rattle.scq_band.specs.Seats.{IsAlone, HasGotAfter, with_part, seated, put_at, got_at, nothing_at, drew_head, spent_at}
 use Rattle.scq_band.specs.Turns.{Fronts}
 use Rattle.scq_band.specs.Buffers.{LiesIn}
-use Rattle.scq_band.specs.Standing.{Standing, in_hand, with_buffer, bytes_of, bytes_in_hand, after_put, after_get, after_nothing, after_spent_put, HasTaken, IsAsGiven}
-use Rattle.scq_band.specs.Kept.{in_order, buffer_in, hand_of, standing_of, AllGiven, AreSmall, IsKept, IsRotation}
-use Rattle.scq_band.proofs.Slots.{times-append, times-without, length-without, fronted, held_times, put_hand, times-rotated, length-rotated, buffer-rotated, given-rotated, exchanged_hand}
-
-module _ {B : Type 0} (IsSame : B → B → Type 0) where
-  -- after a turn
-  pub kept_turned : (key : Key B) (me : Me (Slot B) Known) (v : Known) (ms : List (ℕ × Slot B)) (indices later : List ℕ) (room room' : ℕ) (numbers : List Numbers)
-      (spent : Option ℕ)
-      → IsKept IsSame key me indices room numbers spent → v ≡ me.0 → IsRotation me.1 ms → later ≡ in_order ms → room' ≡ room
-      → IsKept IsSame key (v, ms) later room' numbers spent
-  kept_turned key me v ms indices later room room' numbers spent kept same is order space =
-      let size : (i : ℕ) → times i later ≡ times i indices = λ i. ap (times i) order ∙ times-rotated i me.1 ms is ∙ ap (times i) (sym kept.order) in
-      let long : length later ≡ length indices = ap length order ∙ length-rotated me.1 ms is ∙ ap length (sym kept.order) in
-      subst (λ (u : Known). IsKept IsSame key (u, ms) later room' numbers spent) (sym same) (
-      record {
-        alone = kept.alone;
-        idle = kept.idle;
-        order = order;
-        same = λ i. size i ∙ kept.same i;
-        count = long ∙ kept.count;
-        once = λ i. let s = size i in let o = kept.once i in omega arith;
-        low = λ i there. kept.low i (let s = size i in omega (arith, s, there));
-        holds_all = let h = kept.holds_all in omega arith;
-        numbers = kept.numbers;
-        rings = kept.rings;
-        small = kept.small;
-        spent = kept.spent;
-        given = given-rotated IsSame key.given.value.items me.1 ms is kept.given;
-      })
-
-  -- after an exchange of the buffer in the first slot
-  pub kept_exchanged : (key : Key B) (v : Known) (i : ℕ) (x y : Slot B) (others : List (ℕ × Slot B)) (indices : List ℕ) (room : ℕ) (numbers : List Numbers)
-      (spent : Option ℕ)
-      → IsKept IsSame key (v, (i, x) ∷ others) indices room numbers spent → ((b : B) → y.buffer ≡ Some b → IsAsGiven IsSame key.given.value.items i b)
-      → IsKept IsSame key (v, (i, y) ∷ others) indices room numbers spent
-  kept_exchanged key v i x y others indices room numbers spent kept new =
-      record {
-        alone = kept.alone;
-        idle = kept.idle;
-        order = kept.order;
-        same = kept.same;
-        count = kept.count;
-        once = kept.once;
-        low = kept.low;
-        holds_all = kept.holds_all;
-        numbers = kept.numbers;
-        rings = kept.rings;
-        small = kept.small;
-        spent = kept.spent;
-        given = (new, kept.given.1);
-      }
-
-  -- an index in the hand is among those that the seat keeps
-  pub held : (key : Key B) (me : Me (Slot B) Known) (indices : List ℕ) (room : ℕ) (numbers : List Numbers) (spent : Option ℕ) (i : ℕ) (o : Option B)
-      → IsKept IsSame key me indices room numbers spent → in_hand (hand_of me.1 (my me.0).part.hand) i ≡ Some o → 0 < times i indices
-  held key me indices room numbers spent i o kept is =
-      let some = (held_times me.1 (my me.0).part.hand i o is).0 in
-      let same = kept.same i in
-      omega arith
-
-  -- the slot of an index in the hand, once it was turned to the front
-  pub record Brought (me : Me (Slot B) Known) (given : List B) (ms : List (ℕ × Slot B)) (i : ℕ) (o : Option B) : Type 0 where
-    pub slot : Slot B
-    pub others : List (ℕ × Slot B)
-    pub is : ms ≡ (i, slot) ∷ others
-    pub has : slot.buffer ≡ o
-    pub same : (j : ℕ) → buffer_in ms j ≡ buffer_in me.1 j
-    pub given_so : (b : B) → slot.buffer ≡ Some b → IsAsGiven IsSame given i b
-
-  pub brought : (key : Key B) (me : Me (Slot B) Known) (ms : List (ℕ × Slot B)) (indices : List ℕ) (room : ℕ) (numbers : List Numbers) (spent : Option ℕ) (i : ℕ)
-      (o : Option B)
-      → IsKept IsSame key me indices room numbers spent → IsRotation me.1 ms → front_index ms ≡ i → in_hand (hand_of me.1 (my me.0).part.hand) i ≡ Some o
-      → Brought me key.given.value.items ms i o
-  brought key me ms indices room numbers spent i o kept turned first is =
-      let there = held key me indices room numbers spent i o kept is in
-      let here : 0 < times i (in_order ms) = let same = times-rotated i me.1 ms turned ∙ ap (times i) (sym kept.order) in omega (arith, same, there) in
-      let front = fronted i ms here first in
-      let same : (j : ℕ) → buffer_in ms j ≡ buffer_in me.1 j =
-      λ j. buffer-rotated j me.1 ms turned (let once = kept.once j in let order = ap (times j) kept.order in omega (arith, once, order)) in
-      let alone : buffer_in ((i, front.slot) ∷ front.others) i ≡ front.slot.buffer = rw (eq-eqb i i refl) refl in
-      record {
-        slot = front.slot;
-        others = front.others;
-        is = front.is;
-        has = sym alone ∙ ap (λ (l : List (ℕ × Slot B)). buffer_in l i) (sym front.is) ∙ same i ∙ (held_times me.1 (my me.0).part.hand i o is).1;
-        same = same;
-        given_so =
-            (subst (λ (l : List (ℕ × Slot B)). AllGiven IsSame key.given.value.items l) front.is
-            (given-rotated IsSame key.given.value.items me.1 ms turned kept.given)).0;
-      }
-
-  -- after a turn, and an exchange of the buffer in the first slot
-  pub kept_lent : (key : Key B) (me me' : Me (Slot B) Known) (v : Known) (ms : List (ℕ × Slot B)) (indices later : List ℕ) (room room' : ℕ)
-      (numbers : List Numbers) (spent : Option ℕ) (i : ℕ) (o : Option B) (y : Slot B)
-      → IsKept IsSame key me indices room numbers spent → v ≡ me.0 → IsRotation me.1 ms → later ≡ in_order ms → room' ≡ room
-      → Brought me key.given.value.items ms i o → ((b : B) → y.buffer ≡ Some b → IsAsGiven IsSame key.given.value.items i b) → me' ≡ (v, (i, y) ∷ rest ms)
-      → IsKept IsSame key me' later room' numbers spent
-  kept_lent key me me' v ms indices later room room' numbers spent i o y kept same turned order space b new now =
-      let turned_so = kept_turned key me v ms indices later room room' numbers spent kept same turned order space in
-      let front = subst (λ (l : List (ℕ × Slot B)). IsKept IsSame key (v, l) later room' numbers spent) b.is turned_so in
-      let others : rest ms ≡ b.others = ap rest b.is in
-      subst (λ (m : Me (Slot B) Known). IsKept IsSame key m later room' numbers spent) (sym (now ∙ ap (λ (l : List (ℕ × Slot B)). (v, (i, y) ∷ l)) others))
-      (kept_exchanged key v i b.slot y b.others later room' numbers spent front new)
-
-module _ {B : Type 0} where
-  -- what contracts see of a seat in whose hand alone something changed
-  pub hand_changed : (table later : TableId) (key : Key B) (me : Me (Slot B) Known) (slots : List (ℕ × Slot B)) (hand : List (ℕ × Option B)) (s : Standing B)
-      → standing_of table key me ≡ s → later ≡ table → hand_of slots (my me.0).part.hand ≡ hand
-      → standing_of later key (me.0, slots) ≡ record s { hand = hand }
-  hand_changed table later key me slots hand s is same changed =
-      ap (λ t. standing_of t key (me.0, slots)) same
-      ∙ ap (λ (h : List (ℕ × Option B)). record (standing_of table key me) { hand = h }) changed
-      ∙ ap (λ (z : Standing B). record z { hand = hand }) is
-
-  abbrev first_slot : Slot B → List (ℕ × Slot B) → Slot B
-  first_slot d [] = d
-  first_slot d (x ∷ xs) = x.1
-
-  -- the slot in front is one
-  pub same_slot : (i : ℕ) (s t : Slot B) (os rs ms : List (ℕ × Slot B)) → ms ≡ (i, s) ∷ os → ms ≡ (i, t) ∷ rs → s ≡ t
-  same_slot i s t os rs ms one other = ap (first_slot s) (sym one ∙ other)
-
-  -- what contracts see of a seat after an exchange of the buffer of an index
-  pub lent_standing : (IsSame : B → B → Type 0) (table later : TableId) (key : Key B) (me me' : Me (Slot B) Known) (v : Known) (ms : List (ℕ × Slot B))
-      (given : List B) (i : ℕ) (o : Option B) (y : Slot B) (s : Standing B)
-      → standing_of table key me ≡ s → later ≡ table → v ≡ me.0 → Brought IsSame me given ms i o → me' ≡ (v, (i, y) ∷ rest ms)
-      → standing_of later key me' ≡ record s { hand = with_buffer i y.buffer s.hand }
-  lent_standing IsSame table later key me me' v ms given i o y s is same view b now =
-      let others : rest ms ≡ b.others = ap rest b.is in
-      let changed : hand_of ((i, y) ∷ b.others) (my me.0).part.hand ≡ with_buffer i y.buffer s.hand =
-      exchanged_hand me.1 ms b.others i b.slot y b.same b.is (my me.0).part.hand ∙ ap (λ (z : Standing B). with_buffer i y.buffer z.hand) is in
-      ap (standing_of later key) (now ∙ ap (λ (u : Known). (u, (i, y) ∷ rest ms)) view ∙ ap (λ (l : List (ℕ × Slot B)). (me.0, (i, y) ∷ l)) others)
-      ∙ hand_changed table later key me ((i, y) ∷ b.others) (with_buffer i y.buffer s.hand) s is same changed
+use Rattle.scq_band.specs.Standing.{Standing, in_hand, bytes_of, bytes_in_hand, after_put, after_get, after_nothing, after_spent_put, HasTaken}
+use Rattle.scq_band.specs.Kept.{in_order, buffer_in, hand_of, standing_of, AllGiven, AreSmall, IsKept}
+use Rattle.scq_band.proofs.Slots.{times-append, times-without, length-without, put_hand}
+use Rattle.scq_band.proofs.Exchanging.{Brought}
 
 -- what is known of a ring where it was written, or another one
 known_set : (ns : List Numbers) (r : ℕ) (y : Numbers) (q : ℕ) → (known_of (slice_set ns r y) q ≡ y) ⊎ (known_of (slice_set ns r y) q ≡ known_of ns q)

@@ -9,7 +9,7 @@ use Rattle.scq_core.specs.Machine.{Machine}
 use Rattle.scq_core.specs.Laws.{CountersRise}
 use Rattle.scq_law.specs.Bounds.{IsFinished}
 use Rattle.scq_band.specs.declared.numbers.Numbers.{Numbers}
-use Rattle.scq_band.specs.Numbers.{first_place, IsTrue, known_of, changed, finishes, sees, passes}
+use Rattle.scq_band.specs.Numbers.{before_places, IsTrue, known_of, changed, finishes, sees, passes}
 
 -- all that a list of numbers says of the rings is true
 abbrev pub AllTrue : Setup → Machine → List Numbers → Type 0
@@ -19,8 +19,8 @@ AllTrue c m numbers = (r : ℕ) (x : Numbers) → slice_get numbers r ≡ Some x
 abbrev pub FinishedStay : Setup → Machine → Machine → Type 0
 FinishedStay c m n = (r p : ℕ) → IsFinished c m r p → IsFinished c n r p
 
-either_stays : (c : Setup) (m n : Machine) (r p : ℕ) → FinishedStay c m n → (p ≡ first_place c r) ⊎ IsFinished c m r p
-    → (p ≡ first_place c r) ⊎ IsFinished c n r p
+either_stays : (c : Setup) (m n : Machine) (r p : ℕ) → FinishedStay c m n → (p ≡ before_places c r) ⊎ IsFinished c m r p
+    → (p ≡ before_places c r) ⊎ IsFinished c n r p
 either_stays c m n r p stay (inl low) = inl low
 either_stays c m n r p stay (inr done) = inr (stay r p done)
 
@@ -68,7 +68,7 @@ changed_true c m f q numbers all new r x e =
 pub finishes_true : (c : Setup) (m : Machine) (r p : ℕ) (x : Numbers) → IsFinished c m r p → p < m.cells.tail r → IsTrue c m r x → IsTrue c m r (finishes p x)
 finishes_true c m r p x done low t =
     record {
-      finished = higher (λ (n : ℕ). (n ≡ first_place c r) ⊎ IsFinished c m r n) x.finished p t.finished (inr done);
+      finished = higher (λ (n : ℕ). (n ≡ before_places c r) ⊎ IsFinished c m r n) x.finished p t.finished (inr done);
       order = let o = t.order in omega arith;
       seen = let s = t.seen in omega arith;
       head = t.head;

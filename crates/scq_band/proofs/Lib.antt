@@ -31,8 +31,11 @@ pub mod Unloading
 pub mod LeftWords
 pub mod Closes
 pub mod NewSeats
+pub mod TwoTaken
+pub mod OneLent
 pub mod StartWords
 pub mod Slots
 pub mod Starting
+pub mod Exchanging
 pub mod Keeping
 pub mod Joining

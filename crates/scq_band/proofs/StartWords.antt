@@ -6,7 +6,8 @@ use Rattle.scq_core.specs.Machine.{entry_of, read}
 use Rattle.scq_core.specs.Start.{start_cells}
 use Rattle.scq_band.specs.declared.slot.Slot.{Slot}
 use Rattle.scq_band.specs.Layout.{ring_words, location_in, first_word}
-use Rattle.scq_band.specs.Making.{laid, lifted, AllLaid}
+use Rattle.scq_band.specs.Homes.{full_slot}
+use Rattle.scq_band.specs.Making.{lifted, AllLaid}
 
 -- past the three counters stand the entries by slot
 pub location_in-past : (r o : ℕ) → 3 ≤ o → location_in r o ≡ entry_of r (o - 3)
@@ -32,11 +33,11 @@ pub three_more : (x : ℕ) → 3 + x ≡ suc (suc (suc x))
 three_more x = omega arith
 
 module _ {B : Type 0} where
-  pub all_laid : (bs : List B) → AllLaid (map laid bs)
+  pub all_laid : (bs : List B) → AllLaid (map full_slot bs)
   all_laid [] = tt
   all_laid (b ∷ bs) = ((b, refl), all_laid bs)
 
-  pub lifted-laid : (bs : List B) → lifted (map laid bs) ≡ bs
+  pub lifted-laid : (bs : List B) → lifted (map full_slot bs) ≡ bs
   lifted-laid [] = refl
   lifted-laid (b ∷ bs) = ap (λ (xs : List B). b ∷ xs) (lifted-laid bs)
 

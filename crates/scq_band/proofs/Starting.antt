@@ -12,18 +12,19 @@ use Rattle.scq_law.specs.Hands.{times}
 use Rattle.scq_band.specs.declared.numbers.Numbers.{Numbers}
 use Rattle.scq_band.specs.declared.rule.Key.{Key}
 use Rattle.scq_band.specs.declared.making.Room.{Room}
-use Rattle.scq_band.specs.Numbers.{known_of, first_place, first_numbers_of, first_numbers}
+use Rattle.scq_band.specs.Numbers.{known_of, before_places, first_numbers_of, first_numbers}
 use Rattle.scq_band.specs.Layout.{at}
 use Rattle.scq_band.specs.Known.{first_of}
 use Rattle.scq_band.specs.Buffers.{LiesIn}
 use Rattle.scq_band.specs.Shown.{Has}
 use Rattle.scq_band.specs.Standing.{Identity, Standing, in_hand, first_standing, first_standings}
 use Rattle.scq_band.specs.Kept.{IsKept, AreSmall}
-use Rattle.scq_band.specs.Making.{laid, IsRoom, first_below}
+use Rattle.scq_band.specs.Homes.{full_slot}
+use Rattle.scq_band.specs.Making.{IsRoom, first_below}
 use Rattle.scq_band.proofs.Opening.{numbers_length}
 
 -- the places known at the start are below every limit
-small_place : (c : Setup) (r : ℕ) → first_place c r < 2 ^ 60
+small_place : (c : Setup) (r : ℕ) → before_places c r < 2 ^ 60
 small_place c r =
     let low = c.limit_in_range in
     elim (cases_eq r 0) [
@@ -70,7 +71,7 @@ module _ {B : Type 0} (contents : B → List ℕ) where
   record Stands (bs : List B) (j : ℕ) : Type 0 where
     pub buffer : B
     pub got : slice_get bs j ≡ Some buffer
-    pub home : get_elem? (map some (map laid bs)) j ≡ some (some (laid buffer))
+    pub home : get_elem? (map some (map full_slot bs)) j ≡ some (some (full_slot buffer))
     pub bytes : contents buffer ≡ slice_index_or (map contents bs) j []
 
   stands : (bs : List B) (j : ℕ) → j < length bs → Stands bs j
@@ -82,11 +83,11 @@ module _ {B : Type 0} (contents : B → List ℕ) where
 
   -- each slot has the buffer that was given for its index
   pub stand_all : (IsSame : B → B → Type 0) → ((b : B) → IsSame b b) → (bs : List B) (j : ℕ) → j < length bs
-      → Has (LiesIn contents IsSame bs) (map some (map laid bs)) j (slice_index_or (map contents bs) j [])
+      → Has (LiesIn contents IsSame bs) (map some (map full_slot bs)) j (slice_index_or (map contents bs) j [])
   stand_all IsSame itself bs j low =
       let s = stands bs j low in
       record {
-        value = laid s.buffer;
+        value = full_slot s.buffer;
         here = s.home;
         lies = record { first = s.buffer; buffer = s.buffer; was = s.got; laid = refl; same = itself s.buffer; bytes = s.bytes };
       }

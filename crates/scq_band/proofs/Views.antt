@@ -15,7 +15,7 @@ use Rattle.scq_core.specs.Machine.{Machine}
 use Rattle.scq_core.proofs.UpdatedLemmas.{updated_here, updated_else}
 use Rattle.scq_law.specs.Bounds.{IsFinished}
 use Rattle.scq_band.specs.declared.numbers.Numbers.{Numbers}
-use Rattle.scq_band.specs.Numbers.{first_place, IsTrue, larger, joined}
+use Rattle.scq_band.specs.Numbers.{before_places, IsTrue, larger, joined}
 use Rattle.scq_band.specs.Known.{Member, Known, nobody, note_of, behind_first, first_alone, others_of, first_of, lower_gate, both_of}
 use Rattle.scq_band.specs.Shown.{Scene, Owns, IsView, Shown}
 use Rattle.scq_band.proofs.Knowledge.{AllTrue}
@@ -31,7 +31,7 @@ either_max P a b one other =
 larger_true : (c : Setup) (m : Machine) (r : ℕ) (x y : Numbers) → IsTrue c m r x → IsTrue c m r y → IsTrue c m r (larger x y)
 larger_true c m r x y t u =
     record {
-      finished = either_max (λ n. (n ≡ first_place c r) ⊎ IsFinished c m r n) x.finished y.finished t.finished u.finished;
+      finished = either_max (λ n. (n ≡ before_places c r) ⊎ IsFinished c m r n) x.finished y.finished t.finished u.finished;
       order = let a = t.order in let b = u.order in omega arith;
       seen = let a = t.seen in let b = u.seen in omega arith;
       head = let a = t.head in let b = u.head in omega arith;

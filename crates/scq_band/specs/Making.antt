@@ -12,10 +12,6 @@ use Rattle.scq_band.specs.Known.{Known}
 use Rattle.scq_band.specs.Shown.{first_view, first_members}
 use Rattle.scq_band.specs.Numbers.{first_numbers}
 
--- the slot of a buffer
-abbrev pub laid : {B : Type 0} → B → Slot B
-laid b = record { buffer = Some b }
-
 -- a buffer is laid in the slot
 abbrev pub IsLaid : {B : Type 0} → Slot B → Type 0
 IsLaid {B} slot = (b : B) × (slot.buffer ≡ Some b)

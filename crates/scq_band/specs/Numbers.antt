@@ -8,12 +8,12 @@ use Rattle.scq_core.specs.Table.{ring_slots}
 use Rattle.scq_law.specs.Bounds.{IsFinished}
 use Rattle.scq_band.specs.declared.numbers.Numbers.{Numbers}
 
--- before anything was placed on a ring; on ring 0 the opening puts have finished
-abbrev pub first_place : Setup → ℕ → ℕ
-first_place c r = (if r == 0 then ring_slots c + n_of c.order else ring_slots c) - 1
+-- the number before the first place at which a call can place on a ring; on ring 0 the opening puts come first
+abbrev pub before_places : Setup → ℕ → ℕ
+before_places c r = (if r == 0 then ring_slots c + n_of c.order else ring_slots c) - 1
 
 abbrev pub first_numbers_of : Setup → ℕ → Numbers
-first_numbers_of c r = record { finished = first_place c r; seen = first_place c r; head = ring_slots c }
+first_numbers_of c r = record { finished = before_places c r; seen = before_places c r; head = ring_slots c }
 
 -- those of the rings below a number, in order
 abbrev pub first_numbers : Setup → ℕ → List Numbers
@@ -27,7 +27,7 @@ known_of numbers r = slice_index_or numbers r (record { finished = 0; seen = 0; 
 -- `finished` is the place of a put that has ended, or what was known at the start; Tail is above `seen`, Head is at or
 -- past `head`
 pub record IsTrue (c : Setup) (m : Machine) (r : ℕ) (x : Numbers) : Type 0 where
-  pub finished : (x.finished ≡ first_place c r) ⊎ IsFinished c m r x.finished
+  pub finished : (x.finished ≡ before_places c r) ⊎ IsFinished c m r x.finished
   pub order : x.finished ≤ x.seen
   pub seen : x.seen < m.cells.tail r
   pub head : x.head ≤ m.cells.head r

@@ -1,5 +1,5 @@
 -- What contracts see of a band and of its seats, and what each call makes of a seat.
-use Rattle.std.specs.Prelude.{◌≡◌, ℕ, ◌+◌, ◌<◌, true, false, not, ◌==◌, if◌then◌else◌, List, [], ◌∷◌, ◌++◌, map, filter, Option, Some, None, zero, suc, slice_get}
+use Rattle.std.specs.Prelude.{◌≡◌, ℕ, ◌+◌, ◌<◌, ◌≤◌, true, false, not, ◌==◌, if◌then◌else◌, List, [], ◌∷◌, ◌++◌, map, filter, Option, Some, None, zero, suc, slice_get}
 use Rattle.atomic_table.specs.Seated.{TableId}
 use Rattle.scq_word.specs.declared.setup.Setup.{Setup}
 use Rattle.scq_core.specs.declared.ended.Ended.{Ended}
@@ -30,6 +30,12 @@ pub record Standing (B : Type 0) : Type 0 where
   pub gate : Option ℕ
   -- how many calls stood in its record when it retired
   pub retired : Option ℕ
+
+-- a number read at the gate by a seat, of so many seats, which last read `gate` there: the number never rises, and a seat that has
+-- retired isn't counted in it
+pub record IsReading (seats : ℕ) (gate retired : Option ℕ) (found : ℕ) : Type 0 where
+  pub fell : (last : ℕ) → gate ≡ Some last → found ≤ last
+  pub own : (calls : ℕ) → retired ≡ Some calls → found < seats
 
 -- what contracts see of a note
 pub record NoteStanding : Type 0 where

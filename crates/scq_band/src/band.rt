@@ -1,5 +1,5 @@
 //! A band: the running rings, with their seats.
-ghost use Rattle.std.specs.Prelude.{◌≡◌, ℕ, ◌<◌, ◌==◌, length, Some, None, All, IfOk, IfErr, vec_len};
+ghost use Rattle.std.specs.Prelude.{◌≡◌, ℕ, ◌<◌, ◌≤◌, ◌==◌, length, Some, None, All, IfOk, IfErr, vec_len};
 ghost use Rattle.scq_word.specs.Sizes.{n_of};
 ghost use Rattle.scq_band.specs.Rings.{IsRing};
 ghost use Rattle.scq_band.specs.Standing.{first_standings, after_look};
@@ -118,10 +118,13 @@ impl<B: Buffer> Band<B> {
         retire(&self.table.shared, &mut seat.token);
     }
 
-    /// Whether every seat had retired when word 0 was read.
+    /// Whether every seat had retired when word 0 was read. The number that is read there, of the seats that haven't retired,
+    /// never rises.
     pub fn gate_closed(&self, seat: &mut Seat<B>) -> bool
         requires seat { seat.old.band ≡ self.now }
-        ensures { (found : ℕ) × (seat.new ≡ after_look found seat.old) × (result ≡ (found == 0)) }
+        ensures looked { (found : ℕ) × (seat.new ≡ after_look found seat.old) × (result ≡ (found == 0)) }
+        ensures fell { (last found : ℕ) → seat.old.gate ≡ Some last → seat.new.gate ≡ Some found → found ≤ last }
+        ensures own { (calls found : ℕ) → seat.old.retired ≡ Some calls → seat.new.gate ≡ Some found → found < self.now.setup.seats }
     {
         read_gate(&self.table.shared, &mut seat.token) == 0
     }

@@ -1,5 +1,6 @@
 //! The gate, word 0: how many seats have not retired.
 ghost use Rattle.std.specs.Prelude.{◌≡◌, ◌<◌, None};
+ghost use Rattle.scq_band.specs.Standing.{IsReading};
 ghost use Rattle.scq_band.specs.Steps.{my};
 ghost use Rattle.scq_band.specs.Seats.{IsAlone, looked, retired_at};
 
@@ -15,6 +16,7 @@ pub fn read_gate<B: Buffer>(words: &Words<B>, token: &mut Token<B>) -> u64
     ensures own { (token.new.table_id ≡ token.old.table_id) × (token.new.id ≡ token.old.id) }
     ensures looked { token.new.me.0 ≡ looked result token.old.me.0 }
     ensures slots { token.new.me.1 ≡ token.old.me.1 }
+    ensures reading { IsReading words.now.key.setup.seats token.old.me.0.gate (my token.old.me.0).retired result }
 {
     words.load::<Brand>(token, 0)
 }

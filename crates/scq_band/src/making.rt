@@ -5,7 +5,8 @@ ghost use Rattle.scq_core.specs.Machine.{read};
 ghost use Rattle.scq_core.specs.Start.{start_cells};
 ghost use Rattle.scq_band.specs.Numbers.{first_numbers};
 ghost use Rattle.scq_band.specs.Layout.{ring_words, word_count, location_in, first_word};
-ghost use Rattle.scq_band.specs.Making.{laid, lifted, AllLaid, IsRoom, IsMemory, IsOfStart};
+ghost use Rattle.scq_band.specs.Homes.{full_slot};
+ghost use Rattle.scq_band.specs.Making.{lifted, AllLaid, IsRoom, IsMemory, IsOfStart};
 
 use crate::numbers::Numbers;
 use crate::slot::Slot;
@@ -157,7 +158,7 @@ pub fn reserved(alloc: Global, setup: Setup) -> Result<Memory, NoMemory>
 pub fn lay_all<B>(buffers: &mut Vec<B>, slots: &mut Vec<Slot<B>>)
     requires empty { slots.old.items ≡ [] }
     requires room { vec_len buffers.old ≤ vec_capacity slots.old }
-    ensures slots { slots.new.items ≡ map laid buffers.old.items }
+    ensures slots { slots.new.items ≡ map full_slot buffers.old.items }
     ensures emptied { buffers.new.items ≡ [] }
     ensures kept { vec_capacity buffers.new ≡ vec_capacity buffers.old }
 {

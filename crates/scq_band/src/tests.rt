@@ -4,6 +4,7 @@ ghost use Rattle.std.specs.Prelude.{◌≡◌, ◌<◌, ◌≤◌, All, IfOk, le
 ghost use Rattle.std.proofs.Common.{sym, refl, ◌∙◌};
 ghost use Rattle.std.specs.Vec.{with_items};
 ghost use Rattle.scq_word.specs.Written.{rewritten};
+ghost use Rattle.scq_band.specs.Standing.{first_standing};
 
 use crate::{Band, DeqRefusal, Seat};
 use scq_word::{Buffer, Setup};
@@ -35,6 +36,41 @@ impl Buffer for Heap {
     ghost written_bytes = { λ a bytes same. rewritten a.bytes.items bytes a.bytes.len a.bytes.ok.0 same };
 
     ghost written_same = { λ a bytes. sym a.bytes.ok.0 ∙ (with_items a.bytes bytes).ok.0 };
+
+    fn bytes(&self) -> &[u8] {
+        self.bytes.as_slice()
+    }
+
+    fn bytes_mut(&mut self) -> &mut [u8] {
+        self.bytes.as_mut_slice()
+    }
+}
+
+/// Bytes with a tag, which stays.
+#[derive(Drop)]
+struct Tagged {
+    tag: u32,
+    bytes: Vec<u8>,
+}
+
+impl Buffer for Tagged {
+    ghost contents = { λ tagged. tagged.bytes.items };
+
+    ghost IsSameBuffer = { λ a b. (a.tag ≡ b.tag) × (length a.bytes.items ≡ length b.bytes.items) };
+
+    ghost written = { λ tagged bytes. record { tag = tagged.tag; bytes = with_items tagged.bytes bytes } };
+
+    ghost same_as_itself = { λ a. (refl, refl) };
+
+    ghost same_back = { λ a b same. (sym same.0, sym same.1) };
+
+    ghost same_along = { λ a b c first second. (first.0 ∙ second.0, first.1 ∙ second.1) };
+
+    ghost same_length = { λ a b same. same.1 };
+
+    ghost written_bytes = { λ a bytes same. rewritten a.bytes.items bytes a.bytes.len a.bytes.ok.0 same };
+
+    ghost written_same = { λ a bytes. (refl, sym a.bytes.ok.0 ∙ (with_items a.bytes bytes).ok.0) };
 
     fn bytes(&self) -> &[u8] {
         self.bytes.as_slice()
@@ -201,4 +237,76 @@ fn two_seats_move_indices_in_turn(rt: HostRuntime) -> Result<(), Fail> {
 #[test]
 fn a_spent_ticket_is_kept(rt: HostRuntime) -> Result<(), Fail> {
     run(&rt, 1, 16, SPENT)
+}
+
+/// A new band of order 1 with two rings and tagged buffers, and its two seats.
+fn two_seats(alloc: Global) -> Result<(Band<Tagged>, Seat<Tagged>, Seat<Tagged>), Fail>
+    ensures setup { IfOk result (λ made. (made.0.setup.rings ≡ 2) × (made.0.setup.seats ≡ 2)) }
+    ensures seats { IfOk result (λ made. (made.1 ≡ first_standing made.0 0) × (made.2 ≡ first_standing made.0 1)) }
+{
+    let setup = Setup::new(1, 2, 2, 16)?;
+    let mut buffers = Vec::with_capacity(alloc, 2)?;
+    buffers.push(Tagged {
+        tag: 10,
+        bytes: vec![in alloc; b'a'; 1]?,
+    })?;
+    buffers.push(Tagged {
+        tag: 11,
+        bytes: vec![in alloc; b'b'; 2]?,
+    })?;
+    let Ok((band, mut seats)) = Band::make(alloc, setup, buffers) else {
+        return Err(Fail::new("no memory"));
+    };
+    let first = seats.remove(0);
+    let second = seats.remove(0);
+    Ok((band, first, second))
+}
+
+// Seat 0 carries index 0 from ring 0 to ring 1, with its buffer lifted and laid on the way.
+#[test]
+fn a_buffer_is_lifted_and_laid(rt: HostRuntime) -> Result<(), Fail> {
+    let (band, mut seat, _other) = two_seats(rt.alloc())?;
+    let Ok((place, index)) = band.deq(&mut seat, 0) else {
+        return Err(Fail::new("no index on ring 0"));
+    };
+    assert_eq!(rt; (place, index), (4, 0));
+    let lifted = band.lift(&mut seat, index);
+    assert_eq!(rt; lifted.tag, 10);
+    assert_eq!(rt; lifted.bytes(), b"a".as_slice());
+    band.lay(&mut seat, index, lifted);
+    let put = band.enq(&mut seat, 1, index);
+    assert_eq!(rt; put, Ok(4));
+    Ok(())
+}
+
+// One note is learned, and one dropped.
+#[test]
+fn a_note_is_learned_or_dropped(rt: HostRuntime) -> Result<(), Fail> {
+    let (band, mut first, mut second) = two_seats(rt.alloc())?;
+    let learned = band.note(&mut first);
+    band.learn(&mut second, learned);
+    let _dropped = band.note(&mut second);
+    let refused = band.deq(&mut second, 1);
+    assert_eq!(rt; refused, Err(DeqRefusal::Empty { head: 4 }));
+    Ok(())
+}
+
+// The gate is open until both seats have retired; then the band closes.
+#[test]
+fn the_gate_closes_once_all_have_retired(rt: HostRuntime) -> Result<(), Fail> {
+    let alloc = rt.alloc();
+    let (band, mut first, mut second) = two_seats(alloc)?;
+    assert!(rt; !band.gate_closed(&mut first));
+    band.retire(&mut first);
+    assert!(rt; !band.gate_closed(&mut first));
+    band.retire(&mut second);
+    assert!(rt; band.gate_closed(&mut first));
+    let mut seats = Vec::with_capacity(alloc, 2)?;
+    seats.push_reserved(first);
+    seats.push_reserved(second);
+    let closed = band.close(seats, Vec::new(alloc));
+    assert_eq!(rt; closed.left.as_slice(), [2, 0].as_slice());
+    assert_eq!(rt; closed.buffers.len(), 2);
+    assert_eq!(rt; closed.buffers[1].tag, 11);
+    Ok(())
 }

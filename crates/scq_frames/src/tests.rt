@@ -25,7 +25,7 @@ impl Source for Pieces<'_> {
 
     fn read(&mut self, into: &mut [u8]) -> Result<usize, Failed> {
         if self.reads == 0 {
-            self.faults = u64::MAX;
+            self.faults = self.faults.saturating_add(1);
             return Err(Failed);
         }
         self.reads -= 1;

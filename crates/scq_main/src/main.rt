@@ -5,6 +5,7 @@
 
 use scq_outside::{DiskFiles, StdSink, StdStream};
 use scq_service::{Fault, report, serve};
+use scq_work::FreeGate;
 use std::alloc::{AllocError, Global};
 use std::env::Env;
 use std::process::ExitCode;
@@ -16,7 +17,10 @@ fn main(rt: HostRuntime) -> ExitCode {
     let mut out = StdSink::new(StdStream::Output(rt.stdout()));
     let mut err = StdSink::new(StdStream::Errors(rt.stderr()));
     let status = match words(&rt, alloc) {
-        Ok(words) => serve(alloc, &words, &mut files, &mut out, &mut err).status,
+        Ok(words) => serve(
+            &rt, alloc, &words, &mut files, &mut out, &mut err, &FreeGate,
+        )
+        .status,
         Err(AllocError) => {
             let _ = report(&mut err, &Fault::NoMemory);
             Fault::NoMemory.status()

@@ -1,15 +1,17 @@
 -- A run in whose way nothing stood ends with the output, or for want of memory.
-use Rattle.std.proofs.Common.{◌≡◌, ◌⊎◌, ◌∙◌, refl, sym, subst, inl, inr, arith, false, ℕ, ◌-◌, ◌<◌, List, length, take, Option, Some, None, IsSome}
+use Rattle.std.proofs.Common.{IfSome, ◌≤◌, ◌+◌, ◌∷◌, [], ◌≡◌, ◌⊎◌, ◌∙◌, refl, sym, subst, inl, inr, arith, false, ℕ, ◌-◌, ◌<◌, List, length, take, Option, Some, None, IsSome}
 use Rattle.std.specs.Prelude.{IsSomeAnd, slice_get}
 use Rattle.std.specs.List.{All}
 use Rattle.std.proofs.lemmas.Option.{slice_get_within, get_or_from_slice_get}
 use Rattle.scq_frames.specs.Trouble.{Trouble, LongPayload, ManyBytes}
 use Rattle.scq_collect.specs.Judged.{file_trouble}
 use Rattle.scq_outside.specs.Table.{Table}
+use Rattle.std.specs.Option.{option_map}
+use Rattle.scq_words.specs.declared.text_request.TextCommand.{TextCommand}
 use Rattle.scq_service.specs.Causes.{IsTroubled}
 use Rattle.scq_service.specs.Contents.{contents_of, IfVisible}
 use Rattle.scq_outside.specs.Faults.{Rose}
-use Rattle.scq_service.specs.Ends.{Left, Wrote, EndsAlone, EndsOver, IsCalm}
+use Rattle.scq_service.specs.Ends.{Left, Wrote, EndsAlone, EndsOver, EndsWhole, IsCalm, IsCalmText, IsOfTextAlone, most_text}
 use Rattle.scq_service.specs.declared.fault.Fault.{Fault}
 use Rattle.scq_service.specs.declared.fault.Fault.TheVariants.{Words, OpenFault, ReadFault, TooLong, TooLarge, WriteFault, BadLine, NotEnabled, Unlawful, NoMemory}
 
@@ -69,3 +71,40 @@ complete-alone text w (Some (Words fault)) e calm = absurd e
 complete-alone text w (Some (BadLine line)) e calm = absurd e
 complete-alone text w (Some (NotEnabled line)) e calm = absurd e
 complete-alone text w (Some (Unlawful line)) e calm = absurd e
+
+-- the one source has not both counts
+one-apart : {S : Type 0} (faults : S → ℕ) (sources : List S) → length sources ≡ 1 → All (λ source. faults source ≡ 0) sources → All (λ source. faults source ≡ 1) sources → ⊥
+one-apart faults [] one quiet failed = cc
+one-apart faults (x ∷ xs) one quiet failed = omega (arith, quiet 0 x (omega arith), failed 0 x (omega arith))
+
+-- a content that fits was not too large
+fits-or-large : {S : Type 0} (left : S → Option (List ℕ)) (table : Option Table) (name : List ℕ) (sources : List S) (read : ℕ) → IsSome table → length sources ≡ 1 → read ≡ most_text + 1
+    → IfSome table (λ files. IsSomeAnd (files name) (λ content. All (λ source. Some (length content) ≡ option_map (λ rest. read + length rest) (left source)) sources))
+    → IfSome table (λ files. IsSomeAnd (files name) (λ content. length content ≤ most_text)) → ⊥
+fits-or-large left None name sources read some one more large fits = cc
+fits-or-large left (Some files) name [] read some one more large fits = cc
+fits-or-large left (Some files) name (x ∷ xs) read some one more large fits = at (files name) large fits where
+  past : (o : Option (List ℕ)) (count : ℕ) → Some count ≡ option_map (λ rest. read + length rest) o → count ≤ most_text → ⊥
+  past None count is low = cc
+  past (Some rest) count is low = let same : count ≡ read + length rest = cc in omega (arith, same, more, low)
+
+  at : (o : Option (List ℕ)) → IsSomeAnd o (λ content. All (λ source. Some (length content) ≡ option_map (λ rest. read + length rest) (left source)) (x ∷ xs))
+      → IsSomeAnd o (λ content. length content ≤ most_text) → ⊥
+  at None large fits = fits
+  at (Some content) large fits = past (left x) (length content) (large 0 x (omega arith)) fits
+
+-- a run over one whole file, in whose way nothing stood, ends by its text or for want of memory
+pub complete-text : {S : Type 0} (command : TextCommand) (faults : S → ℕ) (left : S → Option (List ℕ)) (name : List ℕ) (r : Left S) (w : Wrote) (end : Option Fault)
+    → EndsWhole command faults left name r w end → IsCalmText faults name r w → IsOfTextAlone command end
+complete-text command faults left name r w None e calm = inl refl
+complete-text command faults left name r w (Some NoMemory) e calm = inr (inl refl)
+complete-text command faults left name r w (Some WriteFault) e calm = absurd (calm.writes e.1)
+complete-text command faults left name r w (Some (OpenFault file)) e calm = absurd (calm.opens e.1.rose)
+complete-text command faults left name r w (Some (ReadFault file)) e calm = absurd (one-apart faults r.sources e.1.got.one calm.quiet e.1.failed)
+complete-text command faults left name r w (Some (TooLarge file limit)) e calm =
+    absurd (fits-or-large left r.table.old name r.sources r.read calm.visible e.2.got.one e.2.read e.2.bytes calm.fits)
+complete-text command faults left name r w (Some (BadLine line)) e calm = inr (inr e.0)
+complete-text command faults left name r w (Some (NotEnabled line)) e calm = inr (inr e.0)
+complete-text command faults left name r w (Some (Unlawful line)) e calm = inr (inr e.0)
+complete-text command faults left name r w (Some (TooLong file line len limit)) e calm = inr (inr e.0)
+complete-text command faults left name r w (Some (Words fault)) e calm = inr (inr e.0)

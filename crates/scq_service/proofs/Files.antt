@@ -1,4 +1,4 @@
--- Tables, contents and faults of files, with one file more.
+-- Tables and contents of files, with one file more.
 use Rattle.std.proofs.Common.{◌≡◌, ◌⊎◌, ◌∙◌, refl, sym, ap, subst, inl, inr, arith, true, false, ℕ, suc, ◌+◌, Bool, ◌||◌, List, [], ◌∷◌, ◌++◌, length, map, append_assoc, Option, Some, None, IsSome, IfSome, cond}
 use Rattle.std.specs.Prelude.{IsSomeAnd, nat_lt, option_and_then, unwrap_or}
 use Rattle.std.specs.List.{list_any}
@@ -80,64 +80,3 @@ visible-more (Some table) now names name before P Q is there seen more =
     next (Some content) e some is (Some contents) f seen =
         let R : Option (List (List ℕ)) → Type 0 = λ o. IsSomeAnd o Q in
         subst R (sym (contents-more table names name content contents f e)) (more contents content is seen)
-
--- the answers with one file more
-pub answers-more : (topics : List (List ℕ × Kind)) (file : ℕ) (contents : List (List ℕ)) (content : List ℕ)
-    → answers_to topics file (contents ++ content ∷ []) ≡ answers_to topics file contents ++ map (answer_to topics (file + length contents)) (messages_of content)
-answers-more topics file [] content =
-    append-nil (map (answer_to topics file) (messages_of content)) ∙ ap (λ n. map (answer_to topics n) (messages_of content)) (same file)
-  where
-    same : (n : ℕ) → n ≡ n + 0
-    same n = omega arith
-answers-more topics file (c ∷ cs) content =
-    ap (λ (rest : List Answered). map (answer_to topics file) (messages_of c) ++ rest) (answers-more topics (file + 1) cs content)
-    ∙ ap (λ n. map (answer_to topics file) (messages_of c) ++ (answers_to topics (file + 1) cs ++ map (answer_to topics n) (messages_of content))) (next file (length cs))
-    ∙ sym (append_assoc (map (answer_to topics file) (messages_of c)) (answers_to topics (file + 1) cs) _)
-  where
-    next : (n k : ℕ) → n + 1 + k ≡ n + suc k
-    next n k = omega arith
-
-module _ {S : Type 0} (size : ℕ) (faults : S → ℕ) (left : S → Option (List ℕ)) where
-  -- the fault of one source
-  abbrev pub fault_of_one : ℕ → List ℕ → S → Option Fault
-  fault_of_one file content source = let failed = nat_lt 0 (faults source) in
-      file_fault size file failed (file_trouble size failed (given_of content (unwrap_or (left source) [])))
-
-  or-none : (o : Option Fault) → option_or o None ≡ o
-  or-none None = refl
-  or-none (Some fault) = refl
-
-  or-assoc : (a b c : Option Fault) → option_or a (option_or b c) ≡ option_or (option_or a b) c
-  or-assoc None b c = refl
-  or-assoc (Some fault) b c = refl
-
-  -- the first fault with one file more
-  pub fault-more : (file : ℕ) (contents : List (List ℕ)) (sources : List S) (content : List ℕ) (source : S) → HaveRest left contents sources
-      → first_file_fault size faults left file (contents ++ content ∷ []) (sources ++ source ∷ [])
-      ≡ option_or (first_file_fault size faults left file contents sources) (fault_of_one (file + length contents) content source)
-  fault-more file [] [] content source rest = or-none (fault_of_one file content source) ∙ ap (λ n. fault_of_one n content source) (same file) where
-    same : (n : ℕ) → n ≡ n + 0
-    same n = omega arith
-  fault-more file [] (s ∷ ss) content source rest = absurd rest
-  fault-more file (c ∷ cs) [] content source rest = absurd rest
-  fault-more file (c ∷ cs) (s ∷ ss) content source rest =
-      ap (option_or (fault_of_one file c s)) (fault-more (file + 1) cs ss content source rest.1)
-      ∙ ap (λ n. option_or (fault_of_one file c s) (option_or (first_file_fault size faults left (file + 1) cs ss) (fault_of_one n content source))) (next file (length cs))
-      ∙ or-assoc (fault_of_one file c s) (first_file_fault size faults left (file + 1) cs ss) (fault_of_one (file + length (c ∷ cs)) content source)
-    where
-      next : (n k : ℕ) → n + 1 + k ≡ n + suc k
-      next n k = omega arith
-
-  -- each source has left what follows
-  pub rest-more : (contents : List (List ℕ)) (sources : List S) (content rest : List ℕ) (source : S) → HaveRest left contents sources → left source ≡ Some rest
-      → content ≡ given_of content rest ++ rest → HaveRest left (contents ++ content ∷ []) (sources ++ source ∷ [])
-  rest-more [] [] content rest source all is e = let P : Option (List ℕ) → Type 0 = λ o. IsSomeAnd o (λ r. content ≡ given_of content r ++ r) in (subst P (sym is) e, tt)
-  rest-more [] (s ∷ ss) content rest source all is e = absurd all
-  rest-more (c ∷ cs) [] content rest source all is e = absurd all
-  rest-more (c ∷ cs) (s ∷ ss) content rest source all is e = (all.0, rest-more cs ss content rest source all.1 is e)
-
-  pub rest-length : (contents : List (List ℕ)) (sources : List S) → HaveRest left contents sources → length contents ≡ length sources
-  rest-length [] [] all = refl
-  rest-length [] (s ∷ ss) all = absurd all
-  rest-length (c ∷ cs) [] all = absurd all
-  rest-length (c ∷ cs) (s ∷ ss) all = ap suc (rest-length cs ss all.1)

@@ -1,8 +1,8 @@
+pub mod Coming
 pub mod Completeness
 pub mod Files
+pub mod OneFile
 pub mod Pieces
-pub mod Progress
-pub mod Readings
 mod Rows
-pub mod Steps
+pub mod Working
 pub mod Writings

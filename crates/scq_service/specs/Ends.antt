@@ -222,3 +222,15 @@ pub record IsCalm {S : Type 0} (size : ℕ) (faults : S → ℕ) (names : List (
   pub quiet : All (λ source. faults source ≡ 0) r.sources
   pub visible : IsSome r.table.old
   pub sound : IfGot names r (λ contents. All (λ content. file_trouble size false content ≡ None) contents)
+
+-- nothing stood in the way of a run over one whole file: it was got, no count rose, and its content is not too large
+pub record IsCalmText {S : Type 0} (faults : S → ℕ) (name : List ℕ) (r : Left S) (w : Wrote) : Type 0 where
+  pub opens : ¬ Rose r.opens.old r.opens.new
+  pub writes : ¬ Rose w.faults.old w.faults.new
+  pub quiet : All (λ source. faults source ≡ 0) r.sources
+  pub visible : IsSome r.table.old
+  pub fits : IfContent r name (λ content. length content ≤ most_text)
+
+-- it ended with its output, for want of memory, or with a fault that the text has
+abbrev pub IsOfTextAlone : TextCommand → Option Fault → Type 0
+IsOfTextAlone command end = (end ≡ None) ⊎ ((end ≡ Some NoMemory) ⊎ IsSomeAnd end (IsOfText command))

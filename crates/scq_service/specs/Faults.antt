@@ -1,11 +1,11 @@
 -- What the program ends with.
 use Rattle.std.specs.Prelude.{ℕ, ◌^◌, List, [], ◌++◌, Option, Some, None, codes, decimal}
-use Rattle.scq_frames.specs.declared.fault.FrameFault.{FrameFault}
-use Rattle.scq_frames.specs.declared.fault.FrameFault.TheVariants as frame
 use Rattle.scq_topics.specs.declared.topics.TopicFault.{TopicFault}
 use Rattle.scq_topics.specs.declared.topics.TopicFault.TheVariants.{TooMany, BadName, BadKind, Twice}
 use Rattle.scq_words.specs.declared.fault.WordsFault.{WordsFault}
 use Rattle.scq_words.specs.declared.fault.WordsFault.TheVariants.{NotUnderstood, Workers, Order, Size, Topics, TooManyFiles, NoName, MoreWorkers, Seed, Lines}
+use Rattle.scq_work.specs.declared.worked.WorkFault.{WorkFault}
+use Rattle.scq_work.specs.declared.worked.WorkFault.TheVariants as work
 use Rattle.scq_service.specs.declared.fault.Fault.{Fault}
 use Rattle.scq_service.specs.declared.fault.Fault.TheVariants.{Words, OpenFault, ReadFault, TooLong, TooLarge, WriteFault, BadLine, NotEnabled, Unlawful, NoMemory}
 use Rattle.scq_outside.specs.declared.read_all_fault.ReadAllFault.{ReadAllFault}
@@ -89,16 +89,16 @@ abbrev pub report_of : Option Fault → List ℕ
 report_of None = []
 report_of (Some fault) = fault_line fault
 
--- a framer's fault as one of the file that it read, where a payload may have `size` bytes
-abbrev pub fault_of_file : ℕ → ℕ → FrameFault → Fault
-fault_of_file size file frame.ReadFault = ReadFault file
-fault_of_file size file (frame.TooLong line len) = TooLong file line len size
-fault_of_file size file (frame.TooLarge bytes) = TooLarge file (2 ^ 30)
-fault_of_file size file frame.NoMemory = NoMemory
+-- a fault of the workers, where a payload may have `size` bytes
+abbrev pub fault_of_work : ℕ → WorkFault → Fault
+fault_of_work size (work.Read file) = ReadFault file
+fault_of_work size (work.TooLong file line len) = TooLong file line len size
+fault_of_work size (work.TooLarge file bytes) = TooLarge file (2 ^ 30)
+fault_of_work size work.NoMemory = NoMemory
 
--- the number of bytes that a framer read of a file that is too large, and 0 at its other faults
-abbrev pub bytes_of_large : FrameFault → ℕ
-bytes_of_large (frame.TooLarge bytes) = bytes
+-- the number of bytes that were read of a file that is too large, and 0 at the workers' other faults
+abbrev pub bytes_of_large : WorkFault → ℕ
+bytes_of_large (work.TooLarge file bytes) = bytes
 bytes_of_large _ = 0
 
 -- a fault of the one whole file

@@ -4,3 +4,4 @@ pub mod Ends
 pub mod Faults
 pub mod Writing
 pub mod Telling
+pub mod Answers

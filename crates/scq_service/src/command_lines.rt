@@ -1,5 +1,6 @@
 //! A table of command lines, each of which runs or is refused with its line.
 use crate::harness::{Cut, EmptyFiles, run_over, run_words};
+use scq_work::FreeGate;
 use std::test::Fail;
 
 const WHOLE: Cut = (4096, None);
@@ -213,7 +214,7 @@ fn command_lines_run_or_write_their_line(rt: HostRuntime) -> Result<(), Fail> {
     let mut files = EmptyFiles { alloc: rt.alloc() };
     for row in COMMAND_LINES.split('\n') {
         let (words, line) = row.split_once('|').ok_or("row")?;
-        let ran = run_over(rt.alloc(), words, &mut files, WHOLE, WHOLE)?;
+        let ran = run_over(&rt, rt.alloc(), words, &mut files, WHOLE, WHOLE)?;
         assert_eq!(rt; ran.status, if line.is_empty() { 0 } else { 2 }, "{words}");
         assert_eq!(rt; ran.out.bytes().is_empty(), !line.is_empty(), "{words}");
         assert!(rt; is_line(ran.err.bytes(), line), "{words}");
@@ -224,7 +225,7 @@ fn command_lines_run_or_write_their_line(rt: HostRuntime) -> Result<(), Fail> {
 #[test]
 fn no_words_are_refused(rt: HostRuntime) -> Result<(), Fail> {
     let mut files = EmptyFiles { alloc: rt.alloc() };
-    let ran = run_words(rt.alloc(), &[], &mut files, WHOLE, WHOLE)?;
+    let ran = run_words(&rt, rt.alloc(), &[], &mut files, WHOLE, WHOLE, &FreeGate)?;
     assert_eq!(rt; ran.status, 2);
     assert!(rt; ran.out.bytes().is_empty());
     assert!(rt; is_line(ran.err.bytes(), "words not understood"));

@@ -1,47 +1,89 @@
-ghost use Rattle.std.specs.Prelude.{◌≡◌, ◌<◌, ◌^◌, IfOk};
-ghost use Rattle.std.specs.Result.{result_err};
+ghost use Rattle.std.specs.Prelude.{◌≡◌, ◌<◌, ◌≤◌, ◌^◌, [], ◌∷◌, IfOk, IfSome, length};
+ghost use Rattle.std.specs.List.{All};
+ghost use Rattle.scq_collect.specs.Output.{answers_to};
+ghost use Rattle.scq_self.specs.Generated.{generated as the_file, self_topics as the_topics};
 ghost use Rattle.scq_self.specs.Summary.{self_summary};
+ghost use Rattle.scq_service.specs.Answers.{WorkedAt};
 ghost use Rattle.scq_service.specs.Ends.{EndsAlone};
+ghost use Rattle.scq_service.specs.Faults.{status_of};
 
-use crate::Fault;
+use crate::job::job_of;
 use crate::writing::write_all;
-use scq_collect::collect;
+use crate::{Fault, Outcome};
 use scq_outside::{Failed, PlainSource, Sink};
 use scq_self::{generate, self_topics, summary_text};
-use scq_word::{Bytes, NoMemory};
+use scq_word::NoMemory;
+use scq_work::{Gate, WorkEnd, Worked, work};
 use std::alloc::Global;
+use std::sync::Wait;
+use std::thread::Threads;
+
+/// There are 2^6 buffers.
+const ORDER: u32 = 6;
 
 /// The greatest number of bytes of a payload of the file.
 const SIZE: u32 = 1 << 16;
 
-/// Makes the file of the seed, answers it, and writes its summary once that is whole.
-pub fn run_self<K: Sink>(alloc: Global, seed: u32, lines: u32, out: &mut K) -> Result<(), Fault>
-    requires { seed < 2 ^ 31 }
-    ensures { EndsAlone (self_summary seed lines) (record {
+/// Makes the file of the seed, answers it, and writes its summary once that is whole. No source is got.
+pub fn run_self<R: Threads + Wait + Sync, S, K: Sink, G: Gate>(
+    rt: &R,
+    alloc: Global,
+    seed: u32,
+    lines: u32,
+    workers: u32,
+    out: &mut K,
+    gate: &G,
+) -> Outcome<S>
+    requires seed { seed < 2 ^ 31 }
+    requires workers { (0 < workers) × (workers ≤ 64) }
+    ensures ends { EndsAlone (self_summary seed lines) (record {
       written = record { old = K.written out.old; new = K.written out.new };
       faults = record { old = K.faults out.old; new = K.faults out.new };
-    }) (result_err result) }
+    }) result.fault }
+    ensures sources { result.sources.items ≡ [] }
+    ensures read { result.read ≡ 0 }
+    ensures status { result.status ≡ status_of result.fault }
+    ensures worked { WorkedAt result.fault result.worked }
+    ensures answers { IfSome result.worked (λ w. w.answered.items ≡ answers_to the_topics 1 (the_file seed lines ∷ [])) }
 {
-    match summary_of_file(alloc, seed, lines) {
-        Ok(text) => match write_all(out, text.bytes()) {
-            Ok(()) => Ok(()),
-            Err(Failed) => Err(Fault::WriteFault),
-        },
-        Err(NoMemory) => Err(Fault::NoMemory),
+    let Ok(worked) = answer_file(rt, alloc, seed, lines, workers, gate) else {
+        return Outcome::at(Vec::new(alloc), Fault::NoMemory);
+    };
+    let topics = self_topics();
+    match summary_text(alloc, &topics, lines, worked.answered.as_slice()) {
+        Ok(text) => {
+            let outcome = Outcome::answered(Vec::new(alloc), worked);
+            match write_all(out, text.bytes()) {
+                Ok(()) => outcome,
+                Err(Failed) => outcome.unwritten(),
+            }
+        }
+        Err(NoMemory) => Outcome::at(Vec::new(alloc), Fault::NoMemory),
     }
 }
 
-/// The summary of the file of the seed. Its lines are short and its source never fails, so where an
-/// answer is wanting, memory is.
-fn summary_of_file(alloc: Global, seed: u32, lines: u32) -> Result<Bytes, NoMemory>
-    requires { seed < 2 ^ 31 }
-    ensures { IfOk result (λ bytes. bytes ≡ self_summary seed lines) }
+/// Makes the file of the seed and answers its messages. Its lines are short and its source never fails,
+/// so where answers are wanting, memory is.
+fn answer_file<R: Threads + Wait + Sync, G: Gate>(
+    rt: &R,
+    alloc: Global,
+    seed: u32,
+    lines: u32,
+    workers: u32,
+    gate: &G,
+) -> Result<Worked, NoMemory>
+    requires seed { seed < 2 ^ 31 }
+    requires workers { (0 < workers) × (workers ≤ 64) }
+    ensures known { IfOk result (λ w. All (λ a. a.topic ≤ length the_topics) w.answered.items) }
+    ensures answers { IfOk result (λ w. w.answered.items ≡ answers_to the_topics 1 (the_file seed lines ∷ [])) }
 {
-    let topics = self_topics();
-    let mut source = PlainSource::new(generate(alloc, seed, lines)?);
-    let mut answered = Vec::new(alloc);
-    match collect(alloc, &topics, SIZE, 1, &mut source, &mut answered) {
-        Ok(()) => summary_text(alloc, &topics, lines, answered.as_slice()),
+    let job = job_of(ORDER, SIZE, workers, self_topics());
+    let source = PlainSource::new(generate(alloc, seed, lines)?);
+    let mut sources = Vec::with_capacity(alloc, 1)?;
+    sources.push_reserved(source);
+    let WorkEnd { sources: _, result } = work(rt, alloc, &job, sources, gate);
+    match result {
+        Ok(worked) => Ok(worked),
         Err(_) => Err(NoMemory),
     }
 }

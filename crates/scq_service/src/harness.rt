@@ -6,7 +6,10 @@ ghost use Rattle.scq_outside.specs.Calls.{are_pieces};
 use crate::serve;
 use scq_outside::{Failed, Files, MemSink, MemSource, PlainSource, Source};
 use scq_word::NoMemory;
+use scq_work::{FreeGate, Gate};
 use std::alloc::Global;
+use std::sync::Wait;
+use std::thread::Threads;
 
 /// How a stream is cut: its greatest piece, and the number of the call that fails, if there is one.
 pub type Cut = (u32, Option<u32>);
@@ -16,13 +19,16 @@ pub type Cut = (u32, Option<u32>);
 pub struct Ran {
     pub status: u8,
     pub read: u64,
+    /// How many replies workers computed again, where there is what they answered.
+    pub again: Option<u64>,
     pub out: MemSink,
     pub err: MemSink,
 }
 
 /// The service over these files, with room for 1,000 bytes in each sink. The words stand between the
 /// spaces of a line.
-pub fn run_over<F: Files>(
+pub fn run_over<R: Threads + Wait + Sync, F: Files>(
+    rt: &R,
     alloc: Global,
     words: &str,
     files: &mut F,
@@ -33,30 +39,42 @@ pub fn run_over<F: Files>(
     for word in words.split(' ') {
         owned.push(String::from_str(alloc, word)?)?;
     }
-    run_words(alloc, owned.as_slice(), files, writes, err_writes)
+    run_words(
+        rt,
+        alloc,
+        owned.as_slice(),
+        files,
+        writes,
+        err_writes,
+        &FreeGate,
+    )
 }
 
-/// The service with these words.
-pub fn run_words<F: Files>(
+/// The service with these words and this gate.
+pub fn run_words<R: Threads + Wait + Sync, F: Files, G: Gate>(
+    rt: &R,
     alloc: Global,
     words: &[String],
     files: &mut F,
     writes: Cut,
     err_writes: Cut,
+    gate: &G,
 ) -> Result<Ran, NoMemory> {
     let mut out = sink(alloc, writes)?;
     let mut err = sink(alloc, err_writes)?;
-    let outcome = serve(alloc, words, files, &mut out, &mut err);
+    let outcome = serve(rt, alloc, words, files, &mut out, &mut err, gate);
     Ok(Ran {
         status: outcome.status,
         read: outcome.read,
+        again: outcome.worked.map(|worked| worked.again),
         out,
         err,
     })
 }
 
 /// The service over the files of a text: `name:content`, with `|` between them.
-pub fn run_text(
+pub fn run_text<R: Threads + Wait + Sync>(
+    rt: &R,
     alloc: Global,
     words: &str,
     files: &str,
@@ -64,14 +82,19 @@ pub fn run_text(
     writes: Cut,
     err_writes: Cut,
 ) -> Result<Ran, NoMemory> {
-    let mut files = TextFiles {
+    let mut files = text_files(alloc, files, reads);
+    run_over(rt, alloc, words, &mut files, writes, err_writes)
+}
+
+/// The files of a text, none of which is given yet.
+pub fn text_files(alloc: Global, text: &str, reads: Cut) -> TextFiles<'_> {
+    TextFiles {
         alloc,
-        text: files,
+        text,
         reads,
         given: [false; MOST_FILES],
         faults: 0,
-    };
-    run_over(alloc, words, &mut files, writes, err_writes)
+    }
 }
 
 /// The most files of a text that are found.
@@ -79,7 +102,7 @@ const MOST_FILES: usize = 8;
 
 /// The files of a text, each of which is given once. Their sources are cut alike.
 #[derive(Drop)]
-struct TextFiles<'a> {
+pub struct TextFiles<'a> {
     alloc: Global,
     text: &'a str,
     reads: Cut,

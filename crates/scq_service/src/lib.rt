@@ -1,6 +1,6 @@
 //! The service: what a command line asks for, answered and written. It stands on `scq_words` for what is
-//! asked, on `scq_collect` for answers and their text, on `scq_self` for a generated file, and on
-//! `scq_outside` for files and sinks. The program calls `serve`, whose contract is the promise of the
+//! asked, on `scq_work` for workers, on `scq_collect` for the text of answers, on `scq_self` for a
+//! generated file, and on `scq_outside` for files and sinks. The program calls `serve`, whose contract is the promise of the
 //! whole: at status 0 the output is that of one thread, and each other status comes only where its cause
 //! holds.
 #![tactic(auto)]
@@ -11,6 +11,7 @@ mod fault;
 mod generated;
 #[cfg(test)]
 mod harness;
+mod job;
 mod outcome;
 mod reading;
 mod reporting;
@@ -21,6 +22,8 @@ mod tests;
 #[cfg(test)]
 mod text_commands;
 mod whole;
+#[cfg(test)]
+mod worker_tests;
 mod writing;
 
 pub use fault::Fault;

@@ -1,10 +1,11 @@
 ghost use Rattle.std.specs.Prelude.{◌≡◌, Some, None};
-ghost use Rattle.scq_service.specs.Faults.{status_of_fault, fault_of_file, fault_of_text, bytes_of_large, bytes_of_large_text};
+ghost use Rattle.scq_service.specs.Faults.{status_of_fault, fault_of_work, fault_of_text, bytes_of_large, bytes_of_large_text};
+ghost use Rattle.scq_service.specs.Answers.{WorkedAt};
 
 use crate::Fault;
 use crate::whole::MOST_TEXT;
-use scq_frames::FrameFault;
 use scq_outside::ReadAllFault;
+use scq_work::{WorkFault, Worked};
 
 /// The greatest number of bytes of a file.
 const MOST_BYTES: u64 = 1 << 30;
@@ -19,6 +20,8 @@ pub struct Outcome<S> {
     pub sources: Vec<S>,
     /// How many bytes were read of a file that is too large; 0 where none is.
     pub read: u64,
+    /// What workers answered: there exactly where `run` or `self` ended with status 0 or 4.
+    pub worked: Option<Worked>,
 }
 
 impl<S> Outcome<S> {
@@ -27,12 +30,43 @@ impl<S> Outcome<S> {
         ensures fault { result.fault ≡ None }
         ensures sources { result.sources ≡ sources }
         ensures read { result.read ≡ 0 }
+        ensures worked { result.worked ≡ None }
     {
         Outcome {
             status: 0,
             fault: None,
             sources,
             read: 0,
+            worked: None,
+        }
+    }
+
+    /// The end once workers have answered all messages of these sources.
+    pub(crate) fn answered(sources: Vec<S>, worked: Worked) -> Outcome<S>
+        ensures status { result.status ≡ 0 }
+        ensures fault { result.fault ≡ None }
+        ensures sources { result.sources ≡ sources }
+        ensures read { result.read ≡ 0 }
+        ensures worked { result.worked ≡ Some worked }
+    {
+        Outcome {
+            worked: Some(worked),
+            ..Outcome::whole(sources)
+        }
+    }
+
+    /// The same end, but that a write failed.
+    pub(crate) fn unwritten(self) -> Outcome<S>
+        ensures status { result.status ≡ 4 }
+        ensures fault { result.fault ≡ Some Fault.WriteFault }
+        ensures sources { result.sources ≡ self.sources }
+        ensures read { result.read ≡ self.read }
+        ensures worked { result.worked ≡ self.worked }
+    {
+        Outcome {
+            status: 4,
+            fault: Some(Fault::WriteFault),
+            ..self
         }
     }
 
@@ -41,24 +75,28 @@ impl<S> Outcome<S> {
         ensures fault { result.fault ≡ Some fault }
         ensures sources { result.sources ≡ sources }
         ensures read { result.read ≡ 0 }
+        ensures worked { result.worked ≡ None }
     {
         Outcome {
             status: fault.status(),
             fault: Some(fault),
             sources,
             read: 0,
+            worked: None,
         }
     }
 
-    pub(crate) fn of_file(sources: Vec<S>, size: u32, file: u32, fault: FrameFault) -> Outcome<S>
-        ensures status { result.status ≡ status_of_fault (fault_of_file size file fault) }
-        ensures fault { result.fault ≡ Some (fault_of_file size file fault) }
+    /// The end at a fault of the workers, where a payload may have `size` bytes.
+    pub(crate) fn of_work(sources: Vec<S>, size: u32, fault: WorkFault) -> Outcome<S>
+        ensures status { result.status ≡ status_of_fault (fault_of_work size fault) }
+        ensures fault { result.fault ≡ Some (fault_of_work size fault) }
         ensures sources { result.sources ≡ sources }
         ensures read { result.read ≡ bytes_of_large fault }
+        ensures worked { WorkedAt result.fault result.worked }
     {
         match fault {
-            FrameFault::ReadFault => Outcome::at(sources, Fault::ReadFault { file }),
-            FrameFault::TooLong { line, len } => {
+            WorkFault::Read { file } => Outcome::at(sources, Fault::ReadFault { file }),
+            WorkFault::TooLong { file, line, len } => {
                 let limit = size;
                 Outcome::at(
                     sources,
@@ -70,7 +108,7 @@ impl<S> Outcome<S> {
                     },
                 )
             }
-            FrameFault::TooLarge { bytes } => Outcome {
+            WorkFault::TooLarge { file, bytes } => Outcome {
                 read: bytes,
                 ..Outcome::at(
                     sources,
@@ -80,7 +118,7 @@ impl<S> Outcome<S> {
                     },
                 )
             },
-            FrameFault::NoMemory => Outcome::at(sources, Fault::NoMemory),
+            WorkFault::NoMemory => Outcome::at(sources, Fault::NoMemory),
         }
     }
 
@@ -90,6 +128,7 @@ impl<S> Outcome<S> {
         ensures fault { result.fault ≡ Some (fault_of_text fault) }
         ensures sources { result.sources ≡ sources }
         ensures read { result.read ≡ bytes_of_large_text fault }
+        ensures worked { result.worked ≡ None }
     {
         match fault {
             ReadAllFault::ReadFault => Outcome::at(sources, Fault::ReadFault { file: 1 }),

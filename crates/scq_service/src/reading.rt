@@ -1,70 +1,92 @@
-ghost use Rattle.std.specs.Prelude.{◌≡◌, ◌≤◌, [], None, length, map, string_bytes, vec_len};
+ghost use Rattle.std.specs.Prelude.{◌≡◌, ◌≤◌, [], IfSome, length, map, string_bytes, vec_len, vec_capacity};
 ghost use Rattle.std.specs.List.{All};
-ghost use Rattle.scq_collect.specs.Output.{answers_to};
-ghost use Rattle.scq_service.specs.Ends.{HasGot, IfGot, ReadsOver};
+ghost use Rattle.scq_service.specs.Answers.{HaveCome, HaveAllCome, IsWorkOf, WorkedAt};
+ghost use Rattle.scq_service.specs.Ends.{HasGot, ReadsOver};
 ghost use Rattle.scq_service.specs.Faults.{status_of};
 
 use crate::{Fault, Outcome};
-use scq_collect::{Answered, collect};
-use scq_outside::Files;
-use scq_topics::Topics;
+use scq_outside::{Failed, Files};
+use scq_work::{Gate, Job, WorkEnd, work};
 use std::alloc::Global;
+use std::sync::Wait;
+use std::thread::Threads;
 
-/// Gets the sources of the files in order, up to the first that isn't got, and answers their messages up
-/// to the first file that has a fault. Each source is asked for at once and read at most once.
-pub fn read_files<F: Files>(
+/// Gets the sources of the files in order, up to the first that isn't got, and says whether all were got.
+/// Each is asked for once, and none is read.
+fn get_sources<F: Files>(names: &[String], files: &mut F, sources: &mut Vec<F::Src>) -> bool
+    requires none { (sources.old.items ≡ []) × (vec_len sources.old ≡ 0) }
+    requires room { length names.now ≤ vec_capacity sources.old }
+    ensures count { (vec_len sources.new ≡ length sources.new.items) × (vec_len sources.new ≤ length names.now) }
+    ensures come { HaveCome F.Src.faults F.Src.left (map string_bytes names.now) (record {
+      table = record { old = F.table files.old; new = F.table files.new };
+      opens = record { old = F.faults files.old; new = F.faults files.new };
+      sources = sources.new.items;
+      read = 0;
+    }) }
+    ensures all { HaveAllCome (map string_bytes names.now) (record {
+      table = record { old = F.table files.old; new = F.table files.new };
+      opens = record { old = F.faults files.old; new = F.faults files.new };
+      sources = sources.new.items;
+      read = 0;
+    }) result }
+{
+    'files: for name in names {
+        match files.source(name.as_str()) {
+            Ok(source) => sources.push_reserved(source),
+            Err(Failed) => return false,
+        }
+    }
+    true
+}
+
+/// Gets the sources of the files, up to the first that isn't got, and answers the messages of those that
+/// it got. Each source is asked for once and read at most once.
+pub fn read_files<R: Threads + Wait + Sync, F: Files, G: Gate>(
+    rt: &R,
     alloc: Global,
-    topics: &Topics,
-    size: u32,
+    job: &Job,
     names: &[String],
     files: &mut F,
-    answered: &mut Vec<Answered>,
+    gate: &G,
 ) -> Outcome<F::Src>
     requires few { length names.now ≤ 64 }
-    requires none { answered.old.items ≡ [] }
     ensures got { HasGot F.Src.left (map string_bytes names.now) (record {
       table = record { old = F.table files.old; new = F.table files.new };
       opens = record { old = F.faults files.old; new = F.faults files.new };
       sources = result.sources.items;
       read = result.read;
     }) }
-    ensures ends { ReadsOver size F.Src.faults F.Src.left (map string_bytes names.now) (record {
+    ensures ends { ReadsOver job.now.size F.Src.faults F.Src.left (map string_bytes names.now) (record {
       table = record { old = F.table files.old; new = F.table files.new };
       opens = record { old = F.faults files.old; new = F.faults files.new };
       sources = result.sources.items;
       read = result.read;
     }) result.fault }
     ensures status { result.status ≡ status_of result.fault }
-    ensures known { result.fault ≡ None → All (λ a. a.topic ≤ length topics.now) answered.new.items }
-    ensures answers { result.fault ≡ None → IfGot (map string_bytes names.now) (record {
+    ensures worked { WorkedAt result.fault result.worked }
+    ensures known { IfSome result.worked (λ w. All (λ a. a.topic ≤ length job.now.topics) w.answered.items) }
+    ensures answers { IsWorkOf job.now.topics (map string_bytes names.now) (record {
       table = record { old = F.table files.old; new = F.table files.new };
       opens = record { old = F.faults files.old; new = F.faults files.new };
       sources = result.sources.items;
       read = result.read;
-    })
-        (λ contents. answered.new.items ≡ answers_to topics.now 1 contents) }
+    }) result.worked }
 {
     let Ok(mut sources) = Vec::with_capacity(alloc, names.len()) else {
         return Outcome::at(Vec::new(alloc), Fault::NoMemory);
     };
-    let mut met = None;
-    'files: for (at, name) in names.iter().enumerate() {
-        let file = at as u32 + 1;
-        let Ok(mut source) = files.source(name.as_str()) else {
-            return match met {
-                Some((first, fault)) => Outcome::of_file(sources, size, first, fault),
-                None => Outcome::at(sources, Fault::OpenFault { file }),
-            };
-        };
-        if met.is_none() {
-            if let Err(fault) = collect(alloc, topics, size, file, &mut source, answered) {
-                met = Some((file, fault));
+    let all = get_sources(names, files, &mut sources);
+    let got = sources.len();
+    let WorkEnd { sources, result } = work(rt, alloc, job, sources, gate);
+    match result {
+        Ok(worked) => {
+            if all {
+                Outcome::answered(sources, worked)
+            } else {
+                let file = got as u32 + 1;
+                Outcome::at(sources, Fault::OpenFault { file })
             }
         }
-        sources.push_reserved(source);
-    }
-    match met {
-        Some((first, fault)) => Outcome::of_file(sources, size, first, fault),
-        None => Outcome::whole(sources),
+        Err(fault) => Outcome::of_work(sources, job.size, fault),
     }
 }

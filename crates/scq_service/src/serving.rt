@@ -1,30 +1,38 @@
 ghost use Rattle.std.specs.Prelude.{◌≡◌, ◌⊎◌, Ok, None, Some, map, string_bytes};
 ghost use Rattle.scq_outside.specs.Faults.{Rose};
-ghost use Rattle.scq_words.specs.Asked.{asked, generated, run, RunAsked, SelfAsked};
-ghost use Rattle.scq_service.specs.Ends.{EndsAs, IsCalm};
+ghost use Rattle.scq_words.specs.Asked.{asked, generated, run, whole, RunAsked, SelfAsked, TextAsked};
+ghost use Rattle.scq_service.specs.Answers.{WorkedAs};
+ghost use Rattle.scq_service.specs.Ends.{EndsAs, IsCalm, IsCalmText, IsOfTextAlone};
 ghost use Rattle.scq_service.specs.Faults.{status_of, report_of};
 ghost use Rattle.scq_service.specs.declared.fault.Fault.TheVariants.{NoMemory};
 ghost use Rattle.scq_service.specs.Writing.{written_with, WrotePart};
 
 use crate::generated::run_self;
+use crate::job::job_of;
 use crate::reporting::report_end;
 use crate::run::run_files;
 use crate::whole::run_text;
 use crate::{Fault, Outcome};
 use scq_outside::{Files, Sink};
-use scq_words::{Request, WordsError, read_words};
+use scq_words::{Request, SelfRequest, WordsError, read_words};
+use scq_work::Gate;
 use std::alloc::Global;
+use std::sync::Wait;
+use std::thread::Threads;
 
-/// Runs what the words ask for: answers the messages of the files that they name, one by one and in
-/// order, or those of a generated file, and writes the output, or the summary, once it is whole. At a
-/// fault it writes one line to `err`, in no memory; a failing `err` changes nothing. It returns over every
-/// source, also one that never ends.
-pub fn serve<F: Files, K: Sink>(
+/// Runs what the words ask for: gets the sources of the files that they name, up to the first that isn't
+/// got, answers their messages, or those of a generated file, by as many workers as they ask for, and
+/// writes the output, or the summary, once it is whole. At a fault it writes one line to `err`, in no
+/// memory; a failing `err` changes nothing. Workers call the gate, which has no meaning. They share a list
+/// under a lock, so the call may wait; it owes no return.
+pub fn serve<R: Threads + Wait + Sync, F: Files, K: Sink, G: Gate>(
+    rt: &R,
     alloc: Global,
     words: &[String],
     files: &mut F,
     out: &mut K,
     err: &mut K,
+    gate: &G,
 ) -> Outcome<F::Src>
     ensures status { result.status ≡ status_of result.fault }
 
@@ -37,6 +45,15 @@ pub fn serve<F: Files, K: Sink>(
           read = result.read;
         })
         (record { written = record { old = K.written out.old; new = K.written out.new }; faults = record { old = K.faults out.old; new = K.faults out.new } }) result.fault }
+
+    // What workers answered is there exactly where the text of it was whole, and is what one thread answers.
+    ensures worked { WorkedAs (asked (map string_bytes words.now))
+        (record {
+          table = record { old = F.table files.old; new = F.table files.new };
+          opens = record { old = F.faults files.old; new = F.faults files.new };
+          sources = result.sources.items;
+          read = result.read;
+        }) result.fault result.worked }
 
     // Where nothing stood in the way of a run over files, it ends with the output, or for want of memory.
     ensures complete { (a : RunAsked) → asked (map string_bytes words.now) ≡ Ok (run a)
@@ -54,21 +71,35 @@ pub fn serve<F: Files, K: Sink>(
     ensures complete_self { (a : SelfAsked) → asked (map string_bytes words.now) ≡ Ok (generated a) → ¬ Rose (K.faults out.old) (K.faults out.new)
         → (result.fault ≡ None) ⊎ (result.fault ≡ Some NoMemory) }
 
+    // Where nothing stood in the way of a run over one whole file, it ends with what its text tells, or for want of memory.
+    ensures complete_text { (a : TextAsked) → asked (map string_bytes words.now) ≡ Ok (whole a)
+        → IsCalmText F.Src.faults a.file
+        (record {
+          table = record { old = F.table files.old; new = F.table files.new };
+          opens = record { old = F.faults files.old; new = F.faults files.new };
+          sources = result.sources.items;
+          read = result.read;
+        })
+        (record { written = record { old = K.written out.old; new = K.written out.new }; faults = record { old = K.faults out.old; new = K.faults out.new } })
+        → IsOfTextAlone a.command result.fault }
+
     // Err has the fault's line, whole where it didn't fail.
     ensures reported { Rose (K.faults err.old) (K.faults err.new) ⊎ (K.written err.new ≡ written_with (K.written err.old) (report_of result.fault)) }
     ensures reported_front { WrotePart (K.written err.old) (K.written err.new) (report_of result.fault) }
 {
-    let outcome = run(alloc, words, files, out);
+    let outcome = run(rt, alloc, words, files, out, gate);
     report_end(err, &outcome.fault);
     outcome
 }
 
 /// Runs what the words ask for, and reports no fault yet.
-fn run<F: Files, K: Sink>(
+fn run<R: Threads + Wait + Sync, F: Files, K: Sink, G: Gate>(
+    rt: &R,
     alloc: Global,
     words: &[String],
     files: &mut F,
     out: &mut K,
+    gate: &G,
 ) -> Outcome<F::Src>
     ensures status { result.status ≡ status_of result.fault }
     ensures end { EndsAs F.Src.faults F.Src.left (asked (map string_bytes words.now))
@@ -79,16 +110,28 @@ fn run<F: Files, K: Sink>(
           read = result.read;
         })
         (record { written = record { old = K.written out.old; new = K.written out.new }; faults = record { old = K.faults out.old; new = K.faults out.new } }) result.fault }
+    ensures worked { WorkedAs (asked (map string_bytes words.now))
+        (record {
+          table = record { old = F.table files.old; new = F.table files.new };
+          opens = record { old = F.faults files.old; new = F.faults files.new };
+          sources = result.sources.items;
+          read = result.read;
+        }) result.fault result.worked }
 {
     match read_words(alloc, words) {
         Ok(Request::Run(asked)) => {
+            let job = job_of(asked.order, asked.size, asked.workers, asked.topics);
             let names = asked.files.as_slice();
-            run_files(alloc, &asked.topics, asked.size, names, files, out)
+            run_files(rt, alloc, &job, names, files, out, gate)
         }
-        Ok(Request::SelfRun(asked)) => match run_self(alloc, asked.seed, asked.lines, out) {
-            Ok(()) => Outcome::whole(Vec::new(alloc)),
-            Err(fault) => Outcome::at(Vec::new(alloc), fault),
-        },
+        Ok(Request::SelfRun(asked)) => {
+            let SelfRequest {
+                seed,
+                lines,
+                workers,
+            } = asked;
+            run_self(rt, alloc, seed, lines, workers, out, gate)
+        }
         Ok(Request::Text(asked)) => {
             run_text(alloc, asked.command, asked.file.as_str(), files, out)
         }

@@ -149,7 +149,7 @@ static ROWS: [Row; 22] = [
 #[test]
 fn texts_are_judged_run_or_refused(rt: HostRuntime) -> Result<(), Fail> {
     for (row, (words, files, status, out, err)) in ROWS.iter().enumerate() {
-        let ran = run_text(rt.alloc(), words, files, WHOLE, WHOLE, WHOLE)?;
+        let ran = run_text(&rt, rt.alloc(), words, files, WHOLE, WHOLE, WHOLE)?;
         assert_eq!(rt; ran.status, *status, "row {row}");
         assert_eq!(rt; ran.out.bytes(), out.as_bytes(), "row {row}");
         assert_eq!(rt; ran.err.bytes(), err.as_bytes(), "row {row}");
@@ -168,6 +168,7 @@ fn faults_of_the_file_and_the_sinks(rt: HostRuntime) -> Result<(), Fail> {
     ];
     for (row, (reads, writes, status, out, err)) in rows.iter().enumerate() {
         let ran = run_text(
+            &rt,
             rt.alloc(),
             "check f",
             "f:start 0 get 1\n",
@@ -184,7 +185,7 @@ fn faults_of_the_file_and_the_sinks(rt: HostRuntime) -> Result<(), Fail> {
 
 #[test]
 fn a_text_without_end_is_too_large(rt: HostRuntime) -> Result<(), Fail> {
-    let ran = run_over(rt.alloc(), "check f", &mut EndlessFiles, WHOLE, WHOLE)?;
+    let ran = run_over(&rt, rt.alloc(), "check f", &mut EndlessFiles, WHOLE, WHOLE)?;
     assert_eq!(rt; ran.status, 6);
     assert_eq!(rt; ran.read, 16777217);
     assert_eq!(rt; ran.out.bytes(), b"".as_slice());

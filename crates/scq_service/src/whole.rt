@@ -1,5 +1,5 @@
 //! The commands that read one whole file, `check` and `replay`.
-ghost use Rattle.std.specs.Prelude.{◌≡◌, ◌⊎◌, ◌≤◌, Ok, Err, IfOk, IfErr, length};
+ghost use Rattle.std.specs.Prelude.{◌≡◌, ◌⊎◌, ◌≤◌, None, Ok, Err, IfOk, IfErr, length};
 ghost use Rattle.scq_lines.specs.Lines.{lines_of};
 ghost use Rattle.scq_words.specs.declared.text_request.TextCommand.{TextCommand as TheCommand};
 ghost use Rattle.scq_service.specs.Ends.{Wrote, IsUnwritten, EndsWhole, IfContent, IsWhole};
@@ -34,6 +34,7 @@ pub fn run_text<F: Files, K: Sink>(
       read = result.read;
     })
         (record { written = record { old = K.written out.old; new = K.written out.new }; faults = record { old = K.faults out.old; new = K.faults out.new } }) result.fault }
+    ensures worked { result.worked ≡ None }
 {
     match read_one(alloc, name, files) {
         Ok(whole) => match tell(alloc, command, whole.text.bytes()) {
@@ -73,6 +74,7 @@ fn read_one<F: Files>(
       read = 0;
     }) name.now (λ content. content ≡ whole.text)) }
     ensures status { IfErr result (λ outcome. outcome.status ≡ status_of outcome.fault) }
+    ensures worked { IfErr result (λ outcome. outcome.worked ≡ None) }
     ensures ends { IfErr result (λ outcome. (command : TheCommand) (w : Wrote) → IsUnwritten w → EndsWhole command F.Src.faults F.Src.left name.now (record {
       table = record { old = F.table files.old; new = F.table files.new };
       opens = record { old = F.faults files.old; new = F.faults files.new };

@@ -1,17 +1,25 @@
 //! A table of command lines, each with what it asks for or the line of its fault.
-use crate::{Request, RunRequest, SelfRequest, WordsError, WordsFault, read_words};
+use crate::{Request, RunRequest, SelfRequest, TextRequest, WordsError, WordsFault, read_words};
 use std::alloc::Global;
 use std::test::Fail;
 
-static COMMANDS: [(&str, &str); 37] = [
+static COMMANDS: [(&str, &str); 45] = [
     ("", "words not understood"),
     ("run", "words not understood"),
     ("walk f", "words not understood"),
     ("RUN f", "words not understood"),
     ("help", "words not understood"),
     ("--help", "words not understood"),
-    ("replay f", "words not understood"),
-    ("check f", "words not understood"),
+    ("replay f", "Replay f"),
+    ("check f", "Check f"),
+    ("check", "words not understood"),
+    ("check f g", "words not understood"),
+    ("check -- -x", "Check -x"),
+    ("check -x", "words not understood"),
+    ("check --order 1 f", "words not understood"),
+    ("check ", "file 1 has no name"),
+    ("replay", "words not understood"),
+    ("replay --order f", "words not understood"),
     ("stages f", "words not understood"),
     (" run f", "words not understood"),
     ("run f", "run 4 6 65536 0 f"),
@@ -319,6 +327,9 @@ fn answer(alloc: Global, line: &str) -> Result<String, Fail> {
                 },
             ),
         ) => write!(text, "self {seed} {lines} {workers}")?,
+        Ok(Request::Text(TextRequest { command, file })) => {
+            write!(text, "{command:?} {}", file.as_str())?
+        }
         Err(WordsError::Refused(fault)) => write!(text, "{fault}")?,
         Err(WordsError::NoMemory) => write!(text, "out of memory")?,
     }

@@ -4,7 +4,7 @@ use Rattle.scq_self.specs.Summary.{self_summary}
 use Rattle.scq_words.specs.Asked.{Asked}
 use Rattle.scq_words.specs.declared.fault.WordsFault.{WordsFault}
 use Rattle.scq_service.specs.Ends.{EndsAs, Left, Wrote}
-use Rattle.scq_service.proofs.Completeness.{complete, complete-alone}
+use Rattle.scq_service.proofs.Completeness.{complete, complete-alone, complete-text}
 use Rattle.scq_service.proofs.serving.serve.Goals as goal
 
 pub returns-clause-complete : goal.returns-clause-complete
@@ -42,3 +42,21 @@ returns-clause-complete_self g c = λ a is calm.
     } in
     let E : Result Asked WordsFault → Type 0 = λ asked. EndsAs faults left asked r w outcome.fault in
     complete-alone (self_summary a.seed a.lines) w outcome.fault (subst E is c.run-outcome.ensures.end).1 calm
+
+pub returns-clause-complete_text : goal.returns-clause-complete_text
+returns-clause-complete_text g c = λ a is calm.
+    let faults = g.F.Src.Source.faults in
+    let left = g.F.Src.Source.left in
+    let outcome = c.run-outcome.result in
+    let r : Left _ = record {
+      table = record { old = g.F.Files.table c.args.files.now; new = g.F.Files.table c.run-outcome.new.files };
+      opens = record { old = g.F.Files.faults c.args.files.now; new = g.F.Files.faults c.run-outcome.new.files };
+      sources = outcome.sources.items;
+      read = outcome.read;
+    } in
+    let w : Wrote = record {
+      written = record { old = g.K.Sink.written c.args.out.now; new = g.K.Sink.written c.run-outcome.new.out };
+      faults = record { old = g.K.Sink.faults c.args.out.now; new = g.K.Sink.faults c.run-outcome.new.out };
+    } in
+    let E : Result Asked WordsFault → Type 0 = λ asked. EndsAs faults left asked r w outcome.fault in
+    complete-text a.command faults left a.file r w outcome.fault (subst E is c.run-outcome.ensures.end) calm

@@ -15,7 +15,8 @@ use Rattle.scq_band.specs.Seats.{put_at, spent_at}
 use Rattle.scq_band.specs.Standing.{Identity, Standing, in_hand}
 use Rattle.scq_band.specs.Kept.{in_order, IsKept}
 use Rattle.scq_band.proofs.Slots.{take_all, holds_times}
-use Rattle.scq_band.proofs.Keeping.{held, brought, kept_turned, kept_put, kept_still, put_standing, spent_standing, fronts, known_read, known_there}
+use Rattle.scq_band.proofs.Exchanging.{held, brought, kept_turned}
+use Rattle.scq_band.proofs.Keeping.{kept_put, kept_still, put_standing, spent_standing, fronts, known_read, known_there}
 use Rattle.scq_band.proofs.band.Band.enq.Goals as goal
 
 pub bring_to_front-requires-clause-held : goal.bring_to_front-requires-clause-held

@@ -3,7 +3,7 @@ use Rattle.std.specs.Prelude.{Some, None}
 use Rattle.atomic_table.specs.Table.{rest}
 use Rattle.scq_band.specs.declared.slot.Slot.{Slot}
 use Rattle.scq_band.specs.Standing.{Identity, Standing, in_hand, IsAsGiven}
-use Rattle.scq_band.proofs.Keeping.{held, brought, kept_lent, same_slot, lent_standing}
+use Rattle.scq_band.proofs.Exchanging.{held, brought, kept_lent, same_slot, lent_standing}
 use Rattle.scq_band.proofs.band.Band.lay.Goals as goal
 
 pub bring_to_front-requires-clause-held : goal.bring_to_front-requires-clause-held

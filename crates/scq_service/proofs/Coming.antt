@@ -1,0 +1,103 @@
+-- How sources come, one by one.
+use Rattle.std.proofs.Common.{◌≡◌, ◌⊎◌, ◌∙◌, refl, sym, ap, subst, arith, ℕ, ◌+◌, ◌-◌, ◌<◌, ◌≤◌, List, [], ◌∷◌, ◌++◌, length, take, get_or, length-append, Option, Some, None, IsSome, IfSome}
+use Rattle.std.specs.Prelude.{IsSomeAnd, IsTrue, option_and_then, slice_get}
+use Rattle.std.specs.List.{All, list_any}
+use Rattle.std.specs.Option.{option_map}
+use Rattle.std.specs.Str.{bytes_eq}
+use Rattle.std.proofs.lemmas.List.{take_more}
+use Rattle.std.proofs.lemmas.List.Elements.{All-push}
+use Rattle.std.proofs.lemmas.Option.{slice_get-get_or}
+use Rattle.scq_outside.specs.Faults.{Rose}
+use Rattle.scq_outside.specs.Table.{Table, without_name}
+use Rattle.scq_work.specs.Ends.{all_left}
+use Rattle.scq_service.specs.Answers.{HaveCome}
+use Rattle.scq_service.specs.Contents.{IfVisible, IsMissing, without_names}
+use Rattle.scq_service.specs.Ends.{Change, HasMissed}
+use Rattle.scq_service.proofs.Files.{gone, without-more, visible-more}
+
+-- one name more left the table
+table-more : (old now new : Option Table) (names : List (List ℕ)) (name : List ℕ) → now ≡ option_map (without_names names) old → new ≡ option_map (without_name name) now
+    → new ≡ option_map (without_names (names ++ name ∷ [])) old
+table-more old now new names name before after = after ∙ ap (option_map (without_name name)) before ∙ at old where
+  at : (o : Option Table) → option_map (without_name name) (option_map (without_names names) o) ≡ option_map (without_names (names ++ name ∷ [])) o
+  at None = refl
+  at (Some table) = ap Some (sym (without-more names name table))
+
+-- a name that is not in the table now
+missing : (old now : Option Table) (names : List (List ℕ)) (i : ℕ) (name : List ℕ) → i < length names → name ≡ get_or names i []
+    → now ≡ option_map (without_names (take i names)) old → IfSome now (λ files. files name ≡ None) → IfSome old (λ files. IsMissing files names (i + 1))
+missing None now names i name within is left none = tt
+missing (Some table) now names i name within is left none =
+    let N : Option Table → Type 0 = λ o. IfSome o (λ files. files name ≡ None) in
+    let here : without_names (take i names) table name ≡ None = subst N left none in
+    let before : i + 1 - 1 ≡ i = omega arith in
+    let there : slice_get names (i + 1 - 1) ≡ Some name = ap (slice_get names) before ∙ slice_get-get_or names i [] within ∙ ap Some (sym is) in
+    let M : Option (List ℕ) → Type 0 = λ o. IsSomeAnd o (λ name. (table name ≡ None) ⊎ IsTrue (list_any (bytes_eq name) (take (i + 1 - 1) names))) in
+    let T : ℕ → Type 0 = λ k. (table name ≡ None) ⊎ IsTrue (list_any (bytes_eq name) (take k names)) in
+    subst M (sym there) (subst T (sym before) (gone (take i names) table name here))
+
+rose-since : (old now new : ℕ) → now ≡ old → Rose now new → Rose old new
+rose-since old now new same rose = let R : ℕ → Type 0 = λ n. Rose n new in subst R same rose
+
+-- what the first source has left, and the others
+pub parts : (o : Option (List ℕ)) (more : Option (List (List ℕ))) (contents : List (List ℕ)) → option_and_then (λ c. option_map (λ cs. c ∷ cs) more) o ≡ Some contents
+    → (c : List ℕ) × (cs : List (List ℕ)) × (o ≡ Some c) × (more ≡ Some cs) × (contents ≡ c ∷ cs)
+parts None more contents e = cc
+parts (Some c) None contents e = cc
+parts (Some c) (Some cs) contents e = (c, cs, refl, refl, cc)
+
+module _ {S : Type 0} (faults : S → ℕ) (left : S → Option (List ℕ)) where
+  -- what one source more has left
+  left-more : (sources : List S) (source : S) (contents : List (List ℕ)) (content : List ℕ) → left source ≡ Some content → all_left left sources ≡ Some contents
+      → all_left left (sources ++ source ∷ []) ≡ Some (contents ++ content ∷ [])
+  left-more [] source contents content this all =
+      ap (option_and_then (λ c. option_map (λ more. c ∷ more) (Some []))) this ∙ ap (λ (before : List (List ℕ)). Some (before ++ content ∷ [])) (none all)
+    where
+      none : {cs : List (List ℕ)} → Some [] ≡ Some cs → [] ≡ cs
+      none e = cc
+  left-more (s ∷ ss) source contents content this all =
+      let p = parts (left s) (all_left left ss) contents all in
+      ap (option_and_then (λ c. option_map (λ more. c ∷ more) (all_left left (ss ++ source ∷ [])))) p.2
+      ∙ ap (option_map (λ more. p.0 ∷ more)) (left-more ss source p.1 content this p.3)
+      ∙ ap (λ (before : List (List ℕ)). Some (before ++ content ∷ [])) (sym p.4)
+
+  -- no source has come yet
+  pub come-none : (names : List (List ℕ)) (table : Option Table) (opens : Change ℕ) → HaveCome faults left names (record { table = record { old = table; new = table }; opens = opens; sources = []; read = 0 })
+  come-none names table opens = record { within = omega arith; table = same table; fresh = λ k d less. absurd (omega arith); unread = none table } where
+    same : (o : Option Table) → o ≡ option_map (without_names []) o
+    same None = refl
+    same (Some table) = refl
+
+    none : (o : Option Table) → IfVisible o [] (λ contents. all_left left [] ≡ Some contents)
+    none None = tt
+    none (Some table) = refl
+
+  -- one more has come
+  pub come-more : (names : List (List ℕ)) (table : Change (Option Table)) (opens opens' : Change ℕ) (sources : List S) (source : S) (name : List ℕ) (new : Option Table)
+      → HaveCome faults left names (record { table = table; opens = opens; sources = sources; read = 0 })
+      → length sources < length names → name ≡ get_or names (length sources) [] → new ≡ option_map (without_name name) table.new → faults source ≡ 0
+      → IfSome table.new (λ files. IsSome (files name) × (left source ≡ files name))
+      → HaveCome faults left names (record { table = record { old = table.old; new = new }; opens = opens'; sources = sources ++ source ∷ []; read = 0 })
+  come-more names table opens opens' sources source name new come more is_name given quiet there =
+      let longer : length (sources ++ source ∷ []) ≡ length sources + 1 = length-append sources (source ∷ []) in
+      let front : take (length (sources ++ source ∷ [])) names ≡ take (length sources) names ++ name ∷ [] =
+      ap (λ n. take n names) longer ∙ take_more names (length sources) [] more ∙ ap (λ (x : List ℕ). take (length sources) names ++ x ∷ []) (sym is_name) in
+      let V : List (List ℕ) → Type 0 = λ ns. IfVisible table.old ns (λ contents. all_left left (sources ++ source ∷ []) ≡ Some contents) in
+      record {
+        within = omega (arith, longer, more);
+        table = table-more table.old table.new new (take (length sources) names) name come.table given
+            ∙ ap (λ (ns : List (List ℕ)). option_map (without_names ns) table.old) (sym front);
+        fresh = All-push (λ s. faults s ≡ 0) sources source come.fresh quiet;
+        unread = subst V (sym front) (visible-more table.old table.new (take (length sources) names) name (left source) _ _ come.table there come.unread
+            (λ contents content this all. left-more sources source contents content this all));
+      }
+
+  -- the next was not got
+  pub missed : (names : List (List ℕ)) (table : Change (Option Table)) (opens : Change ℕ) (sources : List S) (name : List ℕ) (new : Option Table) (count : ℕ)
+      → HaveCome faults left names (record { table = table; opens = opens; sources = sources; read = 0 }) → opens.new ≡ opens.old
+      → length sources < length names → name ≡ get_or names (length sources) [] → IfSome table.new (λ files. files name ≡ None) → Rose opens.new count
+      → HasMissed names (record { table = record { old = table.old; new = new }; opens = record { old = opens.old; new = count }; sources = sources; read = 0 })
+  missed names table opens sources name new count come kept more is none rose = record {
+    rose = rose-since opens.old opens.new count kept rose;
+    missing = missing table.old table.new names (length sources) name more is come.table none;
+  }

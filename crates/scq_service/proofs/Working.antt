@@ -1,0 +1,240 @@
+-- How the reading of files ends, from what the workers left of the sources that had come.
+use Rattle.std.proofs.Common.{◌≡◌, ◌≢◌, ◌∙◌, refl, sym, ap, subst, arith, zero, ℕ, suc, ◌+◌, ◌-◌, ◌<◌, ◌≤◌, Bool, List, [], ◌∷◌, ◌++◌, length, take, Option, Some, None, IfSome, false, true}
+use Rattle.std.specs.Prelude.{IsSomeAnd, slice_get, slice_index_or}
+use Rattle.std.specs.List.{All}
+use Rattle.std.specs.Option.{option_map, option_or}
+use Rattle.std.proofs.lemmas.List.{get_or-take, length-take-le}
+use Rattle.std.proofs.lemmas.Option.{slice_get-get_or}
+use Rattle.scq_frames.specs.Framing.{NothingLeft}
+use Rattle.scq_frames.specs.Trouble.{LongPayload, ManyBytes}
+use Rattle.scq_frames.specs.declared.fault.FrameFault.{FrameFault}
+use Rattle.scq_frames.specs.declared.fault.FrameFault.TheVariants as frame
+use Rattle.scq_outside.specs.Table.{Table}
+use Rattle.scq_work.specs.Ends.{HasCause, HasMoved, StopsAt, all_left}
+use Rattle.scq_work.specs.Reading as reading
+use Rattle.scq_work.specs.declared.worked.WorkFault.{WorkFault}
+use Rattle.scq_work.specs.declared.worked.WorkFault.TheVariants as work
+use Rattle.scq_service.specs.Answers.{HaveAllCome, HaveCome}
+use Rattle.scq_service.specs.Causes.{given_of, first_file_fault, IsTroubled, HaveRest}
+use Rattle.scq_service.specs.Contents.{contents_of, IfVisible, IsMissing, without_names}
+use Rattle.scq_service.specs.Ends.{Change, HasGot, HasMissed, IsRefused, IsReadOf, IsUnchanged, ReadsOver}
+use Rattle.scq_service.specs.Faults.{bytes_of_large, fault_of_work}
+use Rattle.scq_service.specs.declared.fault.Fault.TheVariants.{OpenFault}
+use Rattle.scq_service.proofs.Coming.{parts}
+use Rattle.scq_service.proofs.OneFile.{fault_of_file, fault_of_one, given-is, large-of, long-of, one-stopped, one-whole, rose-above, split-visible}
+
+pub visible-weaker : (table : Option Table) (names : List (List ℕ)) (P Q : List (List ℕ) → Type 0) → IfVisible table names P
+    → ((contents : List (List ℕ)) → P contents → Q contents) → IfVisible table names Q
+visible-weaker None names P Q seen more = tt
+visible-weaker (Some table) names P Q seen more = at (contents_of table names) seen where
+  at : (o : Option (List (List ℕ))) → IsSomeAnd o P → IsSomeAnd o Q
+  at None seen = absurd seen
+  at (Some contents) seen = more contents seen
+
+some-and : {X : Type 0} (o : Option X) (x : X) (P : X → Type 0) → o ≡ Some x → P x → IsSomeAnd o P
+some-and {X = X} o x P e p = let Q : Option X → Type 0 = λ o. IsSomeAnd o P in subst Q (sym e) p
+
+module _ {S : Type 0} (size : ℕ) (faults : S → ℕ) (left : S → Option (List ℕ)) where
+  -- each source has left what follows the bytes that it gave
+  have-rest : (olds news : List S) (contents : List (List ℕ)) → length news ≡ length olds → all_left left olds ≡ Some contents
+      → ((k : ℕ) (d : S) → k < length olds → HasMoved left (slice_index_or olds k d) (slice_index_or news k d)) → HaveRest left contents news
+  have-rest [] [] contents long all moved = let H : List (List ℕ) → Type 0 = λ cs. HaveRest left cs [] in subst H (none all) tt where
+    none : {cs : List (List ℕ)} → Some [] ≡ Some cs → [] ≡ cs
+    none e = cc
+  have-rest [] (new ∷ news) contents long all moved = absurd (omega (arith, long))
+  have-rest (old ∷ olds) [] contents long all moved = absurd (omega (arith, long))
+  have-rest (old ∷ olds) (new ∷ news) contents long all moved =
+      let p = parts (left old) (all_left left olds) contents all in
+      let m = moved 0 new (omega arith) in
+      let split = split-visible p.0 m.bytes (left new) (sym p.2 ∙ m.moved) in
+      let H : List (List ℕ) → Type 0 = λ cs. HaveRest left cs (new ∷ news) in
+      subst H (sym p.4) (
+        some-and (left new) split.0 (λ rest. p.0 ≡ given_of p.0 rest ++ rest) split.1
+            (split.2 ∙ ap (λ (front : List ℕ). front ++ split.0) (sym (given-is p.0 m.bytes split.0 split.2))),
+        have-rest olds news p.1 (omega (arith, long)) p.3 (λ k d less. moved (suc k) d (omega (arith, less))),
+      )
+
+  -- files that were read to their ends have no fault
+  sound : (file : ℕ) (olds news : List S) (contents : List (List ℕ)) → length news ≡ length olds → all_left left olds ≡ Some contents → All (λ source. faults source ≡ 0) olds
+      → ((k : ℕ) (d : S) → k < length olds → reading.IsWhole size faults left (slice_index_or olds k d) (slice_index_or news k d))
+      → first_file_fault size faults left file contents news ≡ None
+  sound file [] [] contents long all fresh whole = ap (λ (cs : List (List ℕ)). first_file_fault size faults left file cs []) (none all) where
+    none : {cs : List (List ℕ)} → Some [] ≡ Some cs → cs ≡ []
+    none e = cc
+  sound file [] (new ∷ news) contents long all fresh whole = absurd (omega (arith, long))
+  sound file (old ∷ olds) [] contents long all fresh whole = absurd (omega (arith, long))
+  sound file (old ∷ olds) (new ∷ news) contents long all fresh whole =
+      let p = parts (left old) (all_left left olds) contents all in
+      let one = one-whole size faults left file p.0 old new p.2 (fresh 0 old (omega arith)) (whole 0 old (omega arith)) in
+      ap (λ (cs : List (List ℕ)). first_file_fault size faults left file cs (new ∷ news)) p.4
+      ∙ ap (λ o. option_or o (first_file_fault size faults left (file + 1) p.1 news)) one
+      ∙ sound (file + 1) olds news p.1 (omega (arith, long)) p.3 (λ k d less. fresh (suc k) d (omega (arith, less))) (λ k d less. whole (suc k) d (omega (arith, less)))
+
+  -- the file that was stopped behind such files has the first fault
+  first : (file k : ℕ) (olds news : List S) (contents : List (List ℕ)) (fault : FrameFault) → fault ≢ frame.NoMemory → length news ≡ length olds → k < length olds
+      → all_left left olds ≡ Some contents → All (λ source. faults source ≡ 0) olds
+      → ((j : ℕ) (d : S) → j < k → reading.IsWhole size faults left (slice_index_or olds j d) (slice_index_or news j d))
+      → ((d : S) → reading.IsStopped size faults left (slice_index_or olds k d) (slice_index_or news k d) fault)
+      → first_file_fault size faults left file contents news ≡ Some (fault_of_file size (file + k) fault)
+  first file k [] news contents fault other long within all fresh before stop = absurd (omega (arith, within))
+  first file k (old ∷ olds) [] contents fault other long within all fresh before stop = absurd (omega (arith, long))
+  first file zero (old ∷ olds) (new ∷ news) contents fault other long within all fresh before stop =
+      let p = parts (left old) (all_left left olds) contents all in
+      let one = one-stopped size faults left file p.0 old new fault other p.2 (fresh 0 old (omega arith)) (stop old) in
+      let same : file ≡ file + 0 = omega arith in
+      ap (λ (cs : List (List ℕ)). first_file_fault size faults left file cs (new ∷ news)) p.4
+      ∙ ap (λ o. option_or o (first_file_fault size faults left (file + 1) p.1 news)) one
+      ∙ ap (λ n. Some (fault_of_file size n fault)) same
+  first file (suc k) (old ∷ olds) (new ∷ news) contents fault other long within all fresh before stop =
+      let p = parts (left old) (all_left left olds) contents all in
+      let one = one-whole size faults left file p.0 old new p.2 (fresh 0 old (omega arith)) (before 0 old (omega arith)) in
+      let next : file + 1 + k ≡ file + suc k = omega arith in
+      ap (λ (cs : List (List ℕ)). first_file_fault size faults left file cs (new ∷ news)) p.4
+      ∙ ap (λ o. option_or o (first_file_fault size faults left (file + 1) p.1 news)) one
+      ∙ first (file + 1) k olds news p.1 fault other (omega (arith, long)) (omega (arith, within)) p.3 (λ j d less. fresh (suc j) d (omega (arith, less)))
+      (λ j d less. before (suc j) d (omega (arith, less))) stop
+      ∙ ap (λ n. Some (fault_of_file size n fault)) next
+
+  -- a file's content is what its source had left
+  content-at : (k : ℕ) (olds : List S) (contents : List (List ℕ)) (d : S) → all_left left olds ≡ Some contents → k < length olds
+      → (content : List ℕ) × (slice_get contents k ≡ Some content) × (left (slice_index_or olds k d) ≡ Some content)
+  content-at k [] contents d all within = absurd (omega (arith, within))
+  content-at zero (old ∷ olds) contents d all within =
+      let p = parts (left old) (all_left left olds) contents all in
+      (p.0, ap (λ (cs : List (List ℕ)). slice_get cs 0) p.4, p.2)
+  content-at (suc k) (old ∷ olds) contents d all within =
+      let p = parts (left old) (all_left left olds) contents all in
+      let c = content-at k olds p.1 d p.3 (omega (arith, within)) in
+      (c.0, ap (λ (cs : List (List ℕ)). slice_get cs (suc k)) p.4 ∙ c.1, c.2)
+
+  -- what is said of as many first sources as were read to their ends
+  front : (P : S → Type 0) (news : List S) (k : ℕ) → k ≤ length news → ((j : ℕ) (d : S) → j < k → P (slice_index_or news j d)) → All P (take k news)
+  front P news k within each j d less =
+      let below : j < k = omega (arith, less, length-take-le k news within) in
+      subst P (sym (get_or-take k news j d below)) (each j d below)
+
+  module _ (names : List (List ℕ)) (table : Change (Option Table)) (opens : Change ℕ) (olds news : List S) (long : length news ≡ length olds)
+      (come : HaveCome faults left names (record { table = table; opens = opens; sources = olds; read = 0 })) where
+    -- what follows from the contents is so where they are visible
+    pub if-got : (Q : List (List ℕ) → Type 0) → ((contents : List (List ℕ)) → all_left left olds ≡ Some contents → Q contents) → IfVisible table.old (take (length news) names) Q
+    if-got Q more =
+        let V : ℕ → Type 0 = λ n. IfVisible table.old (take n names) Q in
+        subst V (sym long) (visible-weaker table.old (take (length olds) names) _ Q come.unread more)
+
+    next-missed : HasMissed names (record { table = table; opens = opens; sources = olds; read = 0 }) → (read : ℕ) → HasMissed names (record { table = table; opens = opens; sources = news; read = read })
+    next-missed m read =
+        let M : ℕ → Type 0 = λ n. IfSome table.old (λ files. IsMissing files names (n + 1)) in
+        record { rose = m.rose; missing = subst M (sym long) m.missing }
+
+    -- where all had come the count of files was kept, and else the next was missed
+    pub kept-of : (all : Bool) → HaveAllCome names (record { table = table; opens = opens; sources = olds; read = 0 }) all → length olds ≡ length names → IsUnchanged opens
+    kept-of true came all = came.1
+    kept-of false came all = absurd (omega (arith, came.0, all))
+
+    pub missed-of : (all : Bool) → HaveAllCome names (record { table = table; opens = opens; sources = olds; read = 0 }) all → length olds < length names
+        → HasMissed names (record { table = table; opens = opens; sources = olds; read = 0 })
+    missed-of true came less = absurd (omega (arith, came.0, less))
+    missed-of false came less = came.1
+
+    pub has-got : (read : ℕ) → ((k : ℕ) (d : S) → k < length olds → HasMoved left (slice_index_or olds k d) (slice_index_or news k d))
+        → (length olds ≡ length names → IsUnchanged opens) → HasGot left names (record { table = table; opens = opens; sources = news; read = read })
+    has-got read moved kept =
+        let T : ℕ → Type 0 = λ n. table.new ≡ option_map (without_names (take n names)) table.old in
+        record {
+          within = omega (arith, long, come.within);
+          table = subst T (sym long) come.table;
+          kept = λ all. kept (sym long ∙ all);
+          rest = if-got _ (λ contents all. have-rest olds news contents long all moved);
+        }
+
+    pub ends-all : ((k : ℕ) (d : S) → k < length olds → reading.IsWhole size faults left (slice_index_or olds k d) (slice_index_or news k d)) → length olds ≡ length names
+        → ReadsOver size faults left names (record { table = table; opens = opens; sources = news; read = 0 }) None
+    ends-all whole all = record {
+      all = long ∙ all;
+      quiet = λ k d less. let within : k < length olds = omega (arith, less, long) in (whole k d within).kept ∙ come.fresh k d within;
+      ended = λ k d less. (whole k d (omega (arith, less, long))).ended;
+      sound = if-got _ (λ contents all. sound 1 olds news contents long all come.fresh whole);
+      read = refl;
+    }
+
+    pub ends-stopped : ((k : ℕ) (d : S) → k < length olds → reading.IsWhole size faults left (slice_index_or olds k d) (slice_index_or news k d)) → length olds < length names
+        → HasMissed names (record { table = table; opens = opens; sources = olds; read = 0 })
+        → ReadsOver size faults left names (record { table = table; opens = opens; sources = news; read = 0 }) (Some (OpenFault (length olds + 1)))
+    ends-stopped whole more m = record {
+      next = ap (λ n. n + 1) (sym long);
+      within = omega (arith, long, more);
+      missed = next-missed m 0;
+      quiet = λ k d less. let within : k < length olds = omega (arith, less, long) in (whole k d within).kept ∙ come.fresh k d within;
+      ended = λ k d less. (whole k d (omega (arith, less, long))).ended;
+      sound = if-got _ (λ contents all. sound 1 olds news contents long all come.fresh whole);
+      read = refl;
+    }
+
+    -- the file that has the first fault
+    refused : (read file : ℕ) (fault : FrameFault) → fault ≢ frame.NoMemory → StopsAt size faults left olds news file fault
+        → (length olds < length names → HasMissed names (record { table = table; opens = opens; sources = olds; read = 0 }))
+        → IsRefused size faults left names (record { table = table; opens = opens; sources = news; read = read }) file (fault_of_file size file fault)
+    refused read file fault other stops missed =
+        let within : file - 1 < length olds = omega (arith, stops.first, stops.last) in
+        let number : 1 + (file - 1) ≡ file = omega (arith, stops.first) in
+        let before : (j : ℕ) (d : S) → j < file - 1 → reading.IsWhole size faults left (slice_index_or olds j d) (slice_index_or news j d) =
+        λ j d less. stops.before j d (omega (arith, less)) in
+        record {
+          first = stops.first;
+          last = omega (arith, stops.last, long);
+          stopped = λ less. next-missed (missed (omega (arith, less, long))) read;
+          quiet = front (λ source. faults source ≡ 0) news (file - 1) (omega (arith, within, long))
+              (λ j d less. (before j d less).kept ∙ come.fresh j d (omega (arith, less, within)));
+          ended = front (λ source. NothingLeft (left source)) news (file - 1) (omega (arith, within, long)) (λ j d less. (before j d less).ended);
+          cause = if-got _ (λ contents all. first 1 (file - 1) olds news contents fault other long within all come.fresh before stops.cause
+              ∙ ap (λ n. Some (fault_of_file size n fault)) number);
+        }
+
+    -- the source of a file, and the one that it was
+    source-at : (file : ℕ) → 0 < file → file ≤ length olds → (P : S → S → Type 0) → ((d : S) → P (slice_index_or olds (file - 1) d) (slice_index_or news (file - 1) d))
+        → (old : S) × (new : S) × (slice_get news (file - 1) ≡ Some new) × ((contents : List (List ℕ)) → all_left left olds ≡ Some contents
+        → (content : List ℕ) × (slice_get contents (file - 1) ≡ Some content) × (left old ≡ Some content)) × P old new
+    source-at file some within P each = at olds (omega (arith, some, within)) where
+      at : (sources : List S) → 0 < length sources → (old : S) × (new : S) × (slice_get news (file - 1) ≡ Some new) × ((contents : List (List ℕ)) → all_left left olds ≡ Some contents
+          → (content : List ℕ) × (slice_get contents (file - 1) ≡ Some content) × (left old ≡ Some content)) × P old new
+      at [] more = absurd (omega (arith, more))
+      at (d ∷ ds) more = (
+        slice_index_or olds (file - 1) d,
+        slice_index_or news (file - 1) d,
+        slice_get-get_or news (file - 1) d (omega (arith, some, within, long)),
+        λ contents all. content-at (file - 1) olds contents d all (omega (arith, some, within)),
+        each d,
+      )
+
+    pub ends-met : (fault : WorkFault) → HasCause size faults left olds news fault
+        → (length olds < length names → HasMissed names (record { table = table; opens = opens; sources = olds; read = 0 }))
+        → ReadsOver size faults left names (record { table = table; opens = opens; sources = news; read = bytes_of_large fault }) (Some (fault_of_work size fault))
+    ends-met (work.Read file) stops missed =
+        let at = source-at file stops.first stops.last (λ old new. reading.IsStopped size faults left old new frame.ReadFault) stops.cause in (
+          refused 0 file frame.ReadFault (λ e. cc) stops missed,
+          refl,
+          some-and (slice_get news (file - 1)) at.1 (λ source. 0 < faults source) at.2 (rose-above _ _ (at.4.rose refl)),
+        )
+    ends-met (work.TooLong file line len) stops missed =
+        let at = source-at file stops.first stops.last (λ old new. reading.IsStopped size faults left old new (frame.TooLong line len)) stops.cause in
+        let above = at.4.long line len refl in (
+          refused 0 file (frame.TooLong line len) (λ e. cc) stops missed,
+          refl,
+          refl,
+          above.0,
+          above.1,
+          if-got _ (λ contents all. let c = at.3 contents all in some-and (slice_get contents (file - 1)) c.0 _ c.1 (long-of size faults left c.0 at.0 at.1 line len c.2 at.4)),
+        )
+    ends-met (work.TooLarge file bytes) stops missed =
+        let at = source-at file stops.first stops.last (λ old new. reading.IsStopped size faults left old new (frame.TooLarge bytes)) stops.cause in
+        let above = at.4.large bytes refl in (
+          refused bytes file (frame.TooLarge bytes) (λ e. cc) stops missed,
+          refl,
+          above.0,
+          if-got _ (λ contents all. let c = at.3 contents all in (
+            some-and (slice_get contents (file - 1)) c.0 _ c.1 (large-of size faults left c.0 at.0 at.1 bytes c.2 at.4),
+            some-and (slice_get contents (file - 1)) c.0 _ c.1 (some-and (slice_get news (file - 1)) at.1 (λ source. Some (length c.0) ≡ option_map (λ b. bytes + length b) (left source)) at.2
+                (sym (ap (option_map length) c.2) ∙ above.1)),
+          )),
+        )
+    ends-met work.NoMemory stops missed = refl

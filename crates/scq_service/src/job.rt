@@ -1,0 +1,19 @@
+ghost use Rattle.std.specs.Prelude.{◌≡◌};
+ghost use Rattle.scq_work.specs.Jobs.{IsJob};
+
+use scq_topics::Topics;
+use scq_work::Job;
+
+/// The job of numbers that are in their ranges.
+pub fn job_of(order: u32, size: u32, workers: u32, topics: Topics) -> Job
+    requires { IsJob order size workers }
+    ensures size { result.size ≡ size }
+    ensures workers { result.workers ≡ workers }
+    ensures order { result.order ≡ order }
+    ensures topics { result.topics ≡ topics }
+{
+    match Job::new(order, size, workers, topics) {
+        Some(job) => job,
+        None => unreachable!(),
+    }
+}
