@@ -39,7 +39,7 @@ pub data Location : Type 0 where
   threshold_of : (ring : ℕ) → Location
   entry_of : (ring slot : ℕ) → Location
 
--- the location that a place of a ring is
+-- the location that a cell of a ring is
 abbrev pub location_at : ℕ → Cell → Location
 location_at r Tail = tail_of r
 location_at r Head = head_of r

@@ -113,7 +113,7 @@ ring_of (AtD8 r h from) = r
 ring_of (AtD9 r h from to) = r
 ring_of (AtD10 r h leaving) = r
 
--- the place of that ring that the turn reads and writes
+-- the cell of that ring that the turn reads and writes
 abbrev pub cell_of : Setup → Phase → Cell
 cell_of c Idle = Tail
 cell_of c (AtE1 r i w l) = Tail

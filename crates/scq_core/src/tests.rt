@@ -290,3 +290,16 @@ fn tables_of_steps(rt: HostRuntime) -> Result<(), Fail> {
     run(&rt, 1, 16, SPENT)?;
     run(&rt, 3, 1 << 60, COLUMNS)
 }
+
+#[test]
+fn faults_say_what_they_are(rt: HostRuntime) -> Result<(), Fail> {
+    let rows = [
+        (ApplyFault::NotEnabled, "the step is not enabled"),
+        (ApplyFault::NoMemory, "out of memory"),
+    ];
+    for (fault, want) in rows.iter() {
+        let said = fault.to_string(rt.alloc())?;
+        assert_eq!(rt; said.as_str(), *want);
+    }
+    Ok(())
+}

@@ -415,3 +415,16 @@ fn tables_are_replayed(rt: HostRuntime) -> Result<(), Fail> {
     }
     Ok(())
 }
+
+#[test]
+fn faults_say_what_they_are(rt: HostRuntime) -> Result<(), Fail> {
+    let rows = [
+        (ReplayFault::NotEnabled { at: 7 }, "step 7 is not enabled"),
+        (ReplayFault::NoMemory, "out of memory"),
+    ];
+    for (fault, want) in rows.iter() {
+        let said = fault.to_string(rt.alloc())?;
+        assert_eq!(rt; said.as_str(), *want);
+    }
+    Ok(())
+}

@@ -103,7 +103,7 @@ fn shapes_and_tickets(rt: HostRuntime) -> Result<(), Fail> {
     Ok(())
 }
 
-// Orders 1 and 2 have no columns; from order 3 on tickets that follow one another are eight slots apart.
+// Orders 1 and 2 have no columns; from order 3 on tickets that follow one another are mostly eight slots apart.
 #[test]
 fn slots_of_tickets(rt: HostRuntime) -> Result<(), Fail> {
     let table = [
@@ -150,6 +150,21 @@ fn a_round_meets_each_slot(rt: HostRuntime) -> Result<(), Fail> {
             .ok_or("no such slot")?;
         assert!(rt; !*here, "ticket {ticket}");
         *here = true;
+    }
+    Ok(())
+}
+
+#[test]
+fn faults_say_what_they_are(rt: HostRuntime) -> Result<(), Fail> {
+    let rows = [
+        (SetupFault::BadOrder, "order is not in 1..12"),
+        (SetupFault::BadRings, "rings are not in 1..18"),
+        (SetupFault::BadSeats, "seats are not in 1..n"),
+        (SetupFault::BadLimit, "limit is not in 8n..2^60"),
+    ];
+    for (fault, want) in rows.iter() {
+        let said = fault.to_string(rt.alloc())?;
+        assert_eq!(rt; said.as_str(), *want);
     }
     Ok(())
 }

@@ -85,8 +85,8 @@ pub fn cycle_of(shape: Shape, ticket: u64) -> u64
 }
 
 /// The slot of a ticket, below the number of slots. Two tickets have one slot exactly where they agree modulo that
-/// number. In a ring of at least 16 slots, tickets that follow one another have slots that are eight apart, so that they
-/// don't meet in one cache line.
+/// number. In a ring of at least 16 slots, tickets that follow one another mostly have slots that are eight apart, so that they
+/// don't meet in one cache line; only where a column ends two stand closer.
 pub fn slot_of(shape: Shape, ticket: u64) -> u32
     ensures slot { result ≡ slot_of shape.order ticket }
     ensures small { result < slots_of shape.order }
