@@ -2,6 +2,7 @@ pub mod Layouts
 pub mod WordLemmas
 pub mod Handles
 pub mod Knowledge
+pub mod Knowing
 pub mod Learning
 pub mod Moves
 pub mod Grounds
@@ -33,6 +34,8 @@ pub mod Closes
 pub mod NewSeats
 pub mod TwoTaken
 pub mod OneLent
+pub mod SeatsSent
+pub mod NoneLent
 pub mod StartWords
 pub mod Slots
 pub mod Starting

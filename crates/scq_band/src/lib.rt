@@ -17,6 +17,9 @@ mod dequeue;
 mod enqueue;
 mod gate;
 mod hand;
+#[cfg(test)]
+mod heap;
+pub mod laws;
 mod lending;
 mod making;
 mod notes;
@@ -40,3 +43,5 @@ pub use view::View;
 
 #[cfg(test)]
 mod tests;
+#[cfg(test)]
+mod thread_tests;

@@ -1,2 +1,8 @@
 pub mod Reading
 pub mod Holding
+mod Rows
+mod PutLemmas
+mod GotLemmas
+mod TableLemmas
+mod QueueLemmas
+mod Saved

@@ -1,3 +1,9 @@
 pub mod Line
 pub mod HistoryText
 pub mod Verdicts
+pub mod ByName
+pub mod Calls
+pub mod Puts
+pub mod Gots
+pub mod Tables
+pub mod Queues

@@ -1,7 +1,8 @@
 //! Histories as text, with what is judged of them, or why they are refused. The verdicts are worked by
-//! hand, but for those of the last histories, which an independent program judged.
+//! hand, and an independent program judges the same.
 
-use crate::{HistoryFault, judge, read_history, verdict_text};
+use crate::{HistoryFault, first_unlawful, judge, read_history, verdict_text};
+use scq_hist::{Call, Event, Reply};
 use scq_word::{Bytes, NoMemory};
 use std::alloc::Global;
 use std::test::Fail;
@@ -51,6 +52,38 @@ fn histories_are_judged(rt: HostRuntime) -> Result<(), Fail> {
         (
             "opening 61\nstart 0 put 0 61\nend 0 spent\nstart 0 put 0 -\nend 0 done\nstart 1 get 0\nstart 0 get 0\nend 0 got 0 3 -\nend 1 nothing\n",
             "fresh fails at 7\nonce holds\nin order holds\nempty fails at 8\n",
+        ),
+        // The get of a put is the first that names it, also where the second started before another get.
+        (
+            "start 0 put 1 61\nend 0 done\nstart 0 put 1 62\nend 0 done\nstart 1 get 1\nstart 2 get 1\n\
+             end 2 got 0 2 62\nstart 3 get 1\nend 3 got 0 1 61\nend 1 got 0 1 61\n",
+            "fresh holds\nonce fails at 10\nin order fails at 7\nempty holds\n",
+        ),
+        // A Got may name a put that begins after it, and put others in front of it too.
+        (
+            "start 1 get 1\nend 1 got 0 2 62\nstart 0 put 1 61\nend 0 done\nstart 0 put 1 62\nend 0 done\n",
+            "fresh fails at 2\nonce holds\nin order fails at 2\nempty holds\n",
+        ),
+        // The last moment of the Empty's call is the one at which the finished put is claimed.
+        (
+            "start 0 put 1 61\nend 0 done\nstart 1 get 1\nstart 2 get 1\nend 1 nothing\nend 2 got 0 1 61\n",
+            HOLDS,
+        ),
+        // At an earlier moment of the Empty's call nothing was finished.
+        (
+            "start 0 put 1 61\nstart 1 get 1\nend 0 done\nend 1 nothing\n",
+            HOLDS,
+        ),
+        // A get of another queue claims nothing, and an opening token waits for none of queue 1.
+        (
+            "opening 61\nstart 2 get 1\nstart 1 get 0\nend 1 nothing\nstart 1 get 1\nend 1 nothing\n",
+            "fresh holds\nonce holds\nin order holds\nempty fails at 3\n",
+        ),
+        // A put that ended with Spent isn't finished, and may be got.
+        (
+            "start 0 put 1 61\nend 0 spent\nstart 0 put 1 62\nend 0 done\nstart 1 get 1\nend 1 got 0 2 62\n\
+             start 1 get 1\nend 1 nothing\nstart 1 get 1\nend 1 got 0 1 61\n",
+            HOLDS,
         ),
     ];
     for (text, want) in rows {
@@ -105,6 +138,28 @@ fn the_first_line_with_a_fault_is_refused(rt: HostRuntime) -> Result<(), Fail> {
             want.as_bytes(),
             "{text}"
         );
+    }
+    Ok(())
+}
+
+#[test]
+fn the_first_event_out_of_place_is_named(rt: HostRuntime) -> Result<(), Fail> {
+    let rows = [
+        (true, Reply::Nothing, None),
+        (true, Reply::Done, Some(1)),
+        (false, Reply::Nothing, Some(0)),
+    ];
+    for (is_started, reply, want) in rows {
+        let mut events = Vec::new(rt.alloc());
+        if is_started {
+            events.push(Event::Start {
+                seat: 7,
+                call: Call::Get { queue: 1 },
+            })?;
+        }
+        events.push(Event::End { seat: 7, reply })?;
+        let first = first_unlawful(rt.alloc(), &events).map_err(|_| "memory")?;
+        assert_eq!(rt; first, want);
     }
     Ok(())
 }

@@ -1,12 +1,15 @@
 //! The four aspects of a history judged, and the verdict printed.
 
-ghost use Rattle.std.specs.Prelude.{◌≡◌, ◌+◌, ◌++◌, ◌<◌, ◌^◌, ◌↔◌, None, IfOk, IfSome, OnOk};
+ghost use Rattle.std.specs.Prelude.{◌≡◌, ◌+◌, ◌++◌, ◌<◌, ◌^◌, ◌↔◌, None, IfOk, IfSome, OnOk, is_some};
 ghost use Rattle.std.specs.Option.{option_map};
 ghost use Rattle.scq_hist.specs.Aspects.{IsLawful, IsFreshAt, IsFresh, IsOnceAt, IsOnce, IsInOrderAt, IsInOrder, IsEmptyRightAt, IsEmptyRight};
 ghost use Rattle.scq_check.specs.Verdicts.{IsVerdict, aspect_line, verdict_lines};
 
+use crate::freshness::{first_repeated, first_unfresh};
+use crate::order::{first_out_of_order, first_wrong_empty};
+use crate::tables::Tables;
 use itoa::Buffer;
-use scq_hist::{Event, first_out_of_order, first_repeated, first_unfresh, first_wrong_empty};
+use scq_hist::Event;
 use scq_word::{Bytes, NoMemory};
 use std::alloc::Global;
 
@@ -24,9 +27,10 @@ pub struct Verdict {
     pub empty_right: Option<u64>,
 }
 
-/// Judges a lawful history. `opening` has the contents of the tokens that stand in queue 0 before it.
-/// It takes no memory yet.
-pub fn judge(_alloc: Global, opening: &[Bytes], events: &[Event]) -> Result<Verdict, NoMemory>
+/// Judges a lawful history. `opening` has the contents of the tokens that stand in queue 0 before it. It
+/// makes tables of the history, and goes over its events a few times: time grows little faster than the
+/// history's length.
+pub fn judge(alloc: Global, opening: &[Bytes], events: &[Event]) -> Result<Verdict, NoMemory>
     requires { IsLawful events.now }
 
     // The first event that breaks the aspect.
@@ -41,20 +45,27 @@ pub fn judge(_alloc: Global, opening: &[Bytes], events: &[Event]) -> Result<Verd
     ensures is_in_order { IfOk result (λ verdict. (verdict.in_order ≡ None) ↔ IsInOrder opening.now events.now) }
     ensures is_empty_right { IfOk result (λ verdict. (verdict.empty_right ≡ None) ↔ IsEmptyRight opening.now events.now) }
 {
+    let tables = Tables::new(alloc, events)?;
+    let in_order = first_out_of_order(alloc, &tables, opening, events)?;
+    let empty_right = first_wrong_empty(alloc, &tables, opening, events)?;
     Ok(Verdict {
-        fresh: first_unfresh(opening, events).map(number_of),
-        once: first_repeated(events).map(number_of),
-        in_order: first_out_of_order(opening, events).map(number_of),
-        empty_right: first_wrong_empty(opening, events).map(number_of),
+        fresh: number_of(first_unfresh(&tables, opening, events)),
+        once: number_of(first_repeated(&tables, events)),
+        in_order: number_of(in_order),
+        empty_right: number_of(empty_right),
     })
 }
 
-// Events are numbered from 1.
-fn number_of(position: usize) -> u64
-    requires { position + 1 < 2 ^ 64 }
-    ensures { result ≡ position + 1 }
+// The number of the event at this position: they are numbered from 1.
+fn number_of(position: Option<usize>) -> Option<u64>
+    requires { IfSome position (λ e. e + 1 < 2 ^ 64) }
+    ensures number { result ≡ option_map (λ e. e + 1) position }
+    ensures variant { is_some result ≡ is_some position }
 {
-    position as u64 + 1
+    match position {
+        None => None,
+        Some(position) => Some(position as u64 + 1),
+    }
 }
 
 /// A verdict as text: a line for each aspect, `NAME holds` or `NAME fails at E`. The names are `fresh`,

@@ -1,6 +1,6 @@
 -- What comes first of what a source gave. While no message came, the messages ahead that count stay
 -- the same; the line or the read that ends the search says what the first of them is.
-use Rattle.std.proofs.Common.{◌≡◌, ℕ, ◌+◌, ◌-◌, ◌≤◌, Bool, true, false, cond, Option, Some, None, Result, Ok, Err, List, [], ◌∷◌, ◌++◌, length, take, drop, refl, sym, ◌∙◌, ap, subst, ⊎_elim, arith, length-append, length-drop}
+use Rattle.std.proofs.Common.{◌≡◌, ℕ, ◌+◌, ◌-◌, ◌≤◌, Bool, true, false, cond, Option, Some, None, Result, Ok, Err, List, [], ◌∷◌, ◌++◌, length, take, drop, map, refl, sym, ◌∙◌, ap, subst, ⊎_elim, arith, length-append, length-drop}
 use Rattle.std.specs.Prelude.{IsTrue, ◌⊎◌}
 use Rattle.std.specs.Option.{option_map}
 use Rattle.std.proofs.Math.ListN.{get_or-append}
@@ -17,16 +17,19 @@ use Rattle.scq_frames.specs.Finding.{limit_left, MayFollow, Finds, IsTooLong}
 use Rattle.scq_frames.specs.Coming.{counted_ahead, BeginsWithLong, Comes, IsNeeded, Found}
 use Rattle.scq_frames.proofs.TextLemmas.{ended_parts, line-clear, messages_after-line, messages_after-last, messages_after-nil}
 use Rattle.scq_frames.proofs.TroubleLemmas.{counted-line, counted-failed, counted-many}
+use Rattle.scq_frames.proofs.CutLemmas.{bare, none_of_bare}
 use Rattle.scq_frames.proofs.FindingLemmas.{Finds-done}
 
--- since a call began the source gave these bytes, which were needed, and no message came
+-- since a call began the source gave these bytes, which were needed, and no message came. The messages
+-- ahead are the same, but that a topic may have been cut
 pub record Quiet (first now : Framing) (bytes : List ℕ) : Type 0 where
-  pub same : (failed : Bool) (more : List ℕ) → MayFollow now failed more → counted_ahead first failed (bytes ++ more) ≡ counted_ahead now failed more
+  pub same : (failed : Bool) (more : List ℕ) → MayFollow now failed more
+      → map bare (counted_ahead first failed (bytes ++ more)) ≡ map bare (counted_ahead now failed more)
   pub needed : IsNeeded first bytes
 
 pub Quiet-start : (first now : Framing) → ((failed : Bool) (more : List ℕ) → counted_ahead first failed more ≡ counted_ahead now failed more) → Quiet first now []
 Quiet-start first now same = record {
-  same = λ failed more _. same failed more;
+  same = λ failed more _. ap (map bare) (same failed more);
   needed = record { early = []; last = []; parts = refl; most = omega arith; none = λ some. absurd (some refl) };
 }
 
@@ -48,8 +51,8 @@ pub Quiet-line : (first old : Framing) (bytes : List ℕ) (len weight : ℕ) →
     → message_in (old.line + 1) (take len old.held) ≡ [] → Quiet first (record old { line = old.line + 1; held = drop (len + 1) old.held; weight = weight }) bytes
 Quiet-line first old bytes len weight q ends within none = record {
   same = λ failed more may.
-      q.same failed more may ∙ counted_ahead-line old len weight failed more ends within
-      ∙ ap (λ (ms : List Framed). ms ++ counted_ahead (record old { line = old.line + 1; held = drop (len + 1) old.held; weight = weight }) failed more) none;
+      q.same failed more may ∙ ap (map bare) (counted_ahead-line old len weight failed more ends within
+      ∙ ap (λ (ms : List Framed). ms ++ counted_ahead (record old { line = old.line + 1; held = drop (len + 1) old.held; weight = weight }) failed more) none);
   needed = q.needed;
 }
 
@@ -66,10 +69,16 @@ counted_ahead-fetched old new before after fetched within same failed more =
     cc
 
 -- where no line is whole, no message is, should a read fail next
-none_whole : (f : Framing) → HasNoLineFeed f.held 0 (length f.held) → f.read ≤ f.most → counted_ahead f true [] ≡ []
+pub none_whole : (f : Framing) → HasNoLineFeed f.held 0 (length f.held) → f.read ≤ f.most → counted_ahead f true [] ≡ []
 none_whole f clear within =
     ap (λ (l : List ℕ). messages_after f.line (counted (limit_left f) true l)) (append-nil f.held)
     ∙ ap (messages_after f.line) (counted-failed (limit_left f) f.held clear (omega arith)) ∙ messages_after-nil f.line
+
+-- so none is of what came since the call began
+pub none_came : (first now : Framing) (bytes more : List ℕ) (failed : Bool) → Quiet first now bytes → now.ended ≡ false → counted_ahead now failed more ≡ []
+    → counted_ahead first failed (bytes ++ more) ≡ []
+none_came first now bytes more failed q going none =
+    none_of_bare (counted_ahead first failed (bytes ++ more)) (q.same failed more (λ h. absurd (true≢false (sym h ∙ going))) ∙ ap (map bare) none)
 
 -- so a read then is needed
 pub needed-fetched : (first old new : Framing) (mid after : Option (List ℕ)) (bytes : List ℕ) (q : Quiet first old bytes) (fetched : Fetched old new mid after)
@@ -79,7 +88,7 @@ needed-fetched first old new mid after bytes q fetched clear going within few = 
   last = fetched.bytes;
   parts = refl;
   most = omega (arith, fetched.count);
-  none = λ _. ap (counted_ahead first true) (sym (append-nil bytes)) ∙ q.same true [] (λ h. absurd (true≢false (sym h ∙ going))) ∙ none_whole old clear within;
+  none = λ _. ap (counted_ahead first true) (sym (append-nil bytes)) ∙ none_came first old bytes [] true q going (none_whole old clear within);
 }
 
 pub Quiet-fetched : (first old new : Framing) (mid after : Option (List ℕ)) (bytes : List ℕ) → Quiet first old bytes → (fetched : Fetched old new mid after)
@@ -87,9 +96,9 @@ pub Quiet-fetched : (first old new : Framing) (mid after : Option (List ℕ)) (b
     → new ≡ record old { held = new.held; read = new.read; ended = new.ended } → Quiet first new (bytes ++ fetched.bytes)
 Quiet-fetched first old new mid after bytes q fetched clear going within few same = record {
   same = λ failed more may.
-      ap (counted_ahead first failed) (append_assoc bytes fetched.bytes more)
+      ap (λ (l : List ℕ). map bare (counted_ahead first failed l)) (append_assoc bytes fetched.bytes more)
       ∙ q.same failed (fetched.bytes ++ more) (λ h. absurd (true≢false (sym h ∙ going)))
-      ∙ counted_ahead-fetched old new mid after fetched within same failed more;
+      ∙ ap (map bare) (counted_ahead-fetched old new mid after fetched within same failed more);
   needed = needed-fetched first old new mid after bytes q fetched clear going within few;
 }
 
@@ -98,12 +107,26 @@ begins-long : (size number at count : ℕ) (line : List ℕ) (rest : List Framed
 begins-long size number at count [] rest long = absurd (omega (arith, long.above, long.count))
 begins-long size number at count (b ∷ bs) rest long = (sym long.number, sym long.count)
 
+-- who reads no topics sees that a message is too long, and nobody else sees more of it
+long_bare : (at count : ℕ) (ms : List Framed) → BeginsWithLong at count ms → BeginsWithLong at count (map bare ms)
+long_bare at count [] long = long
+long_bare at count (m ∷ ms) long = long
+
+bare_long : (at count : ℕ) (ms : List Framed) → BeginsWithLong at count (map bare ms) → BeginsWithLong at count ms
+bare_long at count [] long = long
+bare_long at count (m ∷ ms) long = long
+
+pub long_same : (at count : ℕ) (ms ns : List Framed) → map bare ms ≡ map bare ns → BeginsWithLong at count ns → BeginsWithLong at count ms
+long_same at count ms ns same long = bare_long at count ms (subst (BeginsWithLong at count) (sym same) (long_bare at count ns long))
+
 -- the first line is too long, whatever follows
-Comes-long : (first old new : Framing) (len at count : ℕ) (bytes : List ℕ) (q : Quiet first old bytes) → EndsAt old.held len → old.read ≤ old.most → (IsTrue old.ended → IsTrue new.ended)
+pub Comes-long : (first old new : Framing) (len at count : ℕ) (bytes : List ℕ) (q : Quiet first old bytes) → EndsAt old.held len → old.read ≤ old.most → (IsTrue old.ended → IsTrue new.ended)
     → IsTooLong old.size (old.line + 1) (take len old.held) at count → Comes first new bytes (Err (TooLong at count))
 Comes-long first old new len at count bytes q ends within stays long = λ failed more may.
-    subst (BeginsWithLong at count) (sym (q.same failed more (λ h. may (stays h)) ∙ counted_ahead-line old len old.weight failed more ends within))
-    (begins-long old.size (old.line + 1) at count (take len old.held) _ long)
+    let behind = counted_ahead (record old { line = old.line + 1; held = drop (len + 1) old.held; weight = old.weight }) failed more in
+    long_same at count (counted_ahead first failed (bytes ++ more)) (message_in (old.line + 1) (take len old.held) ++ behind)
+    (q.same failed more (λ h. may (stays h)) ∙ ap (map bare) (counted_ahead-line old len old.weight failed more ends within))
+    (begins-long old.size (old.line + 1) at count (take len old.held) behind long)
 
 -- at the end, what is held is the last line
 last_ahead : (f : Framing) → HasNoLineFeed f.held 0 (length f.held) → f.read ≤ f.most → counted_ahead f false [] ≡ message_in (f.line + 1) f.held
@@ -115,18 +138,19 @@ last_ahead f clear within =
 
 -- and nothing follows
 at_end : (first old : Framing) (bytes : List ℕ) (q : Quiet first old bytes) → HasNoLineFeed old.held 0 (length old.held) → old.read ≤ old.most
-    → counted_ahead first false (bytes ++ []) ≡ message_in (old.line + 1) old.held
-at_end first old bytes q clear within = q.same false [] (λ _. (refl, refl)) ∙ last_ahead old clear within
+    → map bare (counted_ahead first false (bytes ++ [])) ≡ map bare (message_in (old.line + 1) old.held)
+at_end first old bytes q clear within = q.same false [] (λ _. (refl, refl)) ∙ ap (map bare) (last_ahead old clear within)
 
 -- the last line is too long
-Comes-long_last : (first old new : Framing) (at count : ℕ) (bytes : List ℕ) (q : Quiet first old bytes) → HasNoLineFeed old.held 0 (length old.held) → old.read ≤ old.most → IsTrue new.ended
+pub Comes-long_last : (first old new : Framing) (at count : ℕ) (bytes : List ℕ) (q : Quiet first old bytes) → HasNoLineFeed old.held 0 (length old.held) → old.read ≤ old.most → IsTrue new.ended
     → IsTooLong old.size (old.line + 1) old.held at count → Comes first new bytes (Err (TooLong at count))
 Comes-long_last first old new at count bytes q clear within ended long = λ failed more may.
     let nothing = may ended in
-    let same : counted_ahead first failed (bytes ++ more) ≡ message_in (old.line + 1) old.held ++ [] =
-    ap (λ (l : List ℕ). counted_ahead first failed (bytes ++ l)) nothing.0 ∙ ap (λ (b : Bool). counted_ahead first b (bytes ++ [])) nothing.1
-    ∙ at_end first old bytes q clear within ∙ sym (append-nil (message_in (old.line + 1) old.held)) in
-    subst (BeginsWithLong at count) (sym same) (begins-long old.size (old.line + 1) at count old.held [] long)
+    let same : map bare (counted_ahead first failed (bytes ++ more)) ≡ map bare (message_in (old.line + 1) old.held ++ []) =
+    ap (λ (l : List ℕ). map bare (counted_ahead first failed (bytes ++ l))) nothing.0 ∙ ap (λ (b : Bool). map bare (counted_ahead first b (bytes ++ []))) nothing.1
+    ∙ at_end first old bytes q clear within ∙ ap (map bare) (sym (append-nil (message_in (old.line + 1) old.held))) in
+    long_same at count (counted_ahead first failed (bytes ++ more)) (message_in (old.line + 1) old.held ++ []) same
+    (begins-long old.size (old.line + 1) at count old.held [] long)
 
 -- a line was refused
 pub Comes-pass_err : (first old new : Framing) (len : ℕ) (fault : FrameFault) (bytes : List ℕ) (q : Quiet first old bytes) → EndsAt old.held len → old.read ≤ old.most → new ≡ old
@@ -161,7 +185,7 @@ pub Comes-read_err : (first old new : Framing) (mid after : Option (List ℕ)) (
 Comes-read_err first old new mid after ReadFault bytes q fetched clear within going same unread large long =
     let count : length old.held ≡ length old.held + length fetched.bytes = sym (ap (λ (f : Framing). length f.held) (unread refl)) ∙ ap length fetched.held ∙ length-append old.held fetched.bytes in
     let nothing : fetched.bytes ≡ [] = nil_from_length fetched.bytes (omega arith) in
-    ap (λ (l : List ℕ). counted_ahead first true (bytes ++ l)) nothing ∙ q.same true [] (λ h. absurd (true≢false (sym h ∙ going))) ∙ none_whole old clear within
+    ap (λ (l : List ℕ). counted_ahead first true (bytes ++ l)) nothing ∙ none_came first old bytes [] true q going (none_whole old clear within)
 Comes-read_err first old new mid after (TooLong at len) bytes q fetched clear within going same unread large long = absurd (long at len refl)
 Comes-read_err first old new mid after (TooLarge n) bytes q fetched clear within going same unread large long =
     let facts = large n refl in
@@ -172,15 +196,16 @@ Comes-read_err first old new mid after (TooLarge n) bytes q fetched clear within
     let limit : limit_left old ≡ length old.held = omega arith in
     let front : HasNoLineFeed text 0 (limit_left old) =
     λ k low high is. clear k low (omega arith) (sym (get_or-append old.held fetched.bytes 0 k (omega arith)) ∙ is) in
-    q.same false fetched.bytes (λ h. absurd (true≢false (sym h ∙ going)))
-    ∙ ap (messages_after old.line) (counted-many (limit_left old) false text front (omega (arith, length-append old.held fetched.bytes))) ∙ messages_after-nil old.line
+    none_came first old bytes fetched.bytes false q going
+    (ap (messages_after old.line) (counted-many (limit_left old) false text front (omega (arith, length-append old.held fetched.bytes))) ∙ messages_after-nil old.line)
 Comes-read_err first old new mid after NoMemory bytes q fetched clear within going same unread large long = tt
 
 -- the end was read, and nothing was held
 pub Comes-none : (first old new : Framing) (bytes : List ℕ) (q : Quiet first old bytes) → HasNoLineFeed old.held 0 (length old.held) → old.read ≤ old.most
     → old.held ≡ [] → Comes first new bytes (Ok None)
 Comes-none first old new bytes q clear within none =
-    ap (counted_ahead first false) (sym (append-nil bytes)) ∙ at_end first old bytes q clear within ∙ ap (message_in (old.line + 1)) none
+    ap (counted_ahead first false) (sym (append-nil bytes))
+    ∙ none_of_bare (counted_ahead first false (bytes ++ [])) (at_end first old bytes q clear within ∙ ap (λ (l : List ℕ). map bare (message_in (old.line + 1) l)) none)
 
 -- whether a call failed doesn't matter to it
 Comes-done : (first now : Framing) (bytes : List ℕ) (given : Option Message) (failed : Bool) → Comes first now bytes (Ok given) → Comes first (record now { failed = failed }) bytes (Ok given)

@@ -1,7 +1,8 @@
 -- Parts of a room, and the line feeds in them.
 use Rattle.std.proofs.Common.{◌≡◌, ℕ, ◌+◌, ◌-◌, ◌<◌, ◌≤◌, List, ◌++◌, length, take, drop, get_or, Some, None, sym, ◌∙◌, ap, ⊎_elim, arith, length-drop}
 use Rattle.std.specs.Prelude.{slice_range}
-use Rattle.std.proofs.lemmas.List.{get_or-take, get_or-drop, drop-drop, drop-take, length-take}
+use Rattle.std.specs.List.{CopiedTo, SameFrom}
+use Rattle.std.proofs.lemmas.List.{get_or-take, get_or-drop, drop-drop, drop-take, length-take, same_lists, take-take}
 use Rattle.std.proofs.Math.Seq.{take-add}
 use Rattle.std.proofs.lemmas.Bool.{cases_lt, eqb-true, eq-eqb}
 use Rattle.std.proofs.lemmas.Grind.{common_steps}
@@ -12,6 +13,9 @@ module _ (xs : List ℕ) (a b : ℕ) where
   pub get_or-part : (k : ℕ) → a + k < b → get_or (slice_range xs a b) k 0 ≡ get_or xs (a + k) 0
   get_or-part k h = get_or-take (b - a) (drop a xs) k 0 (omega arith) ∙ get_or-drop a xs k 0
 
+  get_or-part_any : (k d : ℕ) → a + k < b → get_or (slice_range xs a b) k d ≡ get_or xs (a + k) d
+  get_or-part_any k d h = get_or-take (b - a) (drop a xs) k d (omega arith) ∙ get_or-drop a xs k d
+
   pub length-part : b ≤ length xs → length (slice_range xs a b) ≡ b - a
   length-part h = omega (arith, length-take (b - a) (drop a xs), length-drop a xs)
 
@@ -19,6 +23,12 @@ module _ (xs : List ℕ) (a b : ℕ) where
   drop-part n h =
       let parts : b - a ≡ n + (b - (a + n)) = omega arith in
       ap (λ (k : ℕ). drop n (take k (drop a xs))) parts ∙ drop-take n (b - (a + n)) (drop a xs) ∙ ap (take (b - (a + n))) (grind (arith, common_steps))
+
+  pub take-part : (n : ℕ) → a + n ≤ b → take n (slice_range xs a b) ≡ slice_range xs a (a + n)
+  take-part n h =
+      let less : n ≤ b - a = omega arith in
+      let same : a + n - a ≡ n = omega arith in
+      take-take n (b - a) (drop a xs) less ∙ ap (λ (k : ℕ). take k (drop a xs)) (sym same)
 
   -- a search that found nothing
   pub clear_from_none : b ≤ length xs → IsFirstByte (is_byte 10) (slice_range xs a b) None → HasNoLineFeed xs a b
@@ -45,6 +55,11 @@ module _ (xs : List ℕ) (a b : ℕ) where
   clear_part within clear k low high is =
       let inside : a + k < b = omega (arith, length-part within) in
       clear (a + k) (omega arith) inside (sym (get_or-part k inside) ∙ is)
+
+  -- and the other way round
+  pub clear_from_part : b ≤ length xs → HasNoLineFeed (slice_range xs a b) 0 (length (slice_range xs a b)) → HasNoLineFeed xs a b
+  clear_from_part within clear k low high is =
+      clear (k - a) (omega arith) (omega (arith, length-part within, low, high)) (get_or-part (k - a) (omega arith) ∙ ap (λ (i : ℕ). get_or xs i 0) (omega arith) ∙ is)
 
   -- the first line feed of the room from a on ends the first line of its part
   pub ends_part : b ≤ length xs → (n : ℕ) → a ≤ n → n < b → HasNoLineFeed xs a n → get_or xs n 0 ≡ 10 → EndsAt (slice_range xs a b) (n - a)
@@ -87,3 +102,34 @@ clear_again xs zs a s b d same low high clear k from to is =
     sym (get_or-part xs a b (k - d) (omega arith)) ∙ ap (λ l. get_or l (k - d) 0) (sym same)
     ∙ get_or-part zs d (d + (b - a)) (k - d) (omega arith) ∙ ap (λ (i : ℕ). get_or zs i 0) at in
     clear (a + (k - d)) (omega arith) (omega arith) (reads ∙ is)
+
+-- bytes that were copied stand where they were copied to
+pub part-copied : (xs ys : List ℕ) (a n b : ℕ) → length ys ≡ length xs → a + n ≤ length xs → b + n ≤ length xs → CopiedTo xs ys a b n
+    → slice_range ys b (b + n) ≡ slice_range xs a (a + n)
+part-copied xs ys a n b same from to copied =
+    let one : length (slice_range ys b (b + n)) ≡ n = length-part ys b (b + n) (omega (arith, same, to)) ∙ omega arith in
+    let two : length (slice_range xs a (a + n)) ≡ n = length-part xs a (a + n) from ∙ omega arith in
+    same_lists (slice_range ys b (b + n)) (slice_range xs a (a + n)) (one ∙ sym two)
+    (λ k d h.
+    let low : k < n = omega (arith, h, one) in
+    get_or-part_any ys b (b + n) k d (omega (arith, low)) ∙ copied (b + k) d (omega arith) (omega (arith, low))
+    ∙ ap (λ (i : ℕ). get_or xs i d) (omega arith) ∙ sym (get_or-part_any xs a (a + n) k d (omega (arith, low))))
+
+-- bytes from a position on that stayed
+pub drop-same : (xs ys : List ℕ) (n : ℕ) → length ys ≡ length xs → SameFrom xs ys n → drop n ys ≡ drop n xs
+drop-same xs ys n same stayed =
+    same_lists (drop n ys) (drop n xs) (length-drop n ys ∙ ap (λ (k : ℕ). k - n) same ∙ sym (length-drop n xs))
+    (λ k d h. get_or-drop n ys k d ∙ stayed (n + k) d (omega arith) ∙ sym (get_or-drop n xs k d))
+
+-- a part with its middle gone, after its front was moved up to the rest
+pub part-cut : (xs ys : List ℕ) (a from to b : ℕ) → from ≤ to → a + to ≤ b
+    → slice_range ys (a + (to - from)) (a + (to - from) + from) ≡ slice_range xs a (a + from) → drop (a + (to - from) + from) ys ≡ drop (a + (to - from) + from) xs
+    → slice_range ys (a + (to - from)) b ≡ take from (slice_range xs a b) ++ drop to (slice_range xs a b)
+part-cut xs ys a from to b up within moved behind =
+    let start : ℕ = a + (to - from) in
+    let rest : start + from ≡ a + to = omega (arith, up) in
+    part-append ys start (start + from) b (omega arith) (omega (arith, rest, within))
+    ∙ ap (λ (l : List ℕ). l ++ slice_range ys (start + from) b) (moved ∙ sym (take-part xs a b from (omega (arith, up, within))))
+    ∙ ap (λ (l : List ℕ). take from (slice_range xs a b) ++ take (b - (start + from)) l) behind
+    ∙ ap (λ (n : ℕ). take from (slice_range xs a b) ++ slice_range xs n b) rest
+    ∙ ap (λ (l : List ℕ). take from (slice_range xs a b) ++ l) (sym (drop-part xs a b to within))

@@ -23,7 +23,7 @@ whole_lines-line [] rest = refl
 whole_lines-line (b ∷ bs) rest =
     cond-true _ _ _ (any-line_feed (b ∷ bs) rest) ∙ ap (λ l. b ∷ l) (whole_lines-line bs rest)
 
-all_clear : (bytes : List ℕ) → HasNoLineFeed bytes 0 (length bytes) → All (λ b. is_line_feed b ≡ false) bytes
+pub all_clear : (bytes : List ℕ) → HasNoLineFeed bytes 0 (length bytes) → All (λ b. is_line_feed b ≡ false) bytes
 all_clear bytes clear = subst (All (λ b. is_line_feed b ≡ false)) (take-length bytes) (no_line_feed bytes (length bytes) (omega arith) clear)
 
 -- what has no line feed has no whole line

@@ -1,6 +1,7 @@
 pub mod Text
 pub mod Trouble
 pub mod Lines
+pub mod Trimming
 pub mod Numbered
 pub mod Bounds
 pub mod Framing

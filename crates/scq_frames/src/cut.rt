@@ -45,7 +45,7 @@ pub fn message_of_line(
 }
 
 /// What stands before the first space of a line, and what follows it.
-fn split_line(line: &[u8]) -> (&[u8], &[u8])
+pub fn split_line(line: &[u8]) -> (&[u8], &[u8])
     ensures topic { result.0.now ≡ before_first is_space line.now }
     ensures payload { result.1.now ≡ payload_of line.now }
 {

@@ -1,15 +1,16 @@
-ghost use Rattle.std.specs.Prelude.{◌≡◌, ◌≢◌, ◌⊎◌, ℕ, List, ◌+◌, ◌^◌, ◌<◌, ◌≤◌, ◌++◌, [], ◌∷◌, length, take, drop, false, map, IsTrue, IfOk, IfErr, IfSome, IfNone, OnOk, OnErr, IsErrOf, is_err, sum_by};
+ghost use Rattle.std.specs.Prelude.{◌≡◌, ◌≢◌, ◌⊎◌, ℕ, List, ◌+◌, ◌^◌, ◌<◌, ◌≤◌, ◌++◌, [], ◌∷◌, length, take, drop, false, map, IsTrue, Err, IfOk, IfErr, IfSome, IfNone, OnOk, OnErr, IsErrOf, is_err, sum_by};
 ghost use Rattle.std.specs.Option.{option_map, option_to_list};
 ghost use Rattle.scq_outside.specs.Faults.{Rose};
-ghost use Rattle.scq_topics.specs.Topics.{topic_of};
+ghost use Rattle.scq_topics.specs.Topics.{HaveShortNames, topic_of};
 ghost use Rattle.scq_frames.specs.Numbered.{numbered};
 ghost use Rattle.scq_frames.specs.Text.{message_in, payload_of};
 ghost use Rattle.scq_frames.specs.Finding.{IsTooLong};
 ghost use Rattle.scq_frames.specs.Coming.{Found};
 ghost use Rattle.scq_frames.specs.Lines.{EndsAt, HasNoLineFeed};
+ghost use Rattle.scq_frames.specs.Trimming.{IsTrimmed};
 ghost use Rattle.scq_frames.specs.Framing.{Fetched, IsNext, NothingLeft, fresh, given_by, visible_ahead, visible_size, weight_of, work_left};
 
-use crate::cut::message_of_line;
+use crate::cut::{message_of_line, split_line};
 use crate::window::{READ, Window};
 use crate::{FrameFault, Message};
 use scq_outside::Source;
@@ -116,6 +117,10 @@ impl Framer {
         ensures too_long { (line len : ℕ) → IsErrOf result (FrameFault.TooLong line len) → (self.old.line < line) × (self.old.size < len) }
         ensures too_large { (bytes : ℕ) → IsErrOf result (FrameFault.TooLarge bytes) → (bytes ≡ self.new.most + 1) × (self.new.read ≡ bytes) }
         ensures failed { self.new.failed ≡ is_err result }
+
+        // Held are at most the bytes of a payload, those of a topic that is longer than any name with
+        // its space, and what one read gives: the others of a line are counted.
+        ensures held { length self.new.held ≤ self.new.size + 4130 }
     {
         self.failed = true;
         let given = loop {
@@ -128,6 +133,9 @@ impl Framer {
                 None => {
                     if self.has_ended() {
                         break self.last_line(topics)?;
+                    }
+                    if self.trim(topics) {
+                        return Err(self.count_long(source));
                     }
                     self.read(source)?;
                 }
@@ -211,11 +219,88 @@ impl Framer {
         self.pass(topics, len, len)
     }
 
+    /// Cuts the topic of a line that has not ended: what stays is still longer than any name. Answers
+    /// whether what is held then shows that the payload is too long.
+    fn trim(&mut self, topics: &Topics) -> bool
+        requires clear { HasNoLineFeed self.old.held 0 (length self.old.held) }
+        ensures same { self.new ≡ record self.old { held = self.new.held } }
+        ensures trimmed { IsTrimmed 33 self.old.held self.new.held }
+        ensures names { HaveShortNames topics.now }
+        ensures long { IsTrue result → self.new.size < length (payload_of self.new.held) }
+        ensures short { result ≡ false → length self.new.held ≤ self.new.size + 34 }
+    {
+        let most = topics.most_name() + 1;
+        self.window.cut_topic(most);
+        self.window.len() > self.size as usize + most + 1
+    }
+
+    /// Reads on to the end of a line whose payload is too long, counts its bytes and holds none of
+    /// them, and answers the fault.
+    fn count_long<S: Source>(&mut self, source: &mut S) -> FrameFault
+        requires going { self.old.ended ≡ false }
+        requires failing { IsTrue self.old.failed }
+        requires within { self.old.read ≤ self.old.most }
+        requires clear { HasNoLineFeed self.old.held 0 (length self.old.held) }
+        requires long { self.old.size < length (payload_of self.old.held) }
+        ensures same { self.new ≡ record self.old { held = self.new.held; read = self.new.read; ended = self.new.ended } }
+        ensures found { Found self.old self.new (S.left source.old) (S.left source.new) (Err result) }
+        ensures size { visible_size self.new (S.left source.new) ≡ visible_size self.old (S.left source.old) }
+        ensures end { IsTrue self.new.ended → NothingLeft (S.left source.new) }
+        ensures held { length self.new.held ≤ self.new.size + 4130 }
+
+        ensures read_fault { result ≡ FrameFault.ReadFault → Rose (S.faults source.old) (S.faults source.new) }
+        ensures kept { result ≢ FrameFault.ReadFault → S.faults source.new ≡ S.faults source.old }
+        ensures too_long { (line len : ℕ) → result ≡ FrameFault.TooLong line len → (self.old.line < line) × (self.old.size < len) }
+        ensures too_large { (bytes : ℕ) → result ≡ FrameFault.TooLarge bytes → (bytes ≡ self.new.most + 1) × (self.new.read ≡ bytes) }
+    {
+        let number = self.line + 1;
+        let mut len = self.payload_len();
+        self.give_up_held();
+        'reads: loop {
+            if let Err(fault) = self.read(source) {
+                return fault;
+            }
+            match self.line_len() {
+                Some(more) => {
+                    let len = len + more as u64;
+                    return FrameFault::TooLong { line: number, len };
+                }
+                None => {
+                    len += self.give_up_held();
+                    if self.has_ended() {
+                        return FrameFault::TooLong { line: number, len };
+                    }
+                }
+            }
+        }
+    }
+
+    /// The length of the payload that is held of a line.
+    fn payload_len(&self) -> u64
+        ensures value { result ≡ length (payload_of self.now.held) }
+        ensures within { result ≤ self.now.read }
+    {
+        let (_, payload) = split_line(self.window.front(self.window.len()));
+        payload.len() as u64
+    }
+
+    /// Gives up what is held, and answers how many bytes that is.
+    fn give_up_held(&mut self) -> u64
+        ensures none { self.new ≡ record self.old { held = [] } }
+        ensures count { result ≡ length self.old.held }
+        ensures within { result ≤ self.old.read }
+    {
+        let len = self.window.len();
+        self.window.skip(len);
+        len as u64
+    }
+
     /// Reads at most `READ` bytes, up to the limit in all, and one more there.
     fn read<S: Source>(&mut self, source: &mut S) -> Result<(), FrameFault>
         requires going { self.old.ended ≡ false }
         requires failing { IsTrue self.old.failed }
         requires within { self.old.read ≤ self.old.most }
+        requires short { length self.old.held ≤ self.old.size + 34 }
         ensures same { self.new ≡ record self.old { held = self.new.held; read = self.new.read; ended = self.new.ended } }
         ensures few { self.new.read ≤ self.old.read + 4096 }
         ensures fetched { Fetched self.old self.new (S.left source.old) (S.left source.new) }
@@ -224,6 +309,7 @@ impl Framer {
         ensures size { visible_size self.new (S.left source.new) ≡ visible_size self.old (S.left source.old) }
         ensures end { IsTrue self.new.ended → NothingLeft (S.left source.new) }
         ensures within { OnOk result (self.new.read ≤ self.new.most) }
+        ensures held { length self.new.held ≤ self.new.size + 4130 }
         ensures falls { OnOk result (work_left self.new < work_left self.old) }
 
         ensures read_fault { IsErrOf result FrameFault.ReadFault → Rose (S.faults source.old) (S.faults source.new) }

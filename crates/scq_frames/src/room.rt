@@ -1,5 +1,5 @@
 //! The room in which a window's bytes stand: how more of it is made, and how it is read into.
-ghost use Rattle.std.specs.Prelude.{◌≡◌, ◌⊎◌, ℕ, ◌+◌, ◌-◌, ◌*◌, ◌<◌, ◌≤◌, ◌++◌, take, slice_range, vec_len, IfOk, IfSome, OnOk, OnErr, []};
+ghost use Rattle.std.specs.Prelude.{◌≡◌, ◌⊎◌, ℕ, ◌+◌, ◌-◌, ◌*◌, ◌<◌, ◌≤◌, ◌++◌, take, drop, slice_range, vec_len, IfOk, IfSome, OnOk, OnErr, []};
 ghost use Rattle.std.specs.Option.{option_map};
 ghost use Rattle.scq_outside.specs.Faults.{Rose};
 
@@ -35,6 +35,17 @@ pub fn make_room(
     }
     room.resize((held + more).saturating_mul(2), 0)?;
     Ok(start)
+}
+
+/// Moves so many bytes from one position up to another, over what stands between.
+pub fn close_gap(room: &mut Vec<u8>, from: usize, len: usize, to: usize)
+    requires up { from ≤ to }
+    requires within { to + len ≤ vec_len room.old }
+    ensures len { vec_len room.new ≡ vec_len room.old }
+    ensures moved { slice_range room.new.items to (to + len) ≡ slice_range room.old.items from (from + len) }
+    ensures behind { drop (to + len) room.new.items ≡ drop (to + len) room.old.items }
+{
+    room.copy_within(from..from + len, to);
 }
 
 /// Reads at most so many bytes to a position of the room.

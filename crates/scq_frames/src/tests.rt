@@ -199,6 +199,82 @@ fn gives_lines_longer_than_the_room(rt: HostRuntime) -> Result<(), Fail> {
 }
 
 #[test]
+fn counts_what_of_a_line_is_not_held(rt: HostRuntime) -> Result<(), Fail> {
+    // The longest name that can be declared is the topic's first 32 bytes. A payload of 9,000 bytes and
+    // its topic are longer than two reads, and the text is 5 bytes longer than the first line.
+    let rows: [(u32, Option<u32>, u32, u64, &str); 11] = [
+        (32, Some(3), 16, 99_999, "7:1 0 ppp;7:2 1 x;end"),
+        (33, Some(3), 16, 99_999, "7:1 1 ppp;7:2 1 x;end"),
+        (34, Some(3), 16, 99_999, "7:1 1 ppp;7:2 1 x;end"),
+        (9000, Some(3), 16, 99_999, "7:1 1 ppp;7:2 1 x;end"),
+        (9000, Some(0), 16, 99_999, "7:1 1 ;7:2 1 x;end"),
+        (9000, None, 16, 99_999, "7:1 1 ;7:2 1 x;end"),
+        (5, Some(9000), 16, 99_999, "TooLong { line: 1, len: 9000 }"),
+        (
+            9000,
+            Some(9000),
+            16,
+            99_999,
+            "TooLong { line: 1, len: 9000 }",
+        ),
+        (5, Some(9000), 16, 9007, "TooLong { line: 1, len: 9000 }"),
+        (5, Some(9000), 16, 9006, "TooLarge { bytes: 9007 }"),
+        (9000, None, 16, 9000, "TooLarge { bytes: 9001 }"),
+    ];
+    let mut name = String::new(rt.alloc());
+    push_line(&mut name, "", 't', 32, "=len")?;
+    let topics = Topics::read(name.as_str()).ok().ok_or("topics")?;
+    for (topic, payload, size, most, wanted) in rows {
+        let mut text = String::new(rt.alloc());
+        push_line(&mut text, "", 't', topic, "")?;
+        if let Some(payload) = payload {
+            push_line(&mut text, " ", 'p', payload, "")?;
+        }
+        text.push_str("\na x\n")?;
+        for piece in [1, 33, 4096] {
+            let source = Pieces {
+                rest: text.as_bytes(),
+                size: piece,
+                reads: u64::MAX,
+                faults: 0,
+            };
+            let limits = Limits {
+                size,
+                most: most.min(99_999),
+            };
+            assert_eq!(rt;
+                listed(rt.alloc(), &topics, &limits, source)?.as_str(),
+                wanted
+            );
+        }
+    }
+    Ok(())
+}
+
+#[test]
+fn a_line_that_is_too_long_ends_with_its_source(rt: HostRuntime) -> Result<(), Fail> {
+    let mut text = String::new(rt.alloc());
+    push_line(&mut text, "a ", 'p', 9000, "")?;
+    for (reads, wanted) in [(2, "ReadFault"), (4, "TooLong { line: 1, len: 9000 }")] {
+        let source = Pieces {
+            rest: text.as_bytes(),
+            size: 4096,
+            reads,
+            faults: 0,
+        };
+        let limits = Limits {
+            size: 16,
+            most: 99_999,
+        };
+        assert_eq!(rt;
+            listed(rt.alloc(), &Topics::none(), &limits, source)?.as_str(),
+            wanted
+        );
+    }
+    Ok(())
+}
+
+#[test]
 fn encodes_a_message_in_its_bytes(rt: HostRuntime) -> Result<(), Fail> {
     let payload = Bytes::copy_of(rt.alloc(), b"hi")?;
     let message = Message {

@@ -1,11 +1,15 @@
-ghost use Rattle.std.specs.Prelude.{◌≡◌, ℕ, ◌+◌, ◌-◌, ◌<◌, ◌≤◌, [], length, take, drop, slice_range, vec_len, IfOk, IfErr, IfSome, IfNone, OnOk, OnErr, IsErrOf, ◌⊎◌, ◌≢◌};
+ghost use Rattle.std.specs.Prelude.{◌≡◌, ℕ, ◌+◌, ◌-◌, ◌<◌, ◌≤◌, ◌++◌, [], length, take, drop, slice_range, vec_len, IfOk, IfErr, IfSome, IfNone, OnOk, OnErr, IsErrOf, ◌⊎◌, ◌≢◌};
 ghost use Rattle.std.specs.Option.{option_map};
 ghost use Rattle.scq_outside.specs.Faults.{Rose};
+ghost use Rattle.std.specs.List.{before_first};
+ghost use Rattle.scq_topics.specs.Runs.{is_space};
 ghost use Rattle.scq_frames.specs.Lines.{EndsAt, HasNoLineFeed};
+ghost use Rattle.scq_frames.specs.Trimming.{IsTrimmed};
 ghost use Rattle.scq_frames.specs.Framing.{Reads};
 
 use crate::FrameFault;
-use crate::room::{make_room, read_at};
+use crate::cut::split_line;
+use crate::room::{close_gap, make_room, read_at};
 use memchr::memchr;
 use scq_outside::Source;
 use scq_word::NoMemory;
@@ -91,6 +95,32 @@ impl Window {
     {
         self.start += len;
         self.searched = self.searched.max(self.start);
+    }
+
+    /// Keeps at most so many bytes of the topic of a line that no LF ends.
+    pub fn cut_topic(&mut self, most: usize)
+        requires clear { HasNoLineFeed self.old 0 (length self.old) }
+        ensures trimmed { IsTrimmed most self.old self.new }
+        ensures topic { length (before_first is_space self.new) ≤ most }
+    {
+        let (topic, _) = split_line(self.front(self.len()));
+        let len = topic.len();
+        if most < len {
+            self.cut(most, len);
+        }
+    }
+
+    /// Drops the bytes from one position up to another, of a line that no LF ends.
+    fn cut(&mut self, from: usize, to: usize)
+        requires ordered { from ≤ to }
+        requires within { to ≤ length self.old }
+        requires clear { HasNoLineFeed self.old 0 (length self.old) }
+        ensures { self.new ≡ take from self.old ++ drop to self.old }
+    {
+        let start = self.start + (to - from);
+        close_gap(&mut self.room, self.start, from, start);
+        self.start = start;
+        self.searched = self.end;
     }
 
     /// Reads at most so many bytes behind those held, and answers how many.

@@ -1,7 +1,7 @@
 -- What a text of topics declares. Declared topics are the list of their names and kinds, in order.
-use Rattle.std.specs.Prelude.{ℕ, ◌+◌, Bool, not, ◌==◌, ◌&&◌, ◌||◌, nat_lt, nat_le, List, [], ◌∷◌, ◌++◌, length, map, codes, slice_index_or, Option, Some, None, unwrap_or, is_some, if◌then◌else◌}
+use Rattle.std.specs.Prelude.{ℕ, ◌+◌, ◌≤◌, Bool, not, ◌==◌, ◌&&◌, ◌||◌, nat_lt, nat_le, List, [], ◌∷◌, ◌++◌, length, map, codes, slice_index_or, Option, Some, None, unwrap_or, is_some, if◌then◌else◌}
 use Rattle.std.specs.Char.{is_ascii_alphanumeric}
-use Rattle.std.specs.List.{list_all, list_any, position_or_len, before_first, after_first, slice_split}
+use Rattle.std.specs.List.{All, list_all, list_any, position_or_len, before_first, after_first, slice_split}
 use Rattle.std.specs.Option.{option_or}
 use Rattle.std.specs.Str.{bytes_eq}
 use Rattle.scq_topics.specs.Kind.{kind_named}
@@ -33,6 +33,10 @@ is_name_byte byte = is_ascii_alphanumeric byte || byte == 95 || byte == 46
 -- a name: 1 to 32 such bytes
 abbrev pub is_name : List ℕ → Bool
 is_name name = nat_lt 0 (length name) && nat_le (length name) 32 && list_all is_name_byte name
+
+-- no name has more bytes than a name may have
+abbrev pub HaveShortNames : List (List ℕ × Kind) → Type 0
+HaveShortNames topics = All (λ topic. length topic.0 ≤ 32) topics
 
 -- the entries of a text: what stands between its commas
 abbrev pub entries_of : List ℕ → List (List ℕ)

@@ -185,6 +185,7 @@ fn topics_are_read_or_refused(rt: HostRuntime) -> Result<(), Fail> {
         "a=len,b=len,c=len,d=len,e=len,f=len,g=len,h=len,i=len,j=len,k=len,l=len,m=len,n=len,o=len,p=echo";
     let full = Topics::read(full)?;
     assert_eq!(rt; full.len(), 16);
+    assert_eq!(rt; full.most_name(), 32);
     assert_eq!(rt; full.find(b"p"), 15);
     assert_eq!(rt; full.kind(15), Kind::Echo);
     Ok(())

@@ -57,6 +57,10 @@ impl Model for Topics {
     ghost Value = { List (List ℕ × Kind) };
 
     ghost view = { λ t. t.topics.items };
+
+    ghost use Rattle.scq_topics.specs.Topics.{HaveShortNames};
+
+    ghost invariant = { λ t. HaveShortNames t.topics.items };
 }
 
 impl Topic {
@@ -79,7 +83,7 @@ impl Topic {
 }
 
 impl Topics {
-    ghost use Rattle.scq_topics.specs.Topics.{entries_of, entry_fault, first_fault, declared_by, topic_of, name_of, kind_of};
+    ghost use Rattle.scq_topics.specs.Topics.{HaveShortNames, entries_of, entry_fault, first_fault, declared_by, topic_of, name_of, kind_of};
 
     /// No declared topics: every message is on an undeclared one.
     pub fn none() -> Topics
@@ -132,6 +136,15 @@ impl Topics {
         ensures fits { result ≤ 16 }
     {
         self.topics.len() as u32
+    }
+
+    /// The most bytes that a name of a topic has.
+    pub fn most_name(&self) -> usize
+        ensures value { result ≡ 32 }
+        ensures names { HaveShortNames self.now }
+    {
+        let _ = &self.topics;
+        MOST_NAME
     }
 
     /// The number of the declared topic with this name, from 0, or `len()` where none has it.

@@ -1,14 +1,18 @@
 -- A line that was passed took its message off those ahead, and the last line was all of them.
-use Rattle.std.proofs.Common.{IsTrue, Ok, Err, ◌≤◌, ◌≡◌, ◌∙◌, sym, ap, subst, ◌++◌, length, Option, true, false, arith, length-append}
+use Rattle.std.proofs.Common.{IsTrue, Ok, Err, ◌+◌, ◌≤◌, ◌≡◌, ◌∙◌, sym, ap, subst, ◌++◌, length, Option, true, false, arith, length-append}
 use Rattle.std.proofs.lemmas.Bool.{true≢false}
 use Rattle.scq_frames.specs.declared.message.Message.{Message}
 use Rattle.std.specs.Option.{option_map, option_to_list}
 use Rattle.scq_frames.specs.Lines.{EndsAt, HasNoLineFeed}
 use Rattle.scq_topics.specs.Topics.{topic_of}
-use Rattle.scq_frames.specs.Framing.{Framing, visible_ahead}
+use Rattle.scq_frames.specs.Framing.{Framing, visible_ahead, work_left}
 use Rattle.scq_frames.specs.FramerState.{framing}
 use Rattle.scq_frames.specs.Coming.{Found}
-use Rattle.scq_frames.proofs.NextLemmas.{Searches, Searches-start, Passed, PassedLast, Searches-line, Searches-read, gives-line, gives-last, gives-again, none-last, Found-line, Found-last}
+use Rattle.scq_frames.proofs.AheadLemmas.{Passed, PassedLast, gives-line, gives-last, gives-again, none-last}
+use Rattle.scq_frames.proofs.FoundLemmas.{Found-line, Found-last, Found-later}
+use Rattle.scq_frames.proofs.NameLemmas.{names-overlook}
+use Rattle.scq_frames.proofs.TrimLemmas.{clear-trimmed, length-trimmed}
+use Rattle.scq_frames.proofs.NextLemmas.{Searches, Searches-start, Searches-line, Searches-trim, Searches-read}
 use Rattle.std.proofs.lemmas.Result.{err_from_is_err_and}
 use Rattle.scq_frames.proofs.ComingLemmas.{needed-fetched, Comes-pass_err, Comes-last_err, Comes-read_err, Found-err, Found-done}
 use Rattle.scq_frames.proofs.FindingLemmas.{Finds-pass_err, Finds-last_err, Finds-read_err, moved-moved}
@@ -20,6 +24,7 @@ loop-len-init g c =
     let first = c.args.self.now in
     Searches-start (topic_of c.args.topics.now) g.S.Source.left g.S.Source.faults first _ c.args.source.now
     (ap (λ (f : Framing). record f { failed = true }) c.self.view_is) (subst (λ (f : Framing). f.read ≤ f.most) c.self.view_is (c.self.invariant.within (ap (λ (f : Framing). f.failed) c.self.view_is ∙ c.requires)))
+    (subst (λ (f : Framing). length f.held ≤ f.size + 4130) c.self.view_is c.self.invariant.short)
 
 pub loop-len-preserved-in_default : goal.loop-len-preserved-in_default
 loop-len-preserved-in_default g c =
@@ -136,10 +141,45 @@ loop-len-preserved g c =
     let faults = g.S.Source.faults in
     let now = c.line_len.new.self in
     let searches = subst (λ (f : Framing). Searches number left faults c.args.self.now f c.args.source.now c.loop-len.source) (sym c.line_len.ensures.same) c.loop-len.invariant in
+    let clear = subst (λ (f : Framing). HasNoLineFeed f.held 0 (length f.held)) (sym c.line_len.ensures.same) c.in-None.ensures.none in
+    let going = sym c.has_ended.ensures ∙ c.if-has_ended.false in
+    let cut = c.trim.new.self in
+    let trim = c.trim.ensures in
+    let trimmed = Searches-trim number left faults c.args.self.now now cut c.args.source.now c.loop-len.source searches trim.trimmed clear going (names-overlook c.args.topics.now now.file trim.names) trim.same in
     let read = c.in_ok-read-in-None.ensures in
-    Searches-read number left faults c.args.self.now now c.read.new.self c.args.source.now c.loop-len.source c.read.new.source searches
-    (sym c.has_ended.ensures ∙ c.if-has_ended.false) read.same (read.ahead number) read.size read.end read.within (read.kept (λ e. cc)) read.fetched
-    (subst (λ (f : Framing). HasNoLineFeed f.held 0 (length f.held)) (sym c.line_len.ensures.same) c.in-None.ensures.none) read.few
+    Searches-read number left faults c.args.self.now cut c.read.new.self c.args.source.now c.loop-len.source c.read.new.source trimmed
+    (ap (λ (f : Framing). f.ended) trim.same ∙ going) read.same (read.ahead number) read.size read.end read.within (read.kept (λ e. cc)) read.fetched
+    (clear-trimmed 33 now.held cut.held trim.trimmed clear) read.few read.held
+
+pub loop-len-smaller : goal.loop-len-smaller
+loop-len-smaller g c =
+    let now = c.line_len.new.self in
+    let cut = c.trim.new.self in
+    let trim = c.trim.ensures in
+    let less : length cut.held ≤ length now.held = length-trimmed 33 now.held cut.held trim.trimmed in
+    let less_work : work_left cut ≤ work_left now = subst (λ (f : Framing). work_left f ≤ work_left now) (sym trim.same) (omega (arith, less)) in
+    omega (arith, c.in_ok-read-in-None.ensures.falls, less_work, ap work_left c.line_len.ensures.same)
+
+pub count_long-requires-clause-clear : goal.count_long-requires-clause-clear
+count_long-requires-clause-clear g c =
+    let now = c.line_len.new.self in
+    let clear = subst (λ (f : Framing). HasNoLineFeed f.held 0 (length f.held)) (sym c.line_len.ensures.same) c.in-None.ensures.none in
+    λ _ _. clear-trimmed 33 now.held c.trim.new.self.held c.trim.ensures.trimmed clear
+
+pub returns-then-trim-clause-found : goal.returns-then-trim-clause-found
+returns-then-trim-clause-found g c =
+    let number = topic_of c.args.topics.now in
+    let left = g.S.Source.left in
+    let first = c.args.self.now in
+    let now = c.line_len.new.self in
+    let searches = subst (λ (f : Framing). Searches number left g.S.Source.faults first f c.args.source.now c.loop-len.source) (sym c.line_len.ensures.same) c.loop-len.invariant in
+    let clear = subst (λ (f : Framing). HasNoLineFeed f.held 0 (length f.held)) (sym c.line_len.ensures.same) c.in-None.ensures.none in
+    let going = sym c.has_ended.ensures ∙ c.if-has_ended.false in
+    let cut = c.trim.new.self in
+    let trim = c.trim.ensures in
+    let s = Searches-trim number left g.S.Source.faults first now cut c.args.source.now c.loop-len.source searches trim.trimmed clear going (names-overlook c.args.topics.now now.file trim.names) trim.same in
+    Found-later first cut c.count_long.new.self (left c.args.source.now) (left c.loop-len.source) (left c.count_long.new.source) s.found s.quiet (ap (λ (f : Framing). f.ended) trim.same ∙ going)
+    c.count_long.result c.count_long.ensures.found (λ h. (s.ended h).1) (clear-trimmed 33 now.held cut.held trim.trimmed clear) s.within
 
 pub returns-in_err-read-in-None-clause-found : goal.returns-in_err-read-in-None-clause-found
 returns-in_err-read-in-None-clause-found g c =
@@ -150,21 +190,26 @@ returns-in_err-read-in-None-clause-found g c =
     let left = g.S.Source.left in
     let first = c.args.self.now in
     let now = c.line_len.new.self in
-    let s = subst (λ (f : Framing). Searches number left g.S.Source.faults first f c.args.source.now c.loop-len.source) (sym c.line_len.ensures.same) c.loop-len.invariant in
+    let searches = subst (λ (f : Framing). Searches number left g.S.Source.faults first f c.args.source.now c.loop-len.source) (sym c.line_len.ensures.same) c.loop-len.invariant in
+    let clear = subst (λ (f : Framing). HasNoLineFeed f.held 0 (length f.held)) (sym c.line_len.ensures.same) c.in-None.ensures.none in
+    let going = sym c.has_ended.ensures ∙ c.if-has_ended.false in
+    let cut = c.trim.new.self in
+    let trim = c.trim.ensures in
+    let s = Searches-trim number left g.S.Source.faults first now cut c.args.source.now c.loop-len.source searches trim.trimmed clear going (names-overlook c.args.topics.now now.file trim.names) trim.same in
+    let clear_cut = clear-trimmed 33 now.held cut.held trim.trimmed clear in
+    let going_cut = ap (λ (f : Framing). f.ended) trim.same ∙ going in
     let before = left c.args.source.now in
     let mid = left c.loop-len.source in
     let after = left c.read.new.source in
-    let clear = subst (λ (f : Framing). HasNoLineFeed f.held 0 (length f.held)) (sym c.line_len.ensures.same) c.in-None.ensures.none in
-    let going = sym c.has_ended.ensures ∙ c.if-has_ended.false in
     let read = c.in_err-read-in-None.ensures in
     Found-err first c.read.new.self before after result fault (s.found.bytes ++ read.fetched.bytes) (is.1 ∙ ap Err is.2)
     (omega (arith, s.found.count, read.fetched.count, length-append s.found.bytes read.fetched.bytes))
     (moved-moved s.found.bytes read.fetched.bytes before mid after s.found.moved read.fetched.moved)
-    (λ h. absurd (true≢false (sym (s.ended h).1 ∙ going)))
-    (needed-fetched first now c.read.new.self mid after s.found.bytes s.quiet read.fetched clear going s.within read.few)
-    (Finds-read_err first now c.read.new.self before mid after fault s.found read.fetched clear s.within going read.same
+    (λ h. absurd (true≢false (sym (s.ended h).1 ∙ going_cut)))
+    (needed-fetched first cut c.read.new.self mid after s.found.bytes s.quiet read.fetched clear_cut going_cut s.within read.few)
+    (Finds-read_err first cut c.read.new.self before mid after fault s.found read.fetched clear_cut s.within going_cut read.same
     (λ e. read.unread (ap Err e)) (λ n e. read.too_large n (ap Err e)) (λ at len e. read.long at len (ap Err e)))
-    (Comes-read_err first now c.read.new.self mid after fault s.found.bytes s.quiet read.fetched clear s.within going read.same
+    (Comes-read_err first cut c.read.new.self mid after fault s.found.bytes s.quiet read.fetched clear_cut s.within going_cut read.same
     (λ e. read.unread (ap Err e)) (λ n e. read.too_large n (ap Err e)) (λ at len e. read.long at len (ap Err e)))
 
 pub returns-clause-found : goal.returns-clause-found

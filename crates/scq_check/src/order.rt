@@ -1,0 +1,162 @@
+//! The first Got that overtakes, and the first wrong Empty.
+
+ghost use Rattle.std.specs.Prelude.{◌≡◌, ◌+◌, ◌<◌, ◌≤◌, ◌^◌, ◌↔◌, ℕ, List, IsTrue, MatchOption, length, IfOk, IfSome};
+ghost use Rattle.scq_hist.specs.Aspects.{IsLawful, IsInOrderAt, IsEmptyRightAt};
+ghost use Rattle.scq_hist.specs.First.{IsFirstFailing};
+ghost use Rattle.scq_hist.specs.Tallies.{IsPutGotAt, NoPutGotAt, IsEmptyAt, NoEmptyAt};
+ghost use Rattle.scq_check.specs.Tables.{IsTables};
+ghost use Rattle.scq_check.specs.Queues.{AreQueuesAt, AreTallies};
+
+use crate::queues::{Queue, Queues, Tally};
+use crate::tables::Tables;
+use scq_hist::{Call, Event, PutName, Reply};
+use scq_word::{Bytes, NoMemory};
+use std::alloc::Global;
+
+// For each event the tally of its call's queue just before it.
+fn tallies_before(
+    alloc: Global,
+    tables: &Tables,
+    opening: &[Bytes],
+    events: &[Event],
+) -> Result<Vec<Tally>, NoMemory>
+    requires tables { IsTables events.now tables.now }
+    requires lawful { IsLawful events.now }
+    ensures { IfOk result (λ tallies. AreTallies opening.now events.now (length events.now) tallies.items) }
+{
+    let mut queues = Queues::new(alloc, tables, opening, events);
+    let mut tallies = Vec::with_capacity(alloc, events.len())?;
+    for e in 0..events.len() {
+        tallies.push(queues.get(tables.queue_of(events, e)).tally)?;
+        queues.add(tables, events, e)?;
+    }
+    Ok(tallies)
+}
+
+// The seat's put that the get which ends at this position has got: the position of its Start, and its queue.
+fn put_got_at(tables: &Tables, events: &[Event], e: usize) -> Option<(usize, u32)>
+    requires tables { IsTables events.now tables.now }
+    requires lawful { IsLawful events.now }
+    requires within { e < length events.now }
+    ensures { MatchOption result
+        (NoPutGotAt events.now e)
+        (λ put. IsPutGotAt events.now e put.1 put.0) }
+{
+    match tables.get_ending_at(events, e) {
+        Some((PutName::Of { seat, number }, _)) => match tables.put_named(events, seat, number) {
+            Some((start, queue, _)) => Some((start, queue)),
+            None => None,
+        },
+        Some((PutName::Opening { .. }, _)) => None,
+        None => None,
+    }
+}
+
+// Whether all that precede the put which the get that ends at this position has got are claimed by then.
+fn is_in_order_at(
+    tables: &Tables,
+    events: &[Event],
+    tallies: &[Tally],
+    queues: &Queues,
+    e: usize,
+) -> bool
+    requires tables { IsTables events.now tables.now }
+    requires lawful { IsLawful events.now }
+    requires within { e < length events.now }
+    requires many { length tallies.now ≡ length events.now }
+    ensures { (opening : List (List ℕ))
+        → AreTallies opening events.now (length events.now) tallies.now
+        → AreQueuesAt opening events.now e queues.now
+        → (IsTrue result ↔ IsInOrderAt opening events.now e) }
+{
+    match put_got_at(tables, events, e) {
+        None => true,
+        Some((start, queue)) => {
+            let at_get = Queue {
+                tally: tallies[start],
+                ..queues.get(queue)
+            };
+            at_get.is_claimed(e)
+        }
+    }
+}
+
+/// The position of the first Got that is the get of a put before which others had to be claimed, and
+/// weren't.
+pub(crate) fn first_out_of_order(
+    alloc: Global,
+    tables: &Tables,
+    opening: &[Bytes],
+    events: &[Event],
+) -> Result<Option<usize>, NoMemory>
+    requires tables { IsTables events.now tables.now }
+    requires lawful { IsLawful events.now }
+    ensures first { IfOk result (IsFirstFailing (IsInOrderAt opening.now events.now)) }
+    ensures within { IfOk result (λ first. IfSome first (λ e. e < length events.now)) }
+{
+    let tallies = tallies_before(alloc, tables, opening, events)?;
+    let mut queues = Queues::new(alloc, tables, opening, events);
+    for e in 0..events.len() {
+        if !is_in_order_at(tables, events, &tallies, &queues, e) {
+            return Ok(Some(e));
+        }
+        queues.add(tables, events, e)?;
+    }
+    Ok(None)
+}
+
+// The get that ends with Nothing at this position: the position of its Start, and its queue.
+fn empty_at(tables: &Tables, events: &[Event], e: usize) -> Option<(usize, u32)>
+    requires tables { IsTables events.now tables.now }
+    requires lawful { IsLawful events.now }
+    requires within { e < length events.now }
+    ensures { MatchOption result (NoEmptyAt events.now e) (λ get. IsEmptyAt events.now e get.1 get.0) }
+{
+    match &events[e] {
+        Event::End {
+            reply: Reply::Nothing,
+            ..
+        } => match tables.call_of(events, e) {
+            (start, Call::Get { queue }) => Some((start, *queue)),
+            _ => None,
+        },
+        _ => None,
+    }
+}
+
+// Whether an Empty that ends at this position, if one does, is right.
+fn is_empty_right_at(tables: &Tables, events: &[Event], queues: &Queues, e: usize) -> bool
+    requires tables { IsTables events.now tables.now }
+    requires lawful { IsLawful events.now }
+    requires within { e < length events.now }
+    ensures { (opening : List (List ℕ))
+        → AreQueuesAt opening events.now e queues.now
+        → (IsTrue result ↔ IsEmptyRightAt opening events.now e) }
+{
+    match empty_at(tables, events, e) {
+        None => true,
+        Some((start, queue)) => queues.get(queue).was_claimed(start, e),
+    }
+}
+
+/// The position of the first Empty that isn't right.
+pub(crate) fn first_wrong_empty(
+    alloc: Global,
+    tables: &Tables,
+    opening: &[Bytes],
+    events: &[Event],
+) -> Result<Option<usize>, NoMemory>
+    requires tables { IsTables events.now tables.now }
+    requires lawful { IsLawful events.now }
+    ensures first { IfOk result (IsFirstFailing (IsEmptyRightAt opening.now events.now)) }
+    ensures within { IfOk result (λ first. IfSome first (λ e. e < length events.now)) }
+{
+    let mut queues = Queues::new(alloc, tables, opening, events);
+    for e in 0..events.len() {
+        if !is_empty_right_at(tables, events, &queues, e) {
+            return Ok(Some(e));
+        }
+        queues.add(tables, events, e)?;
+    }
+    Ok(None)
+}

@@ -1,0 +1,158 @@
+//! What stands where in a history, looked up in tables that are made once.
+
+ghost use Rattle.std.specs.Prelude.{◌≡◌, ◌<◌, ◌↔◌, ℕ, suc, IsTrue, length, IfOk, MatchOption};
+ghost use Rattle.scq_hist.specs.Aspects.{IsLawful};
+ghost use Rattle.scq_hist.specs.Calls.{IsPut, IsGot, IsGetOf, IsPending};
+ghost use Rattle.scq_hist.specs.Lookups.{IsFirstNamed, EndsNoGet, NoPutBefore, EndsDone, NoDoneAt};
+ghost use Rattle.scq_check.specs.Tables.{IsCallOf, IsQueueOf, IsTables};
+
+use crate::calls::Calls;
+use crate::gots::{Gots, got_name};
+use crate::puts::Puts;
+use scq_hist::{Call, Event, PutName, Reply};
+use scq_word::{Bytes, NoMemory};
+use std::alloc::Global;
+
+/// The tables of a history.
+#[derive(Drop)]
+pub(crate) struct Tables {
+    calls: Calls,
+    puts: Puts,
+    gots: Gots,
+}
+
+impl Tables {
+    pub(crate) fn new(alloc: Global, events: &[Event]) -> Result<Tables, NoMemory>
+        ensures { IfOk result (IsTables events.now) }
+    {
+        Ok(Tables {
+            calls: Calls::new(alloc, events)?,
+            puts: Puts::new(alloc, events)?,
+            gots: Gots::new(alloc, events)?,
+        })
+    }
+
+    /// The call that the event at this position belongs to, and the position of its Start.
+    pub(crate) fn call_of<'a>(&self, events: &'a [Event], e: usize) -> (usize, &'a Call)
+        requires tables { IsTables events.now self.now }
+        requires lawful { IsLawful events.now }
+        requires within { e < length events.now }
+        ensures { IsCallOf events.now e result.0 result.1.now }
+    {
+        let start = self.calls.start(events, e);
+        match &events[start] {
+            Event::Start { call, .. } => (start, call),
+            Event::End { .. } => unreachable!(),
+        }
+    }
+
+    /// The queue of that call.
+    pub(crate) fn queue_of(&self, events: &[Event], e: usize) -> u32
+        requires tables { IsTables events.now self.now }
+        requires lawful { IsLawful events.now }
+        requires within { e < length events.now }
+        ensures { IsQueueOf events.now e result }
+    {
+        match self.call_of(events, e).1 {
+            Call::Put { queue, .. } => *queue,
+            Call::Get { queue } => *queue,
+        }
+    }
+
+    /// The seat's put of this number: the position of its Start, its queue and its content.
+    pub(crate) fn put_named<'a>(
+        &self,
+        events: &'a [Event],
+        seat: u32,
+        number: u64,
+    ) -> Option<(usize, u32, &'a Bytes)>
+        requires { IsTables events.now self.now }
+        ensures { MatchOption result
+            (NoPutBefore events.now seat number (length events.now))
+            (λ put. IsPut events.now seat number put.1 put.2.now put.0) }
+    {
+        let start = self.puts.start(events, seat, number)?;
+        match &events[start] {
+            Event::Start {
+                call: Call::Put { queue, content },
+                ..
+            } => Some((start, *queue, content)),
+            _ => None,
+        }
+    }
+
+    /// The put of this queue that ends with Done at this position.
+    pub(crate) fn done_put(&self, events: &[Event], queue: u32, e: usize) -> Option<PutName>
+        requires tables { IsTables events.now self.now }
+        requires lawful { IsLawful events.now }
+        requires within { e < length events.now }
+        ensures { MatchOption result (NoDoneAt events.now queue e) (EndsDone events.now queue e) }
+    {
+        match &events[e] {
+            Event::End {
+                seat,
+                reply: Reply::Done,
+            } => match self.call_of(events, e) {
+                (start, Call::Put { queue: of, .. }) if *of == queue => {
+                    let number = self.puts.number(events, start);
+                    Some(PutName::Of {
+                        seat: *seat,
+                        number,
+                    })
+                }
+                _ => None,
+            },
+            _ => None,
+        }
+    }
+
+    /// Whether a get of this queue starts here that is under way at the end of the list.
+    pub(crate) fn never_ends(&self, events: &[Event], queue: u32, s: usize) -> bool
+        requires tables { IsTables events.now self.now }
+        requires within { s < length events.now }
+        ensures { IsTrue result ↔ IsPending events.now queue (suc s) s }
+    {
+        match &events[s] {
+            Event::Start {
+                seat,
+                call: Call::Get { queue: of },
+            } if *of == queue => self.calls.under_way(events, events.len(), *seat) == Some(s),
+            _ => false,
+        }
+    }
+
+    /// The position of the first End with Got that names this put.
+    pub(crate) fn first_named(&self, events: &[Event], name: PutName) -> Option<usize>
+        requires { IsTables events.now self.now }
+        ensures { MatchOption result (¬ (IsGot events.now name)) (IsFirstNamed events.now name) }
+    {
+        self.gots.first(events, name)
+    }
+
+    /// The position of the Start of the get that has got this put.
+    pub(crate) fn get_of(&self, events: &[Event], name: PutName) -> Option<usize>
+        requires tables { IsTables events.now self.now }
+        requires lawful { IsLawful events.now }
+        ensures { MatchOption result
+            (¬ (IsGot events.now name))
+            (λ s. (e : ℕ) × IsGetOf events.now name s e) }
+    {
+        let e = self.first_named(events, name)?;
+        Some(self.calls.start(events, e))
+    }
+
+    /// If the call that ends at this position is the get that has got a put: that put, and the position of
+    /// the get's Start.
+    pub(crate) fn get_ending_at(&self, events: &[Event], e: usize) -> Option<(PutName, usize)>
+        requires tables { IsTables events.now self.now }
+        requires lawful { IsLawful events.now }
+        requires within { e < length events.now }
+        ensures { MatchOption result (EndsNoGet events.now e) (λ get. IsGetOf events.now get.0 get.1 e) }
+    {
+        let name = got_name(&events[e])?;
+        if self.first_named(events, name) != Some(e) {
+            return None;
+        }
+        Some((name, self.calls.start(events, e)))
+    }
+}

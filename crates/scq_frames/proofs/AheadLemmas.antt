@@ -1,0 +1,115 @@
+-- The messages ahead of a framer, when a line or the last line is passed.
+use Rattle.std.proofs.Common.{◌≡◌, ℕ, ◌+◌, ◌≤◌, Bool, Option, Some, None, List, [], ◌∷◌, ◌++◌, length, take, drop, map, refl, sym, ◌∙◌, ap}
+use Rattle.std.specs.Prelude.{IsTrue, IfNone, IfSome, sum_by, if◌then◌else◌}
+use Rattle.std.specs.Option.{option_map, option_to_list}
+use Rattle.std.proofs.lemmas.List.{append-nil, map-append}
+use Rattle.scq_frames.specs.Numbered.{numbered}
+use Rattle.scq_frames.specs.Lines.{EndsAt, HasNoLineFeed}
+use Rattle.scq_frames.specs.Text.{message_in, messages_after, payload_of}
+use Rattle.scq_frames.specs.Framing.{bytes_ahead, Framing, visible_ahead, weight_of}
+use Rattle.scq_frames.specs.declared.message.Message.{Message}
+use Rattle.scq_frames.proofs.TextLemmas.{messages_after-ended, messages_after-last, messages_after-nil}
+
+pub option_map-nothing : (visible : Option (List Message)) → option_map (λ rest. [] ++ rest) visible ≡ visible
+option_map-nothing None = refl
+option_map-nothing (Some ms) = refl
+
+module _ (number : List ℕ → ℕ) where
+  -- passing a line takes its message off those ahead
+  pub visible_ahead-line : (old : Framing) (len weight : ℕ) (left : Option (List ℕ)) → EndsAt old.held len
+      → visible_ahead number old left ≡ option_map (λ rest. map (numbered old.file number) (message_in (old.line + 1) (take len old.held)) ++ rest)
+      (visible_ahead number (record old { line = old.line + 1; held = drop (len + 1) old.held; weight = weight }) left)
+  visible_ahead-line old len weight None ends = refl
+  visible_ahead-line old len weight (Some left) ends =
+      let behind = if old.ended then [] else left in
+      ap (λ ms. Some (map (numbered old.file number) ms)) (messages_after-ended old.line old.held behind len ends)
+      ∙ ap Some (map-append (numbered old.file number) (message_in (old.line + 1) (take len old.held)) (messages_after (old.line + 1) (drop (len + 1) old.held ++ behind)))
+
+  -- the last line is all that is ahead at the end
+  pub visible_ahead-last : (old : Framing) (left : Option (List ℕ)) → IsTrue old.ended → HasNoLineFeed old.held 0 (length old.held)
+      → visible_ahead number old left ≡ option_map (λ _. map (numbered old.file number) (message_in (old.line + 1) old.held)) left
+  visible_ahead-last old None ended clear = refl
+  visible_ahead-last old (Some left) ended clear =
+      let none : bytes_ahead old left ≡ old.held = ap (λ (e : Bool). old.held ++ (if e then [] else left)) ended ∙ append-nil old.held in
+      ap (λ bytes. Some (map (numbered old.file number) (messages_after old.line bytes))) none
+      ∙ ap (λ ms. Some (map (numbered old.file number) ms)) (messages_after-last old.line old.held clear)
+
+  -- nothing is ahead behind it
+  pub visible_ahead-over : (f : Framing) (left : Option (List ℕ)) → IsTrue f.ended → f.held ≡ [] → visible_ahead number f left ≡ option_map (λ _. []) left
+  visible_ahead-over f None ended none = refl
+  visible_ahead-over f (Some left) ended none =
+      ap (λ (e : Bool). Some (map (numbered f.file number) (messages_after f.line (f.held ++ (if e then [] else left))))) ended
+      ∙ ap (λ (held : List ℕ). Some (map (numbered f.file number) (messages_after f.line (held ++ [])))) none
+      ∙ ap (λ ms. Some (map (numbered f.file number) ms)) (messages_after-nil f.line)
+
+  -- a line that was passed has given this
+  pub record Passed (old new : Framing) (len : ℕ) (given : Option Message) : Type 0 where
+    pub ends : EndsAt old.held len
+    pub fits : length (payload_of (take len old.held)) ≤ old.size
+    pub gave : option_to_list given ≡ map (numbered old.file number) (message_in (old.line + 1) (take len old.held))
+    pub after : new ≡ record old { line = old.line + 1; held = drop (len + 1) old.held; weight = old.weight + sum_by weight_of (option_to_list given) }
+
+  -- what was ahead is what the line gave, and what is ahead behind it
+  pub gives-line : (first old new : Framing) (before after : Option (List ℕ)) (len : ℕ) (given : Option Message)
+      → visible_ahead number first before ≡ visible_ahead number old after → Passed old new len given
+      → visible_ahead number first before ≡ option_map (λ rest. option_to_list given ++ rest) (visible_ahead number new after)
+  gives-line first old new before after len given ahead passed =
+      ahead ∙ visible_ahead-line old len (old.weight + sum_by weight_of (option_to_list given)) after passed.ends
+      ∙ ap (λ (ms : List Message). option_map (λ rest. ms ++ rest) (visible_ahead number (record old { line = old.line + 1; held = drop (len + 1) old.held; weight = old.weight + sum_by weight_of (option_to_list given) }) after)) (sym passed.gave)
+      ∙ ap (λ (f : Framing). option_map (λ rest. option_to_list given ++ rest) (visible_ahead number f after)) (sym passed.after)
+
+  -- a line without a message is empty
+  pub no_line : (at file : ℕ) (line : List ℕ) → [] ≡ map (numbered file number) (message_in at line) → line ≡ []
+  no_line at file [] e = refl
+  no_line at file (b ∷ bs) e = cc
+
+  -- the last line was passed, where there was one
+  pub record PassedLast (old new : Framing) (given : Option Message) : Type 0 where
+    pub ended : IsTrue old.ended
+    pub clear : HasNoLineFeed old.held 0 (length old.held)
+    pub gave : option_to_list given ≡ map (numbered old.file number) (message_in (old.line + 1) old.held)
+    pub none : IfNone given (new ≡ old)
+    pub some : IfSome given (λ m. new ≡ record old { line = old.line + 1; held = []; weight = old.weight + weight_of m })
+
+  nothing_behind : (old new : Framing) (given : Option Message) (after : Option (List ℕ)) → PassedLast old new given → visible_ahead number new after ≡ option_map (λ _. []) after
+  nothing_behind old new None after p =
+      ap (λ (f : Framing). visible_ahead number f after) p.none ∙ visible_ahead-over old after p.ended (no_line (old.line + 1) old.file old.held p.gave)
+  nothing_behind old new (Some m) after p =
+      ap (λ (f : Framing). visible_ahead number f after) p.some
+      ∙ visible_ahead-over (record old { line = old.line + 1; held = []; weight = old.weight + weight_of m }) after p.ended refl
+
+  last-only : (first old : Framing) (before after : Option (List ℕ)) (given : Option Message) (new : Framing)
+      → visible_ahead number first before ≡ visible_ahead number old after → PassedLast old new given
+      → visible_ahead number first before ≡ option_map (λ _. option_to_list given) after
+  last-only first old before after given new ahead p =
+      ahead ∙ visible_ahead-last old after p.ended p.clear ∙ ap (λ (ms : List Message). option_map (λ _. ms) after) (sym p.gave)
+
+  pub gives-last : (first old new : Framing) (before after : Option (List ℕ)) (given : Option Message)
+      → visible_ahead number first before ≡ visible_ahead number old after → PassedLast old new given
+      → visible_ahead number first before ≡ option_map (λ rest. option_to_list given ++ rest) (visible_ahead number new after)
+  gives-last first old new before after given ahead p =
+      last-only first old before after given new ahead p ∙ joined after ∙ ap (option_map (λ rest. option_to_list given ++ rest)) (sym (nothing_behind old new given after p))
+    where
+      joined : (after : Option (List ℕ)) → option_map (λ _. option_to_list given) after ≡ option_map (λ rest. option_to_list given ++ rest) (option_map (λ _. []) after)
+      joined None = refl
+      joined (Some left) = ap Some (sym (append-nil (option_to_list given)))
+
+  -- where the end gave nothing, nothing was ahead
+  pub none-last : (first old new : Framing) (before after : Option (List ℕ)) (given : Option Message)
+      → visible_ahead number first before ≡ visible_ahead number old after → PassedLast old new given
+      → IfNone given (visible_ahead number first before ≡ option_map (λ _. []) before)
+  none-last first old new before after (Some m) ahead p = tt
+  none-last first old new before after None ahead p = empty before after (last-only first old before after None new ahead p)
+    where
+      empty : (before after : Option (List ℕ)) → visible_ahead number first before ≡ option_map (λ _. []) after → visible_ahead number first before ≡ option_map (λ _. []) before
+      empty None after e = refl
+      empty (Some left) None e = cc
+      empty (Some left) (Some rest) e = e
+
+  -- the same, under other names of what was given and of the framer
+  pub gives-again : (visible : Option (List Message)) (after : Option (List ℕ)) (new new' : Framing) (given given' : Option Message) → new' ≡ new → given' ≡ given
+      → visible ≡ option_map (λ rest. option_to_list given ++ rest) (visible_ahead number new after)
+      → visible ≡ option_map (λ rest. option_to_list given' ++ rest) (visible_ahead number new' after)
+  gives-again visible after new new' given given' framer message gives =
+      gives ∙ ap (λ (f : Framing). option_map (λ rest. option_to_list given ++ rest) (visible_ahead number f after)) (sym framer)
+      ∙ ap (λ (o : Option Message). option_map (λ rest. option_to_list o ++ rest) (visible_ahead number new' after)) (sym message)

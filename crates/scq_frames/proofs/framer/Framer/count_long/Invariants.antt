@@ -1,0 +1,10 @@
+-- While the line goes on: so many bytes of its payload came, and nothing is held.
+use Rattle.scq_frames.specs.Framing.{work_left}
+use Rattle.scq_frames.proofs.CountLemmas.{Counts}
+use Rattle.scq_frames.proofs.framer.Framer.count_long.Given as goal
+
+abbrev pub invariant-reads : goal.invariant-reads
+invariant-reads g l = Counts g.S.Source.left g.S.Source.faults l.fn.self l.self l.fn.source l.source l.len
+
+abbrev pub decreases-reads : goal.decreases-reads
+decreases-reads g l = work_left l.self

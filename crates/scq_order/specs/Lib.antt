@@ -1,0 +1,5 @@
+pub mod RunSteps
+pub mod Points
+pub mod Plain
+pub mod Order
+pub mod Notes

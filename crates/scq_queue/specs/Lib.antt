@@ -1,0 +1,5 @@
+pub mod Lists
+pub mod Passes
+pub mod Closing
+pub mod Kept
+pub mod Trials
