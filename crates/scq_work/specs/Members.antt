@@ -1,5 +1,6 @@
 -- A worker's list of answers, against what its pass did. `topics` has the names and kinds of the declared topics.
 use Rattle.std.specs.Prelude.{◌≡◌, ℕ, ◌≤◌, Bool, true, false, not, List, [], ◌∷◌, ◌++◌, length, filter}
+use Rattle.std.specs.List.{AllZip}
 use Rattle.scq_topics.specs.declared.kind.Kind.{Kind}
 use Rattle.scq_topics.specs.Reply.{reply_of}
 use Rattle.scq_topics.specs.Topics.{kind_of}
@@ -9,13 +10,6 @@ use Rattle.scq_collect.specs.declared.answered.Answered.{Answered}
 use Rattle.scq_collect.specs.declared.answered.Way.{Way}
 use Rattle.scq_collect.specs.declared.answered.Way.TheVariants.{Taken, Direct}
 use Rattle.scq_queue.specs.Lists.{Placed}
-
--- the members of one list and those of another belong together, one by one and in order
-abbrev pub OneByOne : {A B : Type 0} → (A → B → Type 0) → List A → List B → Type 0
-OneByOne R [] [] = Unit {0}
-OneByOne R [] (y ∷ ys) = ⊥
-OneByOne R (x ∷ xs) [] = ⊥
-OneByOne R (x ∷ xs) (y ∷ ys) = R x y × OneByOne R xs ys
 
 -- the answer to a message, come by in this way
 abbrev pub answered : List (List ℕ × Kind) → Way → Message → Answered
@@ -55,9 +49,18 @@ pub record AnswersTake (topics : List (List ℕ × Kind)) (take : Placed) (a : A
 abbrev pub AnswersFull : ℕ → Answered → Type 0
 AnswersFull head a = a.way ≡ Direct head
 
--- the Taken members of a list are the takes of a pass, and the Direct ones its Full replies
+-- one by one and in order, the Taken members of a list are the takes of a pass, and the Direct ones its Full replies
 abbrev pub AnswersItsTakes : List (List ℕ × Kind) → List Placed → List Answered → Type 0
-AnswersItsTakes topics takes members = OneByOne (AnswersTake topics) takes (filter is_taken members)
+AnswersItsTakes topics takes members = AllZip (AnswersTake topics) takes (filter is_taken members)
 
 abbrev pub AnswersItsFulls : List ℕ → List Answered → Type 0
-AnswersItsFulls fulls members = OneByOne AnswersFull fulls (filter is_direct members)
+AnswersItsFulls fulls members = AllZip AnswersFull fulls (filter is_direct members)
+
+-- what was taken so far is answered: each take whose bytes decode to a message on a known topic has its member, and there are no others
+pub data AnswersSoFar (topics : List (List ℕ × Kind)) : List Placed → List Answered → Type 0 where
+  none : AnswersSoFar topics [] []
+  and_answered : {takes : List Placed} {members : List Answered} (take : Placed) (a : Answered)
+      → AnswersSoFar topics takes members → AnswersTake topics take a → AnswersSoFar topics (takes ++ take ∷ []) (members ++ a ∷ [])
+  and_passed_over : {takes : List Placed} {members : List Answered} (take : Placed)
+      → AnswersSoFar topics takes members → ((m : Message) → IsEncodable m → BeginsWith take.bytes m → m.topic ≤ length topics → ⊥)
+      → AnswersSoFar topics (takes ++ take ∷ []) members

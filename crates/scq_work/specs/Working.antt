@@ -1,0 +1,71 @@
+-- What a worker's calls make of its pass.
+use Rattle.std.specs.Prelude.{◌≡◌, ℕ, suc, ◌+◌, ◌<◌, ◌≤◌, List, [], ◌∷◌, ◌++◌, length, filter, count_by}
+use Rattle.std.specs.List.{AllZip, Contains}
+use Rattle.scq_core.specs.declared.ended.Ended.{Ended}
+use Rattle.scq_core.specs.declared.ended.Ended.TheVariants.{Done, Got, Nothing}
+use Rattle.scq_law.specs.Bounds.{tally, was_put}
+use Rattle.scq_topics.specs.declared.kind.Kind.{Kind}
+use Rattle.scq_frames.specs.declared.message.Message.{Message}
+use Rattle.scq_frames.specs.Encoded.{BeginsWith}
+use Rattle.scq_collect.specs.declared.answered.Answered.{Answered}
+use Rattle.scq_queue.specs.Lists.{Placed, sends_of, takes_of}
+use Rattle.scq_queue.specs.Passes.{PassStanding, known_on}
+use Rattle.scq_work.specs.Records.{is_got, is_put, AreTakes, HoldsNothingAtEachFull, HelpsOnceAfterEachFull}
+use Rattle.scq_work.specs.Members.{AnswersSoFar, AnswersItsFulls, is_taken}
+use Rattle.scq_work.specs.Passing.{HasPassedOn, Sends}
+
+module _ {B : Type 0} where
+  -- what is known of the rings was kept: of no topic the finished place known fell, and no head
+  pub record KnowsMore (old new : PassStanding B) : Type 0 where
+    pub rings : length new.numbers ≡ length old.numbers
+    pub finished : (topic : ℕ) → (known_on topic old).finished ≤ (known_on topic new).finished
+    pub head : (topic : ℕ) → (known_on topic old).head ≤ (known_on topic new).head
+
+  -- a pass that has taken from topics and given back what it took, and has done nothing else
+  pub record HasTaken (old new : PassStanding B) : Type 0 where
+    pub block : List Ended
+    pub are : AreTakes block
+    pub pass : new ≡ record old { calls = old.calls ++ block; numbers = new.numbers }
+    pub knows : KnowsMore old new
+    pub same : (topic : ℕ) → (known_on topic new).finished ≡ (known_on topic old).finished
+
+  -- a pass that was lent a buffer and sent a message in it
+  pub record HasSent (m : Message) (old new : PassStanding B) : Type 0 where
+    pub from : ℕ
+    pub over : List ℕ
+    pub place : ℕ
+    pub bytes : List ℕ
+    pub pass : new ≡ record old { calls = (old.calls ++ Got 0 from over ∷ []) ++ Done (suc m.topic) place bytes ∷ []; numbers = new.numbers }
+    pub sends : Sends m (record { topic = m.topic; place = place; bytes = bytes })
+    pub knows : KnowsMore old new
+    pub finished : place ≤ (known_on m.topic new).finished
+
+  -- a pass that found no buffer free
+  pub record HasFoundFull (head : ℕ) (old new : PassStanding B) : Type 0 where
+    pub pass : new ≡ record old { calls = old.calls ++ Nothing 0 ∷ []; fulls = old.fulls ++ head ∷ []; numbers = new.numbers }
+    pub knows : KnowsMore old new
+
+  -- each send of a pass is on one of its topics, and the pass knows of its place as finished
+  pub record KnowsItsSends (p : PassStanding B) : Type 0 where
+    pub sends : (m : Placed) → Contains (sends_of p.calls) m → (suc m.topic < length p.numbers) × (m.place ≤ (known_on m.topic p).finished)
+
+  -- a worker that reads its files has passed on these messages: its pass, so far
+  pub record IsProducing (topics : ℕ) (p : PassStanding B) : Type 0 where
+    pub helps : HelpsOnceAfterEachFull topics p.calls
+    pub alone : HoldsNothingAtEachFull p.calls
+    pub even : count_by is_got p.calls ≡ count_by is_put p.calls
+    pub none : p.held ≡ []
+    pub knows : KnowsItsSends p
+
+  -- how much it has begun: `late` is 1 for a pass that met Spent
+  pub record IsThrifty (late messages : ℕ) (p : PassStanding B) : Type 0 where
+    pub sends : length (sends_of p.calls) ≤ messages
+    pub fulls : length p.fulls ≤ messages
+    pub puts : (topic : ℕ) → tally (was_put (suc topic)) p.calls ≤ messages + late
+    pub returns : tally (was_put 0) p.calls ≤ length (takes_of p.calls) + late
+
+  -- its list, so far, against its pass and the messages that it has passed on
+  pub record HasListed (topics : List (List ℕ × Kind)) (messages : List Message) (p : PassStanding B) (members : List Answered) : Type 0 where
+    pub passed : HasPassedOn topics messages (sends_of p.calls) members
+    pub takes : AnswersSoFar topics (takes_of p.calls) (filter is_taken members)
+    pub fulls : AnswersItsFulls p.fulls members
