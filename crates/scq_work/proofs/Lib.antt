@@ -1,6 +1,6 @@
-pub mod Given
-pub mod Lists
-pub mod DeskLemmas
-pub mod SoFar
-pub mod Orders
-pub mod Faults
+mod Distinct
+mod SendsAndTakes
+mod Splits
+mod Blocks
+mod KnownNumbers
+mod PassLemmas
