@@ -4,3 +4,4 @@ mod Splits
 mod Blocks
 mod KnownNumbers
 mod PassLemmas
+mod RecordSteps

@@ -44,3 +44,19 @@ before-none p [] none = refl
 before-none p (x ∷ xs) none =
     let apart = parts (p x) (list_any p xs) none in
     before-cons p x xs false apart.0 ∙ ap (λ ys. x ∷ ys) (before-none p xs apart.1)
+
+-- of a list with one behind it: the first list's where one passes there, else all of it and what stands before in the second
+pub before-some : {A : Type 0} (p : A → Bool) (xs ys : List A) → list_any p xs ≡ true → before_first p (xs ++ ys) ≡ before_first p xs
+before-some p [] ys some_ = absurd (cc)
+before-some p (x ∷ xs) ys some_ = by (p x) refl (λ more. before-some p xs ys more) where
+  by : (b : Bool) → p x ≡ b → (list_any p xs ≡ true → before_first p (xs ++ ys) ≡ before_first p xs) → before_first p ((x ∷ xs) ++ ys) ≡ before_first p (x ∷ xs)
+  by true is rest = before-cons p x (xs ++ ys) true is ∙ sym (before-cons p x xs true is)
+  by false is rest =
+      let more : list_any p xs ≡ true = rw is at some_ in
+      before-cons p x (xs ++ ys) false is ∙ ap (λ l. x ∷ l) (rest more) ∙ sym (before-cons p x xs false is)
+
+pub before-all : {A : Type 0} (p : A → Bool) (xs ys : List A) → list_any p xs ≡ false → before_first p (xs ++ ys) ≡ xs ++ before_first p ys
+before-all p [] ys none = refl
+before-all p (x ∷ xs) ys none =
+    let apart = parts (p x) (list_any p xs) none in
+    before-cons p x (xs ++ ys) false apart.0 ∙ ap (λ l. x ∷ l) (before-all p xs ys apart.1)

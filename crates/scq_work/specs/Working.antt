@@ -10,8 +10,8 @@ use Rattle.scq_frames.specs.Encoded.{BeginsWith}
 use Rattle.scq_collect.specs.declared.answered.Answered.{Answered}
 use Rattle.scq_queue.specs.Lists.{Placed, sends_of, takes_of}
 use Rattle.scq_queue.specs.Passes.{PassStanding, known_on}
-use Rattle.scq_work.specs.Records.{is_got, is_put, AreTakes, HoldsNothingAtEachFull, HelpsOnceAfterEachFull}
-use Rattle.scq_work.specs.Members.{AnswersSoFar, AnswersItsFulls, is_taken}
+use Rattle.scq_work.specs.Records.{is_got, is_put, AreTakes, HoldsNothingAtEachFull, HelpsOnceAfterEachFull, HelpsAfterEachFull}
+use Rattle.scq_work.specs.Members.{AnswersSoFar, AnswersItsFulls, is_taken, is_direct}
 use Rattle.scq_work.specs.Passing.{HasPassedOn, Sends}
 
 module _ {B : Type 0} where
@@ -57,6 +57,14 @@ module _ {B : Type 0} where
     pub none : p.held ≡ []
     pub knows : KnowsItsSends p
 
+  -- a worker that sweeps: the same, but that it may have taken more since the last Full
+  pub record IsSweeping (topics : ℕ) (p : PassStanding B) : Type 0 where
+    pub helps : HelpsAfterEachFull topics p.calls
+    pub alone : HoldsNothingAtEachFull p.calls
+    pub even : count_by is_got p.calls ≡ count_by is_put p.calls
+    pub none : p.held ≡ []
+    pub knows : KnowsItsSends p
+
   -- how much it has begun: `late` is 1 for a pass that met Spent
   pub record IsThrifty (late messages : ℕ) (p : PassStanding B) : Type 0 where
     pub sends : length (sends_of p.calls) ≤ messages
@@ -69,3 +77,8 @@ module _ {B : Type 0} where
     pub passed : HasPassedOn topics messages (sends_of p.calls) members
     pub takes : AnswersSoFar topics (takes_of p.calls) (filter is_taken members)
     pub fulls : AnswersItsFulls p.fulls members
+
+  -- a list that has the answers to what its pass took meanwhile, and nothing else more
+  pub record HasAnswered (topics : List (List ℕ × Kind)) (old new : PassStanding B) (was is : List Answered) : Type 0 where
+    pub takes : AnswersSoFar topics (takes_of old.calls) (filter is_taken was) → AnswersSoFar topics (takes_of new.calls) (filter is_taken is)
+    pub directs : filter is_direct is ≡ filter is_direct was
