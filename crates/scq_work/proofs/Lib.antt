@@ -5,3 +5,4 @@ mod Blocks
 mod KnownNumbers
 mod PassLemmas
 mod RecordSteps
+mod WorkerSteps
