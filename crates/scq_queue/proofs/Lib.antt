@@ -1,0 +1,5 @@
+pub mod Hands
+pub mod Records
+mod HeldValues
+pub mod PassSteps
+mod Ends
