@@ -2,4 +2,5 @@ pub mod Hands
 pub mod Records
 mod HeldValues
 pub mod PassSteps
+mod NewPasses
 mod Ends

@@ -112,16 +112,13 @@ impl<B: Buffer> Queue<B> {
         ensures refused_lists { IfErr result (λ _. lists_of pass.new ≡ lists_of pass.old) }
         ensures kept { (ticket : ℕ) → pass.old.spent ≡ Some ticket → (result ≡ Err (TakeRefusal.Spent ticket)) × (pass.new ≡ pass.old) }
     {
-        match get(&self.band, &mut pass.seat, topic + 1) {
-            Ok((place, held)) => {
-                count(&mut pass.counts.taken);
-                Ok((place, held))
-            }
-            Err(refusal) => Err(match refusal {
-                DeqRefusal::Empty { head } => TakeRefusal::Empty { head },
-                DeqRefusal::Spent { ticket } => TakeRefusal::Spent { ticket },
-            }),
-        }
+        let (place, held) = match get(&self.band, &mut pass.seat, topic + 1) {
+            Ok(got) => got,
+            Err(DeqRefusal::Empty { head }) => return Err(TakeRefusal::Empty { head }),
+            Err(DeqRefusal::Spent { ticket }) => return Err(TakeRefusal::Spent { ticket }),
+        };
+        count(&mut pass.counts.taken);
+        Ok((place, held))
     }
 
     /// Gives a value back that the pass holds, so that it can be lent again.
@@ -139,9 +136,10 @@ impl<B: Buffer> Queue<B> {
             → (pass.new ≡ after_spent_put 0 refused.1.ticket pass.old) × (self.now.setup.limit ≤ refused.1.ticket)) }
         ensures kept { (ticket : ℕ) → pass.old.spent ≡ Some ticket → (result ≡ Err (held, record { ticket = ticket })) × (pass.new ≡ pass.old) }
     {
-        match put(&self.band, &mut pass.seat, 0, held) {
-            Ok(_) => Ok(()),
-            Err(refused) => Err(refused),
-        }
+        let _place = match put(&self.band, &mut pass.seat, 0, held) {
+            Ok(place) => place,
+            Err(refused) => return Err(refused),
+        };
+        Ok(())
     }
 }
