@@ -1,4 +1,6 @@
 //! A seat: its token, and what it keeps beside it.
+ghost use Rattle.std.specs.Prelude.{◌≡◌};
+
 use crate::numbers::Numbers;
 use crate::rule::{Key, Token};
 use scq_word::Buffer;
@@ -29,4 +31,13 @@ impl<B: Buffer> Model for Seat<B> {
     ghost view = { λ s. standing_of s.token.table_id s.key.value s.token.me };
 
     ghost invariant = { λ s. IsKept B.IsSameBuffer s.key.value s.token.me s.hand.items (vec_capacity s.hand) s.numbers.items s.spent };
+}
+
+impl<B: Buffer> Seat<B> {
+    /// The ticket at or past the limit that it keeps.
+    pub fn spent(&self) -> Option<u64>
+        ensures { result ≡ self.now.spent }
+    {
+        self.spent
+    }
 }

@@ -1,0 +1,176 @@
+-- What a pass is after its seat got a value, put one, or was refused: the buffers of all that it holds are lifted in between.
+use Rattle.std.proofs.Common.{◌≡◌, ◌⊎◌, ℕ, ◌+◌, List, [], ◌∷◌, ◌++◌, refl, sym, ◌∙◌, ap, subst, inl, inr}
+use Rattle.std.specs.Prelude.{Option, Some, None}
+use Rattle.std.specs.List.{Contains}
+use Rattle.scq_core.specs.declared.ended.Ended.TheVariants.{Done, Got}
+use Rattle.scq_band.specs.Numbers.{changed, finishes, sees, passes}
+use Rattle.scq_band.specs.declared.calls.DeqRefusal.{DeqRefusal}
+use Rattle.scq_band.specs.declared.calls.DeqRefusal.TheVariants.{Empty, Spent}
+use Rattle.scq_band.specs.Standing as band
+use Rattle.scq_band.specs.Standing.{Standing, in_hand, with_buffer, without_index, bytes_in_hand, HasTaken}
+use Rattle.scq_band.specs.Closing.{indices_of}
+use Rattle.scq_queue.specs.Passes.{PassStanding, HeldStanding, IsHeldBy, HasGot, FoundNothing, without, after_put, after_get, after_spent_put, after_spent_get}
+use Rattle.scq_queue.specs.Kept.{all_lifted, AreLifted, pass_over, held_of}
+use Rattle.scq_queue.proofs.Hands.{indices-all_lifted, held_lifted, laid_in_hand, laid_and_lifted, laid_and_put, came_in_hand, came_and_lifted, contains_last, not_held}
+
+-- a seat keeps a spent ticket or none
+pub cases_spent : (o : Option ℕ) → (o ≡ None) ⊎ ((ticket : ℕ) × (o ≡ Some ticket))
+cases_spent None = inl refl
+cases_spent (Some ticket) = inr (ticket, refl)
+
+-- a get was refused for an empty ring or for a spent ticket
+cases_refusal : (r : DeqRefusal) → ((head : ℕ) × (r ≡ Empty head)) ⊎ ((ticket : ℕ) × (r ≡ Spent ticket))
+cases_refusal (Empty head) = inl (head, refl)
+cases_refusal (Spent ticket) = inr (ticket, refl)
+
+module _ {B : Type 0} where
+  -- a value that the pass holds is lifted in its seat's hand
+  pub value_lifted : (s : Standing B) (fulls : List ℕ) (h : HeldStanding B) → AreLifted s → IsHeldBy (pass_over s fulls) h
+      → in_hand s.hand h.index ≡ Some None
+  value_lifted s fulls h lifted held =
+      ap (λ (hand : List (ℕ × Option B)). in_hand hand h.index) lifted ∙ held_lifted B (indices_of s.hand) h.index held.holds
+
+  pub value_at : (s : Standing B) (fulls : List ℕ) (h v : HeldStanding B) → v ≡ h → AreLifted s → IsHeldBy (pass_over s fulls) h
+      → in_hand s.hand v.index ≡ Some None
+  value_at s fulls h v is lifted held =
+      ap (λ (u : HeldStanding B). in_hand s.hand u.index) is ∙ value_lifted s fulls h lifted held
+
+  pub value_laid : (s laid : Standing B) (i : ℕ) (b : B) → in_hand s.hand i ≡ Some None → laid ≡ record s { hand = with_buffer i (Some b) s.hand }
+      → in_hand laid.hand i ≡ Some (Some b)
+  value_laid s laid i b there is =
+      ap (λ (t : Standing B). in_hand t.hand i) is ∙ laid_in_hand s.hand i None (Some b) there
+
+  -- a hand with these indices and no buffer laid
+  lifted_with : (s : Standing B) (held : List ℕ) → s.hand ≡ all_lifted held → AreLifted s × (indices_of s.hand ≡ held)
+  lifted_with s held is =
+      let indices : indices_of s.hand ≡ held = ap indices_of is ∙ indices-all_lifted B held in
+      (is ∙ ap all_lifted (sym indices), indices)
+
+  same_put : (p : PassStanding B) (ring place : ℕ) (v w held later : List ℕ) → v ≡ w → held ≡ later
+      → record p { calls = p.calls ++ Done ring place v ∷ []; held = held; numbers = changed (finishes place) ring p.numbers }
+      ≡ record p { calls = p.calls ++ Done ring place w ∷ []; held = later; numbers = changed (finishes place) ring p.numbers }
+  same_put p ring place v w held later bytes indices = rw (bytes, indices) refl
+
+  pub value_put : (contents : B → List ℕ) (s laid later : Standing B) (ring i place : ℕ) (b : B) → AreLifted s → in_hand s.hand i ≡ Some None
+      → laid ≡ record s { hand = with_buffer i (Some b) s.hand }
+      → later ≡ band.after_put ring i place (bytes_in_hand contents laid.hand i) laid
+      → AreLifted later × ((fulls : List ℕ) → pass_over later fulls ≡ after_put ring i place (contents b) (pass_over s fulls))
+  value_put contents s laid later ring i place b lifted there is_laid is_later =
+      let hand : laid.hand ≡ with_buffer i (Some b) s.hand = ap (λ (t : Standing B). t.hand) is_laid in
+      let bytes : bytes_in_hand contents laid.hand i ≡ contents b = rw (value_laid s laid i b there is_laid) refl in
+      let left : later.hand ≡ all_lifted (without i (indices_of s.hand)) =
+      ap (λ (t : Standing B). t.hand) is_later ∙ ap (without_index i) (hand ∙ ap (with_buffer i (Some b)) lifted) ∙ laid_and_put (indices_of s.hand) i b in
+      let both = lifted_with later (without i (indices_of s.hand)) left in
+      let gone : indices_of (without_index i laid.hand) ≡ without i (indices_of s.hand) =
+      ap (λ (t : Standing B). indices_of t.hand) (sym is_later) ∙ both.1 in (
+        both.0,
+        λ fulls.
+            ap (λ (t : Standing B). pass_over t fulls) is_later
+            ∙ same_put (pass_over laid fulls) ring place (bytes_in_hand contents laid.hand i) (contents b) (indices_of (without_index i laid.hand))
+            (without i (indices_of s.hand)) bytes gone
+            ∙ ap (λ (t : Standing B). record (pass_over t fulls) {
+              calls = t.calls ++ Done ring place (contents b) ∷ [];
+              held = without i (indices_of s.hand);
+              numbers = changed (finishes place) ring t.numbers;
+            }) is_laid,
+      )
+
+  -- a seat whose value was laid, refused and lifted again has the hand that it had
+  pub value_back : (s laid tried later : Standing B) (i : ℕ) (b : B) → AreLifted s → laid ≡ record s { hand = with_buffer i (Some b) s.hand }
+      → tried.hand ≡ laid.hand → later ≡ record tried { hand = with_buffer i None tried.hand } → later ≡ record tried { hand = s.hand }
+  value_back s laid tried later i b lifted is_laid same is_later =
+      let hand : with_buffer i None tried.hand ≡ s.hand =
+      ap (with_buffer i None) (same ∙ ap (λ (t : Standing B). t.hand) is_laid ∙ ap (with_buffer i (Some b)) lifted)
+      ∙ laid_and_lifted (indices_of s.hand) i b ∙ sym lifted in
+      is_later ∙ ap (λ (h : List (ℕ × Option B)). record tried { hand = h }) hand
+
+  still_lifted : (s tried later : Standing B) → AreLifted s → later ≡ record tried { hand = s.hand } → AreLifted later
+  still_lifted s tried later lifted is = (lifted_with later (indices_of s.hand) (ap (λ (t : Standing B). t.hand) is ∙ lifted)).0
+
+  -- what a pass is whose value came back, where its seat drew a spent ticket, and where it kept one
+  pub value_spent : (s laid tried later : Standing B) (ring ticket i : ℕ) (b : B) → AreLifted s → laid ≡ record s { hand = with_buffer i (Some b) s.hand }
+      → tried ≡ band.after_spent_put ring ticket laid → later ≡ record tried { hand = with_buffer i None tried.hand }
+      → AreLifted later × ((fulls : List ℕ) → pass_over later fulls ≡ after_spent_put ring ticket (pass_over s fulls))
+  value_spent s laid tried later ring ticket i b lifted is_laid is_tried is_later =
+      let back = value_back s laid tried later i b lifted is_laid (ap (λ (t : Standing B). t.hand) is_tried) is_later in (
+        still_lifted s tried later lifted back,
+        λ fulls.
+            ap (λ (t : Standing B). pass_over t fulls) back
+            ∙ ap (λ (t : Standing B). pass_over (record t { hand = s.hand }) fulls) (is_tried ∙ ap (band.after_spent_put ring ticket) is_laid),
+      )
+
+  pub value_kept : (s laid tried later : Standing B) (i : ℕ) (b : B) → AreLifted s → laid ≡ record s { hand = with_buffer i (Some b) s.hand }
+      → tried ≡ laid → later ≡ record tried { hand = with_buffer i None tried.hand } → later ≡ s
+  value_kept s laid tried later i b lifted is_laid is_tried is_later =
+      value_back s laid tried later i b lifted is_laid (ap (λ (t : Standing B). t.hand) is_tried) is_later
+      ∙ ap (λ (t : Standing B). record t { hand = s.hand }) (is_tried ∙ is_laid)
+
+  -- a value that was got is in the hand, and lifted from there it is held
+  module _ (contents : B → List ℕ) (IsSame : B → B → Type 0) (s got : Standing B) (ring place i : ℕ) (lifted : AreLifted s)
+      (taken : HasTaken contents IsSame ring place i s got) where
+    pub value_came : in_hand got.hand i ≡ Some (Some taken.buffer)
+    value_came = ap (λ (t : Standing B). in_hand t.hand i) taken.seat ∙ came_in_hand s.hand i (Some taken.buffer) taken.came
+
+    module _ (later : Standing B) (b : B) (is_lifted : in_hand got.hand i ≡ Some (Some b))
+        (is_later : later ≡ record got { hand = with_buffer i None got.hand }) where
+      hand_now : later.hand ≡ all_lifted (indices_of s.hand ++ i ∷ [])
+      hand_now =
+          ap (λ (t : Standing B). t.hand) is_later ∙ ap (λ (t : Standing B). with_buffer i None t.hand) taken.seat
+          ∙ ap (λ (h : List (ℕ × Option B)). with_buffer i None (h ++ (i, Some taken.buffer) ∷ [])) lifted
+          ∙ came_and_lifted (indices_of s.hand) i (Some taken.buffer)
+
+      same_buffer : taken.buffer ≡ b
+      same_buffer = let came = value_came in let is = is_lifted in cc
+
+      pub got_lifted : AreLifted later
+      got_lifted = (lifted_with later (indices_of s.hand ++ i ∷ []) hand_now).0
+
+      pub got_value : (fulls : List ℕ) → HasGot contents ring place (pass_over s fulls) (pass_over later fulls) (held_of later i b)
+      got_value fulls =
+          let indices = (lifted_with later (indices_of s.hand ++ i ∷ []) hand_now).1 in
+          record {
+            pass =
+                ap (λ (t : Standing B). pass_over t fulls) is_later
+                ∙ ap (λ (h : List ℕ). record (pass_over got fulls) { held = h }) (ap (λ (t : Standing B). indices_of t.hand) (sym is_later) ∙ indices)
+                ∙ ap (λ (t : Standing B). record (pass_over t fulls) { held = indices_of s.hand ++ i ∷ [] }) taken.seat
+                ∙ ap (λ (c : B). after_get ring i place (contents c) (pass_over s fulls)) same_buffer;
+            held = record { queue = refl; pass = refl; holds = subst (λ (h : List ℕ). Contains h i) (sym indices) (contains_last (indices_of s.hand) i) };
+            came = not_held B (indices_of s.hand) i (ap (λ (h : List (ℕ × Option B)). in_hand h i) (sym lifted) ∙ taken.came);
+          }
+
+  -- a seat that found a ring empty, and one that drew a spent ticket
+  pub found_nothing : (s later : Standing B) (ring head : ℕ) → AreLifted s → band.FoundEmpty ring head s later
+      → AreLifted later × ((fulls : List ℕ) → FoundNothing ring head (pass_over s fulls) (pass_over later fulls))
+  found_nothing s later ring head lifted found = (
+        (lifted_with later (indices_of s.hand) (ap (λ (t : Standing B). t.hand) found.seat ∙ lifted)).0,
+        λ fulls. record { drawn = found.drawn; pass = ap (λ (t : Standing B). pass_over t fulls) found.seat; known = found.known; below = found.below },
+      )
+
+  pub get_spent : (s later : Standing B) (ring ticket : ℕ) → AreLifted s → later ≡ band.after_spent_get ring ticket s
+      → AreLifted later × ((fulls : List ℕ) → pass_over later fulls ≡ after_spent_get ring ticket (pass_over s fulls))
+  get_spent s later ring ticket lifted is = (
+        (lifted_with later (indices_of s.hand) (ap (λ (t : Standing B). t.hand) is ∙ lifted)).0,
+        λ fulls. ap (λ (t : Standing B). pass_over t fulls) is,
+      )
+
+  -- a get that was refused leaves the hand, and which seat it is
+  pub refused : (s later : Standing B) (ring : ℕ) (refusal : DeqRefusal)
+      → ((head : ℕ) → refusal ≡ Empty head → band.FoundEmpty ring head s later)
+      → ((ticket : ℕ) → refusal ≡ Spent ticket → s.spent ≡ None → later ≡ band.after_spent_get ring ticket s)
+      → ((ticket : ℕ) → s.spent ≡ Some ticket → later ≡ s)
+      → (later.hand ≡ s.hand) × (later.band ≡ s.band) × (later.number ≡ s.number)
+  refused s later ring refusal empty spent kept =
+      elim (cases_refusal refusal) [
+        | inl found ↦ let is = (empty found.0 found.1).seat in (ap (λ (t : Standing B). t.hand) is, ap (λ (t : Standing B). t.band) is, ap (λ (t : Standing B). t.number) is)
+        | inr drew ↦
+            elim (cases_spent s.spent) [
+              | inl none ↦ let is = spent drew.0 drew.1 none in (ap (λ (t : Standing B). t.hand) is, ap (λ (t : Standing B). t.band) is, ap (λ (t : Standing B). t.number) is)
+              | inr some ↦ let is = kept some.0 some.1 in (ap (λ (t : Standing B). t.hand) is, ap (λ (t : Standing B). t.band) is, ap (λ (t : Standing B). t.number) is)
+            ]
+      ]
+
+  pub refused_lifted : (s later : Standing B) → AreLifted s → later.hand ≡ s.hand → AreLifted later
+  refused_lifted s later lifted same = (lifted_with later (indices_of s.hand) (same ∙ lifted)).0
+
+  pub stays_lifted : (s later : Standing B) → AreLifted s → later ≡ s → AreLifted later
+  stays_lifted s later lifted is = subst (λ (t : Standing B). AreLifted t) (sym is) lifted

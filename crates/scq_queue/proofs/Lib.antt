@@ -1,0 +1,6 @@
+pub mod Hands
+pub mod Records
+mod HeldValues
+pub mod PassSteps
+mod NewPasses
+mod Ends

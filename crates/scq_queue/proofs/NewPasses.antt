@@ -1,0 +1,45 @@
+-- The passes of a new queue, over the seats of its band.
+use Rattle.std.proofs.Common.{◌≡◌, ℕ, zero, suc, ◌≤◌, List, [], ◌∷◌, ◌++◌, map, length, refl, sym, ◌∙◌, ap, subst, arith}
+use Rattle.std.specs.Prelude.{All}
+use Rattle.std.proofs.lemmas.List.{map-append, length_push}
+use Rattle.std.proofs.lemmas.List.Elements.{All-nil, All-push}
+use Rattle.scq_word.specs.declared.setup.Setup.{Setup}
+use Rattle.scq_word.specs.Sizes.{n_of}
+use Rattle.scq_band.specs.Standing.{Identity, Standing, first_standing, first_standings}
+use Rattle.scq_queue.specs.Passes.{PassStanding, first_pass, first_passes}
+use Rattle.scq_queue.specs.declared.counts.Counts.{Counts}
+use Rattle.scq_queue.specs.Kept.{pass_over, IsQueue}
+
+module _ {B : Type 0} where
+  pub as_many_seats : (band : Identity B) (k : ℕ) → length (first_standings band k) ≡ k
+  as_many_seats band zero = refl
+  as_many_seats band (suc k) = length_push (first_standings band k) (first_standing band k) ∙ (let rest = as_many_seats band k in omega arith)
+
+  pub all_new : (band : Identity B) (k : ℕ) → All (λ (s : Standing B). (s.hand ≡ []) × (s.calls ≡ [])) (first_standings band k)
+  all_new band zero = All-nil (λ (s : Standing B). (s.hand ≡ []) × (s.calls ≡ []))
+  all_new band (suc k) =
+      All-push (λ (s : Standing B). (s.hand ≡ []) × (s.calls ≡ [])) (first_standings band k) (first_standing band k) (all_new band k) (refl, refl)
+
+  pub passes_over : (band : Identity B) (k : ℕ) → map (λ (s : Standing B). pass_over s []) (first_standings band k) ≡ first_passes band k
+  passes_over band zero = refl
+  passes_over band (suc k) =
+      map-append (λ (s : Standing B). pass_over s []) (first_standings band k) (first_standing band k ∷ [])
+      ∙ ap (λ (l : List (PassStanding B)). l ++ first_pass band k ∷ []) (passes_over band k)
+
+  pub all_own : (queue : Identity B) (k : ℕ) → All (λ (p : PassStanding B). p.queue ≡ queue) (first_passes queue k)
+  all_own queue zero = All-nil (λ (p : PassStanding B). p.queue ≡ queue)
+  all_own queue (suc k) = All-push (λ (p : PassStanding B). p.queue ≡ queue) (first_passes queue k) (first_pass queue k) (all_own queue k) refl
+
+  -- what a queue is made with is what it keeps
+  pub keeps_room : (queue : Identity B) (c : Setup) (seats : List (Standing B)) (out : List (ℕ × B)) (counts : List Counts) (seat_room out_room count_room : ℕ)
+      → queue.setup ≡ c → seats ≡ [] → c.seats ≤ seat_room → out ≡ [] → n_of c.order ≤ out_room → counts ≡ [] → c.seats ≤ count_room
+      → IsQueue queue seats seat_room out out_room counts count_room
+  keeps_room queue c seats out counts seat_room out_room count_room same no_seat all_seats none_out all_out no_count all_counts =
+      record {
+        no_seat = no_seat;
+        all_seats = subst (λ (k : Setup). k.seats ≤ seat_room) (sym same) all_seats;
+        none_out = none_out;
+        all_out = subst (λ (k : Setup). n_of k.order ≤ out_room) (sym same) all_out;
+        no_count = no_count;
+        all_counts = subst (λ (k : Setup). k.seats ≤ count_room) (sym same) all_counts;
+      }

@@ -1,0 +1,117 @@
+-- The sends and takes of a record: what a call adds to them, and where each stands among the calls.
+use Rattle.std.proofs.Common.{◌≡◌, ◌≢◌, ◌⊎◌, ℕ, zero, suc, ◌+◌, ◌<◌, Bool, true, false, cond, List, [], ◌∷◌, ◌++◌, length, take, refl, sym, ◌∙◌, ap, subst, inl, inr, arith}
+use Rattle.std.specs.Prelude.{Option, Some, None, ◌==◌, if◌then◌else◌, slice_get, sum_by, count_by}
+use Rattle.std.specs.List.{filter_map, cons_option}
+use Rattle.std.proofs.lemmas.List.Elements.{filter_map-append}
+use Rattle.std.proofs.lemmas.List.Sums.{sum_by-cons}
+use Rattle.std.proofs.Math.Dec.{eqb-suc-suc, eqb-zero-suc}
+use Rattle.scq_core.specs.declared.ended.Ended.{Ended}
+use Rattle.scq_core.specs.declared.ended.Ended.TheVariants.{Done, Got, Nothing, Spent}
+use Rattle.scq_law.specs.Bounds.{tally}
+use Rattle.scq_law.specs.Kept.{was_done, was_got}
+use Rattle.scq_queue.specs.Lists.{Placed, sent_by, taken_by, sends_of, takes_of, on_topic}
+
+-- a record with one call more
+pub sends-append : (calls : List Ended) (e : Ended) → sends_of (calls ++ e ∷ []) ≡ sends_of calls ++ sends_of (e ∷ [])
+sends-append calls e = filter_map-append sent_by calls (e ∷ [])
+
+pub takes-append : (calls : List Ended) (e : Ended) → takes_of (calls ++ e ∷ []) ≡ takes_of calls ++ takes_of (e ∷ [])
+takes-append calls e = filter_map-append taken_by calls (e ∷ [])
+
+-- the call by which a member came into a list: its position, and that the member's number is how many came before
+pub record CameBy (h : Ended → Option Placed) (calls : List Ended) (number : ℕ) (m : Placed) : Type 0 where
+  pub at : ℕ
+  pub call : Ended
+  pub is : slice_get calls at ≡ Some call
+  pub gives : h call ≡ Some m
+  pub before : number ≡ length (filter_map h (take at calls))
+
+cases_given : (o : Option Placed) → (o ≡ None) ⊎ ((m : Placed) × (o ≡ Some m))
+cases_given None = inl refl
+cases_given (Some m) = inr (m, refl)
+
+later : (h : Ended → Option Placed) (x : Ended) (xs : List Ended) (k n : ℕ) (m : Placed) → (c : CameBy h xs k m)
+    → n ≡ length (filter_map h (x ∷ take c.at xs)) → CameBy h (x ∷ xs) n m
+later h x xs k n m c e = record { at = suc c.at; call = c.call; is = c.is; gives = c.gives; before = e }
+
+pub came_by : (h : Ended → Option Placed) (calls : List Ended) (k : ℕ) (m : Placed) → slice_get (filter_map h calls) k ≡ Some m → CameBy h calls k m
+came_by h [] k m e = absurd (cc)
+came_by h (x ∷ xs) k m e =
+    elim (cases_given (h x)) [
+      | inl none ↦
+          let rest = came_by h xs k m (rw none at e) in
+          later h x xs k k m rest (rw none rest.before)
+      | inr some ↦ here (λ j is. came_by h xs j m is) k some.0 (rw some.1 at e) some.1
+    ]
+  where
+    here : ((j : ℕ) → slice_get (filter_map h xs) j ≡ Some m → CameBy h xs j m) → (j : ℕ) (a : Placed) → slice_get (a ∷ filter_map h xs) j ≡ Some m
+        → h x ≡ Some a → CameBy h (x ∷ xs) j m
+    here behind zero a is given =
+        let same : a ≡ m = cc in
+        record { at = 0; call = x; is = refl; gives = given ∙ ap (λ (u : Placed). Some u) same; before = refl }
+    here behind (suc j) a is given =
+        let rest = behind j is in
+        let more : suc j ≡ suc (length (filter_map h (take rest.at xs))) = ap (λ (n : ℕ). suc n) rest.before in
+        later h x xs j (suc j) m rest (rw given more)
+
+-- a call that gives a member stands for one of the list
+pub gives_one : (h : Ended → Option Placed) (calls : List Ended) (at : ℕ) (call : Ended) (m : Placed) → slice_get calls at ≡ Some call → h call ≡ Some m
+    → (k : ℕ) × (slice_get (filter_map h calls) k ≡ Some m)
+gives_one h [] at call m is gives = absurd (cc)
+gives_one h (x ∷ xs) zero call m is gives =
+    let same : x ≡ call = cc in
+    let given : h x ≡ Some m = ap h same ∙ gives in
+    (0, rw given refl)
+gives_one h (x ∷ xs) (suc at) call m is gives =
+    let rest = gives_one h xs at call m is gives in
+    elim (cases_given (h x)) [
+      | inl none ↦ (rest.0, rw none rest.1)
+      | inr some ↦ (suc rest.0, rw some.1 rest.1)
+    ]
+
+-- what a call must be that gives a member
+pub sent_call : (call : Ended) (m : Placed) → sent_by call ≡ Some m → call ≡ Done (suc m.topic) m.place m.bytes
+sent_call (Done zero p w) m e = absurd (cc)
+sent_call (Done (suc t) p w) m e =
+    let same : (record { topic = t; place = p; bytes = w }) ≡ m = cc in
+    ap (λ (u : Placed). Done (suc u.topic) u.place u.bytes) same
+sent_call (Got r p w) m e = absurd (cc)
+sent_call (Nothing r) m e = absurd (cc)
+sent_call (Spent r t is_put) m e = absurd (cc)
+
+pub taken_call : (call : Ended) (m : Placed) → taken_by call ≡ Some m → call ≡ Got (suc m.topic) m.place m.bytes
+taken_call (Got zero p w) m e = absurd (cc)
+taken_call (Got (suc t) p w) m e =
+    let same : (record { topic = t; place = p; bytes = w }) ≡ m = cc in
+    ap (λ (u : Placed). Got (suc u.topic) u.place u.bytes) same
+taken_call (Done r p w) m e = absurd (cc)
+taken_call (Nothing r) m e = absurd (cc)
+taken_call (Spent r t is_put) m e = absurd (cc)
+
+-- how many of a list are of a topic, with one more in front
+on_topic-cons : (t : ℕ) (m : Placed) (ms : List Placed) → on_topic t (m ∷ ms) ≡ (if m.topic == t then 1 else 0) + on_topic t ms
+on_topic-cons t m ms = sum_by-cons (λ (u : Placed). cond (u.topic == t) 1 0) m ms
+
+none_more : (n : ℕ) → 0 + n ≡ n
+none_more n = omega arith
+
+-- the puts that a record has of a topic's ring are its sends of the topic, and the gets its takes
+pub done_sent : (t : ℕ) (calls : List Ended) → tally (was_done (suc t)) calls ≡ on_topic t (sends_of calls)
+done_sent t [] = refl
+done_sent t (Done zero p w ∷ xs) = rw (eqb-zero-suc t) (none_more (tally (was_done (suc t)) xs) ∙ done_sent t xs)
+done_sent t (Done (suc q) p w ∷ xs) =
+    rw (eqb-suc-suc q t) (ap (λ (n : ℕ). (if q == t then 1 else 0) + n) (done_sent t xs)
+    ∙ sym (on_topic-cons t (record { topic = q; place = p; bytes = w }) (sends_of xs)))
+done_sent t (Got r p w ∷ xs) = none_more (tally (was_done (suc t)) xs) ∙ done_sent t xs
+done_sent t (Nothing r ∷ xs) = none_more (tally (was_done (suc t)) xs) ∙ done_sent t xs
+done_sent t (Spent r k is_put ∷ xs) = none_more (tally (was_done (suc t)) xs) ∙ done_sent t xs
+
+pub got_taken : (t : ℕ) (calls : List Ended) → tally (was_got (suc t)) calls ≡ on_topic t (takes_of calls)
+got_taken t [] = refl
+got_taken t (Got zero p w ∷ xs) = rw (eqb-zero-suc t) (none_more (tally (was_got (suc t)) xs) ∙ got_taken t xs)
+got_taken t (Got (suc q) p w ∷ xs) =
+    rw (eqb-suc-suc q t) (ap (λ (n : ℕ). (if q == t then 1 else 0) + n) (got_taken t xs)
+    ∙ sym (on_topic-cons t (record { topic = q; place = p; bytes = w }) (takes_of xs)))
+got_taken t (Done r p w ∷ xs) = none_more (tally (was_got (suc t)) xs) ∙ got_taken t xs
+got_taken t (Nothing r ∷ xs) = none_more (tally (was_got (suc t)) xs) ∙ got_taken t xs
+got_taken t (Spent r k is_put ∷ xs) = none_more (tally (was_got (suc t)) xs) ∙ got_taken t xs

@@ -1,0 +1,46 @@
+use Rattle.std.proofs.Common.{◌≡◌, ℕ, ◌≤◌, [], List, length, map, sym, ◌∙◌, ap, subst, arith, vec_len}
+use Rattle.std.specs.Prelude.{All, vec_capacity}
+use Rattle.scq_word.specs.Sizes.{n_of}
+use Rattle.scq_band.specs.Standing.{Identity, Standing, first_standings}
+use Rattle.scq_queue.specs.Passes.{PassStanding, first_passes}
+use Rattle.scq_queue.specs.Kept.{pass_over}
+use Rattle.scq_queue.proofs.NewPasses.{as_many_seats, all_new, passes_over, all_own, keeps_room}
+use Rattle.scq_queue.proofs.queue.Queue.make.Goals as goal
+
+pub passes_of-passes-requires-clause-new : goal.passes_of-passes-requires-clause-new
+passes_of-passes-requires-clause-new g c κs within =
+    subst (λ (ss : List (Standing g.row.B.Denot)). All (λ (s : Standing g.row.B.Denot). (s.hand ≡ []) × (s.calls ≡ [])) ss) (sym c.in-Ok-make.ensures.seats)
+    (all_new c.in-Ok-make.band c.args.setup.seats)
+
+pub passes_of-passes-requires-clause-room : goal.passes_of-passes-requires-clause-room
+passes_of-passes-requires-clause-room g c κs within =
+    let many : length c.in-Ok-make.seats.items ≡ c.args.setup.seats = ap length c.in-Ok-make.ensures.seats ∙ as_many_seats c.in-Ok-make.band c.args.setup.seats in
+    let whole = c.in-Ok-make.seats.ok in
+    let room = c.in-Ok.ensures.capacity in
+    let seats = c.seats.ensures in
+    omega (arith, many, whole, room, seats)
+
+pub invariant_of-queue : goal.invariant_of-queue
+invariant_of-queue g c =
+    let many : length c.in-Ok-make.seats.items ≡ c.args.setup.seats = ap length c.in-Ok-make.ensures.seats ∙ as_many_seats c.in-Ok-make.band c.args.setup.seats in
+    let whole = c.in-Ok-make.seats.ok in
+    let kept = c.passes_of-passes.ensures.kept in
+    let counts = c.in-Ok-with_capacity.ensures.capacity in
+    let out = c.in-Ok-with_capacity-2.ensures.capacity in
+    let seats = c.seats-2.ensures in
+    let len = c.len.ensures in
+    let all = c.requires.count in
+    keeps_room c.in-Ok-make.band c.args.setup c.passes_of-passes.new.seats.items c.in-Ok-with_capacity-2.out.items c.in-Ok-with_capacity.counts.items
+    (vec_capacity c.passes_of-passes.new.seats) (vec_capacity c.in-Ok-with_capacity-2.out) (vec_capacity c.in-Ok-with_capacity.counts)
+    c.in-Ok-make.ensures.band.0 c.passes_of-passes.ensures.emptied (omega (arith, many, whole, kept)) c.in-Ok-with_capacity-2.ensures.items
+    (omega (arith, out, len, all)) c.in-Ok-with_capacity.ensures.items (omega (arith, counts, seats))
+
+pub returns-in-Ok-make-clause-passes : goal.returns-in-Ok-make-clause-passes
+returns-in-Ok-make-clause-passes g c =
+    c.passes_of-passes.ensures.passes ∙ ap (map (λ (s : Standing g.row.B.Denot). pass_over s [])) c.in-Ok-make.ensures.seats
+    ∙ passes_over c.in-Ok-make.band c.args.setup.seats
+
+pub returns-in-Ok-make-clause-own : goal.returns-in-Ok-make-clause-own
+returns-in-Ok-make-clause-own g c =
+    subst (λ (ps : List (PassStanding g.row.B.Denot)). All (λ (p : PassStanding g.row.B.Denot). p.queue ≡ c.in-Ok-make.band) ps)
+    (sym (returns-in-Ok-make-clause-passes g c)) (all_own c.in-Ok-make.band c.args.setup.seats)

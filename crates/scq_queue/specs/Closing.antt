@@ -1,0 +1,81 @@
+-- What all passes say together once a queue is closed. A pass is told by its position among those that were given, a take by its
+-- position among the takes of its pass.
+use Rattle.std.specs.Prelude.{◌≡◌, ℕ, suc, ◌+◌, ◌<◌, ◌≤◌, List, map, length, Option, Some, slice_get, slice_index, sum, sum_by, All}
+use Rattle.scq_core.specs.declared.ended.Ended.{Ended}
+use Rattle.scq_word.specs.declared.setup.Setup.{Setup}
+use Rattle.scq_word.specs.Sizes.{n_of}
+use Rattle.scq_law.specs.Hands.{times}
+use Rattle.scq_band.specs.Standing.{Identity}
+use Rattle.scq_band.specs.Closing.{EachSpentIsPastTheBound}
+use Rattle.scq_queue.specs.Lists.{Placed, sends_of, takes_of, on_topic, fulls_in}
+use Rattle.scq_queue.specs.Passes.{PassStanding, HeldStanding, known_on}
+
+module _ {B : Type 0} where
+  -- the send, or the take, of these numbers is this
+  abbrev pub IsSend : List (PassStanding B) → ℕ → ℕ → Placed → Type 0
+  IsSend passes pass number m = (p : PassStanding B) × (slice_get passes pass ≡ Some p) × (slice_get (sends_of p.calls) number ≡ Some m)
+
+  abbrev pub IsTake : List (PassStanding B) → ℕ → ℕ → Placed → Type 0
+  IsTake passes pass number m = (p : PassStanding B) × (slice_get passes pass ≡ Some p) × (slice_get (takes_of p.calls) number ≡ Some m)
+
+  -- some pass sent it, or took it
+  pub record WasSent (passes : List (PassStanding B)) (m : Placed) : Type 0 where
+    pub pass : ℕ
+    pub number : ℕ
+    pub is : IsSend passes pass number m
+
+  pub record WasTaken (passes : List (PassStanding B)) (m : Placed) : Type 0 where
+    pub pass : ℕ
+    pub number : ℕ
+    pub is : IsTake passes pass number m
+
+  -- each take is a send of the same topic, place and bytes
+  abbrev pub EachTakeIsASend : List (PassStanding B) → Type 0
+  EachTakeIsASend passes = (m : Placed) → WasTaken passes m → WasSent passes m
+
+  -- no place of a topic was taken twice
+  abbrev pub NoPlaceIsTakenTwice : List (PassStanding B) → Type 0
+  NoPlaceIsTakenTwice passes =
+      (a x b y : ℕ) (m n : Placed) → IsTake passes a x m → IsTake passes b y n → m.topic ≡ n.topic → m.place ≡ n.place → (a ≡ b) × (x ≡ y)
+
+  -- how many sends, and takes, of a topic all passes made
+  abbrev pub sends_on : ℕ → List (PassStanding B) → ℕ
+  sends_on topic passes = sum_by (λ p. on_topic topic (sends_of p.calls)) passes
+
+  abbrev pub takes_on : ℕ → List (PassStanding B) → ℕ
+  takes_on topic passes = sum_by (λ p. on_topic topic (takes_of p.calls)) passes
+
+  -- on each topic, the sends less the takes are what is left
+  pub record IsBalance (c : Setup) (passes : List (PassStanding B)) (left : List ℕ) : Type 0 where
+    pub rings : length left ≡ c.rings
+    pub balance : (topic : ℕ) → suc topic < c.rings → slice_index left (suc topic) + takes_on topic passes ≡ sends_on topic passes
+
+  -- each send whose place is below a head that some pass knows was taken
+  abbrev pub EachSendPassedIsTaken : List (PassStanding B) → Type 0
+  EachSendPassedIsTaken passes =
+      (m : Placed) (pass : ℕ) (p : PassStanding B) → WasSent passes m → slice_get passes pass ≡ Some p → m.place < (known_on m.topic p).head
+      → WasTaken passes m
+
+  -- what is left in all rings and the held values are n together
+  abbrev pub IsAllThere : Setup → List (HeldStanding B) → List ℕ → Type 0
+  IsAllThere c held left = sum left + length held ≡ n_of c.order
+
+  -- the Full replies of each pass are those in its record
+  abbrev pub AllFullsStand : List (PassStanding B) → Type 0
+  AllFullsStand passes = All (λ (p : PassStanding B). length p.fulls ≡ fulls_in p.calls) passes
+
+  -- where a pass keeps a spent ticket, the ticket bound of the ticket's ring is past the limit
+  abbrev pub EachKeptIsPastTheBound : Setup → List (PassStanding B) → Type 0
+  EachKeptIsPastTheBound c passes = EachSpentIsPastTheBound c (map (λ p. p.calls) passes) (map (λ p. p.spent) passes)
+
+  -- where some pass was told that all had retired, each has
+  abbrev pub AllRetiredWhereTold : List (PassStanding B) → Type 0
+  AllRetiredWhereTold passes =
+      (a b : ℕ) (told other : PassStanding B) → slice_get passes a ≡ Some told → told.gate ≡ Some 0 → slice_get passes b ≡ Some other
+      → (calls : ℕ) × (other.retired ≡ Some calls)
+
+  -- these are the values that the passes of the queue hold, and no others; there are never more than buffers
+  pub record AreTheHeld (queue : Identity B) (passes : List (PassStanding B)) (held : List (HeldStanding B)) : Type 0 where
+    pub queue_of : (k : ℕ) (h : HeldStanding B) → slice_get held k ≡ Some h → h.queue ≡ queue
+    pub few : length held ≤ n_of queue.setup.order
+    pub all : (i : ℕ) → times i (map (λ h. h.index) held) ≡ sum_by (λ (p : PassStanding B). times i p.held) passes

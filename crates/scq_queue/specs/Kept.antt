@@ -1,0 +1,84 @@
+-- For private calls: what a queue, a pass and a held value keep.
+use Rattle.std.specs.Prelude.{◌≡◌, ℕ, ◌≤◌, List, [], ◌∷◌, ◌++◌, map, length, Option, None}
+use Rattle.scq_word.specs.Sizes.{n_of}
+use Rattle.scq_band.specs.Standing.{Identity, Standing, IsAsGiven}
+use Rattle.scq_band.specs.Closing.{indices_of}
+use Rattle.scq_queue.specs.declared.counts.Counts.{Counts}
+use Rattle.scq_queue.specs.declared.fulls.Fulls.{Fulls}
+use Rattle.scq_queue.specs.declared.fulls.Fulls.TheVariants.{Never, After'}
+use Rattle.scq_queue.specs.Lists.{fulls_in, counts_of}
+use Rattle.scq_queue.specs.Passes.{PassStanding, HeldStanding, lists_of}
+
+-- the heads, in the order in which they came
+abbrev pub heads_of : Fulls → List ℕ
+heads_of Never = []
+heads_of (After' p before head) = heads_of before ++ head ∷ []
+
+module _ {B : Type 0} where
+  -- a hand with these indices, whose buffers are all lifted
+  abbrev pub all_lifted : List ℕ → List (ℕ × Option B)
+  all_lifted held = map (λ i. (i, None)) held
+
+  -- the pass over a seat, with the heads of its Full replies; and the seat of a pass
+  abbrev pub pass_over : Standing B → List ℕ → PassStanding B
+  pass_over s fulls =
+      record {
+        queue = s.band;
+        number = s.number;
+        calls = s.calls;
+        fulls = fulls;
+        held = indices_of s.hand;
+        numbers = s.numbers;
+        spent = s.spent;
+        gates = s.gates;
+        gate = s.gate;
+        retired = s.retired;
+      }
+
+  abbrev pub seat_of : PassStanding B → Standing B
+  seat_of p =
+      record {
+        band = p.queue;
+        number = p.number;
+        calls = p.calls;
+        hand = all_lifted p.held;
+        numbers = p.numbers;
+        spent = p.spent;
+        gates = p.gates;
+        gate = p.gate;
+        retired = p.retired;
+      }
+
+  -- the buffers of all that a seat has in its hand are lifted
+  abbrev pub AreLifted : Standing B → Type 0
+  AreLifted s = s.hand ≡ all_lifted (indices_of s.hand)
+
+  -- what a pass keeps: the buffers of all its values are lifted, its Full replies are those in its record, and its counts are the
+  -- lengths of its lists
+  pub record IsPass (s : Standing B) (fulls : List ℕ) (counts : Counts) : Type 0 where
+    pub lifted : AreLifted s
+    pub all_fulls : length fulls ≡ fulls_in s.calls
+    pub counted : counts ≡ counts_of (lists_of (pass_over s fulls))
+
+  -- the value of an index that a pass got with its seat
+  abbrev pub held_of : Standing B → ℕ → B → HeldStanding B
+  held_of s index buffer = record { queue = s.band; pass = s.number; index = index; buffer = buffer }
+
+  -- the buffer of a value, with its index
+  abbrev pub value_of : HeldStanding B → ℕ × B
+  value_of h = (h.index, h.buffer)
+
+  -- each of these buffers is the same as the one that its queue was given for its index
+  abbrev pub AllGiven : (B → B → Type 0) → List (HeldStanding B) → Type 0
+  AllGiven IsSame [] = Unit {0}
+  AllGiven IsSame (h ∷ hs) = IsAsGiven IsSame h.queue.given h.index h.buffer × AllGiven IsSame hs
+
+  -- what a queue keeps: empty lists with room for all seats and their counts, and for all values
+  pub record IsQueue (queue : Identity B) (seats : List (Standing B)) (seat_room : ℕ) (out : List (ℕ × B)) (out_room : ℕ) (counts : List Counts) (count_room : ℕ)
+      : Type 0 where
+    pub no_seat : seats ≡ []
+    pub all_seats : queue.setup.seats ≤ seat_room
+    pub none_out : out ≡ []
+    pub all_out : n_of queue.setup.order ≤ out_room
+    pub no_count : counts ≡ []
+    pub all_counts : queue.setup.seats ≤ count_room

@@ -1,0 +1,145 @@
+//! The calls that pass buffers on.
+ghost use Rattle.std.specs.Prelude.{◌≡◌, ℕ, suc, ◌+◌, ◌<◌, ◌≤◌, Some, None, Err, Ok, IfOk, IfErr};
+ghost use Rattle.scq_word.specs.Sizes.{n_of};
+ghost use Rattle.scq_band.specs.Standing.{IsAsGiven};
+ghost use Rattle.scq_queue.specs.Lists.{with_send, with_take, with_full};
+ghost use Rattle.scq_queue.specs.Passes.{lists_of, known_on, IsHeldBy, HasGot, WasLent, WasGivenBack, FoundFull, FoundEmpty, after_put, after_spent_put, after_spent_get};
+
+use crate::counts::count;
+use crate::fulls::once_more;
+use crate::held::Held;
+use crate::pass::Pass;
+use crate::queue::Queue;
+use crate::values::{get, put};
+use scq_band::{DeqRefusal, Spent};
+use scq_word::Buffer;
+
+/// Why no buffer was lent: there was none that nobody held, the free ring's Head being at or past this number; or the pass keeps a
+/// ticket at or past the limit.
+#[derive(Clone, Copy, Debug, PartialEq, Eq)]
+pub enum LendRefusal {
+    Full { head: u64 },
+    Spent { ticket: u64 },
+}
+
+/// Why nothing was taken: the topic was empty, its ring's Head being at or past this number; or the pass keeps a ticket at or past the
+/// limit.
+#[derive(Clone, Copy, Debug, PartialEq, Eq)]
+pub enum TakeRefusal {
+    Empty { head: u64 },
+    Spent { ticket: u64 },
+}
+
+impl<B: Buffer> Queue<B> {
+    /// Lends the pass a buffer that nobody holds, with whatever bytes stand in it.
+    ///
+    /// Full where there was none: the free ring's Head is past each place at which the pass knew a buffer to be given back. Spent where
+    /// the ticket that was drawn is at or past the limit; the pass keeps it, and answers it from then on, with no step made.
+    #[inline(always)]
+    pub fn lend(&self, pass: &mut Pass<B>) -> Result<Held<B>, LendRefusal>
+        requires pass { pass.old.queue ≡ self.now }
+        ensures own { (pass.new.queue ≡ pass.old.queue) × (pass.new.number ≡ pass.old.number) }
+        ensures lent { IfOk result (λ held. WasLent B.contents pass.old pass.new held) }
+        ensures given { IfOk result (λ held. IsAsGiven B.IsSameBuffer self.now.given held.index held.buffer) }
+        ensures index { IfOk result (λ held. held.index < n_of self.now.setup.order) }
+        ensures lists { IfOk result (λ _. lists_of pass.new ≡ lists_of pass.old) }
+        ensures full { (head : ℕ) → result ≡ Err (LendRefusal.Full head) → FoundFull head pass.old pass.new }
+        ensures full_lists { (head : ℕ) → result ≡ Err (LendRefusal.Full head) → lists_of pass.new ≡ with_full head (lists_of pass.old) }
+        ensures spent { (ticket : ℕ) → result ≡ Err (LendRefusal.Spent ticket) → pass.old.spent ≡ None
+            → (pass.new ≡ after_spent_get 0 ticket pass.old) × (self.now.setup.limit ≤ ticket) }
+        ensures spent_lists { (ticket : ℕ) → result ≡ Err (LendRefusal.Spent ticket) → lists_of pass.new ≡ lists_of pass.old }
+        ensures kept { (ticket : ℕ) → pass.old.spent ≡ Some ticket → (result ≡ Err (LendRefusal.Spent ticket)) × (pass.new ≡ pass.old) }
+    {
+        match get(&self.band, &mut pass.seat, 0) {
+            Ok((_, held)) => Ok(held),
+            Err(refusal) => match refusal {
+                DeqRefusal::Empty { head } => {
+                    once_more(&mut pass.fulls, head);
+                    count(&mut pass.counts.full);
+                    Err(LendRefusal::Full { head })
+                }
+                DeqRefusal::Spent { ticket } => Err(LendRefusal::Spent { ticket }),
+            },
+        }
+    }
+
+    /// Sends a value that the pass holds on a topic, with the bytes that stand in it: answers its place, which is below the limit and
+    /// above each place of a send of this topic that the pass knew.
+    ///
+    /// Spent as with `lend`; the value comes back as it was.
+    #[inline(always)]
+    pub fn send(&self, pass: &mut Pass<B>, topic: u32, held: Held<B>) -> Result<u64, (Held<B>, Spent)>
+        requires pass { pass.old.queue ≡ self.now }
+        requires topic { topic + 1 < self.now.setup.rings }
+        requires held { IsHeldBy pass.old held }
+        requires stays { pass.old.retired ≡ None }
+        ensures own { (pass.new.queue ≡ pass.old.queue) × (pass.new.number ≡ pass.old.number) }
+        ensures sent { IfOk result (λ place. pass.new ≡ after_put (suc topic) held.index place (B.contents held.buffer) pass.old) }
+        ensures place { IfOk result (λ place. (place < self.now.setup.limit) × ((known_on topic pass.old).seen < place)) }
+        ensures lists { IfOk result (λ place. lists_of pass.new ≡ with_send topic place (B.contents held.buffer) (lists_of pass.old)) }
+        ensures back { IfErr result (λ refused. refused.0 ≡ held) }
+        ensures spent { IfErr result (λ refused. pass.old.spent ≡ None
+            → (pass.new ≡ after_spent_put (suc topic) refused.1.ticket pass.old) × (self.now.setup.limit ≤ refused.1.ticket)) }
+        ensures spent_lists { IfErr result (λ _. lists_of pass.new ≡ lists_of pass.old) }
+        ensures kept { (ticket : ℕ) → pass.old.spent ≡ Some ticket → (result ≡ Err (held, record { ticket = ticket })) × (pass.new ≡ pass.old) }
+    {
+        match put(&self.band, &mut pass.seat, topic + 1, held) {
+            Ok(place) => {
+                count(&mut pass.counts.sent);
+                Ok(place)
+            }
+            Err(refused) => Err(refused),
+        }
+    }
+
+    /// Takes a value from a topic: answers its place, which is below the limit and not below the head of this topic that the pass
+    /// knew, and the value. That its bytes are those that were sent there is told of all passes together by `close`.
+    ///
+    /// Empty where there was none: the topic's Head is past each place of a send that the pass knew to be finished. Spent as with `lend`.
+    #[inline(always)]
+    pub fn take(&self, pass: &mut Pass<B>, topic: u32) -> Result<(u64, Held<B>), TakeRefusal>
+        requires pass { pass.old.queue ≡ self.now }
+        requires topic { topic + 1 < self.now.setup.rings }
+        ensures own { (pass.new.queue ≡ pass.old.queue) × (pass.new.number ≡ pass.old.number) }
+        ensures took { IfOk result (λ r. HasGot B.contents (suc topic) r.0 pass.old pass.new r.1) }
+        ensures given { IfOk result (λ r. IsAsGiven B.IsSameBuffer self.now.given r.1.index r.1.buffer) }
+        ensures place { IfOk result (λ r. (r.0 < self.now.setup.limit) × ((known_on topic pass.old).head ≤ r.0)) }
+        ensures index { IfOk result (λ r. r.1.index < n_of self.now.setup.order) }
+        ensures lists { IfOk result (λ r. lists_of pass.new ≡ with_take topic r.0 (B.contents r.1.buffer) (lists_of pass.old)) }
+        ensures empty { (head : ℕ) → result ≡ Err (TakeRefusal.Empty head) → FoundEmpty topic head pass.old pass.new }
+        ensures spent { (ticket : ℕ) → result ≡ Err (TakeRefusal.Spent ticket) → pass.old.spent ≡ None
+            → (pass.new ≡ after_spent_get (suc topic) ticket pass.old) × (self.now.setup.limit ≤ ticket) }
+        ensures refused_lists { IfErr result (λ _. lists_of pass.new ≡ lists_of pass.old) }
+        ensures kept { (ticket : ℕ) → pass.old.spent ≡ Some ticket → (result ≡ Err (TakeRefusal.Spent ticket)) × (pass.new ≡ pass.old) }
+    {
+        let (place, held) = match get(&self.band, &mut pass.seat, topic + 1) {
+            Ok(got) => got,
+            Err(DeqRefusal::Empty { head }) => return Err(TakeRefusal::Empty { head }),
+            Err(DeqRefusal::Spent { ticket }) => return Err(TakeRefusal::Spent { ticket }),
+        };
+        count(&mut pass.counts.taken);
+        Ok((place, held))
+    }
+
+    /// Gives a value back that the pass holds, so that it can be lent again.
+    ///
+    /// Spent as with `lend`; the value comes back as it was.
+    #[inline(always)]
+    pub fn give_back(&self, pass: &mut Pass<B>, held: Held<B>) -> Result<(), (Held<B>, Spent)>
+        requires pass { pass.old.queue ≡ self.now }
+        requires held { IsHeldBy pass.old held }
+        ensures own { (pass.new.queue ≡ pass.old.queue) × (pass.new.number ≡ pass.old.number) }
+        ensures given { IfOk result (λ _. WasGivenBack (B.contents held.buffer) held.index pass.old pass.new) }
+        ensures lists { lists_of pass.new ≡ lists_of pass.old }
+        ensures back { IfErr result (λ refused. refused.0 ≡ held) }
+        ensures spent { IfErr result (λ refused. pass.old.spent ≡ None
+            → (pass.new ≡ after_spent_put 0 refused.1.ticket pass.old) × (self.now.setup.limit ≤ refused.1.ticket)) }
+        ensures kept { (ticket : ℕ) → pass.old.spent ≡ Some ticket → (result ≡ Err (held, record { ticket = ticket })) × (pass.new ≡ pass.old) }
+    {
+        let _place = match put(&self.band, &mut pass.seat, 0, held) {
+            Ok(place) => place,
+            Err(refused) => return Err(refused),
+        };
+        Ok(())
+    }
+}

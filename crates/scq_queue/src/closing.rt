@@ -1,0 +1,107 @@
+//! The end of a queue: its passes and the values that are still held come back, and its buffers are handed out.
+ghost use Rattle.std.specs.Prelude.{◌≡◌, ◌≤◌, [], map, All, vec_len, vec_capacity};
+ghost use Rattle.scq_band.specs.Standing.{IsAsGiven};
+ghost use Rattle.scq_band.specs.Closing.{AreTheSame};
+ghost use Rattle.scq_queue.specs.Lists.{counts_of};
+ghost use Rattle.scq_queue.specs.Passes.{lists_of};
+ghost use Rattle.scq_queue.specs.Closing.{EachTakeIsASend, NoPlaceIsTakenTwice, IsBalance, EachSendPassedIsTaken, IsAllThere, EachKeptIsPastTheBound, AllRetiredWhereTold, AreTheHeld};
+ghost use Rattle.scq_queue.specs.Kept.{seat_of, value_of, AllGiven};
+
+use crate::counts::Counts;
+use crate::held::Held;
+use crate::pass::Pass;
+use crate::queue::Queue;
+use scq_band::{BandClosed, Seat};
+use scq_word::Buffer;
+use std::snapshot::Snapshot;
+
+/// What is left of a queue: its buffers in order of index, for each ring how many indices were left in it, and the counts of each pass.
+/// `passes` are the passes as they came, for contracts alone: it has no bytes when the program runs.
+#[derive(Drop)]
+pub struct Closed<B: Buffer> {
+    pub buffers: Vec<B>,
+    pub left: Vec<u64>,
+    pub counts: Vec<Counts>,
+    pub passes: Snapshot<Vec<Pass<B>>>,
+}
+
+/// The seats of these passes and their counts, in their order, put into empty lists with room.
+fn unpack<B: Buffer>(
+    mut passes: Vec<Pass<B>>,
+    seats: &mut Vec<Seat<B>>,
+    counts: &mut Vec<Counts>,
+)
+    requires empty { (seats.old.items ≡ []) × (counts.old.items ≡ []) }
+    requires room { (vec_len passes ≤ vec_capacity seats.old) × (vec_len passes ≤ vec_capacity counts.old) }
+    ensures seats { seats.new.items ≡ map seat_of passes.items }
+    ensures counts { counts.new.items ≡ map (λ p. counts_of (lists_of p)) passes.items }
+{
+    passes.reverse();
+    while let Some(pass) = passes.pop() {
+        let Pass {
+            seat,
+            fulls: _fulls,
+            counts: its,
+        } = pass;
+        seats.push_reserved(seat);
+        counts.push_reserved(its);
+    }
+    passes.destroy_empty();
+}
+
+/// The buffers of these values, each with its index, in their order, put into an empty list with room.
+fn unwrap<B: Buffer>(mut held: Vec<Held<B>>, out: &mut Vec<(u32, B)>)
+    requires empty { out.old.items ≡ [] }
+    requires room { vec_len held ≤ vec_capacity out.old }
+    ensures out { out.new.items ≡ map value_of held.items }
+    ensures given { AllGiven B.IsSameBuffer held.items }
+{
+    held.reverse();
+    while let Some(value) = held.pop() {
+        let Held {
+            index,
+            buffer,
+            owner: _owner,
+        } = value;
+        out.push_reserved((index, buffer));
+    }
+    held.destroy_empty();
+}
+
+impl<B: Buffer> Queue<B> {
+    /// Closes a queue whose passes and held values all come back. All buffers are handed out. Takes no memory.
+    ///
+    /// The clauses read what the passes did together, in the order in which they are given.
+    pub fn close(self, passes: Vec<Pass<B>>, held: Vec<Held<B>>) -> Closed<B>
+        requires passes { All (λ p. p.queue ≡ self) passes.items }
+        requires all { vec_len passes ≡ self.setup.seats }
+        requires held { AreTheHeld self passes.items held.items }
+        ensures buffers { AreTheSame B.IsSameBuffer self.given result.buffers.items }
+        ensures counts { result.counts.items ≡ map (λ p. counts_of (lists_of p)) passes.items }
+        ensures passes { result.passes.value.items ≡ passes.items }
+        ensures takes { EachTakeIsASend passes.items }
+        ensures once { NoPlaceIsTakenTwice passes.items }
+        ensures balance { IsBalance self.setup passes.items result.left.items }
+        ensures passed { EachSendPassedIsTaken passes.items }
+        ensures all_there { IsAllThere self.setup held.items result.left.items }
+        ensures kept { EachKeptIsPastTheBound self.setup passes.items }
+        ensures gate { AllRetiredWhereTold passes.items }
+    {
+        let Queue {
+            band,
+            mut seats,
+            mut out,
+            mut counts,
+        } = self;
+        let given = Snapshot::of(&passes);
+        unpack(passes, &mut seats, &mut counts);
+        unwrap(held, &mut out);
+        let BandClosed { buffers, left } = band.close(seats, out);
+        Closed {
+            buffers,
+            left,
+            counts,
+            passes: given,
+        }
+    }
+}

@@ -1,0 +1,136 @@
+//! A queue, and how it is made with its passes.
+ghost use Rattle.std.specs.Prelude.{◌≡◌, ℕ, ◌<◌, ◌≤◌, ◌==◌, [], map, length, Some, None, All, IfOk, IfErr, vec_len, vec_capacity};
+ghost use Rattle.scq_word.specs.Sizes.{n_of};
+ghost use Rattle.scq_band.specs.Standing.{Standing};
+ghost use Rattle.scq_queue.specs.Passes.{first_passes, after_look};
+ghost use Rattle.scq_queue.specs.Kept.{pass_over};
+
+use crate::counts::Counts;
+use crate::fulls::never;
+use crate::pass::Pass;
+use scq_band::{Band, Seat};
+use scq_word::{Buffer, NoMemory, Setup};
+use std::alloc::Global;
+use std::marker::Model;
+
+/// A queue of fixed buffers. Threads share it and make calls on it, each with a pass of its own. It must be spent: it ends in `close`.
+///
+/// `seats`, `out` and `counts` are empty lists, with room for what `close` needs.
+pub struct Queue<B: Buffer> {
+    pub(crate) band: Band<B>,
+    pub(crate) seats: Vec<Seat<B>>,
+    pub(crate) out: Vec<(u32, B)>,
+    pub(crate) counts: Vec<Counts>,
+}
+
+impl<B: Buffer> Model for Queue<B> {
+    ghost use Rattle.std.specs.Prelude.{vec_capacity};
+    ghost use Rattle.scq_band.specs.Standing.{Identity};
+
+    ghost Value = { Identity B };
+
+    ghost use Rattle.scq_queue.specs.Kept.{IsQueue};
+
+    ghost view = { λ q. q.band };
+
+    ghost invariant = { λ q. IsQueue q.band q.seats.items (vec_capacity q.seats) q.out.items (vec_capacity q.out) q.counts.items (vec_capacity q.counts) };
+}
+
+/// A pass over a seat that has made no call.
+fn pass_of<B: Buffer>(seat: Seat<B>) -> Pass<B>
+    requires { (seat.hand ≡ []) × (seat.calls ≡ []) }
+    ensures { result ≡ pass_over seat [] }
+{
+    Pass {
+        seat,
+        fulls: never(),
+        counts: Counts {
+            sent: 0,
+            taken: 0,
+            full: 0,
+        },
+    }
+}
+
+/// A pass over each of these seats, in their order. The list of the seats is left empty, with its room.
+fn passes_of<B: Buffer>(seats: &mut Vec<Seat<B>>, mut passes: Vec<Pass<B>>) -> Vec<Pass<B>>
+    requires new { All (λ s. (s.hand ≡ []) × (s.calls ≡ [])) seats.old.items }
+    requires empty { passes.items ≡ [] }
+    requires room { vec_len seats.old ≤ vec_capacity passes }
+    ensures passes { result.items ≡ map (λ s. pass_over s []) seats.old.items }
+    ensures emptied { seats.new.items ≡ [] }
+    ensures kept { vec_capacity seats.new ≡ vec_capacity seats.old }
+{
+    seats.reverse();
+    while let Some(seat) = seats.pop() {
+        passes.push_reserved(pass_of(seat));
+    }
+    passes
+}
+
+impl<B: Buffer> Queue<B> {
+    /// A queue with its passes, in the order of their numbers. Buffer i stands for index i; nobody holds any. Topic t is ring t + 1, so
+    /// there is one topic less than rings. Without memory all buffers come back, in order.
+    pub fn make(
+        alloc: Global,
+        setup: Setup,
+        buffers: Vec<B>,
+    ) -> Result<(Queue<B>, Vec<Pass<B>>), (Vec<B>, NoMemory)>
+        requires rings { 2 ≤ setup.rings }
+        requires count { vec_len buffers ≡ n_of setup.order }
+        ensures queue { IfOk result (λ made. (made.0.setup ≡ setup) × (made.0.given ≡ buffers.items)) }
+        ensures passes { IfOk result (λ made. made.1.items ≡ first_passes made.0 setup.seats) }
+        ensures own { IfOk result (λ made. All (λ p. p.queue ≡ made.0) made.1.items) }
+        ensures refused { IfErr result (λ refused. refused.0.items ≡ buffers.items) }
+    {
+        let passes = match Vec::with_capacity(alloc, setup.seats() as usize) {
+            Ok(passes) => passes,
+            Err(_) => return Err((buffers, NoMemory)),
+        };
+        let Ok(counts) = Vec::with_capacity(alloc, setup.seats() as usize) else {
+            passes.destroy_empty();
+            return Err((buffers, NoMemory));
+        };
+        let Ok(out) = Vec::with_capacity(alloc, buffers.len()) else {
+            passes.destroy_empty();
+            return Err((buffers, NoMemory));
+        };
+        match Band::make(alloc, setup, buffers) {
+            Ok((band, mut seats)) => {
+                let passes = passes_of(&mut seats, passes);
+                let queue = Queue {
+                    band,
+                    seats,
+                    out,
+                    counts,
+                };
+                Ok((queue, passes))
+            }
+            Err(refused) => {
+                passes.destroy_empty();
+                out.destroy_empty();
+                Err(refused)
+            }
+        }
+    }
+
+    /// The pass sends no more. It still lends, takes and gives back.
+    pub fn retire(&self, pass: &mut Pass<B>)
+        requires pass { pass.old.queue ≡ self.now }
+        requires stays { pass.old.retired ≡ None }
+        ensures { pass.new ≡ record pass.old { retired = Some (length pass.old.calls) } }
+    {
+        self.band.retire(&mut pass.seat);
+    }
+
+    /// Whether every pass had retired: so where the number of those that had not, as it was read at this call's one step, was 0. It is
+    /// kept, and never rises. Where a pass was told so, `close` says that every pass has retired.
+    pub fn closed(&self, pass: &mut Pass<B>) -> bool
+        requires pass { pass.old.queue ≡ self.now }
+        ensures looked { (found : ℕ) × (pass.new ≡ after_look found pass.old) × (result ≡ (found == 0)) }
+        ensures fell { (last found : ℕ) → pass.old.gate ≡ Some last → pass.new.gate ≡ Some found → found ≤ last }
+        ensures own { (calls found : ℕ) → pass.old.retired ≡ Some calls → pass.new.gate ≡ Some found → found < self.now.setup.seats }
+    {
+        self.band.gate_closed(&mut pass.seat)
+    }
+}
