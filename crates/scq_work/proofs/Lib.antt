@@ -6,3 +6,5 @@ mod KnownNumbers
 mod PassLemmas
 mod RecordSteps
 mod WorkerSteps
+mod LeftLemmas
+mod ListLemmas

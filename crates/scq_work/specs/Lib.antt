@@ -1,6 +1,7 @@
 pub mod Jobs
-pub mod Dealings
 pub mod Files
-pub mod Desks
-pub mod Ends
-pub mod Reading
+pub mod Records
+pub mod Members
+pub mod Passing
+pub mod Together
+pub mod Working

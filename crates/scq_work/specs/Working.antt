@@ -1,5 +1,5 @@
 -- What a worker's calls make of its pass.
-use Rattle.std.specs.Prelude.{◌≡◌, ℕ, suc, ◌+◌, ◌<◌, ◌≤◌, List, [], ◌∷◌, ◌++◌, length, filter, count_by}
+use Rattle.std.specs.Prelude.{◌≡◌, ℕ, suc, ◌+◌, ◌<◌, ◌≤◌, List, [], ◌∷◌, ◌++◌, length, filter, count_by, Option, Some, None, IfSome}
 use Rattle.std.specs.List.{AllZip, Contains}
 use Rattle.scq_core.specs.declared.ended.Ended.{Ended}
 use Rattle.scq_core.specs.declared.ended.Ended.TheVariants.{Done, Got, Nothing}
@@ -9,12 +9,25 @@ use Rattle.scq_frames.specs.declared.message.Message.{Message}
 use Rattle.scq_frames.specs.Encoded.{BeginsWith}
 use Rattle.scq_collect.specs.declared.answered.Answered.{Answered}
 use Rattle.scq_queue.specs.Lists.{Placed, sends_of, takes_of}
-use Rattle.scq_queue.specs.Passes.{PassStanding, known_on}
+use Rattle.scq_band.specs.Standing.{Identity}
+use Rattle.scq_queue.specs.Passes.{PassStanding, HeldStanding, known_on}
 use Rattle.scq_work.specs.Records.{is_got, is_put, AreTakes, HoldsNothingAtEachFull, HelpsOnceAfterEachFull, HelpsAfterEachFull}
 use Rattle.scq_work.specs.Members.{AnswersSoFar, AnswersItsFulls, is_taken, is_direct}
 use Rattle.scq_work.specs.Passing.{HasPassedOn, Sends}
 
+-- the index of a value, where there is one
+abbrev pub index_of : {B : Type 0} → Option (HeldStanding B) → List ℕ
+index_of None = []
+index_of (Some h) = h.index ∷ []
+
 module _ {B : Type 0} where
+  -- a pass of this queue, whose topics are so many declared ones and one more, and which has met no Spent
+  pub record Suits (shared : Identity B) (topics : ℕ) (p : PassStanding B) : Type 0 where
+    pub queue : p.queue ≡ shared
+    pub rings : shared.setup.rings ≡ topics + 2
+    pub numbers : length p.numbers ≡ topics + 2
+    pub spent : p.spent ≡ None
+
   -- what is known of the rings was kept: of no topic the finished place known fell, and no head
   pub record KnowsMore (old new : PassStanding B) : Type 0 where
     pub rings : length new.numbers ≡ length old.numbers
@@ -82,3 +95,11 @@ module _ {B : Type 0} where
   pub record HasAnswered (topics : List (List ℕ × Kind)) (old new : PassStanding B) (was is : List Answered) : Type 0 where
     pub takes : AnswersSoFar topics (takes_of old.calls) (filter is_taken was) → AnswersSoFar topics (takes_of new.calls) (filter is_taken is)
     pub directs : filter is_direct is ≡ filter is_direct was
+
+  -- a pass that met Spent, with the value that it keeps: before it had passed on so many messages, and now so many
+  pub record HasLeft (before after : ℕ) (old new : PassStanding B) (kept : Option (HeldStanding B)) : Type 0 where
+    pub spent : (ticket : ℕ) × (new.spent ≡ Some ticket)
+    pub thrifty : IsThrifty 0 before old → IsThrifty 1 after new
+    pub held : new.held ≡ old.held ++ index_of kept
+    pub own : (new.queue ≡ old.queue) × (new.number ≡ old.number)
+    pub its : IfSome kept (λ h. h.queue ≡ old.queue)
