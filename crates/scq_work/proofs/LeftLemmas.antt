@@ -38,7 +38,7 @@ module _ {B : Type 0} where
             returns = let low = was.returns in omega (arith, all 0, ap length takes);
           };
         held = ap (λ (x : PassStanding B). x.held) is ∙ sym (append-nil p.held);
-        own = (ap (λ (x : PassStanding B). x.queue) is, ap (λ (x : PassStanding B). x.number) is);
+        own = (ap (λ (x : PassStanding B). x.queue) is, ap (λ (x : PassStanding B). x.number) is, ap (λ (x : PassStanding B). x.retired) is);
         its = tt;
       }
 
@@ -70,7 +70,8 @@ module _ {B : Type 0} where
           };
         held = ap (λ (x : PassStanding B). x.held) is ∙ ap (λ (x : PassStanding B). x.held) got.pass ∙ ap (λ (x : HeldStanding B). p.held ++ x.index ∷ []) (sym same);
         own = (ap (λ (x : PassStanding B). x.queue) is ∙ ap (λ (x : PassStanding B). x.queue) got.pass,
-          ap (λ (x : PassStanding B). x.number) is ∙ ap (λ (x : PassStanding B). x.number) got.pass);
+          ap (λ (x : PassStanding B). x.number) is ∙ ap (λ (x : PassStanding B). x.number) got.pass,
+          ap (λ (x : PassStanding B). x.retired) is ∙ ap (λ (x : PassStanding B). x.retired) got.pass);
         its = ap (λ (x : HeldStanding B). x.queue) same ∙ got.held.queue ∙ ap (λ (x : PassStanding B). x.queue) got.pass;
       }
 
@@ -102,7 +103,8 @@ module _ {B : Type 0} where
           };
         held = ap (λ (x : PassStanding B). x.held) is ∙ ap (λ (x : PassStanding B). x.held) got.pass ∙ ap (λ n. p.held ++ n ∷ []) (sym index);
         own = (ap (λ (x : PassStanding B). x.queue) is ∙ ap (λ (x : PassStanding B). x.queue) got.pass,
-          ap (λ (x : PassStanding B). x.number) is ∙ ap (λ (x : PassStanding B). x.number) got.pass);
+          ap (λ (x : PassStanding B). x.number) is ∙ ap (λ (x : PassStanding B). x.number) got.pass,
+          ap (λ (x : PassStanding B). x.retired) is ∙ ap (λ (x : PassStanding B). x.retired) got.pass);
         its = queue ∙ got.held.queue ∙ ap (λ (x : PassStanding B). x.queue) got.pass;
       }
 
@@ -113,7 +115,8 @@ module _ {B : Type 0} where
         spent = left.spent;
         thrifty = λ was. left.thrifty (thrifty-taken before p q was taken);
         held = left.held ∙ ap (λ (x : PassStanding B). x.held ++ index_of k) taken.pass;
-        own = (left.own.0 ∙ ap (λ (x : PassStanding B). x.queue) taken.pass, left.own.1 ∙ ap (λ (x : PassStanding B). x.number) taken.pass);
+        own = (left.own.0 ∙ ap (λ (x : PassStanding B). x.queue) taken.pass, left.own.1 ∙ ap (λ (x : PassStanding B). x.number) taken.pass,
+          left.own.2 ∙ ap (λ (x : PassStanding B). x.retired) taken.pass);
         its = subst (λ (x : _). IfSome k (λ h. h.queue ≡ x)) (ap (λ (x : PassStanding B). x.queue) taken.pass) left.its;
       }
 
@@ -125,7 +128,8 @@ module _ {B : Type 0} where
         spent = left.spent;
         thrifty = λ was. left.thrifty (thrifty-full messages head p q was full);
         held = left.held ∙ ap (λ (x : PassStanding B). x.held ++ index_of k) full.pass;
-        own = (left.own.0 ∙ ap (λ (x : PassStanding B). x.queue) full.pass, left.own.1 ∙ ap (λ (x : PassStanding B). x.number) full.pass);
+        own = (left.own.0 ∙ ap (λ (x : PassStanding B). x.queue) full.pass, left.own.1 ∙ ap (λ (x : PassStanding B). x.number) full.pass,
+          left.own.2 ∙ ap (λ (x : PassStanding B). x.retired) full.pass);
         its = subst (λ (x : _). IfSome k (λ h. h.queue ≡ x)) (ap (λ (x : PassStanding B). x.queue) full.pass) left.its;
       }
 

@@ -237,3 +237,6 @@ module _ {B : Type 0} where
   pub answered-along : (topics : List (List ℕ × Kind)) (p q r : PassStanding B) (xs ys zs : List Answered) → HasAnswered topics p q xs ys → HasAnswered topics q r ys zs
       → HasAnswered topics p r xs zs
   answered-along topics p q r xs ys zs one more = record { takes = λ h. more.takes (one.takes h); directs = more.directs ∙ one.directs }
+
+  pub answered-nothing : (topics : List (List ℕ × Kind)) (p : PassStanding B) (xs : List Answered) → HasAnswered topics p p xs xs
+  answered-nothing topics p xs = record { takes = λ h. h; directs = refl }

@@ -1,5 +1,5 @@
 -- What a worker's calls make of its pass.
-use Rattle.std.specs.Prelude.{◌≡◌, ℕ, suc, ◌+◌, ◌<◌, ◌≤◌, List, [], ◌∷◌, ◌++◌, length, filter, count_by, Option, Some, None, IfSome}
+use Rattle.std.specs.Prelude.{◌≡◌, ℕ, zero, suc, ◌+◌, ◌-◌, ◌<◌, ◌≤◌, List, [], ◌∷◌, ◌++◌, length, filter, count_by, Option, Some, None, IfSome}
 use Rattle.std.specs.List.{AllZip, Contains}
 use Rattle.scq_core.specs.declared.ended.Ended.{Ended}
 use Rattle.scq_core.specs.declared.ended.Ended.TheVariants.{Done, Got, Nothing}
@@ -34,11 +34,11 @@ module _ {B : Type 0} where
     pub finished : (topic : ℕ) → (known_on topic old).finished ≤ (known_on topic new).finished
     pub head : (topic : ℕ) → (known_on topic old).head ≤ (known_on topic new).head
 
-  -- a pass that has taken from topics and given back what it took, and has done nothing else
+  -- a pass that has taken from topics and given back what it took, and has done nothing else but ask whether all had retired
   pub record HasTaken (old new : PassStanding B) : Type 0 where
     pub block : List Ended
     pub are : AreTakes block
-    pub pass : new ≡ record old { calls = old.calls ++ block; numbers = new.numbers }
+    pub pass : new ≡ record old { calls = old.calls ++ block; numbers = new.numbers; gates = new.gates; gate = new.gate }
     pub knows : KnowsMore old new
     pub same : (topic : ℕ) → (known_on topic new).finished ≡ (known_on topic old).finished
 
@@ -101,5 +101,14 @@ module _ {B : Type 0} where
     pub spent : (ticket : ℕ) × (new.spent ≡ Some ticket)
     pub thrifty : IsThrifty 0 before old → IsThrifty 1 after new
     pub held : new.held ≡ old.held ++ index_of kept
-    pub own : (new.queue ≡ old.queue) × (new.number ≡ old.number)
+    pub own : (new.queue ≡ old.queue) × (new.number ≡ old.number) × (new.retired ≡ old.retired)
     pub its : IfSome kept (λ h. h.queue ≡ old.queue)
+
+  -- how many more tickets takes of so many topics could draw: each take that gets something uses one up
+  abbrev pub takes_left : ℕ → ℕ → PassStanding B → ℕ
+  takes_left limit zero p = 0
+  takes_left limit (suc topics) p = takes_left limit topics p + (limit - (known_on topics p).head)
+
+  -- a pass that has retired
+  abbrev pub after_retire : PassStanding B → PassStanding B
+  after_retire p = record p { retired = Some (length p.calls) }

@@ -1,19 +1,23 @@
-ghost use Rattle.std.specs.Prelude.{◌≡◌, ◌≤◌, ◌<◌, ◌+◌, ◌++◌, ◌∷◌, ◌==◌, ℕ, List, true, false, [], length, filter, count_by, slice_get, Some, None, Ok, if◌then◌else◌, IfOk, IfErr, OnOk};
+ghost use Rattle.std.specs.Prelude.{◌≡◌, ◌≤◌, ◌<◌, ◌+◌, ◌^◌, ◌++◌, ◌∷◌, ◌==◌, ℕ, suc, List, true, false, [], length, filter, count_by, slice_get, Some, None, Ok, if◌then◌else◌, IfOk, IfErr, IfSome, IsSome, OnOk};
 ghost use Rattle.scq_core.specs.declared.ended.Ended.{Ended as TheEnded};
 ghost use Rattle.scq_frames.specs.Views.{message_of_view};
 ghost use Rattle.scq_queue.specs.Lists.{Placed};
-ghost use Rattle.scq_queue.specs.Passes.{known_on};
+ghost use Rattle.scq_queue.specs.Passes.{known_on, IsHeldBy, after_put, after_spent_put};
 ghost use Rattle.scq_work.specs.Records.{is_take};
 ghost use Rattle.scq_work.specs.Members.{answered, is_taken, is_direct, AnswersSoFar};
-ghost use Rattle.scq_work.specs.Working.{Suits, HasTaken, HasAnswered, HasLeft};
+ghost use Rattle.scq_work.specs.Passing.{Sends};
+ghost use Rattle.scq_work.specs.Working.{Suits, HasTaken, HasAnswered, HasLeft, takes_left, after_retire};
 
 use crate::{Gate, Job, Point};
 use scq_collect::{Answered, Way};
-use scq_frames::{View, decode};
+use scq_frames::{Message, View, decode, encode};
 use scq_queue::{Held, Pass, Queue, TakeRefusal};
 use scq_topics::reply;
 use scq_word::Buffer;
 use std::alloc::Global;
+
+/// How many sweeps in a row that take nothing let a worker leave.
+const MOST_IDLE: u32 = 64;
 
 /// A worker: the pass by which it makes its calls, what it has answered, and whether it wanted memory.
 pub struct Worker<B: Buffer> {
@@ -107,5 +111,166 @@ impl<B: Buffer> Worker<B> {
             Err(TakeRefusal::Empty { .. }) => Ok(false),
             Err(TakeRefusal::Spent { .. }) => Err(AtLimit { held: None }),
         }
+    }
+
+    /// Takes once from each topic.
+    fn help<G: Gate>(
+        &mut self,
+        alloc: Global,
+        job: &Job,
+        queue: &Queue<B>,
+        gate: &G,
+    ) -> Result<(), AtLimit<B>>
+        requires { Suits queue.now (length job.now.topics) self.old.pass }
+        ensures taken { OnOk result (HasTaken self.old.pass self.new.pass) }
+        ensures each { OnOk result ((t : ℕ) → t < length job.now.topics + 1
+            → count_by (is_take t) self.new.pass.calls ≡ count_by (is_take t) self.old.pass.calls + 1) }
+        ensures answered { OnOk result (self.new.starved ≡ false
+            → HasAnswered job.now.topics self.old.pass self.new.pass self.old.members.items self.new.members.items) }
+        ensures left { IfErr result (λ l. (messages : ℕ) → HasLeft messages messages self.old.pass self.new.pass l.held) }
+        ensures starved { self.new.starved ≡ false → self.old.starved ≡ false }
+        ensures number { self.new.number ≡ self.old.number }
+    {
+        'topics: for topic in 0..job.topics.len() + 1 {
+            self.take_one(alloc, job, queue, gate, topic)?;
+        }
+        Ok(())
+    }
+
+    /// Answers a message directly, where no buffer was free: with this head of the ring of free buffers.
+    fn answer_directly(&mut self, alloc: Global, job: &Job, message: &Message, head: u64)
+        requires { message.now.topic ≤ length job.now.topics }
+        ensures listed { self.new.starved ≡ false
+            → self.new.members.items ≡ self.old.members.items ++ answered job.now.topics (Way.Direct head) message.now ∷ [] }
+        ensures starved { self.new.starved ≡ false → self.old.starved ≡ false }
+        ensures same { (self.new.pass ≡ self.old.pass) × (self.new.number ≡ self.old.number) }
+    {
+        let view = View {
+            file: message.file,
+            line: message.line,
+            topic: message.topic,
+            payload: message.payload.bytes(),
+        };
+        self.answer(alloc, job, view, Way::Direct { head });
+    }
+
+    /// Sends a message in a value that it holds.
+    fn send_in(
+        &mut self,
+        queue: &Queue<B>,
+        message: &Message,
+        held: Held<B>,
+    ) -> Result<(), AtLimit<B>>
+        requires pass { (self.old.pass.queue ≡ queue.now) × (self.old.pass.spent ≡ None) × (self.old.pass.retired ≡ None) }
+        requires topic { message.now.topic + 1 < queue.now.setup.rings }
+        requires held { IsHeldBy self.old.pass held }
+        requires room { length message.now.payload + 16 ≤ length (B.contents held.buffer) }
+        requires short { length message.now.payload < 2 ^ 32 }
+        ensures sent { OnOk result ((place : ℕ) × (bytes : List ℕ) × (self.new.pass ≡ after_put (suc message.now.topic) held.index place bytes self.old.pass)
+            × Sends message.now (record { topic = message.now.topic; place = place; bytes = bytes })) }
+        ensures spent { IfErr result (λ l. (ticket : ℕ) × (self.new.pass ≡ after_spent_put (suc message.now.topic) ticket self.old.pass)) }
+        ensures back { IfErr result (λ l. IfSome l.held (λ h. (h.index ≡ held.index) × (h.queue ≡ held.queue))) }
+        ensures kept { IfErr result (λ l. IsSome l.held) }
+        ensures same { (self.new.members.items ≡ self.old.members.items) × (self.new.starved ≡ self.old.starved) × (self.new.number ≡ self.old.number) }
+    {
+        let mut held = held;
+        encode(message, held.bytes_mut());
+        match queue.send(&mut self.pass, message.topic, held) {
+            Ok(_) => Ok(()),
+            Err((held, _)) => Err(AtLimit { held: Some(held) }),
+        }
+    }
+
+    /// Takes from a topic until nothing is there. Whether anything was.
+    fn sweep_topic<G: Gate>(
+        &mut self,
+        alloc: Global,
+        job: &Job,
+        queue: &Queue<B>,
+        gate: &G,
+        topic: u32,
+    ) -> Result<bool, AtLimit<B>>
+        requires suits { Suits queue.now (length job.now.topics) self.old.pass }
+        requires topic { topic ≤ length job.now.topics }
+        ensures taken { OnOk result (HasTaken self.old.pass self.new.pass) }
+        ensures empty { OnOk result ((known_on topic self.new.pass).finished < (known_on topic self.new.pass).head) }
+        ensures answered { OnOk result (self.new.starved ≡ false
+            → HasAnswered job.now.topics self.old.pass self.new.pass self.old.members.items self.new.members.items) }
+        ensures some { result ≡ Ok true → ((known_on topic self.old.pass).head < (known_on topic self.new.pass).head)
+            × ((known_on topic self.old.pass).head < queue.now.setup.limit) }
+        ensures left { IfErr result (λ l. (messages : ℕ) → HasLeft messages messages self.old.pass self.new.pass l.held) }
+        ensures starved { self.new.starved ≡ false → self.old.starved ≡ false }
+        ensures number { self.new.number ≡ self.old.number }
+    {
+        let mut some = false;
+        'takes: loop {
+            let more = self.take_one(alloc, job, queue, gate, topic)?;
+            if more {
+                some = true;
+            } else {
+                return Ok(some);
+            }
+        }
+    }
+
+    /// Takes from each topic until nothing is there. Whether anything was in any.
+    fn sweep<G: Gate>(
+        &mut self,
+        alloc: Global,
+        job: &Job,
+        queue: &Queue<B>,
+        gate: &G,
+    ) -> Result<bool, AtLimit<B>>
+        requires { Suits queue.now (length job.now.topics) self.old.pass }
+        ensures taken { OnOk result (HasTaken self.old.pass self.new.pass) }
+        ensures empty { OnOk result ((t : ℕ) → t < length job.now.topics + 1
+            → (known_on t self.new.pass).finished < (known_on t self.new.pass).head) }
+        ensures answered { OnOk result (self.new.starved ≡ false
+            → HasAnswered job.now.topics self.old.pass self.new.pass self.old.members.items self.new.members.items) }
+        ensures some { result ≡ Ok true → takes_left queue.now.setup.limit (length job.now.topics + 1) self.new.pass
+            < takes_left queue.now.setup.limit (length job.now.topics + 1) self.old.pass }
+        ensures left { IfErr result (λ l. (messages : ℕ) → HasLeft messages messages self.old.pass self.new.pass l.held) }
+        ensures starved { self.new.starved ≡ false → self.old.starved ≡ false }
+        ensures number { self.new.number ≡ self.old.number }
+    {
+        let mut some = false;
+        'topics: for topic in 0..job.topics.len() + 1 {
+            let more = self.sweep_topic(alloc, job, queue, gate, topic)?;
+            some = some || more;
+        }
+        Ok(some)
+    }
+
+    /// Retires and sweeps: leaves after a sweep before which every worker had retired, or after 64 in a row that took nothing.
+    pub fn leave<G: Gate>(
+        &mut self,
+        alloc: Global,
+        job: &Job,
+        queue: &Queue<B>,
+        gate: &G,
+    ) -> Result<(), AtLimit<B>>
+        requires suits { Suits queue.now (length job.now.topics) self.old.pass }
+        requires stays { self.old.pass.retired ≡ None }
+        ensures taken { OnOk result (HasTaken (after_retire self.old.pass) self.new.pass) }
+        ensures empty { OnOk result ((t : ℕ) → t < length job.now.topics + 1
+            → (known_on t self.new.pass).finished < (known_on t self.new.pass).head) }
+        ensures answered { OnOk result (self.new.starved ≡ false
+            → HasAnswered job.now.topics self.old.pass self.new.pass self.old.members.items self.new.members.items) }
+        ensures left { IfErr result (λ l. (messages : ℕ) → HasLeft messages messages (after_retire self.old.pass) self.new.pass l.held) }
+        ensures starved { self.new.starved ≡ false → self.old.starved ≡ false }
+        ensures number { self.new.number ≡ self.old.number }
+    {
+        queue.retire(&mut self.pass);
+        let mut idle = 0;
+        'sweeps: loop {
+            let over = queue.closed(&mut self.pass);
+            let some = self.sweep(alloc, job, queue, gate)?;
+            idle = if some { 0 } else { idle + 1 };
+            if over || idle == MOST_IDLE {
+                break;
+            }
+        }
+        gate.at(self.number, Point::BeforeLeave);
+        Ok(())
     }
 }
