@@ -8,3 +8,5 @@ mod RecordSteps
 mod WorkerSteps
 mod LeftLemmas
 mod ListLemmas
+mod NoneSpent
+mod AllAnswered
