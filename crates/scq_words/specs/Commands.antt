@@ -3,7 +3,7 @@ use Rattle.std.specs.Prelude.{ℕ, List, Some, true, codes}
 use Rattle.clap.specs.Words.{App, Rule, new_app, new_rule, with_rule}
 use Rattle.scq_words.specs.declared.text_request.TextCommand.{TextCommand}
 use Rattle.scq_words.specs.declared.text_request.TextCommand.TheVariants.{Check, Replay}
-use Rattle.clap.specs.declared.builder.action.ArgAction.TheVariants.{Append}
+use Rattle.clap.specs.declared.builder.action.ArgAction.TheVariants.{Append, SetTrue}
 
 -- the words of the commands that take one file
 abbrev pub command_name : TextCommand → List ℕ
@@ -23,6 +23,10 @@ option_rule name = record (new_rule name) { long = Some name }
 abbrev pub required_rule : List ℕ → Rule
 required_rule name = record (option_rule name) { required = true }
 
+-- `--name`, at most once
+abbrev pub flag_rule : List ℕ → Rule
+flag_rule name = record (option_rule name) { action = Some SetTrue }
+
 -- one or more files
 abbrev pub files_rule : Rule
 files_rule = record (new_rule (codes "files")) { required = true; action = Some Append }
@@ -34,7 +38,7 @@ run_numbers_app =
     (option_rule (codes "order"))) (option_rule (codes "size"))
 
 abbrev pub run_app : App
-run_app = with_rule (with_rule run_numbers_app (option_rule (codes "topics"))) files_rule
+run_app = with_rule (with_rule (with_rule run_numbers_app (option_rule (codes "topics"))) (flag_rule (codes "report"))) files_rule
 
 abbrev pub self_app : App
 self_app =

@@ -1,7 +1,7 @@
 ghost use Rattle.std.specs.Prelude.{◌≡◌, ◌≢◌, IfOk, IfErr, map, string_bytes, false};
 ghost use Rattle.clap.specs.Words.{app_of, found_of, kind_of, matches_of, rows_of, rule_of, takes};
 ghost use Rattle.scq_words.specs.Asked.{refused_by_clap};
-ghost use Rattle.scq_words.specs.Commands.{files_rule, option_rule, plain_app, run_app, run_numbers_app, self_app, text_app};
+ghost use Rattle.scq_words.specs.Commands.{files_rule, flag_rule, option_rule, plain_app, run_app, run_numbers_app, self_app, text_app};
 
 use crate::{TextCommand, WordsError, WordsFault};
 use clap::error::ErrorKind;
@@ -28,6 +28,7 @@ fn run_command<'a>(alloc: Global) -> Result<Command<'a>, AllocError>
 {
     run_options(alloc)?
         .arg(option(alloc, "topics"))?
+        .arg(flag(alloc, "report"))?
         .arg(files(alloc))
 }
 
@@ -119,6 +120,14 @@ fn option<'a>(alloc: Global, name: &'a str) -> Arg<'a>
     ensures local { result.global ≡ false }
 {
     Arg::new(alloc, name).long(name)
+}
+
+/// `--name`.
+fn flag<'a>(alloc: Global, name: &'a str) -> Arg<'a>
+    ensures rule { rule_of result ≡ flag_rule name.entry.now }
+    ensures local { result.global ≡ false }
+{
+    option(alloc, name).action(ArgAction::SetTrue)
 }
 
 /// Want of memory stays one; every other error is that the words are not understood.
