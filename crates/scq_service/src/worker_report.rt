@@ -64,15 +64,15 @@ fn write_worker<K: Sink>(sink: &mut K, number: u64, counts: &Counts) -> Result<(
     ensures rose { OnErr result (Rose (K.faults sink.old) (K.faults sink.new)) }
 {
     write_named(sink, b"worker ", wide(number))?;
-    write_counts(sink, wide(counts.sent), wide(counts.taken), wide(counts.full))
+    write_counts(
+        sink,
+        wide(counts.sent),
+        wide(counts.taken),
+        wide(counts.full),
+    )
 }
 
-fn write_counts<K: Sink>(
-    sink: &mut K,
-    sent: u128,
-    taken: u128,
-    direct: u128,
-) -> Result<(), Failed>
+fn write_counts<K: Sink>(sink: &mut K, sent: u128, taken: u128, direct: u128) -> Result<(), Failed>
     ensures whole { OnOk result (K.written sink.new ≡ written_with (K.written sink.old) (counts_line sent taken direct)) }
     ensures part { WrotePart (K.written sink.old) (K.written sink.new) (counts_line sent taken direct) }
     ensures kept { OnOk result (K.faults sink.new ≡ K.faults sink.old) }
