@@ -214,7 +214,7 @@ module _ {B : Type 0} (contents : B → List ℕ) (IsSame : B → B → Type 0) 
       let known : numbers' ≡ me'.0.numbers = new ∙ sym (changed_twice (sees h) (passes (h + 1)) r numbers there)
       ∙ ap (λ (ns : List Numbers). changed (sees h) r (changed (passes (h + 1)) r ns)) kept.numbers ∙ ap (λ (u : Known). u.numbers) (sym view) in
       record {
-        alone = record { seats = ap (λ (u : Known). u.seats) view ∙ ap (λ (x : Member). x ∷ []) (ap my (sym view)); out = ap (λ (u : Known). (my u).home) view ∙ kept.alone.out };
+        alone = record { seats = ap (λ (u : Known). u.seats) view ∙ ap (λ (x : Member). x ∷ []) (ap my (sym view)); out = ap (λ (u : Known). (my u).brought) view ∙ kept.alone.out };
         idle = ap (λ (u : Known). (my u).part.phase) view;
         order = more ∙ ap (λ (l : List ℕ). l ++ i ∷ []) kept.order ∙ ap in_order (sym come);
         same = size;

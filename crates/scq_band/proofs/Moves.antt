@@ -26,7 +26,8 @@ use Rattle.scq_band.specs.declared.numbers.Numbers.{Numbers}
 use Rattle.scq_band.specs.Layout.{at, IsLocation}
 use Rattle.scq_band.specs.Known.{Member, Known}
 use Rattle.scq_band.specs.Shown.{Scene, Has, IsMember, Owns, IsView, Shown}
-use Rattle.scq_band.specs.Turns.{learned, turned_member, made, Finds, Draws, MayTurn, Carries, Turned}
+use Rattle.scq_law.specs.Retries.{Finds}
+use Rattle.scq_band.specs.Turns.{learned, turned_member, made, FindsIndex, Draws, MayTurn, Carries, Turned}
 use Rattle.scq_band.proofs.WordLemmas.{written_shown, gate_kept}
 use Rattle.scq_band.proofs.Handles.{Handles, handles}
 use Rattle.scq_band.proofs.Knowledge.{AllTrue, FinishedStay, all_stay}
@@ -57,6 +58,12 @@ draws_above : (c : Setup) (m : Machine) (t : Phase) (numbers : List Numbers) →
 draws_above c m (AtE1 r i w l) numbers all = λ x e. (all r x e).seen
 draws_above c m (AtD2 r l) numbers all = λ x e. (all r x e).head
 draws_above c m t numbers all = tt
+
+-- where a get takes, an index stands
+finds_index : (c : Setup) (m : Machine) (t : Phase) → ((r h : ℕ) → t ≡ AtD4 r h → is_none_in (ring_slots c) (word_at c m.cells r h) ≡ false)
+    → FindsIndex c t (read m.cells (location_of c t))
+finds_index c m (AtD4 r h) stands = stands r h refl
+finds_index c m t stands = tt
 
 -- a turn leaves its seat's record no shorter
 calls_longer : (c : Setup) (t : Phase) (x : ℕ) (y : List ℕ) (p : Part) → length p.calls ≤ length (after c t x y p).calls
@@ -100,7 +107,7 @@ module _ {S : Type 0} (Lies : ℕ → S → List ℕ → Type 0) where
       )
 
   -- the seat's own, after its turn
-  owns_own : (c : Setup) (z : Scene) (homes homes' : List (maybe.Option S)) (id : ℕ) (t : Phase) (x : Member) → x.home ≡ [] → IsMember Lies c z homes id 0 x
+  owns_own : (c : Setup) (z : Scene) (homes homes' : List (maybe.Option S)) (id : ℕ) (t : Phase) (x : Member) → x.brought ≡ [] → IsMember Lies c z homes id 0 x
       → Owns Lies c (record z { state = moved c z.state x.number t }) homes' id
       (turned_member c t (read z.state.cells (location_of c t)) (beside z.state.cells (location_of c t)) x ∷ [])
   owns_own c z homes homes' id t x none x_is = (
@@ -200,6 +207,7 @@ module _ {S : Type 0} (Lies : ℕ → S → List ℕ → Type 0) where
         view = refl;
         slots = h.carried;
         found = g.finds;
+        stands = finds_index c m t g.stands;
         ready = g.ready;
         draws = draws_above c m t me.0.numbers mine.numbers;
         fits =

@@ -56,7 +56,7 @@ may_load c v word t s alone phase reads able =
     subst (λ (u : Phase). MayTurn c v u) (sym (ap (loading (ring_of_word c word)) phase ∙ reads)) (may_go c v t s alone phase able)
 
 -- it stands alone still
-pub alone_seated : (v later : Known) (x : Member) (numbers : List Numbers) → x.home ≡ [] → later ≡ seated x numbers v → IsAlone later
+pub alone_seated : (v later : Known) (x : Member) (numbers : List Numbers) → x.brought ≡ [] → later ≡ seated x numbers v → IsAlone later
 alone_seated v later x numbers out is = subst IsAlone (sym is) (record { seats = refl; out = out })
 
 -- a view is that of its one seat at its phase
