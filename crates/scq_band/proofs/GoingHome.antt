@@ -152,6 +152,7 @@ module _ {B : Type 0} where
             subst (λ (ys : List (ℕ × Slot B)). Leaves contents IsSame buffers (me.0, ys) others i out ((i, full) ∷ l.others) left) (sym was.0) there
       ])
 
+module _ {B : Type 0} where
   pub in_order_none : (slots : List (ℕ × Slot B)) → [] ≡ in_order slots → slots ≡ []
   in_order_none [] e = refl
   in_order_none (x ∷ xs) e = absurd (never (in_order xs) x.0 e)
