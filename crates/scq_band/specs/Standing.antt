@@ -159,4 +159,6 @@ module _ {B : Type 0} where
     pub drawn : Option ℕ
     pub seat : new ≡ after_nothing ring drawn old
     pub known : head ≡ (known_of new.numbers ring).head
+    -- a ticket that was drawn is below the limit, and no lower than the head that was known
     pub below : (ticket : ℕ) → drawn ≡ Some ticket → ticket < old.band.setup.limit
+    pub past : (ticket : ℕ) → drawn ≡ Some ticket → (known_of old.numbers ring).head ≤ ticket

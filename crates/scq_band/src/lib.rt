@@ -17,6 +17,7 @@ mod dequeue;
 mod enqueue;
 mod gate;
 mod hand;
+pub mod laws;
 mod lending;
 mod making;
 mod notes;

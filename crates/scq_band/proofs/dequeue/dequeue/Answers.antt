@@ -186,6 +186,7 @@ returns-then-is_over-clause-nothing_left g c ticket is =
     rw (← same) (
       c.if-is_over.ensures.over refl ∙ ap (nothing_at r) (c.in_default.ensures.given_up) ∙ ap (λ u. nothing_at r (goes_to (AtD6 r h) u)) now,
       omega arith,
+      drew_above_head Lie k v c.draws.token.me c.draw-ticket.new.token.me _ h r l turn here c.draw-ticket.ensures.turned,
     )
 
 pub draws-preserved : goal.draws-preserved

@@ -155,6 +155,11 @@ returns-in-Nothing-clause-empty g c head is =
           let low_ticket = (c.dequeue-found.ensures.nothing_left t (found t drew_it)).1 in
           subst (λ (s : Setup). t < s.limit)
           (ap (λ (i : Identity g.row.B.Denot). i.setup) (c.self.view_is ∙ sym c.requires.seat)) low_ticket;
+      past =
+          λ t drew_it.
+          let it = ap (λ n. slice_get me.0.numbers n) c.ring.ensures.number ∙ known_there me.0.numbers r there in
+          let above = (c.dequeue-found.ensures.nothing_left t (found t drew_it)).2 (known_of me.0.numbers r) it in
+          subst (λ (ns : List Numbers). (known_of ns r).head ≤ t) (ap (λ (s : Standing g.row.B.Denot). s.numbers) c.seat.view_is) above;
     }
 
 pub returns-in-Nothing-clause-head : goal.returns-in-Nothing-clause-head
