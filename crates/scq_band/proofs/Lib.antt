@@ -34,6 +34,8 @@ pub mod Closes
 pub mod NewSeats
 pub mod TwoTaken
 pub mod OneLent
+pub mod SeatsSent
+pub mod NoneLent
 pub mod StartWords
 pub mod Slots
 pub mod Starting

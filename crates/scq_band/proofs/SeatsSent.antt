@@ -1,0 +1,65 @@
+-- A seat may be sent to another thread where its buffers may.
+use denote.RattleType.{RattleType}
+use denote.Enum.Enum.{Enum}
+use denote.Enum.Declared.{shape}
+use denote.Param.Send.{IsSend, sendable, recorded_send, enum_send, view_send}
+use denote.Param.SendFields.{declared_send}
+use Rattle.scq_word.specs.declared.buffer.Buffer.{Ghosts}
+use denote.Builtin.{u32, u64}
+use Rattle.std.proofs.Crossing as crossing
+use Rattle.std.proofs.vec.Vec.TheSendSync as heaped
+use Rattle.std.specs.contracts.vec.Vec as vec
+use Rattle.std.specs.contracts.alloc.Global as alloc
+use Rattle.std.specs.contracts.impls.GlobalAllocator.TheImpl.{ghosts}
+use Rattle.scq_band.specs.contracts.rule.Key as key
+use Rattle.std.proofs.alloc.Global.TheSendSync as heap
+use Rattle.std.specs.contracts.snapshot.Snapshot as snapshot
+use Rattle.std.specs.contracts.option.Option as option
+use Rattle.atomic_table.proofs.shared.Seat.TheSendSync as token
+use Rattle.scq_band.specs.contracts.slot.Slot as slot
+use Rattle.scq_band.specs.contracts.numbers.Numbers as numbers
+use Rattle.scq_band.specs.contracts.seat.Seat as seat
+use Rattle.scq_band.specs.contracts.seat.Seat.TheInside as inside
+use Rattle.scq_band.specs.contracts.view.View as view
+
+-- a snapshot owns nothing
+snapshot_sent : (Y : RattleType) → IsSend (snapshot.the_row Y)
+snapshot_sent Y = record { owned = λ d vs. ((λ vss. (tt, ((λ uss. (tt, tt)), tt))), tt); leaving = λ k f vs. tt }
+
+option_sent : (B : RattleType) → IsSend B → IsSend (option.the_row B)
+option_sent B sends =
+    let T = option.the_type B in
+    recorded_send (Enum (shape T)) T.D T.to T.to_one (enum_send (shape T) (tt, ((sends, tt), tt)))
+
+slot_sent : (B : RattleType) → IsSend B → IsSend (slot.the_row B)
+slot_sent B sends = declared_send (slot.the_type B) (option_sent B sends, tt)
+
+u32_sent : IsSend u32
+u32_sent = search sendable
+
+u64_sent : IsSend u64
+u64_sent = search sendable
+
+numbers_sent : IsSend numbers.the_row
+numbers_sent = declared_send numbers.the_type (u64_sent, (u64_sent, (u64_sent, tt)))
+
+-- a list on the heap may, where its elements may
+pub vec_sent : (T : RattleType) → IsSend T → IsSend (vec.the_row T alloc.the_row ghosts)
+vec_sent T sends = heaped.the_send T alloc.the_row ghosts sends heap.the_send crossing.frees
+
+-- what a seat keeps, and the seat
+inside_sent : (B : RattleType) (buffer : Ghosts B.Denot) → IsSend B → IsSend (inside.the_row B buffer)
+inside_sent B buffer sends =
+    declared_send (inside.the_type B buffer) (
+      token.the_send (slot.the_row B) view.the_row (slot_sent B sends),
+      (
+        snapshot_sent (key.the_row B),
+        (
+          vec_sent u32 u32_sent,
+          (vec_sent numbers.the_row numbers_sent, (option_sent u64 u64_sent, tt)),
+        ),
+      ),
+    )
+
+pub seat_sent : (B : RattleType) (buffer : Ghosts B.Denot) → IsSend B → IsSend (seat.the_row B buffer)
+seat_sent B buffer sends = view_send (inside.the_row B buffer) _ _ _ _ (inside_sent B buffer sends)
