@@ -45,3 +45,5 @@ pub use view::View;
 mod tests;
 #[cfg(test)]
 mod thread_tests;
+#[cfg(test)]
+mod replay_tests;
