@@ -1,8 +1,10 @@
 -- What the seats of all passes say together, in the words of passes.
 use Rattle.std.proofs.Common.{◌≡◌, ℕ, zero, suc, ◌+◌, ◌<◌, List, [], ◌∷◌, ◌++◌, length, map, take, refl, sym, ◌∙◌, ap, subst, inl, inr, arith, eq-eqb, ne_eqb}
-use Rattle.std.specs.Prelude.{Option, Some, None, slice_get, slice_index, sum, sum_by}
+use Rattle.std.specs.List.{Contains}
+use Rattle.std.specs.Prelude.{All, Option, Some, None, slice_get, slice_index, sum, sum_by}
 use Rattle.std.proofs.lemmas.Bool.{cases_eq}
-use Rattle.std.proofs.lemmas.List.{length-append}
+use Rattle.std.proofs.lemmas.List.{length-append, length-map}
+use Rattle.std.proofs.lemmas.List.Elements.{All-map}
 use Rattle.std.proofs.lemmas.List.Sums.{sum_by-cons}
 use Rattle.scq_core.specs.declared.ended.Ended.{Ended}
 use Rattle.scq_core.specs.declared.ended.Ended.TheVariants.{Done, Got, Nothing, Spent}
@@ -11,14 +13,15 @@ use Rattle.scq_law.specs.Hands.{times}
 use Rattle.scq_law.specs.Bounds.{tally, openings}
 use Rattle.scq_law.specs.Kept.{was_done, was_got}
 use Rattle.scq_band.specs.declared.numbers.Numbers.{Numbers}
-use Rattle.scq_band.specs.Standing.{Standing}
+use Rattle.scq_band.specs.Numbers.{known_of}
+use Rattle.scq_band.specs.Standing.{Identity, Standing, IsAsGiven}
 use Rattle.scq_band.specs.Closing as band
 use Rattle.scq_band.proofs.ClosedRecords.{map_back, map_on}
 use Rattle.scq_band.proofs.Slots.{times-append}
-use Rattle.scq_queue.specs.Lists.{Placed, sent_by, taken_by, sends_of, takes_of, on_topic}
+use Rattle.scq_queue.specs.Lists.{Placed, sent_by, taken_by, sends_of, takes_of, on_topic, fulls_in}
 use Rattle.scq_queue.specs.Passes.{PassStanding, HeldStanding}
-use Rattle.scq_queue.specs.Closing.{WasSent, WasTaken, IsTake, EachTakeIsASend, NoPlaceIsTakenTwice, sends_on, takes_on, IsBalance, EachSendPassedIsTaken, AllRetiredWhereTold}
-use Rattle.scq_queue.specs.Kept.{seat_of, value_of}
+use Rattle.scq_queue.specs.Closing.{records_of, all_held, WasSent, WasTaken, IsTake, EachTakeIsASend, NoPlaceIsTakenTwice, sends_on, takes_on, IsBalance, EachSendPassedIsTaken, IsAllThere, AllFullsStand, AllRetiredWhereTold, AreTheHeld}
+use Rattle.scq_queue.specs.Kept.{seat_of, value_of, AllGiven, FullsStand}
 use Rattle.scq_queue.proofs.Hands.{indices-all_lifted, lifted-all_lifted}
 use Rattle.scq_queue.proofs.Records.{came_by, gives_one, sent_call, taken_call, done_sent, got_taken}
 
@@ -100,10 +103,13 @@ images : {A B C : Type 0} (f : A → B) (g : B → C) (xs : List A) → map g (m
 images f g [] = refl
 images f g (x ∷ xs) = ap (λ l. g (f x) ∷ l) (images f g xs)
 
-module _ {B : Type 0} where
-  abbrev pub records_of : List (PassStanding B) → List (List Ended)
-  records_of passes = map (λ (p : PassStanding B). p.calls) passes
+-- where a head is past a place, its ring is one that is known
+known_at : (numbers : List Numbers) (r place : ℕ) → place < (known_of numbers r).head → (x : Numbers) × (slice_get numbers r ≡ Some x) × (place < x.head)
+known_at [] r place low = absurd (omega (arith, low))
+known_at (x ∷ xs) zero place low = (x, refl, low)
+known_at (x ∷ xs) (suc r) place low = known_at xs r place low
 
+module _ {B : Type 0} where
   pub calls_are : (passes : List (PassStanding B)) → band.all_calls (map seat_of passes) ≡ records_of passes
   calls_are passes = images seat_of (λ (s : Standing B). s.calls) passes
 
@@ -174,7 +180,16 @@ module _ {B : Type 0} where
         (same.0, one.before ∙ number ∙ sym other.before)
 
     pub sends_passed : band.EachPutPassedIsGot c opening (records_of passes) (map (λ (p : PassStanding B). p.numbers) passes) → EachSendPassedIsTaken passes
-    sends_passed passed m sent known = ended_taken passes m (passed (suc m.topic) m.place m.bytes (inr (sent_ended passes m sent)) known)
+    sends_passed passed m pass p sent its known =
+        ended_taken passes m (passed (suc m.topic) m.place m.bytes (inr (sent_ended passes m sent)) (is_passed p.numbers (suc m.topic) m.place known
+        (map_on (λ (q : PassStanding B). q.numbers) passes pass p its)))
+      where
+        is_passed : (numbers : List Numbers) (r place : ℕ) → place < (known_of numbers r).head
+            → slice_get (map (λ (q : PassStanding B). q.numbers) passes) pass ≡ Some numbers
+            → band.IsKnownPassed (map (λ (q : PassStanding B). q.numbers) passes) r place
+        is_passed numbers r place low at =
+            let ring = known_at numbers r place low in
+            record { seat = pass; numbers = numbers; its = at; ring = ring.0; at = ring.1; passed = ring.2 }
 
     no_opening : (t : ℕ) → openings c (suc t) ≡ 0
     no_opening t = refl
@@ -206,7 +221,7 @@ module _ {B : Type 0} where
       ∙ sum_same (λ (p : PassStanding B). times i (band.lifted_of (seat_of p).hand)) (λ p. times i p.held) passes
       (λ p. ap (times i) (lifted-all_lifted B p.held))
 
-  pub hands_are : (passes : List (PassStanding B)) → band.all_hands (map seat_of passes) ≡ map (λ (p : PassStanding B). p.held) passes
+  pub hands_are : (passes : List (PassStanding B)) → band.all_hands (map seat_of passes) ≡ all_held passes
   hands_are [] = refl
   hands_are (p ∷ passes) =
       ap (λ (l : List ℕ). l ∷ band.all_hands (map seat_of passes)) (indices-all_lifted B p.held)
@@ -214,3 +229,47 @@ module _ {B : Type 0} where
 
   pub indices_out : (held : List (HeldStanding B)) → band.indices_of (map value_of held) ≡ map (λ (h : HeldStanding B). h.index) held
   indices_out held = images value_of (λ (x : ℕ × B). x.0) held
+
+  -- the Full replies of each pass
+  pub fulls_stand : (passes : List (PassStanding B)) → FullsStand passes → AllFullsStand passes
+  fulls_stand [] each pass p its = absurd (cc)
+  fulls_stand (q ∷ passes) each zero p its = let same : q ≡ p = cc in subst (λ (u : PassStanding B). length u.fulls ≡ fulls_in u.calls) same each.0
+  fulls_stand (q ∷ passes) each (suc pass) p its = fulls_stand passes each.1 pass p its
+
+  -- the seats of a queue's passes are its band's
+  pub seats_own : (queue : Identity B) (passes : List (PassStanding B)) → All (λ (p : PassStanding B). p.queue ≡ queue) passes
+      → All (λ (s : Standing B). s.band ≡ queue) (map seat_of passes)
+  seats_own queue passes all = All-map (λ (s : Standing B). s.band ≡ queue) seat_of passes all
+
+  -- the buffers of held values, with their indices, are those that are lifted
+  same_given : (IsSame : B → B → Type 0) (queue : Identity B) (held : List (HeldStanding B)) → AllGiven IsSame held
+      → ((k : ℕ) (h : HeldStanding B) → slice_get held k ≡ Some h → h.queue ≡ queue) → (o : ℕ × B) → Contains (map value_of held) o
+      → IsAsGiven IsSame queue.given o.0 o.1
+  same_given IsSame queue [] given own o there = absurd (let low = there.1 in omega (arith, low))
+  same_given IsSame queue (h ∷ held) given own o (zero, low, is) =
+      subst (λ (u : ℕ × B). IsAsGiven IsSame queue.given u.0 u.1) is
+      (subst (λ (q : Identity B). IsAsGiven IsSame q.given h.index h.buffer) (own 0 h refl) given.0)
+  same_given IsSame queue (h ∷ held) given own o (suc k, low, is) =
+      same_given IsSame queue held given.1 (λ j v e. own (suc j) v e) o (k, omega arith, is)
+
+  pub are_lifted : (IsSame : B → B → Type 0) (queue : Identity B) (passes : List (PassStanding B)) (held : List (HeldStanding B)) → AreTheHeld queue passes held
+      → AllGiven IsSame held → band.AreTheLifted IsSame queue (map seat_of passes) (map value_of held)
+  are_lifted IsSame queue passes held are given =
+      record {
+        lifted = λ i. ap (times i) (indices_out held) ∙ are.all i ∙ sym (held_sum passes i);
+        same = same_given IsSame queue held given are.queue_of;
+      }
+
+  -- as many values as the hands of all seats have indices
+  pub held_count : (queue : Identity B) (passes : List (PassStanding B)) (held : List (HeldStanding B)) → AreTheHeld queue passes held
+      → sum_by length (all_held passes) ≡ length held
+  held_count queue passes held are =
+      sym (same_total (map (λ (h : HeldStanding B). h.index) held) (all_held passes)
+      (λ i. are.all i ∙ sym (sum_images (λ (p : PassStanding B). p.held) (times i) passes)))
+      ∙ length-map held (λ (h : HeldStanding B). h.index)
+
+  pub all_is_there : (c : Setup) (queue : Identity B) (passes : List (PassStanding B)) (held : List (HeldStanding B)) (left : List ℕ)
+      → AreTheHeld queue passes held → band.IsAllThere c (all_held passes) left → IsAllThere c held left
+  all_is_there c queue passes held left are there =
+      let count = held_count queue passes held are in
+      ap (λ (n : ℕ). sum left + n) (sym count) ∙ there

@@ -1,6 +1,6 @@
 -- What all passes say together once a queue is closed. A pass is told by its position among those that were given, a take by its
 -- position among the takes of its pass.
-use Rattle.std.specs.Prelude.{◌≡◌, ℕ, suc, ◌+◌, ◌<◌, ◌≤◌, List, map, length, Option, Some, slice_get, slice_index, sum, sum_by, All}
+use Rattle.std.specs.Prelude.{◌≡◌, ℕ, suc, ◌+◌, ◌<◌, ◌≤◌, List, map, length, Option, Some, slice_get, slice_index, sum, sum_by}
 use Rattle.scq_core.specs.declared.ended.Ended.{Ended}
 use Rattle.scq_word.specs.declared.setup.Setup.{Setup}
 use Rattle.scq_word.specs.Sizes.{n_of}
@@ -11,6 +11,13 @@ use Rattle.scq_queue.specs.Lists.{Placed, sends_of, takes_of, on_topic, fulls_in
 use Rattle.scq_queue.specs.Passes.{PassStanding, HeldStanding, known_on}
 
 module _ {B : Type 0} where
+  -- the records of all passes, and the indices that each holds
+  abbrev pub records_of : List (PassStanding B) → List (List Ended)
+  records_of passes = map (λ p. p.calls) passes
+
+  abbrev pub all_held : List (PassStanding B) → List (List ℕ)
+  all_held passes = map (λ p. p.held) passes
+
   -- the send, or the take, of these numbers is this
   abbrev pub IsSend : List (PassStanding B) → ℕ → ℕ → Placed → Type 0
   IsSend passes pass number m = (p : PassStanding B) × (slice_get passes pass ≡ Some p) × (slice_get (sends_of p.calls) number ≡ Some m)
@@ -62,11 +69,11 @@ module _ {B : Type 0} where
 
   -- the Full replies of each pass are those in its record
   abbrev pub AllFullsStand : List (PassStanding B) → Type 0
-  AllFullsStand passes = All (λ (p : PassStanding B). length p.fulls ≡ fulls_in p.calls) passes
+  AllFullsStand passes = (pass : ℕ) (p : PassStanding B) → slice_get passes pass ≡ Some p → length p.fulls ≡ fulls_in p.calls
 
   -- where a pass keeps a spent ticket, the ticket bound of the ticket's ring is past the limit
   abbrev pub EachKeptIsPastTheBound : Setup → List (PassStanding B) → Type 0
-  EachKeptIsPastTheBound c passes = EachSpentIsPastTheBound c (map (λ p. p.calls) passes) (map (λ p. p.spent) passes)
+  EachKeptIsPastTheBound c passes = EachSpentIsPastTheBound c (records_of passes) (map (λ p. p.spent) passes)
 
   -- where some pass was told that all had retired, each has
   abbrev pub AllRetiredWhereTold : List (PassStanding B) → Type 0

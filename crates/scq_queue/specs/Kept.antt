@@ -73,6 +73,11 @@ module _ {B : Type 0} where
   AllGiven IsSame [] = Unit {0}
   AllGiven IsSame (h ∷ hs) = IsAsGiven IsSame h.queue.given h.index h.buffer × AllGiven IsSame hs
 
+  -- the Full replies of each of these passes are those in its record
+  abbrev pub FullsStand : List (PassStanding B) → Type 0
+  FullsStand [] = Unit {0}
+  FullsStand (p ∷ ps) = (length p.fulls ≡ fulls_in p.calls) × FullsStand ps
+
   -- what a queue keeps: empty lists with room for all seats and their counts, and for all values
   pub record IsQueue (queue : Identity B) (seats : List (Standing B)) (seat_room : ℕ) (out : List (ℕ × B)) (out_room : ℕ) (counts : List Counts) (count_room : ℕ)
       : Type 0 where

@@ -1,11 +1,12 @@
 //! The end of a queue: its passes and the values that are still held come back, and its buffers are handed out.
 ghost use Rattle.std.specs.Prelude.{◌≡◌, ◌≤◌, [], map, All, vec_len, vec_capacity};
 ghost use Rattle.scq_band.specs.Standing.{IsAsGiven};
-ghost use Rattle.scq_band.specs.Closing.{AreTheSame};
+ghost use Rattle.scq_band.specs.Closing.{AreTheSame, EachIsInOneHand, EachLeftIsItsPut};
+ghost use Rattle.scq_band.specs.Buffers.{opening_of};
 ghost use Rattle.scq_queue.specs.Lists.{counts_of};
 ghost use Rattle.scq_queue.specs.Passes.{lists_of};
-ghost use Rattle.scq_queue.specs.Closing.{EachTakeIsASend, NoPlaceIsTakenTwice, IsBalance, EachSendPassedIsTaken, IsAllThere, EachKeptIsPastTheBound, AllRetiredWhereTold, AreTheHeld};
-ghost use Rattle.scq_queue.specs.Kept.{seat_of, value_of, AllGiven};
+ghost use Rattle.scq_queue.specs.Closing.{EachTakeIsASend, NoPlaceIsTakenTwice, IsBalance, EachSendPassedIsTaken, IsAllThere, AllFullsStand, EachKeptIsPastTheBound, AllRetiredWhereTold, AreTheHeld, records_of, all_held};
+ghost use Rattle.scq_queue.specs.Kept.{seat_of, value_of, AllGiven, FullsStand};
 
 use crate::counts::Counts;
 use crate::held::Held;
@@ -35,6 +36,7 @@ fn unpack<B: Buffer>(
     requires room { (vec_len passes ≤ vec_capacity seats.old) × (vec_len passes ≤ vec_capacity counts.old) }
     ensures seats { seats.new.items ≡ map seat_of passes.items }
     ensures counts { counts.new.items ≡ map (λ p. counts_of (lists_of p)) passes.items }
+    ensures fulls { FullsStand passes.items }
 {
     passes.reverse();
     while let Some(pass) = passes.pop() {
@@ -84,6 +86,10 @@ impl<B: Buffer> Queue<B> {
         ensures balance { IsBalance self.setup passes.items result.left.items }
         ensures passed { EachSendPassedIsTaken passes.items }
         ensures all_there { IsAllThere self.setup held.items result.left.items }
+        ensures fulls { AllFullsStand passes.items }
+        ensures hands { EachIsInOneHand self.setup (all_held passes.items) }
+        ensures left { EachLeftIsItsPut self.setup (opening_of B.contents self.given) (records_of passes.items) (all_held passes.items)
+            (map B.contents result.buffers.items) }
         ensures kept { EachKeptIsPastTheBound self.setup passes.items }
         ensures gate { AllRetiredWhereTold passes.items }
     {
