@@ -90,7 +90,7 @@ module _ {S : Type 0} (Lies : ℕ → S → List ℕ → Type 0) where
                             elim (cases_eq b i) [
                               | inl same ↦ rw same (held, (w, put))
                               | inr other ↦
-                                  elim (Contains-push_cases x.home i b there) [
+                                  elim (Contains-push_cases x.brought i b there) [
                                     | inl before ↦
                                         let was = x_is.brought b before in
                                         (was.0, (was.1.0, has_else Lies s.homes i b (some y) was.1.0 other was.1.1))

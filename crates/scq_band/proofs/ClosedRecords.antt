@@ -19,7 +19,8 @@ use Rattle.scq_law.proofs.Places.Throughout.{reached}
 use Rattle.scq_law.proofs.Places.PlaceLaws.{places_once, got_below}
 use Rattle.scq_band.specs.declared.numbers.Numbers.{Numbers}
 use Rattle.scq_band.specs.Known.{Member}
-use Rattle.scq_band.specs.Closing.{IsCall, HasEnded, WasPut, EachGetHasItsPut, NoneIsGotTwice, EachPutPassedIsGot}
+use Rattle.scq_band.specs.Numbers.{known_of}
+use Rattle.scq_band.specs.Closing.{IsCall, HasEnded, WasPut, EachGetHasItsPut, NoneIsPutTwice, NoneIsGotTwice, EachPutPassedIsGot}
 use Rattle.scq_band.proofs.AllSeats.{AreAll, seat_at}
 
 -- what is read in a list of images
@@ -136,12 +137,41 @@ module _ (c : Setup) (m : Machine) (xs : List Member) (reach : IsReachable c m) 
       let same = (places_once c m reach).taken_once r p v w at.0.number x there.0.number y at.2 there.2 in
       (all.apart a b at.0 there.0 at.1 there.1 same.0, same.1)
 
+  pub none_put_twice : length m.opening ≡ n_of c.order → NoneIsPutTwice c m.opening (records_of xs)
+  unfolding placed_if_put
+  none_put_twice count =
+      record {
+        once =
+            λ r p v w a x b y one other.
+            let at = call_ended a x (Done r p v) one in
+            let there = call_ended b y (Done r p w) other in
+            let same = (places_once c m reach).once r p v w (call_of at.0.number x) (call_of there.0.number y) (in_record at.0.number x at.2)
+            (in_record there.0.number y there.2) in
+            let both = same_call at.0.number x there.0.number y same.0 in
+            (all.apart a b at.0 there.0 at.1 there.1 both.0, both.1);
+        apart =
+            λ r p v w o has.
+            let by = placed_if_put r p v count (inl o) in
+            let at = call_ended has.seat has.number (Done r p w) has.is in
+            let same = (places_once c m reach).once r p v w opening_put (call_of at.0.number has.number) by.1 (in_record at.0.number has.number at.2) in
+            let never : opening_put ≡ call_of at.0.number has.number = same.0 in
+            absurd (cc);
+      }
+    where
+      same_call : (k x j y : ℕ) → call_of k x ≡ call_of j y → (k ≡ j) × (x ≡ y)
+      same_call k x j y e = (cc, cc)
+
   pub passed_is_got : (known : List (List Numbers)) → length m.opening ≡ n_of c.order
       → ((a : ℕ) (numbers : List Numbers) → slice_get known a ≡ Some numbers → (r : ℕ) (x : Numbers) → slice_get numbers r ≡ Some x → x.head ≤ m.cells.head r)
       → EachPutPassedIsGot c m.opening (records_of xs) known
   passed_is_got known count heads r p w put passed =
       let by = placed_if_put r p w count put in
-      let head = heads passed.seat passed.numbers passed.its r passed.ring passed.at in
+      let head = heads passed.seat passed.numbers passed.its r (known_of passed.numbers r) (known_some passed.numbers r p passed.passed) in
       let below = passed.passed in
       let taken = got_below c m reach all_idle r p w by.0 by.1 (omega arith) in
       ended_call taken.seat taken.number (Got r p w) taken.taken
+    where
+      known_some : (ns : List Numbers) (q n : ℕ) → n < (known_of ns q).head → slice_get ns q ≡ Some (known_of ns q)
+      known_some [] q n low = absurd (omega arith)
+      known_some (y ∷ ys) zero n low = refl
+      known_some (y ∷ ys) (suc q) n low = known_some ys q n low

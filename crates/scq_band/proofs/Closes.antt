@@ -23,9 +23,9 @@ use Rattle.scq_band.specs.declared.rule.Key.{Key}
 use Rattle.scq_band.specs.Standing.{Identity, Standing}
 use Rattle.scq_band.specs.Kept.{identity_of}
 use Rattle.scq_band.specs.Homes.{full_slot, IsMemberOf, AreMembersOf, HeadsKnown, GatesKnown, HasAll}
-use Rattle.scq_band.specs.Closing.{indices_of, EachGetHasItsPut, NoneIsGotTwice, EachPutPassedIsGot, IsBalance, IsAllThere, EachIsInOneHand, EachSpentIsPastTheBound, EachLeftIsItsPut, AreTheSame, AllRetiredWhereClosed, all_calls, all_hands, all_known, all_spent}
+use Rattle.scq_band.specs.Closing.{indices_of, EachGetHasItsPut, NoneIsPutTwice, NoneIsGotTwice, EachPutPassedIsGot, IsBalance, IsAllThere, EachIsInOneHand, EachSpentIsPastTheBound, EachLeftIsItsPut, AreTheSame, AllRetiredWhereClosed, all_calls, all_hands, all_known, all_spent}
 use Rattle.scq_band.proofs.AllSeats.{AreAll, are_all, member_at}
-use Rattle.scq_band.proofs.ClosedRecords.{map_back, map_on, records_of, AllRest, gets_have_puts, none_twice, passed_is_got}
+use Rattle.scq_band.proofs.ClosedRecords.{map_back, map_on, records_of, AllRest, gets_have_puts, none_put_twice, none_twice, passed_is_got}
 use Rattle.scq_band.proofs.ClosedCounts.{hands_of, kept_by, IsLeftOf, is_balance, all_there, spent_past, each_in_one_hand}
 use Rattle.scq_band.proofs.Unloading.{read_some}
 use Rattle.scq_band.proofs.LeftBuffers.{AllBrought, all_home, lefts_at_home}
@@ -133,6 +133,11 @@ module _ {B : Type 0} (contents : B → List ℕ) (IsSame : B → B → Type 0) 
       subst (λ (o : List (List ℕ)). EachGetHasItsPut c o (all_calls seats)) sh.begun
       (subst (λ (l : List (List Ended)). EachGetHasItsPut c m.opening l) calls (gets_have_puts c m v.seats sh.reachable all rest opened))
 
+  pub closed_put_once : NoneIsPutTwice c (opening_of contents given) (all_calls seats)
+  closed_put_once =
+      subst (λ (o : List (List ℕ)). NoneIsPutTwice c o (all_calls seats)) sh.begun
+      (subst (λ (l : List (List Ended)). NoneIsPutTwice c m.opening l) calls (none_put_twice c m v.seats sh.reachable all rest opened))
+
   pub closed_once : NoneIsGotTwice (all_calls seats)
   closed_once = subst (λ (l : List (List Ended)). NoneIsGotTwice l) calls (none_twice c m v.seats sh.reachable all rest)
 
@@ -196,6 +201,7 @@ pub record EndsAs {B : Type 0} (contents : B → List ℕ) (IsSame : B → B →
   pub words : (m : Cells) × ShowsWords c ws m × HasIndices c m
   pub laid : (i : ℕ) → i < n_of c.order → (b : B) × (slice_get items i ≡ Some (full_slot b))
   pub gets : EachGetHasItsPut c (opening_of contents given) (all_calls seats)
+  pub put_once : NoneIsPutTwice c (opening_of contents given) (all_calls seats)
   pub once : NoneIsGotTwice (all_calls seats)
   pub passed : EachPutPassedIsGot c (opening_of contents given) (all_calls seats) (all_known seats)
   pub hands : EachIsInOneHand c (all_hands seats)
@@ -233,6 +239,7 @@ module _ {B : Type 0} where
         words = (m.cells, shows, has_indices c m sh.reachable);
         laid = λ i low. let h = home i low in (h.1.lies.buffer, slot i h.0 h.1);
         gets = closed_gets contents IsSame given c s id v seats sh here has count many;
+        put_once = closed_put_once contents IsSame given c s id v seats sh here has count many;
         once = closed_once contents IsSame given c s id v seats sh here has count many;
         passed = closed_passed contents IsSame given c s id v seats sh here has count many;
         hands = closed_hands contents IsSame given c s id v seats sh here has count many;

@@ -52,7 +52,7 @@ contains_behind x y xs has = (suc has.0, (let low = has.1 in omega arith), has.2
 -- where no slot is left
 pub home_none : (v : Known) → v.seats ≡ my v ∷ [] → at_home [] v ≡ v
 home_none v alone =
-    ap (λ (h : List ℕ). record v { seats = record (my v) { home = h } ∷ [] }) (append-nil (my v).home)
+    ap (λ (h : List ℕ). record v { seats = record (my v) { brought = h } ∷ [] }) (append-nil (my v).brought)
     ∙ ap (λ ys. record v { seats = ys }) (sym alone)
 
 module _ {B : Type 0} where
@@ -117,7 +117,7 @@ module _ {B : Type 0} where
                     omega arith;
               };
           out_less = less;
-          home = ap (λ (h : List ℕ). record v { seats = record (my v) { home = h } ∷ [] }) (append_assoc (my v).home (i ∷ []) (indices_of xs));
+          home = ap (λ (h : List ℕ). record v { seats = record (my v) { brought = h } ∷ [] }) (append_assoc (my v).brought (i ∷ []) (indices_of xs));
         }
 
     left_given : (out left : List (ℕ × B)) → IsPermutation out ((i, b) ∷ left) → AllOutGiven IsSame buffers out
@@ -152,6 +152,7 @@ module _ {B : Type 0} where
             subst (λ (ys : List (ℕ × Slot B)). Leaves contents IsSame buffers (me.0, ys) others i out ((i, full) ∷ l.others) left) (sym was.0) there
       ])
 
+module _ {B : Type 0} where
   pub in_order_none : (slots : List (ℕ × Slot B)) → [] ≡ in_order slots → slots ≡ []
   in_order_none [] e = refl
   in_order_none (x ∷ xs) e = absurd (never (in_order xs) x.0 e)

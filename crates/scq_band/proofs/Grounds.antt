@@ -1,5 +1,5 @@
 -- What the laws of the machine give for each enabled turn of a seat, in the form that the rule's steps use.
-use Rattle.std.proofs.Common.{◌≡◌, ℕ, ◌<◌, ◌≤◌, false, List, refl, sym, ◌∙◌, ap, subst, inl, inr, arith}
+use Rattle.std.proofs.Common.{◌≡◌, ℕ, ◌<◌, ◌≤◌, false, refl, sym, ◌∙◌, ap, subst, inl, inr, arith}
 use Rattle.std.specs.Prelude.{Some}
 use Rattle.std.specs.Option.{option_map}
 use Rattle.scq_word.specs.declared.setup.Setup.{Setup}
@@ -8,10 +8,10 @@ use Rattle.scq_word.proofs.TicketLemmas.{slot_of_small}
 use Rattle.scq_core.specs.declared.phase.Phase.{Phase}
 use Rattle.scq_core.specs.declared.phase.Phase.TheVariants.{Idle, AtE1, AtE2, AtE3, AtE4, AtE5, AtE6, AtD1, AtD2, AtD3, AtD4, AtD5, AtD6, AtD7, AtD8, AtD9, AtD10}
 use Rattle.scq_core.specs.declared.step.Step.{Step}
-use Rattle.scq_core.specs.Machine.{Cells, Machine, tail_of, head_of, threshold_of, read}
+use Rattle.scq_core.specs.Machine.{Machine, tail_of, head_of, threshold_of}
 use Rattle.scq_core.specs.Table.{ring_slots, ring_of, turn_of, location_of, moved}
 use Rattle.scq_core.specs.Reach.{IsReachable, by_step}
-use Rattle.scq_core.specs.Laws.{Busy, word_at}
+use Rattle.scq_core.specs.Laws.{word_at}
 use Rattle.scq_core.proofs.Turns.{awake}
 use Rattle.scq_core.proofs.Steady.{has, steady}
 use Rattle.scq_core.proofs.Ranks.{counters_rise}
@@ -27,8 +27,8 @@ use Rattle.scq_law.proofs.Places.EntryLaws.{takes_phase, stands_at_turn}
 use Rattle.scq_law.proofs.Places.LaterLaws.{finished_stays}
 use Rattle.scq_law.proofs.Tickets.TicketLaws.{threshold_covers}
 use Rattle.scq_law.proofs.Balance.KeptLaws.{hand_fits}
+use Rattle.scq_law.proofs.Retries.RetryLaws.{retries_rise}
 use Rattle.scq_band.specs.Layout.{ring_at, IsSlotAt, IsLocation, entry_at}
-use Rattle.scq_band.specs.Turns.{Finds}
 use Rattle.scq_band.proofs.Moves.{Ground}
 
 -- the location of a turn is on the turn's ring
@@ -74,27 +74,6 @@ slot_at-turn c (AtD10 r h leaving) = tt
 pub is_location : (c : Setup) (t : Phase) → ring_of t < c.rings → IsLocation c (location_of c t)
 is_location c t low = (subst (λ r. r < c.rings) (sym (ring_at-turn c t)) low, slot_at-turn c t)
 
--- what a turn finds
-finds_of : (c : Setup) (m : Cells) (hand : List ℕ) (t : Phase) → Busy c m hand t
-    → ((r h : ℕ) → t ≡ AtD4 r h → is_none_in (ring_slots c) (word_at c m r h) ≡ false) → Finds c t (read m (location_of c t))
-finds_of c m hand Idle busy stands = tt
-finds_of c m hand (AtE1 r i w l) busy stands = busy.1
-finds_of c m hand (AtE2 r i w t l) busy stands = busy.2
-finds_of c m hand (AtE3 r i w t e) busy stands = tt
-finds_of c m hand (AtE4 r i w t e) busy stands = busy.2.above
-finds_of c m hand (AtE5 r i w t) busy stands = tt
-finds_of c m hand (AtE6 r i w t) busy stands = tt
-finds_of c m hand (AtD1 r) busy stands = tt
-finds_of c m hand (AtD2 r l) busy stands = busy.1
-finds_of c m hand (AtD3 r h l) busy stands = busy.2
-finds_of c m hand (AtD4 r h) busy stands = stands r h refl
-finds_of c m hand (AtD5 r h e) busy stands = busy.2.above
-finds_of c m hand (AtD6 r h) busy stands = tt
-finds_of c m hand (AtD7 r h from to) busy stands = busy.2.was_tail
-finds_of c m hand (AtD8 r h from) busy stands = tt
-finds_of c m hand (AtD9 r h from to) busy stands = busy.2
-finds_of c m hand (AtD10 r h leaving) busy stands = tt
-
 -- an index stands at most once in a hand
 each_once : (c : Setup) (m : Machine) (k i : ℕ) → OneHand c m → times i (m.part k).hand ≤ 1
 each_once c m k i one =
@@ -128,7 +107,7 @@ ground c m k s t reach low enabled =
       one = one_hand c m reach;
       stands = stands;
       ready = ready_turn c m.cells (m.part k).hand t busy (words_fit c m reach) (has_indices c m reach) wakes;
-      finds = finds_of c m.cells (m.part k).hand t busy stands;
+      finds = (retries_rise c m reach).finds k s t enabled;
       covers = threshold_covers c m reach;
       first = calm.heads;
       got =

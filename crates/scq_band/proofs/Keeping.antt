@@ -8,6 +8,8 @@ use Rattle.atomic_table.specs.Seated.{TableId}
 use Rattle.atomic_table.specs.Table.{Me, rest}
 use Rattle.scq_word.specs.Sizes.{n_of}
 use Rattle.scq_core.specs.Table.{hand_without, ends}
+use Rattle.scq_word.specs.declared.setup.Setup.{Setup}
+use Rattle.scq_core.specs.declared.ended.Ended.{Ended}
 use Rattle.scq_core.specs.declared.ended.Ended.TheVariants.{Nothing}
 use Rattle.scq_core.specs.declared.phase.Phase.TheVariants.{Idle}
 use Rattle.scq_law.specs.Hands.{times}
@@ -18,9 +20,9 @@ use Rattle.scq_band.specs.Numbers.{known_of, changed, finishes, sees, passes, dr
 use Rattle.scq_band.specs.Known.{Member, Known}
 use Rattle.scq_band.specs.Steps.{my, bytes_in, front_bytes}
 use Rattle.scq_band.specs.Seats.{IsAlone, HasGotAfter, with_part, seated, put_at, got_at, nothing_at, drew_head, spent_at}
-use Rattle.scq_band.specs.Turns.{Fronts}
+use Rattle.scq_band.specs.Turns.{CameBy, Fronts}
 use Rattle.scq_band.specs.Buffers.{LiesIn}
-use Rattle.scq_band.specs.Standing.{Standing, in_hand, bytes_of, bytes_in_hand, after_put, after_get, after_nothing, after_spent_put, HasTaken}
+use Rattle.scq_band.specs.Standing.{LastStep, Standing, in_hand, bytes_of, bytes_in_hand, after_put, after_get, after_nothing, after_spent_put, HasTaken}
 use Rattle.scq_band.specs.Kept.{in_order, buffer_in, hand_of, standing_of, AllGiven, AreSmall, IsKept}
 use Rattle.scq_band.proofs.Slots.{times-append, times-without, length-without, put_hand}
 use Rattle.scq_band.proofs.Exchanging.{Brought}
@@ -214,7 +216,7 @@ module _ {B : Type 0} (contents : B → List ℕ) (IsSame : B → B → Type 0) 
       let known : numbers' ≡ me'.0.numbers = new ∙ sym (changed_twice (sees h) (passes (h + 1)) r numbers there)
       ∙ ap (λ (ns : List Numbers). changed (sees h) r (changed (passes (h + 1)) r ns)) kept.numbers ∙ ap (λ (u : Known). u.numbers) (sym view) in
       record {
-        alone = record { seats = ap (λ (u : Known). u.seats) view ∙ ap (λ (x : Member). x ∷ []) (ap my (sym view)); out = ap (λ (u : Known). (my u).home) view ∙ kept.alone.out };
+        alone = record { seats = ap (λ (u : Known). u.seats) view ∙ ap (λ (x : Member). x ∷ []) (ap my (sym view)); out = ap (λ (u : Known). (my u).brought) view ∙ kept.alone.out };
         idle = ap (λ (u : Known). (my u).part.phase) view;
         order = more ∙ ap (λ (l : List ℕ). l ++ i ∷ []) kept.order ∙ ap in_order (sym come);
         same = size;
@@ -309,6 +311,13 @@ pub known_here : (ns : List Numbers) (r : ℕ) (y : Numbers) → r < length ns �
 known_here [] r y low = absurd (omega arith)
 known_here (n ∷ ns) zero y low = refl
 known_here (n ∷ ns) (suc r) y low = known_here ns r y (omega arith)
+
+-- what is known of a ring's Head after a turn was true then
+pub head_reached : (c : Setup) (opening : List (List ℕ)) (before : List Ended) (x : Member) (numbers : List Numbers) (r head : ℕ)
+    → CameBy c opening before x numbers → r < length numbers → head ≡ (known_of numbers r).head
+    → (last : LastStep c opening x.number before x.part.calls) × (head ≤ last.next.cells.head r)
+head_reached c opening before x numbers r head came low is =
+    (came.last, (let le = (came.true_then r (known_of numbers r) (known_there numbers r low)).head in omega (arith, is, le)))
 
 -- the view of a get that has found nothing, with the last ticket that it drew, if any
 abbrev pub none_at : ℕ → Option ℕ → Known → Known

@@ -27,7 +27,7 @@ use Rattle.scq_band.proofs.ClosedCounts.{sum_by-map, hands_of}
 
 -- all slots of each member's hand were brought home
 abbrev pub AllBrought : List Member → Type 0
-AllBrought xs = (a : ℕ) (x : Member) → slice_get xs a ≡ Some x → (i : ℕ) → 0 < times i x.part.hand → Contains x.home i
+AllBrought xs = (a : ℕ) (x : Member) → slice_get xs a ≡ Some x → (i : ℕ) → 0 < times i x.part.hand → Contains x.brought i
 
 -- an index in an entry
 pub record InEntry (c : Setup) (m : Machine) (i : ℕ) : Type 0 where

@@ -2,6 +2,7 @@ pub mod Layouts
 pub mod WordLemmas
 pub mod Handles
 pub mod Knowledge
+pub mod Knowing
 pub mod Learning
 pub mod Moves
 pub mod Grounds

@@ -2,6 +2,7 @@
 -- machine's step, so the next state is shown; the seat's own view is the one that the turn makes, and all others stay true.
 use Rattle.std.proofs.Common.{◌≡◌, ◌≢◌, ◌⊎◌, ℕ, ◌+◌, ◌<◌, ◌≤◌, false, List, [], ◌∷◌, map, length, refl, sym, ◌∙◌, ap, subst, inl, inr, arith}
 use Rattle.std.specs.Prelude.{Some, slice_index}
+use Rattle.std.specs.Option.{option_map}
 use Rattle.std.specs.List.{Contains}
 use mathlib.Core.Option.{some}
 use mathlib.Core.Option as maybe
@@ -26,7 +27,8 @@ use Rattle.scq_band.specs.declared.numbers.Numbers.{Numbers}
 use Rattle.scq_band.specs.Layout.{at, IsLocation}
 use Rattle.scq_band.specs.Known.{Member, Known}
 use Rattle.scq_band.specs.Shown.{Scene, Has, IsMember, Owns, IsView, Shown}
-use Rattle.scq_band.specs.Turns.{learned, turned_member, made, Finds, Draws, MayTurn, Carries, Turned}
+use Rattle.scq_law.specs.Retries.{Finds}
+use Rattle.scq_band.specs.Turns.{learned, turned_member, made, FindsIndex, Draws, MayTurn, Carries, CameBy, Turned}
 use Rattle.scq_band.proofs.WordLemmas.{written_shown, gate_kept}
 use Rattle.scq_band.proofs.Handles.{Handles, handles}
 use Rattle.scq_band.proofs.Knowledge.{AllTrue, FinishedStay, all_stay}
@@ -58,6 +60,12 @@ draws_above c m (AtE1 r i w l) numbers all = λ x e. (all r x e).seen
 draws_above c m (AtD2 r l) numbers all = λ x e. (all r x e).head
 draws_above c m t numbers all = tt
 
+-- where a get takes, an index stands
+finds_index : (c : Setup) (m : Machine) (t : Phase) → ((r h : ℕ) → t ≡ AtD4 r h → is_none_in (ring_slots c) (word_at c m.cells r h) ≡ false)
+    → FindsIndex c t (read m.cells (location_of c t))
+finds_index c m (AtD4 r h) stands = stands r h refl
+finds_index c m t stands = tt
+
 -- a turn leaves its seat's record no shorter
 calls_longer : (c : Setup) (t : Phase) (x : ℕ) (y : List ℕ) (p : Part) → length p.calls ≤ length (after c t x y p).calls
 calls_longer c t x y p =
@@ -75,6 +83,32 @@ rings_told c t x y v (inr all) = inr (learned_length c t x v.numbers ∙ all)
 hand_of_made : (P : List ℕ → Type 0) (c : Setup) (t : Phase) (x : ℕ) (y : List ℕ) (v : Known) (m : Member) → v.seats ≡ m ∷ [] → P (after c t x y m.part).hand
     → P (my (made c t x y v)).part.hand
 hand_of_made P c t x y v m alone holds = subst (λ (xs : List Member). P (my_of (map (turned_member c t x y) xs)).part.hand) (sym alone) holds
+
+-- a turn is a step of the machine, after which what it tells is true
+came_by : (c : Setup) (opening : List (List ℕ)) (m : Machine) (x : Member) (v : Known) (t : Phase) (step : Step) → x.number < c.seats → IsReachable c m
+    → m.opening ≡ opening → turn_of c (m.part x.number) step ≡ Some t → v.seats ≡ x ∷ [] → m.part x.number ≡ x.part
+    → AllTrue c (moved c m x.number t) (learned c t (read m.cells (location_of c t)) v.numbers)
+    → CameBy c opening (my v).part.calls (my (made c t (read m.cells (location_of c t)) (beside m.cells (location_of c t)) v))
+    (learned c t (read m.cells (location_of c t)) v.numbers)
+came_by c opening m x v t step low reach begun enabled alone part told =
+    let n = read m.cells (location_of c t) in
+    let y = beside m.cells (location_of c t) in
+    let k = x.number in
+    let here : CameBy c opening x.part.calls (turned_member c t n y x) (learned c t n v.numbers) = record {
+      last = record {
+        low = low;
+        state = m;
+        reachable = reach;
+        begun = begun;
+        step = step;
+        next = moved c m k t;
+        made = ap (option_map (moved c m k)) enabled;
+        was = ap (λ (p : Part). p.calls) part;
+        is = ap (λ (p : Part). p.calls) (updated_here m.part k _ ∙ ap (after c t n y) part);
+      };
+      true_then = told;
+    } in
+    subst (λ (xs : List Member). CameBy c opening (my_of xs).part.calls (my_of (map (turned_member c t n y) xs)) (learned c t n v.numbers)) (sym alone) here
 
 module _ {S : Type 0} (Lies : ℕ → S → List ℕ → Type 0) where
   -- the seats of another view, after a turn
@@ -100,7 +134,7 @@ module _ {S : Type 0} (Lies : ℕ → S → List ℕ → Type 0) where
       )
 
   -- the seat's own, after its turn
-  owns_own : (c : Setup) (z : Scene) (homes homes' : List (maybe.Option S)) (id : ℕ) (t : Phase) (x : Member) → x.home ≡ [] → IsMember Lies c z homes id 0 x
+  owns_own : (c : Setup) (z : Scene) (homes homes' : List (maybe.Option S)) (id : ℕ) (t : Phase) (x : Member) → x.brought ≡ [] → IsMember Lies c z homes id 0 x
       → Owns Lies c (record z { state = moved c z.state x.number t }) homes' id
       (turned_member c t (read z.state.cells (location_of c t)) (beside z.state.cells (location_of c t)) x ∷ [])
   owns_own c z homes homes' id t x none x_is = (
@@ -169,15 +203,17 @@ module _ {S : Type 0} (Lies : ℕ → S → List ℕ → Type 0) where
         stored = h.stored;
       }
 
-  -- a turn may be made, whatever the table is when its word changes
-  pub moves : {opening : List (List ℕ)} (c : Setup) (slots id : ℕ) (me : Me S Known) (t : Phase) (i : ℕ) (f : ℕ → ℕ) (may : MayTurn c me.0 t)
+module _ {S : Type 0} (Lies : ℕ → S → List ℕ → Type 0) where
+  -- a turn may be made, whatever the table is when its word changes, and is a step of the machine
+  pub moves_by : {opening : List (List ℕ)} (c : Setup) (slots id : ℕ) (me : Me S Known) (t : Phase) (i : ℕ) (f : ℕ → ℕ) (may : MayTurn c me.0 t)
       → Carries Lies t me.1
       → i ≡ at c (location_of c t)
       → ((m : Machine) → IsReachable c m → Busy c m.cells may.member.part.hand t
       → f (read m.cells (location_of c t)) ≡ writes c t (read m.cells (location_of c t)))
       → ((m : Machine) (k : ℕ) (s : Step) → IsReachable c m → k < c.seats → turn_of c (m.part k) s ≡ Some t → Ground c m k t)
-      → Allows (Shown Lies opening c) slots id me i f (Turned Lies c t me)
-  moves {opening} c slots id me t i f may carries word does grounds s sh many here small =
+      → Allows (Shown Lies opening c) slots id me i f
+      (λ x later. Turned Lies c t me x later × CameBy c opening (my me.0).part.calls (my later.0) later.0.numbers)
+  moves_by {opening = opening} c slots id me t i f may carries word does grounds s sh many here small =
       let m = sh.scene.state in
       let k = may.member.number in
       let l = location_of c t in
@@ -194,12 +230,13 @@ module _ {S : Type 0} (Lies : ℕ → S → List ℕ → Type 0) where
       let shown : Shown Lies opening c (stepped s i (f (slice_index s.words i)) id me.1 w h.act) =
       subst (λ (v : ℕ). Shown Lies opening c (stepped s i v id me.1 w h.act)) (sym wrote)
       (subst (λ (j : ℕ). Shown Lies opening c (stepped s j (writes c t (read m.cells l)) id me.1 w h.act)) (sym word)
-      (moved_shown opening c s id me t may sh here x_is g h)) in
+      (moved_shown Lies opening c s id me t may sh here x_is g h)) in
       let tells : Turned Lies c t me (read m.cells l) (w, carried_after me.1 h.act) = record {
         beside = beside m.cells l;
         view = refl;
         slots = h.carried;
         found = g.finds;
+        stands = finds_index c m t g.stands;
         ready = g.ready;
         draws = draws_above c m t me.0.numbers mine.numbers;
         fits =
@@ -212,4 +249,19 @@ module _ {S : Type 0} (Lies : ℕ → S → List ℕ → Type 0) where
             (subst (λ (p : Part). times i (after c t (read m.cells l) (beside m.cells l) p).hand ≤ 1) x_is.part
             (subst (λ (p : Part). times i p.hand ≤ 1) (updated_here m.part k _) (g.once i)));
       } in
-      (w, h.act, h.valid, shown, subst (λ n. Turned Lies c t me n (w, carried_after me.1 h.act)) (sym found) tells)
+      let came : CameBy c opening (my me.0).part.calls (my w) w.numbers =
+      came_by c opening m may.member me.0 t may.step x_is.low sh.reachable sh.begun enabled may.alone x_is.part
+      (learned_true c m k t me.0.numbers g.busy g.up g.stay g.covers g.first g.got mine.numbers) in
+      (w, h.act, h.valid, shown, (subst (λ n. Turned Lies c t me n (w, carried_after me.1 h.act)) (sym found) tells, came))
+
+  -- the same, with what the turn tells alone
+  pub moves : {opening : List (List ℕ)} (c : Setup) (slots id : ℕ) (me : Me S Known) (t : Phase) (i : ℕ) (f : ℕ → ℕ) (may : MayTurn c me.0 t)
+      → Carries Lies t me.1
+      → i ≡ at c (location_of c t)
+      → ((m : Machine) → IsReachable c m → Busy c m.cells may.member.part.hand t
+      → f (read m.cells (location_of c t)) ≡ writes c t (read m.cells (location_of c t)))
+      → ((m : Machine) (k : ℕ) (s : Step) → IsReachable c m → k < c.seats → turn_of c (m.part k) s ≡ Some t → Ground c m k t)
+      → Allows (Shown Lies opening c) slots id me i f (Turned Lies c t me)
+  moves {opening} c slots id me t i f may carries word does grounds s sh many here small =
+      let a = moves_by {opening = opening} c slots id me t i f may carries word does grounds s sh many here small in
+      (a.0, a.1, a.2, a.3, a.4.0)

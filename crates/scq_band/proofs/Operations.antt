@@ -127,7 +127,7 @@ reset_tells Lies c (AtE3 r i w t e) me later x y is told = absurd is
 reset_tells Lies c (AtE4 r i w t e) me later x y is told = absurd is
 reset_tells Lies c (AtE5 r i w t) me later x y is told = absurd is
 reset_tells Lies c (AtE6 r i w t) me later x y is told =
-    record { beside = told.beside; view = told.view; slots = told.slots; found = tt; ready = tt; draws = tt; fits = told.fits; once = told.once }
+    record { beside = told.beside; view = told.view; slots = told.slots; found = tt; stands = tt; ready = tt; draws = tt; fits = told.fits; once = told.once }
 reset_tells Lies c (AtD1 r) me later x y is told = absurd is
 reset_tells Lies c (AtD2 r l) me later x y is told = absurd is
 reset_tells Lies c (AtD3 r h l) me later x y is told = absurd is

@@ -16,18 +16,18 @@ pub times-append : (i : ℕ) (xs ys : List ℕ) → times i (xs ++ ys) ≡ times
 times-append i [] ys = omega arith
 times-append i (x ∷ xs) ys = let rest = times-append i xs ys in omega (arith, rest)
 
--- the last of a list, and the list without it
-last_of : (ys : List ℕ) (a d : ℕ) → slice_index_or (ys ++ a ∷ []) (length ys) d ≡ a
-last_of [] a d = refl
-last_of (y ∷ ys) a d = last_of ys a d
+-- an element of a list, and the lists before and behind a place
+middle_of : (ys : List ℕ) (a : ℕ) (zs : List ℕ) (d : ℕ) → slice_index_or ((ys ++ a ∷ []) ++ zs) (length ys) d ≡ a
+middle_of [] a zs d = refl
+middle_of (y ∷ ys) a zs d = middle_of ys a zs d
 
-drop_all : (ys : List ℕ) (a : ℕ) → drop (length ys) (ys ++ a ∷ []) ≡ a ∷ []
-drop_all [] a = refl
-drop_all (y ∷ ys) a = drop_all ys a
+drop_front : (ys zs : List ℕ) → drop (length ys) (ys ++ zs) ≡ zs
+drop_front [] zs = refl
+drop_front (y ∷ ys) zs = drop_front ys zs
 
-pub take_all : (ys : List ℕ) (a : ℕ) → take (length ys) (ys ++ a ∷ []) ≡ ys
-take_all [] a = refl
-take_all (y ∷ ys) a = ap (λ (l : List ℕ). y ∷ l) (take_all ys a)
+pub take_front : (ys zs : List ℕ) → take (length ys) (ys ++ zs) ≡ ys
+take_front [] zs = refl
+take_front (y ∷ ys) zs = ap (λ (l : List ℕ). y ∷ l) (take_front ys zs)
 
 none_more : (n : ℕ) → 0 + n ≡ n
 none_more n = omega arith
@@ -79,11 +79,6 @@ holds_times i (x ∷ xs) there =
     ]
 
 module _ {S : Type 0} where
-  -- how often the slots are to be turned until that of an index stands first
-  abbrev pub turns_to : ℕ → List (ℕ × S) → ℕ
-  turns_to i [] = 0
-  turns_to i (x ∷ xs) = if x.0 == i then 0 else suc (turns_to i xs)
-
   pub in_order-append : (xs ys : List (ℕ × S)) → in_order (xs ++ ys) ≡ in_order ys ++ in_order xs
   in_order-append [] ys = sym (append-nil (in_order ys))
   in_order-append (x ∷ xs) ys = ap (λ l. l ++ x.0 ∷ []) (in_order-append xs ys) ∙ append_assoc (in_order ys) (in_order xs) (x.0 ∷ [])
@@ -93,74 +88,81 @@ module _ {S : Type 0} where
       ap (times i) (in_order-append ys xs) ∙ times-append i (in_order xs) (in_order ys)
       ∙ (let a = times-append i (in_order ys) (in_order xs) in let b = ap (times i) (in_order-append xs ys) in omega (arith, a, b))
 
-  -- one more turn
-  pub turned_once : (slots later : List (ℕ × S)) → IsRotation slots later → IsRotation slots (turned later)
-  turned_once slots later is = go is.front is.behind is.was is.turned
+  -- the slots, turned so often that none of those that went behind has the index
+  pub record Sought (i : ℕ) (slots ms : List (ℕ × S)) (turns : ℕ) : Type 0 where
+    pub passed : List (ℕ × S)
+    pub first : ℕ × S
+    pub behind : List (ℕ × S)
+    pub was : slots ≡ passed ++ first ∷ behind
+    pub now : ms ≡ (first ∷ behind) ++ passed
+    pub count : length passed ≡ turns
+    pub there : 0 < times i (in_order (first ∷ behind))
+
+  pub sought_first : (i : ℕ) (slots : List (ℕ × S)) → 0 < times i (in_order slots) → Sought i slots slots 0
+  sought_first i [] there = absurd (omega arith)
+  sought_first i (x ∷ xs) there =
+      record { passed = []; first = x; behind = xs; was = refl; now = sym (append-nil (x ∷ xs)); count = refl; there = there }
+
+  -- one more turn, where the first has another index
+  pub sought_next : (i : ℕ) (slots ms : List (ℕ × S)) (turns : ℕ) → (s : Sought i slots ms turns) → s.first.0 ≢ i → Sought i slots (turned ms) (turns + 1)
+  sought_next i slots ms turns s apart = go s.passed s.first s.behind s.was s.now s.count s.there apart
     where
-      go : (front behind : List (ℕ × S)) → slots ≡ front ++ behind → later ≡ behind ++ front → IsRotation slots (turned later)
-      go front (x ∷ xs) was now =
-          record {
-            front = front ++ x ∷ [];
-            behind = xs;
-            was = was ∙ sym (append_assoc front (x ∷ []) xs);
-            turned = ap turned now ∙ append_assoc xs front (x ∷ []);
-          }
-      go (x ∷ xs) [] was now =
-          record { front = x ∷ []; behind = xs; was = was ∙ append-nil (x ∷ xs); turned = ap turned now }
-      go [] [] was now = record { front = []; behind = []; was = was; turned = ap turned now }
+      go : (passed : List (ℕ × S)) (x : ℕ × S) (behind : List (ℕ × S)) → slots ≡ passed ++ x ∷ behind → ms ≡ (x ∷ behind) ++ passed → length passed ≡ turns
+          → 0 < times i (in_order (x ∷ behind)) → x.0 ≢ i → Sought i slots (turned ms) (turns + 1)
+      go passed x behind was now count there away =
+          let both = times-append i (in_order behind) (x.0 ∷ []) in
+          let none : times i (x.0 ∷ []) ≡ 0 = rw (ne_eqb x.0 i away) refl in
+          next behind was now (omega (arith, both, none, there))
+        where
+          next : (behind : List (ℕ × S)) → slots ≡ passed ++ x ∷ behind → ms ≡ (x ∷ behind) ++ passed → 0 < times i (in_order behind)
+              → Sought i slots (turned ms) (turns + 1)
+          next [] was now there = absurd (omega arith)
+          next (y ∷ ys) was now there =
+              record {
+                passed = passed ++ x ∷ [];
+                first = y;
+                behind = ys;
+                was = was ∙ sym (append_assoc passed (x ∷ []) (y ∷ ys));
+                now = ap turned now ∙ append_assoc (y ∷ ys) passed (x ∷ []);
+                count = let more = length-append passed (x ∷ []) in omega (arith, more, count);
+                there = there;
+              }
 
-  pub not_turned : (slots : List (ℕ × S)) → IsRotation slots slots
-  not_turned slots = record { front = []; behind = slots; was = refl; turned = sym (append-nil slots) }
+  length-in_order : (xs : List (ℕ × S)) → length (in_order xs) ≡ length xs
+  length-in_order [] = refl
+  length-in_order (x ∷ xs) = let rest = length-in_order xs in let more = length-append (in_order xs) (x.0 ∷ []) in omega (arith, rest, more)
 
-  -- a turn brings an index nearer that stands among them, but not first
-  pub turns_fewer : (i : ℕ) (x : ℕ × S) (xs : List (ℕ × S)) → x.0 ≢ i → 0 < times i (in_order (x ∷ xs)) → turns_to i (xs ++ x ∷ []) < turns_to i (x ∷ xs)
-  turns_fewer i x xs apart there =
-      let here : times i (in_order xs) + times i (x.0 ∷ []) ≡ times i (in_order (x ∷ xs)) = sym (times-append i (in_order xs) (x.0 ∷ [])) in
-      let none : times i (x.0 ∷ []) ≡ 0 = rw (ne_eqb x.0 i apart) refl in
-      let least = far xs (omega (arith, here, none)) in
-      rw (ne_eqb x.0 i apart) (omega (arith, least))
-    where
-      far : (ys : List (ℕ × S)) → 0 < times i (in_order ys) → turns_to i (ys ++ x ∷ []) ≡ turns_to i ys
-      far [] some = absurd (omega arith)
-      far (y ∷ ys) some =
-          elim (cases_eq y.0 i) [
-            | inl same ↦ rw (eq-eqb y.0 i same) refl
-            | inr other ↦
-                let both = times-append i (in_order ys) (y.0 ∷ []) in
-                let none : times i (y.0 ∷ []) ≡ 0 = rw (ne_eqb y.0 i other) refl in
-                rw (ne_eqb y.0 i other) (ap suc (far ys (omega (arith, both, none, some))))
-          ]
+  -- what the hand is then, which has the indices in the other order: the index of the first, before it as many as stand behind
+  pub record SoughtHand (i n turns : ℕ) (hs : List ℕ) (ms : List (ℕ × S)) : Type 0 where
+    pub low : turns < n
+    pub top : (d : ℕ) → slice_index_or hs (n - 1 - turns) d ≡ front_index ms
+    pub rotated : drop (n - turns) hs ++ take (n - turns) hs ≡ in_order ms
 
-  pub record OneTurn (i : ℕ) (slots ms : List (ℕ × S)) (later : List ℕ) : Type 0 where
-    pub rotated : IsRotation slots (turned ms)
-    pub order : later ≡ in_order (turned ms)
-    pub there : 0 < times i later
-    pub nearer : turns_to i (turned ms) < turns_to i ms
-
-  -- the last index goes to the front, and the first slot behind the others
-  pub one_turn : (i last n : ℕ) (slots ms : List (ℕ × S)) (hs later : List ℕ) → IsRotation slots ms → hs ≡ in_order ms → 0 < times i hs → n ≡ length hs
-      → last ≡ slice_index_or hs (n - 1) last → last ≢ i → later ≡ drop (n - 1) hs ++ take (n - 1) hs → OneTurn i slots ms later
-  one_turn i last n slots [] hs later is order there many at apart gone =
-      let none : times i hs ≡ 0 = ap (times i) order in absurd (omega (arith, none, there))
-  one_turn i last n slots (x ∷ xs) hs later is order there many at apart gone =
-      let ys = in_order xs in
-      let size : n - 1 ≡ length ys = let l = ap length order ∙ length-append ys (x.0 ∷ []) in omega (arith, l, many) in
-      let top : last ≡ x.0 = at ∙ ap (λ (l : List ℕ). slice_index_or l (n - 1) last) order ∙ ap (λ k. slice_index_or (ys ++ x.0 ∷ []) k last) size
-      ∙ last_of ys x.0 last in
-      let now : later ≡ x.0 ∷ ys = gone ∙ ap (λ (l : List ℕ). drop (n - 1) l ++ take (n - 1) l) order
-      ∙ ap (λ k. drop k (ys ++ x.0 ∷ []) ++ take k (ys ++ x.0 ∷ [])) size ∙ ap (λ (l : List ℕ). l ++ take (length ys) (ys ++ x.0 ∷ [])) (drop_all ys x.0)
-      ∙ ap (λ (l : List ℕ). x.0 ∷ l) (take_all ys x.0) in
-      let away : x.0 ≢ i = λ e. apart (top ∙ e) in
-      let here : 0 < times i (in_order (x ∷ xs)) = subst (λ (l : List ℕ). 0 < times i l) order there in
-      let ordered : later ≡ in_order (xs ++ x ∷ []) = now ∙ sym (in_order-append xs (x ∷ [])) in
+  pub sought_hand : (i n turns : ℕ) (slots ms : List (ℕ × S)) (hs : List ℕ) → hs ≡ in_order slots → n ≡ length hs → Sought i slots ms turns
+      → SoughtHand i n turns hs ms
+  sought_hand i n turns slots ms hs order many s =
+      let ys = in_order s.behind in
+      let a = s.first.0 in
+      let zs = in_order s.passed in
+      let here : hs ≡ (ys ++ a ∷ []) ++ zs = order ∙ ap in_order s.was ∙ in_order-append s.passed (s.first ∷ s.behind) in
+      let size : n ≡ length ys + 1 + turns =
+      let l = many ∙ ap length here ∙ length-append (ys ++ a ∷ []) zs in
+      let m = length-append ys (a ∷ []) in
+      let k = length-in_order s.passed ∙ s.count in
+      omega (arith, l, m, k) in
+      let at : n - 1 - turns ≡ length ys = omega (arith, size) in
+      let cut : n - turns ≡ length (ys ++ a ∷ []) = let m = length-append ys (a ∷ []) in omega (arith, size, m) in
       record {
-        rotated = turned_once slots (x ∷ xs) is;
-        order = ordered;
-        there =
-            let same = ap (times i) ordered ∙ times-turned i (x ∷ []) xs in
-            omega (arith, same, here);
-        nearer = turns_fewer i x xs away here;
+        low = omega (arith, size);
+        top = λ d. rw (at, here) (middle_of ys a zs d) ∙ ap front_index (sym s.now);
+        rotated =
+            rw (cut, here) (ap (λ (l : List ℕ). l ++ take (length (ys ++ a ∷ [])) ((ys ++ a ∷ []) ++ zs)) (drop_front (ys ++ a ∷ []) zs)
+            ∙ ap (λ (l : List ℕ). zs ++ l) (take_front (ys ++ a ∷ []) zs))
+            ∙ sym (in_order-append (s.first ∷ s.behind) s.passed) ∙ ap in_order (sym s.now);
       }
+
+  pub sought_rotated : (i turns : ℕ) (slots ms : List (ℕ × S)) → Sought i slots ms turns → IsRotation slots ms
+  sought_rotated i turns slots ms s = record { front = s.passed; behind = s.first ∷ s.behind; was = s.was; turned = s.now }
 
   pub times-rotated : (i : ℕ) (slots ms : List (ℕ × S)) → IsRotation slots ms → times i (in_order ms) ≡ times i (in_order slots)
   times-rotated i slots ms is =

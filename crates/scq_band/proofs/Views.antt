@@ -183,6 +183,7 @@ module _ {S : Type 0} (Lies : ℕ → S → List ℕ → Type 0) where
       all_rings c v seated (inl empty) = absurd (seated empty)
       all_rings c v seated (inr all) = all
 
+module _ {S : Type 0} (Lies : ℕ → S → List ℕ → Type 0) where
   -- a seat is split off a view: it stands alone in a new one
   split_owner_else : (c : Setup) (z : Scene) (homes : List (maybe.Option S)) (k at_view j : ℕ) (n : ℕ) → z.owner k ≡ (at_view, n) → (xs : List Member)
       → Owns Lies c z homes j xs

@@ -12,6 +12,7 @@ use Rattle.scq_law.specs.Hands.{times}
 use Rattle.scq_law.specs.Bounds.{tally, was_put, openings}
 use Rattle.scq_law.specs.Kept.{was_done, was_got}
 use Rattle.scq_band.specs.declared.numbers.Numbers.{Numbers}
+use Rattle.scq_band.specs.Numbers.{known_of}
 use Rattle.scq_band.specs.Standing.{Identity, Standing, IsAsGiven}
 
 -- this call ended so
@@ -40,13 +41,16 @@ pub record IsKnownPassed (known : List (List Numbers)) (r p : ℕ) : Type 0 wher
   pub seat : ℕ
   pub numbers : List Numbers
   pub its : slice_get known seat ≡ Some numbers
-  pub ring : Numbers
-  pub at : slice_get numbers r ≡ Some ring
-  pub passed : p < ring.head
+  pub passed : p < (known_of numbers r).head
 
 -- each place that was got is the place of a put with the same bytes
 abbrev pub EachGetHasItsPut : Setup → List (List ℕ) → List (List Ended) → Type 0
 EachGetHasItsPut c opening records = (r p : ℕ) (w : List ℕ) → HasEnded records (Got r p w) → WasPut c opening records r p w
+
+-- no place was put at twice, neither by two calls nor by a call where an opening put is
+pub record NoneIsPutTwice (c : Setup) (opening : List (List ℕ)) (records : List (List Ended)) : Type 0 where
+  pub once : (r p : ℕ) (v w : List ℕ) (a x b y : ℕ) → IsCall records a x (Done r p v) → IsCall records b y (Done r p w) → (a ≡ b) × (x ≡ y)
+  pub apart : (r p : ℕ) (v w : List ℕ) → IsOpeningPut c opening r p v → HasEnded records (Done r p w) → ⊥
 
 -- no place was got twice
 abbrev pub NoneIsGotTwice : List (List Ended) → Type 0

@@ -16,7 +16,7 @@ use Rattle.scq_band.specs.Closing.{indices_of}
 
 -- the view of a seat after the slots of these indices have gone home
 abbrev pub at_home : List ℕ → Known → Known
-at_home indices v = record v { seats = record (my v) { home = (my v).home ++ indices } ∷ [] }
+at_home indices v = record v { seats = record (my v) { brought = (my v).brought ++ indices } ∷ [] }
 
 module _ {S : Type 0} (Lies : ℕ → S → List ℕ → Type 0) where
   -- one seat stands in the view, it has the index of the slot that stands first, and the buffer of that index is in it
@@ -67,7 +67,7 @@ module _ {B : Type 0} where
     pub spent : x.part.spent ≡ s.spent
     pub retired : x.retired ≡ s.retired
     pub idle : x.part.phase ≡ Idle
-    pub brought : (i : ℕ) → 0 < times i x.part.hand → Contains x.home i
+    pub brought : (i : ℕ) → 0 < times i x.part.hand → Contains x.brought i
 
   -- the members of a view are those of these seats, one by one
   abbrev pub AreMembersOf : List (Standing B) → List Member → Type 0

@@ -11,7 +11,7 @@ pub record Member : Type 0 where
   pub number : ℕ
   pub part : Part
   pub retired : Option ℕ
-  pub home : List ℕ
+  pub brought : List ℕ
 
 pub record Known : Type 0 where
   pub seats : List Member

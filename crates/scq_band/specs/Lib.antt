@@ -2,6 +2,7 @@ pub mod Layout
 pub mod Numbers
 pub mod Known
 pub mod Shown
+pub mod Knowing
 pub mod Turns
 pub mod Buffers
 pub mod Steps

@@ -15,7 +15,7 @@ use Rattle.scq_band.specs.Steps.{my}
 -- one seat stands in the view, and none of its slots was brought home
 pub record IsAlone (v : Known) : Type 0 where
   pub seats : v.seats ≡ my v ∷ []
-  pub out : (my v).home ≡ []
+  pub out : (my v).brought ≡ []
 
 abbrev pub with_part : Part → Member → Member
 with_part q x = record x { part = q }

@@ -58,7 +58,7 @@ module _ {S : Type 0} (Lies : ℕ → S → List ℕ → Type 0) where
     pub part : z.state.part x.number ≡ x.part
     pub gone : z.gone x.number ≡ x.retired
     pub retired : (n : ℕ) → x.retired ≡ Some n → n ≤ length x.part.calls
-    pub brought : (i : ℕ) → Contains x.home i → (0 < times i x.part.hand) × ((w : List ℕ) × Has homes i w)
+    pub brought : (i : ℕ) → Contains x.brought i → (0 < times i x.part.hand) × ((w : List ℕ) × Has homes i w)
 
   abbrev pub Owns : Setup → Scene → List (maybe.Option S) → ℕ → List Member → Type 0
   Owns c z homes id [] = Unit {0}
@@ -85,7 +85,7 @@ module _ {S : Type 0} (Lies : ℕ → S → List ℕ → Type 0) where
 -- the view of the first seat of the table: all seats of the setup stand in it, idle with empty hands, the last one first
 abbrev pub first_members : ℕ → List Member
 first_members zero = []
-first_members (suc k) = record { number = k; part = idle_part; retired = None; home = [] } ∷ first_members k
+first_members (suc k) = record { number = k; part = idle_part; retired = None; brought = [] } ∷ first_members k
 
 abbrev pub first_view : Setup → Known
 first_view c = record { seats = first_members c.seats; numbers = first_numbers c c.rings; gates = 0; gate = Some c.seats }

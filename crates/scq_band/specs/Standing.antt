@@ -4,6 +4,10 @@ use Rattle.atomic_table.specs.Seated.{TableId}
 use Rattle.scq_word.specs.declared.setup.Setup.{Setup}
 use Rattle.scq_core.specs.declared.ended.Ended.{Ended}
 use Rattle.scq_core.specs.declared.ended.Ended.TheVariants.{Done, Got, Nothing, Spent}
+use Rattle.scq_core.specs.declared.step.Step.{Step}
+use Rattle.scq_core.specs.Machine.{Machine}
+use Rattle.scq_core.specs.Table.{step_of}
+use Rattle.scq_core.specs.Reach.{IsReachable}
 use Rattle.scq_band.specs.declared.numbers.Numbers.{Numbers}
 use Rattle.scq_band.specs.Numbers.{known_of, first_numbers, changed, finishes, sees, passes, drew, empties}
 
@@ -36,6 +40,19 @@ pub record Standing (B : Type 0) : Type 0 where
 pub record IsReading (seats : ℕ) (gate retired : Option ℕ) (found : ℕ) : Type 0 where
   pub fell : (last : ℕ) → gate ≡ Some last → found ≤ last
   pub own : (calls : ℕ) → retired ≡ Some calls → found < seats
+
+-- the step that ended a call of a seat: from a state that steps reach from these opening contents, in which the seat's record is
+-- `before`, to one in which it is `later`
+pub record LastStep (c : Setup) (opening : List (List ℕ)) (seat : ℕ) (before later : List Ended) : Type 0 where
+  pub low : seat < c.seats
+  pub state : Machine
+  pub reachable : IsReachable c state
+  pub begun : state.opening ≡ opening
+  pub step : Step
+  pub next : Machine
+  pub made : step_of c state seat step ≡ Some next
+  pub was : (state.part seat).calls ≡ before
+  pub is : (next.part seat).calls ≡ later
 
 -- what contracts see of a note
 pub record NoteStanding : Type 0 where
@@ -142,4 +159,6 @@ module _ {B : Type 0} where
     pub drawn : Option ℕ
     pub seat : new ≡ after_nothing ring drawn old
     pub known : head ≡ (known_of new.numbers ring).head
+    -- a ticket that was drawn is below the limit, and no lower than the head that was known
     pub below : (ticket : ℕ) → drawn ≡ Some ticket → ticket < old.band.setup.limit
+    pub past : (ticket : ℕ) → drawn ≡ Some ticket → (known_of old.numbers ring).head ≤ ticket

@@ -14,7 +14,7 @@ use Rattle.scq_band.specs.Known.{Member, Known}
 
 -- the one seat that stands in a view, and what it is in the middle of
 abbrev pub my_of : List Member → Member
-my_of [] = record { number = 0; part = idle_part; retired = None; home = [] }
+my_of [] = record { number = 0; part = idle_part; retired = None; brought = [] }
 my_of (x ∷ xs) = x
 
 abbrev pub my : Known → Member

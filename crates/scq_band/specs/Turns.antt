@@ -3,18 +3,20 @@ use Rattle.std.specs.Prelude.{◌≡◌, ℕ, ◌+◌, ◌<◌, ◌≤◌, false
 use Rattle.atomic_table.specs.Table.{Me, rest}
 use Rattle.scq_word.specs.declared.setup.Setup.{Setup}
 use Rattle.scq_word.specs.Sizes.{n_of}
-use Rattle.scq_word.specs.Words.{index_in, is_none_in, rank_in}
+use Rattle.scq_word.specs.Words.{index_in, is_none_in}
+use Rattle.scq_core.specs.declared.ended.Ended.{Ended}
 use Rattle.scq_core.specs.declared.phase.Phase.{Phase}
-use Rattle.scq_core.specs.declared.phase.Phase.TheVariants.{AtE1, AtE2, AtE4, AtE5, AtE6, AtD1, AtD2, AtD3, AtD4, AtD5, AtD6, AtD7, AtD9, AtD10}
+use Rattle.scq_core.specs.declared.phase.Phase.TheVariants.{AtE1, AtE4, AtE5, AtE6, AtD1, AtD2, AtD4, AtD6, AtD10}
 use Rattle.scq_core.specs.declared.step.Step.{Step}
 use Rattle.scq_core.specs.Table.{ring_slots, zero_level, reset_level, turn_of, after}
 use Rattle.scq_core.specs.Turn.{IsReady}
-use Rattle.scq_core.specs.Laws.{IsAbove}
 use Rattle.scq_law.specs.Hands.{times}
+use Rattle.scq_law.specs.Retries.{Finds}
 use Rattle.scq_band.specs.declared.numbers.Numbers.{Numbers}
 use Rattle.scq_band.specs.Known.{Member, Known}
 use Rattle.scq_band.specs.Steps.{my}
-use Rattle.scq_band.specs.Numbers.{changed, finishes, sees, passes, empties}
+use Rattle.scq_band.specs.Numbers.{IsTrue, changed, finishes, sees, passes, empties}
+use Rattle.scq_band.specs.Standing.{LastStep}
 
 -- what a turn that found the word x tells of its ring
 abbrev pub learned : Setup → Phase → ℕ → List Numbers → List Numbers
@@ -34,18 +36,10 @@ turned_member c t x y member = record member { part = after c t x y member.part 
 abbrev pub made : Setup → Phase → ℕ → List ℕ → Known → Known
 made c t x y v = record v { seats = map (turned_member c t x y) v.seats; numbers = learned c t x v.numbers }
 
--- what a turn finds
-abbrev pub Finds : Setup → Phase → ℕ → Type 0
-Finds c (AtE1 r i w l) x = l ≤ x
-Finds c (AtE2 r i w t l) x = l ≤ rank_in (ring_slots c) x
-Finds c (AtE4 r i w t e) x = IsAbove (ring_slots c) e x
-Finds c (AtD2 r l) x = l ≤ x
-Finds c (AtD3 r h l) x = l ≤ rank_in (ring_slots c) x
-Finds c (AtD4 r h) x = is_none_in (ring_slots c) x ≡ false
-Finds c (AtD5 r h e) x = IsAbove (ring_slots c) e x
-Finds c (AtD7 r h from to) x = from ≤ x
-Finds c (AtD9 r h from to) x = from < x
-Finds c turn x = Unit {0}
+-- a get that takes finds an index in the entry
+abbrev pub FindsIndex : Setup → Phase → ℕ → Type 0
+FindsIndex c (AtD4 r h) x = is_none_in (ring_slots c) x ≡ false
+FindsIndex c turn x = Unit {0}
 
 -- a ticket is above what was known of its counter
 abbrev pub Draws : Phase → ℕ → List Numbers → Type 0
@@ -53,11 +47,17 @@ Draws (AtE1 r i w l) x numbers = (known : Numbers) → slice_get numbers r ≡ S
 Draws (AtD2 r l) x numbers = (known : Numbers) → slice_get numbers r ≡ Some known → known.head ≤ x
 Draws turn x numbers = Unit {0}
 
+-- the seat and its numbers after a turn, whose record was `before` it: the turn is a step of the machine from a state that steps
+-- reach from these opening contents, after which the numbers are true
+pub record CameBy (c : Setup) (opening : List (List ℕ)) (before : List Ended) (member : Member) (numbers : List Numbers) : Type 0 where
+  pub last : LastStep c opening member.number before member.part.calls
+  pub true_then : (r : ℕ) (x : Numbers) → slice_get numbers r ≡ Some x → IsTrue c last.next r x
+
 -- one seat stands in the view, none of its slots was brought home, and it may make this turn
 pub record MayTurn (c : Setup) (v : Known) (t : Phase) : Type 0 where
   pub member : Member
   pub alone : v.seats ≡ member ∷ []
-  pub out : member.home ≡ []
+  pub out : member.brought ≡ []
   pub step : Step
   pub enabled : turn_of c member.part step ≡ Some t
 
@@ -89,6 +89,7 @@ module _ {S : Type 0} (Lies : ℕ → S → List ℕ → Type 0) where
     pub view : later.0 ≡ made c t x beside me.0
     pub slots : SlotsAfter c t x beside me.1 later.1
     pub found : Finds c t x
+    pub stands : FindsIndex c t x
     pub ready : IsReady c t x
     pub draws : Draws t x me.0.numbers
     -- its hand has room for no more than all indices

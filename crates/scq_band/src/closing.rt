@@ -7,7 +7,7 @@ ghost use Rattle.scq_band.specs.declared.slot.Slot.{Slot};
 ghost use Rattle.scq_band.specs.Buffers.{LiesIn, opening_of};
 ghost use Rattle.scq_band.specs.Steps.{my, front_index};
 ghost use Rattle.scq_band.specs.Kept.{identity_of};
-ghost use Rattle.scq_band.specs.Closing.{indices_of, lifted_of, EachGetHasItsPut, NoneIsGotTwice, EachPutPassedIsGot, IsBalance, IsAllThere, EachIsInOneHand, EachSpentIsPastTheBound, EachLeftIsItsPut, AreTheSame, AreTheLifted, AllRetiredWhereClosed, all_calls, all_hands, all_known, all_spent};
+ghost use Rattle.scq_band.specs.Closing.{indices_of, lifted_of, EachGetHasItsPut, NoneIsPutTwice, NoneIsGotTwice, EachPutPassedIsGot, IsBalance, IsAllThere, EachIsInOneHand, EachSpentIsPastTheBound, EachLeftIsItsPut, AreTheSame, AreTheLifted, AllRetiredWhereClosed, all_calls, all_hands, all_known, all_spent};
 ghost use Rattle.scq_band.specs.Homes.{at_home, MayBring, IsLaidBack, times_lifted, AllOutGiven, MayLeave, IsMemberOf, HasAll};
 
 use crate::band::Band;
@@ -162,6 +162,7 @@ impl<B: Buffer> Band<B> {
         requires out { AreTheLifted B.IsSameBuffer self seats.items out.items }
         ensures buffers { AreTheSame B.IsSameBuffer self.given result.buffers.items }
         ensures gets { EachGetHasItsPut self.setup (opening_of B.contents self.given) (all_calls seats.items) }
+        ensures put_once { NoneIsPutTwice self.setup (opening_of B.contents self.given) (all_calls seats.items) }
         ensures once { NoneIsGotTwice (all_calls seats.items) }
         ensures passed { EachPutPassedIsGot self.setup (opening_of B.contents self.given) (all_calls seats.items) (all_known seats.items) }
         ensures balance { IsBalance self.setup (all_calls seats.items) result.left.items }

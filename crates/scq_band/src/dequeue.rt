@@ -1,5 +1,5 @@
 //! A dequeue, step by step.
-ghost use Rattle.std.specs.Prelude.{◌≡◌, ℕ, ◌+◌, ◌/◌, ◌^◌, ◌<◌, ◌≤◌, IfSome, IfNone, IfOk, IfErr, IsTrue, IsFalse, Some, None, Err, slice_get, length, true, false};
+ghost use Rattle.std.specs.Prelude.{◌≡◌, ℕ, ◌+◌, ◌/◌, ◌^◌, ◌<◌, ◌≤◌, Option, IfSome, IfNone, IfOk, IfErr, IsTrue, IsFalse, Some, None, Err, slice_get, length, true, false};
 ghost use Rattle.scq_word.specs.Sizes.{n_of, slots_of};
 ghost use Rattle.scq_law.specs.Hands.{times};
 ghost use Rattle.scq_word.specs.Tickets.{cycle_of};
@@ -10,7 +10,8 @@ ghost use Rattle.scq_core.specs.Table.{ring_slots, passed, zero_level};
 ghost use Rattle.scq_band.specs.declared.numbers.Numbers.{Numbers};
 ghost use Rattle.scq_band.specs.Layout.{at, word_count, entry_at};
 ghost use Rattle.scq_band.specs.Rings.{IsRing};
-ghost use Rattle.scq_band.specs.Buffers.{LiesIn};
+ghost use Rattle.scq_band.specs.Buffers.{LiesIn, opening_of};
+ghost use Rattle.scq_band.specs.Turns.{CameBy};
 ghost use Rattle.scq_band.specs.Steps.{my, my_phase};
 ghost use Rattle.scq_band.specs.Seats.{IsAlone, IsSeeking, IsBehind, HasGot, HasGotAfter, drew_head, drawn_spent, goes_to, nothing_at};
 
@@ -124,6 +125,8 @@ fn is_over<B: Buffer>(words: &Words<B>, token: &mut Token<B>, ring: Ring, ticket
     ensures slots { token.new.me.1 ≡ token.old.me.1 }
     ensures over { IsTrue result → token.new.me.0 ≡ nothing_at ring.number token.old.me.0 }
     ensures on { IsFalse result → token.new.me.0 ≡ goes_to (AtD2 ring.number (ticket + 1)) token.old.me.0 }
+    ensures last { IsTrue result → CameBy words.now.key.setup (opening_of B.contents words.now.key.given.value.items) (my token.old.me.0).part.calls
+        (my token.new.me.0) token.new.me.0.numbers }
 {
     let tail = load(words, token, ring.tail);
     if tail <= ticket + 1 {
@@ -160,7 +163,11 @@ pub fn dequeue<B: Buffer>(
     ensures above { IfOk result (λ r. (known : Numbers) → slice_get token.old.me.0.numbers ring.number ≡ Some known → known.head ≤ r.0) }
     ensures nothing { result ≡ Err (Without.Nothing None) → token.new.me.0 ≡ nothing_at ring.number token.old.me.0 }
     ensures nothing_left { (ticket : ℕ) → result ≡ Err (Without.Nothing (Some ticket)) → (token.new.me.0 ≡ nothing_at ring.number (drew_head ring.number ticket token.old.me.0))
-        × (ticket < words.now.key.setup.limit) }
+        × (ticket < words.now.key.setup.limit)
+        × ((known : Numbers) → slice_get token.old.me.0.numbers ring.number ≡ Some known → known.head ≤ ticket) }
+    ensures last { (drawn : Option ℕ) → result ≡ Err (Without.Nothing drawn)
+        → CameBy words.now.key.setup (opening_of B.contents words.now.key.given.value.items) (my token.old.me.0).part.calls (my token.new.me.0)
+        token.new.me.0.numbers }
     ensures spent { (ticket : ℕ) → result ≡ Err (Without.Spent ticket)
         → (token.new.me.0 ≡ drawn_spent ring.number ticket token.old.me.0) × (words.now.key.setup.limit ≤ ticket) }
     ensures short { (ticket : ℕ) → result ≡ Err (Without.Spent ticket) → ticket + 1 < 2 ^ 64 }

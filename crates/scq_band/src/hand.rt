@@ -18,8 +18,10 @@ pub fn bring_to_front<B: Buffer>(token: &mut Token<B>, hand: &mut Vec<u32>, inde
     ensures first { front_index token.new.me.1 ≡ index }
     ensures room { vec_capacity hand.new ≡ vec_capacity hand.old }
 {
-    while hand[hand.len() - 1] != index {
-        hand.rotate_right(1);
+    let mut turns = 0;
+    'deeper: while hand[hand.len() - 1 - turns] != index {
         token.turn();
+        turns += 1;
     }
+    hand.rotate_right(turns);
 }

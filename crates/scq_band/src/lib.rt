@@ -17,6 +17,9 @@ mod dequeue;
 mod enqueue;
 mod gate;
 mod hand;
+#[cfg(test)]
+mod heap;
+pub mod laws;
 mod lending;
 mod making;
 mod notes;

@@ -4,9 +4,9 @@ ghost use Rattle.std.specs.Prelude.{◌≡◌, ◌<◌};
 ghost use Rattle.scq_word.specs.Words.{mark_of};
 ghost use Rattle.scq_core.specs.Table.{ring_slots, reset_level, location_of};
 ghost use Rattle.scq_band.specs.Layout.{at};
-ghost use Rattle.scq_band.specs.Buffers.{LiesIn};
-ghost use Rattle.scq_band.specs.Turns.{MayTurn, Carries, Turned};
-ghost use Rattle.scq_band.specs.Steps.{my_phase, load_turn, draw_turn, IsLoad, IsDraw, Exchanges, IsReset, IsTaking, IsCount};
+ghost use Rattle.scq_band.specs.Buffers.{LiesIn, opening_of};
+ghost use Rattle.scq_band.specs.Turns.{MayTurn, Carries, CameBy, Turned};
+ghost use Rattle.scq_band.specs.Steps.{my, my_phase, load_turn, draw_turn, IsLoad, IsDraw, Exchanges, IsReset, IsTaking, IsCount};
 
 use crate::rule::{Token, Words};
 use scq_word::Buffer;
@@ -23,6 +23,8 @@ pub fn load<B: Buffer>(words: &Words<B>, token: &mut Token<B>, word: usize) -> u
     ensures own { (token.new.table_id ≡ token.old.table_id) × (token.new.id ≡ token.old.id) }
     ensures turned { Turned (LiesIn B.contents B.IsSameBuffer words.now.key.given.value.items) words.now.key.setup
         (load_turn words.now.key.setup word token.old.me.0) token.old.me result token.new.me }
+    ensures last { CameBy words.now.key.setup (opening_of B.contents words.now.key.given.value.items) (my token.old.me.0).part.calls (my token.new.me.0)
+        token.new.me.0.numbers }
 {
     words.load::<Brand>(token, word)
 }
@@ -107,6 +109,8 @@ pub fn count_down<B: Buffer>(words: &Words<B>, token: &mut Token<B>, word: usize
     ensures own { (token.new.table_id ≡ token.old.table_id) × (token.new.id ≡ token.old.id) }
     ensures turned { Turned (LiesIn B.contents B.IsSameBuffer words.now.key.given.value.items) words.now.key.setup (my_phase token.old.me.0) token.old.me
         result token.new.me }
+    ensures last { CameBy words.now.key.setup (opening_of B.contents words.now.key.given.value.items) (my token.old.me.0).part.calls (my token.new.me.0)
+        token.new.me.0.numbers }
 {
     words.fetch_sub::<Brand>(token, word, 1)
 }

@@ -1,5 +1,5 @@
 use Rattle.std.proofs.Common.{◌≡◌, ℕ, List, [], ◌∷◌, ◌++◌, length, sym, ◌∙◌, ap, subst}
-use Rattle.scq_band.specs.declared.closing_tests.Heap.{Heap}
+use Rattle.scq_band.specs.declared.heap.Heap.{Heap}
 use Rattle.scq_band.specs.Standing.{Identity, Standing, in_hand, first_standings}
 use Rattle.scq_band.specs.Closing.{AreTheLifted}
 use Rattle.scq_band.proofs.Starting.{in_hand-come}

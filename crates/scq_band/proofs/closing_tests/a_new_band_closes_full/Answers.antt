@@ -1,6 +1,6 @@
 use Rattle.std.proofs.Common.{◌≡◌, List, sym, subst}
 use Rattle.std.specs.Prelude.{All}
-use Rattle.scq_band.specs.declared.closing_tests.Heap.{Heap}
+use Rattle.scq_band.specs.declared.heap.Heap.{Heap}
 use Rattle.scq_band.specs.Standing.{Standing}
 use Rattle.scq_band.proofs.NewSeats.{of_the_band}
 use Rattle.scq_band.proofs.closing_tests.a_new_band_closes_full.Goals as goal

@@ -7,14 +7,15 @@ use Rattle.scq_core.specs.Table.{location_of}
 use Rattle.scq_core.proofs.Entries.{zero_level_is}
 use Rattle.scq_band.specs.Layout.{at, ring_of_word}
 use Rattle.scq_band.specs.Numbers.{changed, passes}
-use Rattle.scq_band.specs.Buffers.{LiesIn}
+use Rattle.scq_band.specs.Buffers.{LiesIn, opening_of}
+use Rattle.scq_band.specs.Known.{Known}
 use Rattle.scq_band.specs.Turns.{MayTurn}
 use Rattle.scq_band.specs.Steps.{my, my_phase, front_index, front_bytes, loading, drawing}
 use Rattle.scq_band.specs.Seats.{IsAlone, at_phase, goes_to, nothing_at, to_draw, least_of}
 use Rattle.scq_band.proofs.Layouts.{ring_of_word-at}
 use Rattle.scq_band.proofs.RingLemmas.{tail_fits, word_low}
 use Rattle.scq_band.proofs.Grounds.{head_location, threshold_location}
-use Rattle.scq_band.proofs.Outcomes.{may_go, alone_seated, turned_as}
+use Rattle.scq_band.proofs.Outcomes.{may_go, alone_seated, turned_as, came_along}
 use Rattle.scq_band.proofs.Drawn.{may_get, saw_empty, saw_some, drew_one, drew_past_head, drew_above_head, got_then}
 use Rattle.scq_band.proofs.dequeue.dequeue.Goals as goal
 
@@ -185,6 +186,7 @@ returns-then-is_over-clause-nothing_left g c ticket is =
     rw (← same) (
       c.if-is_over.ensures.over refl ∙ ap (nothing_at r) (c.in_default.ensures.given_up) ∙ ap (λ u. nothing_at r (goes_to (AtD6 r h) u)) now,
       omega arith,
+      drew_above_head Lie k v c.draws.token.me c.draw-ticket.new.token.me _ h r l turn here c.draw-ticket.ensures.turned,
     )
 
 pub draws-preserved : goal.draws-preserved
@@ -213,3 +215,23 @@ draws-preserved g c =
       c.is_over.ensures.slots ∙ c.in_default.ensures.slots ∙ slots,
       next ∙ ap (λ n. to_draw r n v) (sym least),
     )
+
+pub returns-then-is_over-clause-last : goal.returns-then-is_over-clause-last
+returns-then-is_over-clause-last g c drawn is =
+    let k = c.args.words.now.key.setup in
+    let r = c.args.ring.number in
+    let Lie = LiesIn g.B.Buffer.contents g.B.Buffer.IsSameBuffer c.args.words.now.key.given.value.items in
+    let v = c.args.token.now.me.0 in
+    let w = c.draws.token.me.0 in
+    let l = least_of (my_phase w) in
+    let here = c.draws.invariant.3 in
+    let alone : IsAlone w = alone_seated v w (at_phase (AtD2 r l) (my v)) (changed (passes l) r v.numbers) c.requires.alone.out here in
+    let turn = ap (drawing (ring_of_word k c.head.result) (front_index c.draws.token.me.1) (front_bytes g.B.Buffer.contents c.draws.token.me.1))
+    (ap my_phase here) in
+    let limit = c.requires.ring.limit in
+    let low = c.if-ticket-ring.false in
+    let now = drew_one Lie k v c.draws.token.me c.draw-ticket.new.token.me _ c.draw-ticket.result r l turn alone here (omega arith)
+    c.draw-ticket.ensures.turned in
+    came_along k (opening_of g.B.Buffer.contents c.args.words.now.key.given.value.items) (my v).part.calls (my c.takes.new.token.me.0).part.calls
+    (my c.is_over.new.token.me.0) c.is_over.new.token.me.0.numbers
+    (ap (λ (u : Known). (my u).part.calls) c.in_default.ensures.given_up ∙ ap (λ (u : Known). (my u).part.calls) now) (c.if-is_over.ensures.last refl)

@@ -1,16 +1,17 @@
-use Rattle.std.proofs.Common.{◌+◌, refl, ap, arith, leb-true, leb-false, true, false}
+use Rattle.std.proofs.Common.{◌+◌, ◌∙◌, refl, ap, arith, leb-true, leb-false, true, false}
 use Rattle.scq_core.specs.Machine.{tail_of, threshold_of}
 use Rattle.scq_core.specs.declared.phase.Phase.TheVariants.{AtD6, AtD7, AtD10}
 use Rattle.scq_core.specs.declared.step.Step.TheVariants.{D6, D10}
 use Rattle.scq_core.proofs.Entries.{zero_level_is}
 use Rattle.scq_band.specs.Layout.{ring_of_word}
 use Rattle.scq_band.specs.Numbers.{changed, empties}
-use Rattle.scq_band.specs.Buffers.{LiesIn}
+use Rattle.scq_band.specs.Buffers.{LiesIn, opening_of}
 use Rattle.scq_band.specs.Steps.{my, my_phase, loading}
 use Rattle.scq_band.specs.Seats.{IsAlone, at_phase}
 use Rattle.scq_band.proofs.RingLemmas.{tail_fits, word_low}
 use Rattle.scq_band.proofs.Grounds.{tail_location, threshold_location}
-use Rattle.scq_band.proofs.Outcomes.{may_load, may_phase, alone_at, alone_seated}
+use Rattle.scq_band.specs.Known.{Known}
+use Rattle.scq_band.proofs.Outcomes.{may_load, may_phase, alone_at, alone_seated, came_along}
 use Rattle.scq_band.proofs.Leaving.{saw_tail_low, saw_tail_high, ran_out, goes_round}
 use Rattle.scq_band.proofs.dequeue.is_over.Goals as goal
 
@@ -102,3 +103,29 @@ returns-clause-on g c high =
     let level = zero_level_is in
     goes_round Lie k c.load-tail.new.token.me c.count_down-2.new.token.me _ c.count_down-2.result r h v (ap my_phase seen)
     (alone_at v w (AtD10 r h false) c.requires.alone seen) seen (omega arith) c.count_down-2.ensures.turned
+
+pub returns-then-tail-ticket-clause-last : goal.returns-then-tail-ticket-clause-last
+returns-then-tail-ticket-clause-last g c over =
+    let k = c.args.words.now.key.setup in
+    let Lie = LiesIn g.B.Buffer.contents g.B.Buffer.IsSameBuffer c.args.words.now.key.given.value.items in
+    let r = c.args.ring.number in
+    let h = c.args.ticket in
+    let x = c.load-tail.result in
+    let is = ap (loading (ring_of_word k c.args.ring.tail)) c.requires.given_up in
+    let seen = saw_tail_low Lie k c.args.token.now.me c.load-tail.new.token.me _ x r h is c.requires.alone c.if-tail-ticket.true c.load-tail.ensures.turned in
+    came_along k (opening_of g.B.Buffer.contents c.args.words.now.key.given.value.items) (my c.args.token.now.me.0).part.calls
+    (my c.catch_up.new.token.me.0).part.calls (my c.count_down.new.token.me.0) c.count_down.new.token.me.0.numbers
+    (ap (λ (v : Known). (my v).part.calls) c.catch_up.ensures.caught_up ∙ ap (λ (v : Known). (my v).part.calls) seen) c.count_down.ensures.last
+
+pub returns-clause-last : goal.returns-clause-last
+returns-clause-last g c over =
+    let k = c.args.words.now.key.setup in
+    let Lie = LiesIn g.B.Buffer.contents g.B.Buffer.IsSameBuffer c.args.words.now.key.given.value.items in
+    let r = c.args.ring.number in
+    let h = c.args.ticket in
+    let is = ap (loading (ring_of_word k c.args.ring.tail)) c.requires.given_up in
+    let seen = saw_tail_high Lie k c.args.token.now.me c.load-tail.new.token.me _ c.load-tail.result r h is c.requires.alone c.if-tail-ticket.false
+    c.load-tail.ensures.turned in
+    came_along k (opening_of g.B.Buffer.contents c.args.words.now.key.given.value.items) (my c.args.token.now.me.0).part.calls
+    (my c.load-tail.new.token.me.0).part.calls (my c.count_down-2.new.token.me.0) c.count_down-2.new.token.me.0.numbers
+    (ap (λ (v : Known). (my v).part.calls) seen) c.count_down-2.ensures.last

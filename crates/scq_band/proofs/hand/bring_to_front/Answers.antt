@@ -1,36 +1,71 @@
-use Rattle.std.proofs.Common.{◌≡◌, ◌<◌, ◌-◌, ℕ, List, length, ◌∙◌, ap, subst, sym, arith}
+use Rattle.std.proofs.Common.{◌≡◌, ◌≢◌, ◌+◌, ◌-◌, ◌<◌, length, refl, subst, sym, ◌∙◌, ap, arith, ℕ, List}
 use Rattle.std.specs.Prelude.{vec_len, slice_index_or}
-use Rattle.scq_band.specs.Kept.{in_order, IsRotation}
+use Rattle.scq_law.specs.Hands.{times}
+use Rattle.scq_band.specs.Steps.{front_index}
 use Rattle.scq_band.specs.declared.slot.Slot.{Slot}
-use Rattle.scq_band.proofs.Slots.{one_turn, turns_to}
+use Rattle.scq_band.proofs.Slots.{Sought, sought_first, sought_next, sought_hand, sought_rotated}
 use Rattle.scq_band.proofs.hand.bring_to_front.Goals as goal
 
-pub loop-hand-smaller : goal.loop-hand-smaller
-loop-hand-smaller g c =
-    let slots = c.loop-hand.token.me.1 in
-    let hand = c.loop-hand.hand.items in
-    let whole : vec_len c.loop-hand.hand ≡ length hand = let ok = c.loop-hand.hand.ok in omega (arith, ok) in
-    let top : c.index.result.now ≡ slice_index_or hand (vec_len c.loop-hand.hand - 1) c.index.result.now =
-    c.index.ensures ∙ ap (λ n. slice_index_or hand (n - 1) c.index.result.now) c.len.ensures in
-    let t = one_turn c.args.index c.index.result.now (vec_len c.loop-hand.hand) c.args.token.now.me.1 slots hand c.rotate_right.new.self.items
-    c.loop-hand.invariant.1 c.loop-hand.invariant.2 c.loop-hand.invariant.3 whole top c.loop-hand-test.true c.rotate_right.ensures.items in
-    let now = ap (λ me. me.1) c.turn.ensures.2 in
-    subst (λ (ms : List (ℕ × Slot g.row.B.Denot)). turns_to c.args.index ms < turns_to c.args.index slots) (sym now) t.nearer
+pub deeper-init : goal.deeper-init
+deeper-init g c =
+    ((refl, refl, refl), sought_first c.args.index c.args.token.now.me.1 (subst (λ (l : List ℕ). 0 < times c.args.index l) c.requires.order c.requires.held))
 
-pub loop-hand-preserved : goal.loop-hand-preserved
-loop-hand-preserved g c =
-    let slots = c.loop-hand.token.me.1 in
-    let hand = c.loop-hand.hand.items in
-    let whole : vec_len c.loop-hand.hand ≡ length hand = let ok = c.loop-hand.hand.ok in omega (arith, ok) in
-    let top : c.index.result.now ≡ slice_index_or hand (vec_len c.loop-hand.hand - 1) c.index.result.now =
-    c.index.ensures ∙ ap (λ n. slice_index_or hand (n - 1) c.index.result.now) c.len.ensures in
-    let t = one_turn c.args.index c.index.result.now (vec_len c.loop-hand.hand) c.args.token.now.me.1 slots hand c.rotate_right.new.self.items
-    c.loop-hand.invariant.1 c.loop-hand.invariant.2 c.loop-hand.invariant.3 whole top c.loop-hand-test.true c.rotate_right.ensures.items in
-    let now = ap (λ me. me.1) c.turn.ensures.2 in
-    let own = c.loop-hand.invariant.0 in (
+pub overflow_sub-len-in-deeper : goal.overflow_sub-len-in-deeper
+overflow_sub-len-in-deeper g c =
+    let hand = c.args.hand.now in
+    let h = sought_hand c.args.index (vec_len hand) c.deeper.turns c.args.token.now.me.1 c.deeper.token.me.1 hand.items c.requires.order hand.ok.0 c.deeper.invariant.1 in
+    let low = h.low in
+    let len = c.len.ensures in
+    omega (arith, low, len)
+
+pub overflow_add-turns : goal.overflow_add-turns
+overflow_add-turns g c =
+    let hand = c.args.hand.now in
+    let h = sought_hand c.args.index (vec_len hand) c.deeper.turns c.args.token.now.me.1 c.deeper.token.me.1 hand.items c.requires.order hand.ok.0 c.deeper.invariant.1 in
+    let low = h.low in
+    let len = c.len.ensures in
+    let fits = c.len.type_inv in
+    omega (arith, low, len, fits)
+
+pub deeper-smaller : goal.deeper-smaller
+deeper-smaller g c =
+    let hand = c.args.hand.now in
+    let h = sought_hand c.args.index (vec_len hand) c.deeper.turns c.args.token.now.me.1 c.deeper.token.me.1 hand.items c.requires.order hand.ok.0 c.deeper.invariant.1 in
+    let low = h.low in
+    omega (arith, low)
+
+pub deeper-preserved : goal.deeper-preserved
+deeper-preserved g c =
+    let hand = c.args.hand.now in
+    let s = c.deeper.invariant.1 in
+    let own = c.deeper.invariant.0 in
+    let h = sought_hand c.args.index (vec_len hand) c.deeper.turns c.args.token.now.me.1 c.deeper.token.me.1 hand.items c.requires.order hand.ok.0 s in
+    let top : c.index.result.now ≡ s.first.0 =
+    c.index.ensures ∙ ap (λ n. slice_index_or hand.items (n - 1 - c.deeper.turns) c.index.result.now) c.len.ensures ∙ h.top c.index.result.now ∙ ap front_index s.now in
+    let away : s.first.0 ≢ c.args.index = λ e. c.deeper-test.true (top ∙ e) in
+    let now = ap (λ me. me.1) c.turn.ensures.2 in (
       (c.turn.ensures.0 ∙ own.0, c.turn.ensures.1 ∙ own.1, ap (λ me. me.0) c.turn.ensures.2 ∙ own.2),
-      subst (λ (ms : List (ℕ × Slot g.row.B.Denot)). IsRotation c.args.token.now.me.1 ms) (sym now) t.rotated,
-      t.order ∙ ap in_order (sym now),
-      t.there,
-      c.rotate_right.ensures.capacity ∙ c.loop-hand.invariant.4,
+      subst (λ (ms : List (ℕ × Slot g.row.B.Denot)). Sought c.args.index c.args.token.now.me.1 ms (c.deeper.turns + 1)) (sym now)
+          (sought_next c.args.index c.args.token.now.me.1 c.deeper.token.me.1 c.deeper.turns s away),
     )
+
+pub rotate_right-requires : goal.rotate_right-requires
+rotate_right-requires g c =
+    let hand = c.args.hand.now in
+    let h = sought_hand c.args.index (vec_len hand) c.deeper.turns c.args.token.now.me.1 c.deeper.token.me.1 hand.items c.requires.order hand.ok.0 c.deeper.invariant.1 in
+    let low = h.low in
+    omega (arith, low)
+
+pub returns-clause-order : goal.returns-clause-order
+returns-clause-order g c =
+    let hand = c.args.hand.now in
+    let h = sought_hand c.args.index (vec_len hand) c.deeper.turns c.args.token.now.me.1 c.deeper.token.me.1 hand.items c.requires.order hand.ok.0 c.deeper.invariant.1 in
+    c.rotate_right.ensures.items ∙ h.rotated
+
+pub returns-clause-first : goal.returns-clause-first
+returns-clause-first g c =
+    let hand = c.args.hand.now in
+    let h = sought_hand c.args.index (vec_len hand) c.deeper.turns c.args.token.now.me.1 c.deeper.token.me.1 hand.items c.requires.order hand.ok.0 c.deeper.invariant.1 in
+    sym (h.top c.index.result.now)
+    ∙ sym (c.index.ensures ∙ ap (λ n. slice_index_or hand.items (n - 1 - c.deeper.turns) c.index.result.now) c.len.ensures)
+    ∙ c.deeper-test.false

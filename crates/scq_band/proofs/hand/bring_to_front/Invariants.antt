@@ -1,15 +1,12 @@
-use Rattle.std.proofs.Common.{◌≡◌, ◌<◌}
-use Rattle.std.specs.Prelude.{vec_capacity}
-use Rattle.scq_law.specs.Hands.{times}
-use Rattle.scq_band.specs.Kept.{in_order, IsRotation}
-use Rattle.scq_band.proofs.Slots.{turns_to}
+use Rattle.std.proofs.Common.{◌≡◌, ◌-◌}
+use Rattle.std.specs.Prelude.{vec_len}
+use Rattle.scq_band.proofs.Slots.{Sought}
 use Rattle.scq_band.proofs.hand.bring_to_front.Given as goal
 
-abbrev pub invariant-loop-hand : goal.invariant-loop-hand
-invariant-loop-hand g l =
+abbrev pub invariant-deeper : goal.invariant-deeper
+invariant-deeper g l =
     ((l.token.table_id ≡ l.fn.token.table_id) × (l.token.id ≡ l.fn.token.id) × (l.token.me.0 ≡ l.fn.token.me.0))
-    × IsRotation l.fn.token.me.1 l.token.me.1 × (l.hand.items ≡ in_order l.token.me.1) × (0 < times l.index l.hand.items)
-    × (vec_capacity l.hand ≡ vec_capacity l.fn.hand)
+    × Sought l.fn.index l.fn.token.me.1 l.token.me.1 l.turns
 
-abbrev pub decreases-loop-hand : goal.decreases-loop-hand
-decreases-loop-hand g l = turns_to l.index l.token.me.1
+abbrev pub decreases-deeper : goal.decreases-deeper
+decreases-deeper g l = vec_len l.fn.hand - l.turns

@@ -16,7 +16,7 @@ split_seat-requires g c =
     let n = c.requires.some.0 in (
       c.requires.own.0,
       c.requires.words,
-      peels Lie k.setup c.args.rest.now.id c.args.rest.now.me.0 (record { number = n; part = idle_part; retired = None; home = [] }) (first_members n)
+      peels Lie k.setup c.args.rest.now.id c.args.rest.now.me.0 (record { number = n; part = idle_part; retired = None; brought = [] }) (first_members n)
           (ap (λ (v : Known). v.seats) c.requires.some.1),
     )
 

@@ -1,5 +1,5 @@
 use Rattle.std.proofs.Common.{◌∙◌, ap}
-use Rattle.scq_band.specs.declared.tests.Heap.{Heap}
+use Rattle.scq_band.specs.declared.heap.Heap.{Heap}
 use Rattle.scq_band.specs.Standing.{Standing, in_hand}
 use Rattle.scq_band.proofs.Starting.{in_hand-come}
 use Rattle.scq_band.proofs.tests.moved.Goals as goal

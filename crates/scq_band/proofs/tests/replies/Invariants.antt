@@ -1,5 +1,5 @@
 use Rattle.std.proofs.Common.{◌≡◌, All}
-use Rattle.scq_band.specs.declared.tests.Heap.{Heap}
+use Rattle.scq_band.specs.declared.heap.Heap.{Heap}
 use Rattle.scq_band.specs.Standing.{Standing}
 use Rattle.scq_band.proofs.tests.replies.Given as goal
 

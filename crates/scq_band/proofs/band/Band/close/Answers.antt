@@ -58,6 +58,16 @@ returns-clause-gets g c =
     c.args.seats.items words items c.self.view_is c.close_with-closed.ensures.values.2 c.gather-all.ensures.all seats c.self.invariant.given in
     e.gets
 
+pub returns-clause-put_once : goal.returns-clause-put_once
+returns-clause-put_once g c =
+    let table = c.self.inside.table.shared in
+    let words = slots_items c.close_with-closed.result.words in
+    let items = slots_items c.close_with-closed.result.slots in
+    let seats : length c.args.seats.items ≡ c.args.self.setup.seats = omega (arith, c.args.seats.ok, c.requires.all) in
+    let e = ended g.B.Buffer.contents g.B.Buffer.IsSameBuffer table.table_id table.key c.args.self c.gather-all.result.id c.gather-all.result.me.0
+    c.args.seats.items words items c.self.view_is c.close_with-closed.ensures.values.2 c.gather-all.ensures.all seats c.self.invariant.given in
+    e.put_once
+
 pub returns-clause-once : goal.returns-clause-once
 returns-clause-once g c =
     let table = c.self.inside.table.shared in

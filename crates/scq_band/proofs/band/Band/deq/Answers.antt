@@ -4,12 +4,14 @@ use Rattle.scq_word.specs.declared.setup.Setup.{Setup}
 use Rattle.scq_word.specs.Sizes.{n_of}
 use Rattle.scq_band.specs.declared.numbers.Numbers.{Numbers}
 use Rattle.scq_band.specs.declared.dequeue.Without.TheVariants as without
-use Rattle.scq_band.specs.Buffers.{LiesIn}
+use Rattle.scq_core.specs.declared.ended.Ended.{Ended}
+use Rattle.scq_band.specs.Buffers.{LiesIn, opening_of}
 use Rattle.scq_band.specs.Numbers.{known_of, changed, sees, passes, drew, empties}
 use Rattle.scq_band.specs.Known.{Known}
 use Rattle.scq_band.specs.Seats.{HasGotAfter, nothing_at, drew_head}
-use Rattle.scq_band.specs.Standing.{Identity, Standing}
-use Rattle.scq_band.proofs.Keeping.{kept_got, got_standing, found_none, if_drawn, kept_none, none_standing, known_read, known_there, known_here}
+use Rattle.scq_band.specs.Steps.{my}
+use Rattle.scq_band.specs.Standing.{Identity, LastStep, Standing}
+use Rattle.scq_band.proofs.Keeping.{head_reached, kept_got, got_standing, found_none, if_drawn, kept_none, none_standing, known_read, known_there, known_here}
 use Rattle.scq_band.proofs.band.Band.deq.Goals as goal
 
 pub invariant_of-seat : goal.invariant_of-seat
@@ -153,4 +155,32 @@ returns-in-Nothing-clause-empty g c head is =
           let low_ticket = (c.dequeue-found.ensures.nothing_left t (found t drew_it)).1 in
           subst (λ (s : Setup). t < s.limit)
           (ap (λ (i : Identity g.row.B.Denot). i.setup) (c.self.view_is ∙ sym c.requires.seat)) low_ticket;
+      past =
+          λ t drew_it.
+          let it = ap (λ n. slice_get me.0.numbers n) c.ring.ensures.number ∙ known_there me.0.numbers r there in
+          let above = (c.dequeue-found.ensures.nothing_left t (found t drew_it)).2 (known_of me.0.numbers r) it in
+          subst (λ (ns : List Numbers). (known_of ns r).head ≤ t) (ap (λ (s : Standing g.row.B.Denot). s.numbers) c.seat.view_is) above;
     }
+
+pub returns-in-Nothing-clause-head : goal.returns-in-Nothing-clause-head
+returns-in-Nothing-clause-head g c head is =
+    let contents = g.B.Buffer.contents in
+    let key = c.self.inside.table.shared.key in
+    let v = c.dequeue-found.new.token.me.0 in
+    let r = c.args.ring in
+    let kept = invariant_of-seat-in-Nothing g c in
+    let low : r < length v.numbers =
+    let length_is = ap length (sym kept.numbers) in
+    let rings = kept.rings in
+    let same = ap (λ (i : Identity g.row.B.Denot). i.setup.rings) (ap (λ (s : Standing g.row.B.Denot). s.band) c.seat.view_is ∙ c.requires.seat) in
+    let ring = c.requires.ring in
+    omega (arith, length_is, rings, same, ring) in
+    let came = c.dequeue-found.ensures.last c.in-Nothing.drawn (c.in-Err.is ∙ ap (λ w. Err w) c.in-Nothing.is) in
+    let here = head_reached key.setup (opening_of contents key.given.value.items) _ (my v) v.numbers r head came low
+    (returns-in-Nothing-clause-empty g c head is).known in
+    let of_seat : (last : LastStep key.setup (opening_of contents key.given.value.items) (my v).number c.args.seat.now.calls (my v).part.calls)
+    × (head ≤ last.next.cells.head r) =
+    subst (λ (calls : List Ended). (last : LastStep key.setup (opening_of contents key.given.value.items) (my v).number calls (my v).part.calls)
+    × (head ≤ last.next.cells.head r)) (ap (λ (s : Standing g.row.B.Denot). s.calls) c.seat.view_is) here in
+    subst (λ (i : Identity g.row.B.Denot). (last : LastStep i.setup (opening_of contents i.given) (my v).number c.args.seat.now.calls (my v).part.calls)
+    × (head ≤ last.next.cells.head r)) c.self.view_is of_seat

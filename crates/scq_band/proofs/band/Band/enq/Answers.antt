@@ -14,7 +14,7 @@ use Rattle.scq_band.specs.Steps.{my, front_bytes}
 use Rattle.scq_band.specs.Seats.{put_at, spent_at}
 use Rattle.scq_band.specs.Standing.{Identity, Standing, in_hand}
 use Rattle.scq_band.specs.Kept.{in_order, IsKept}
-use Rattle.scq_band.proofs.Slots.{take_all, holds_times}
+use Rattle.scq_band.proofs.Slots.{take_front, holds_times}
 use Rattle.scq_band.proofs.Exchanging.{held, brought, kept_turned}
 use Rattle.scq_band.proofs.Keeping.{kept_put, kept_still, put_standing, spent_standing, fronts, known_read, known_there}
 use Rattle.scq_band.proofs.band.Band.enq.Goals as goal
@@ -91,7 +91,7 @@ invariant_of-seat g c =
     let size : vec_len c.bring_to_front.new.hand - 1 ≡ length (in_order b.others) =
     let l = ap length full ∙ length-append (in_order b.others) (c.args.index ∷ []) in omega (arith, whole, l) in
     c.pop.ensures.rest ∙ ap (λ (l : List ℕ). take (vec_len c.bring_to_front.new.hand - 1) l) full
-    ∙ ap (λ k. take k (in_order b.others ++ c.args.index ∷ [])) size ∙ take_all (in_order b.others) c.args.index in
+    ∙ ap (λ k. take k (in_order b.others ++ c.args.index ∷ [])) size ∙ take_front (in_order b.others) (c.args.index ∷ []) in
     let turned_so = kept_turned Same key me v ms c.seat.inside.hand.items c.bring_to_front.new.hand.items _ (vec_capacity c.bring_to_front.new.hand) _ _
     c.seat.invariant c.bring_to_front.ensures.own.2 turned c.bring_to_front.ensures.order c.bring_to_front.ensures.room in
     let front = subst (λ (l : List (ℕ × Slot g.row.B.Denot)). IsKept Same key (v, l) c.bring_to_front.new.hand.items (vec_capacity c.bring_to_front.new.hand)
