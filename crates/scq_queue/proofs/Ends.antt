@@ -6,6 +6,7 @@ use Rattle.std.proofs.lemmas.Bool.{cases_eq}
 use Rattle.std.proofs.lemmas.List.{length-append, length-map}
 use Rattle.std.proofs.lemmas.List.Elements.{All-map}
 use Rattle.std.proofs.lemmas.List.Sums.{sum_by-cons}
+use Rattle.std.proofs.Math.Dec.{eqb-suc-zero}
 use Rattle.scq_core.specs.declared.ended.Ended.{Ended}
 use Rattle.scq_core.specs.declared.ended.Ended.TheVariants.{Done, Got, Nothing, Spent}
 use Rattle.scq_word.specs.declared.setup.Setup.{Setup}
@@ -13,14 +14,13 @@ use Rattle.scq_law.specs.Hands.{times}
 use Rattle.scq_law.specs.Bounds.{tally, openings}
 use Rattle.scq_law.specs.Kept.{was_done, was_got}
 use Rattle.scq_band.specs.declared.numbers.Numbers.{Numbers}
-use Rattle.scq_band.specs.Numbers.{known_of}
 use Rattle.scq_band.specs.Standing.{Identity, Standing, IsAsGiven}
 use Rattle.scq_band.specs.Closing as band
 use Rattle.scq_band.proofs.ClosedRecords.{map_back, map_on}
 use Rattle.scq_band.proofs.Slots.{times-append}
 use Rattle.scq_queue.specs.Lists.{Placed, sent_by, taken_by, sends_of, takes_of, on_topic, fulls_in}
 use Rattle.scq_queue.specs.Passes.{PassStanding, HeldStanding}
-use Rattle.scq_queue.specs.Closing.{records_of, all_held, WasSent, WasTaken, IsTake, EachTakeIsASend, NoPlaceIsTakenTwice, sends_on, takes_on, IsBalance, EachSendPassedIsTaken, IsAllThere, AllFullsStand, AllRetiredWhereTold, AreTheHeld}
+use Rattle.scq_queue.specs.Closing.{records_of, all_held, WasSent, WasTaken, IsTake, EachTakeIsASend, NoPlaceIsSentTwice, NoPlaceIsTakenTwice, sends_on, takes_on, IsBalance, EachSendPassedIsTaken, IsAllThere, AllFullsStand, AllRetiredWhereTold, AreTheHeld}
 use Rattle.scq_queue.specs.Kept.{seat_of, value_of, AllGiven, FullsStand}
 use Rattle.scq_queue.proofs.Hands.{indices-all_lifted, lifted-all_lifted}
 use Rattle.scq_queue.proofs.Records.{came_by, gives_one, sent_call, taken_call, done_sent, got_taken}
@@ -103,12 +103,6 @@ images : {A B C : Type 0} (f : A → B) (g : B → C) (xs : List A) → map g (m
 images f g [] = refl
 images f g (x ∷ xs) = ap (λ l. g (f x) ∷ l) (images f g xs)
 
--- where a head is past a place, its ring is one that is known
-known_at : (numbers : List Numbers) (r place : ℕ) → place < (known_of numbers r).head → (x : Numbers) × (slice_get numbers r ≡ Some x) × (place < x.head)
-known_at [] r place low = absurd (omega (arith, low))
-known_at (x ∷ xs) zero place low = (x, refl, low)
-known_at (x ∷ xs) (suc r) place low = known_at xs r place low
-
 module _ {B : Type 0} where
   pub calls_are : (passes : List (PassStanding B)) → band.all_calls (map seat_of passes) ≡ records_of passes
   calls_are passes = images seat_of (λ (s : Standing B). s.calls) passes
@@ -176,23 +170,32 @@ module _ {B : Type 0} where
         let pass : p ≡ q = let left = first.1 in let right = second.1 in let seat = same.0 in
         let both : Some p ≡ Some q = sym left ∙ ap (slice_get passes) seat ∙ right in cc in
         let number : length (takes_of (take one.at p.calls)) ≡ length (takes_of (take other.at q.calls)) =
-        rw (pass, same.1) refl in
+        ap (λ (u : PassStanding B). length (takes_of (take one.at u.calls))) pass ∙ ap (λ (k : ℕ). length (takes_of (take k q.calls))) same.1 in
+        (same.0, one.before ∙ number ∙ sym other.before)
+
+    pub none_sent_twice : band.NoneIsPutTwice c opening (records_of passes) → NoPlaceIsSentTwice passes
+    none_sent_twice puts a x b y m n first second topic place =
+        let p = first.0 in
+        let q = second.0 in
+        let one = came_by sent_by p.calls x m first.2 in
+        let other = came_by sent_by q.calls y n second.2 in
+        let is_one = called passes a one.at p _ first.1 (one.is ∙ ap (λ (e : Ended). Some e) (sent_call one.call m one.gives)) in
+        let is_other : band.IsCall (records_of passes) b other.at (Done (suc m.topic) m.place n.bytes) = rw (topic, place)
+        (called passes b other.at q _ second.1 (other.is ∙ ap (λ (e : Ended). Some e) (sent_call other.call n other.gives))) in
+        let same = puts.once (suc m.topic) m.place m.bytes n.bytes a one.at b other.at is_one is_other in
+        let pass : p ≡ q = let left = first.1 in let right = second.1 in let seat = same.0 in
+        let both : Some p ≡ Some q = sym left ∙ ap (slice_get passes) seat ∙ right in cc in
+        let number : length (sends_of (take one.at p.calls)) ≡ length (sends_of (take other.at q.calls)) =
+        ap (λ (u : PassStanding B). length (sends_of (take one.at u.calls))) pass ∙ ap (λ (k : ℕ). length (sends_of (take k q.calls))) same.1 in
         (same.0, one.before ∙ number ∙ sym other.before)
 
     pub sends_passed : band.EachPutPassedIsGot c opening (records_of passes) (map (λ (p : PassStanding B). p.numbers) passes) → EachSendPassedIsTaken passes
     sends_passed passed m pass p sent its known =
-        ended_taken passes m (passed (suc m.topic) m.place m.bytes (inr (sent_ended passes m sent)) (is_passed p.numbers (suc m.topic) m.place known
-        (map_on (λ (q : PassStanding B). q.numbers) passes pass p its)))
-      where
-        is_passed : (numbers : List Numbers) (r place : ℕ) → place < (known_of numbers r).head
-            → slice_get (map (λ (q : PassStanding B). q.numbers) passes) pass ≡ Some numbers
-            → band.IsKnownPassed (map (λ (q : PassStanding B). q.numbers) passes) r place
-        is_passed numbers r place low at =
-            let ring = known_at numbers r place low in
-            record { seat = pass; numbers = numbers; its = at; ring = ring.0; at = ring.1; passed = ring.2 }
+        ended_taken passes m (passed (suc m.topic) m.place m.bytes (inr (sent_ended passes m sent))
+        (record { seat = pass; numbers = p.numbers; its = map_on (λ (q : PassStanding B). q.numbers) passes pass p its; passed = known }))
 
     no_opening : (t : ℕ) → openings c (suc t) ≡ 0
-    no_opening t = refl
+    no_opening t = rw (eqb-suc-zero t) refl
 
     pub balance_of : (left : List ℕ) → band.IsBalance c (records_of passes) left → IsBalance c passes left
     balance_of left is =

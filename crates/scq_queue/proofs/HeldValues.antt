@@ -143,7 +143,7 @@ module _ {B : Type 0} where
       → AreLifted later × ((fulls : List ℕ) → FoundNothing ring head (pass_over s fulls) (pass_over later fulls))
   found_nothing s later ring head lifted found = (
         (lifted_with later (indices_of s.hand) (ap (λ (t : Standing B). t.hand) found.seat ∙ lifted)).0,
-        λ fulls. record { drawn = found.drawn; pass = ap (λ (t : Standing B). pass_over t fulls) found.seat; known = found.known; below = found.below },
+        λ fulls. record { drawn = found.drawn; pass = ap (λ (t : Standing B). pass_over t fulls) found.seat; known = found.known; below = found.below; past = found.past },
       )
 
   pub get_spent : (s later : Standing B) (ring ticket : ℕ) → AreLifted s → later ≡ band.after_spent_get ring ticket s

@@ -1,5 +1,5 @@
--- What all passes say together once a queue is closed. A pass is told by its position among those that were given, a take by its
--- position among the takes of its pass.
+-- What all passes say together once a queue is closed. A pass is told by its position among those that were given, a send or a take by
+-- its position among those of its pass.
 use Rattle.std.specs.Prelude.{◌≡◌, ℕ, suc, ◌+◌, ◌<◌, ◌≤◌, List, map, length, Option, Some, slice_get, slice_index, sum, sum_by}
 use Rattle.scq_core.specs.declared.ended.Ended.{Ended}
 use Rattle.scq_word.specs.declared.setup.Setup.{Setup}
@@ -39,6 +39,11 @@ module _ {B : Type 0} where
   -- each take is a send of the same topic, place and bytes
   abbrev pub EachTakeIsASend : List (PassStanding B) → Type 0
   EachTakeIsASend passes = (m : Placed) → WasTaken passes m → WasSent passes m
+
+  -- no place of a topic was sent at twice
+  abbrev pub NoPlaceIsSentTwice : List (PassStanding B) → Type 0
+  NoPlaceIsSentTwice passes =
+      (a x b y : ℕ) (m n : Placed) → IsSend passes a x m → IsSend passes b y n → m.topic ≡ n.topic → m.place ≡ n.place → (a ≡ b) × (x ≡ y)
 
   -- no place of a topic was taken twice
   abbrev pub NoPlaceIsTakenTwice : List (PassStanding B) → Type 0

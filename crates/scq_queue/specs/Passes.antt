@@ -143,7 +143,9 @@ module _ {B : Type 0} where
     pub drawn : Option ℕ
     pub pass : new ≡ after_nothing ring drawn old
     pub known : head ≡ (known_of new.numbers ring).head
+    -- a ticket that was drawn is below the limit, and no lower than the head that was known
     pub below : (ticket : ℕ) → drawn ≡ Some ticket → ticket < old.queue.setup.limit
+    pub past : (ticket : ℕ) → drawn ≡ Some ticket → (known_of old.numbers ring).head ≤ ticket
 
   abbrev pub FoundEmpty : ℕ → ℕ → PassStanding B → PassStanding B → Type 0
   FoundEmpty topic head old new = FoundNothing (suc topic) head old new

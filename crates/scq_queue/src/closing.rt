@@ -5,7 +5,7 @@ ghost use Rattle.scq_band.specs.Closing.{AreTheSame, EachIsInOneHand, EachLeftIs
 ghost use Rattle.scq_band.specs.Buffers.{opening_of};
 ghost use Rattle.scq_queue.specs.Lists.{counts_of};
 ghost use Rattle.scq_queue.specs.Passes.{lists_of};
-ghost use Rattle.scq_queue.specs.Closing.{EachTakeIsASend, NoPlaceIsTakenTwice, IsBalance, EachSendPassedIsTaken, IsAllThere, AllFullsStand, EachKeptIsPastTheBound, AllRetiredWhereTold, AreTheHeld, records_of, all_held};
+ghost use Rattle.scq_queue.specs.Closing.{EachTakeIsASend, NoPlaceIsSentTwice, NoPlaceIsTakenTwice, IsBalance, EachSendPassedIsTaken, IsAllThere, AllFullsStand, EachKeptIsPastTheBound, AllRetiredWhereTold, AreTheHeld, records_of, all_held};
 ghost use Rattle.scq_queue.specs.Kept.{seat_of, value_of, AllGiven, FullsStand};
 
 use crate::counts::Counts;
@@ -82,7 +82,8 @@ impl<B: Buffer> Queue<B> {
         ensures counts { result.counts.items ≡ map (λ p. counts_of (lists_of p)) passes.items }
         ensures passes { result.passes.value.items ≡ passes.items }
         ensures takes { EachTakeIsASend passes.items }
-        ensures once { NoPlaceIsTakenTwice passes.items }
+        ensures sent_once { NoPlaceIsSentTwice passes.items }
+        ensures taken_once { NoPlaceIsTakenTwice passes.items }
         ensures balance { IsBalance self.setup passes.items result.left.items }
         ensures passed { EachSendPassedIsTaken passes.items }
         ensures all_there { IsAllThere self.setup held.items result.left.items }
