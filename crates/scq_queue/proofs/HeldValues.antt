@@ -142,16 +142,16 @@ module _ {B : Type 0} where
   pub found_nothing : (s later : Standing B) (ring head : ℕ) → AreLifted s → band.FoundEmpty ring head s later
       → AreLifted later × ((fulls : List ℕ) → FoundNothing ring head (pass_over s fulls) (pass_over later fulls))
   found_nothing s later ring head lifted found = (
-        (lifted_with later (indices_of s.hand) (ap (λ (t : Standing B). t.hand) found.seat ∙ lifted)).0,
-        λ fulls. record { drawn = found.drawn; pass = ap (λ (t : Standing B). pass_over t fulls) found.seat; known = found.known; below = found.below; past = found.past },
-      )
+    (lifted_with later (indices_of s.hand) (ap (λ (t : Standing B). t.hand) found.seat ∙ lifted)).0,
+    λ fulls. record { drawn = found.drawn; pass = ap (λ (t : Standing B). pass_over t fulls) found.seat; known = found.known; below = found.below; past = found.past },
+  )
 
   pub get_spent : (s later : Standing B) (ring ticket : ℕ) → AreLifted s → later ≡ band.after_spent_get ring ticket s
       → AreLifted later × ((fulls : List ℕ) → pass_over later fulls ≡ after_spent_get ring ticket (pass_over s fulls))
   get_spent s later ring ticket lifted is = (
-        (lifted_with later (indices_of s.hand) (ap (λ (t : Standing B). t.hand) is ∙ lifted)).0,
-        λ fulls. ap (λ (t : Standing B). pass_over t fulls) is,
-      )
+    (lifted_with later (indices_of s.hand) (ap (λ (t : Standing B). t.hand) is ∙ lifted)).0,
+    λ fulls. ap (λ (t : Standing B). pass_over t fulls) is,
+  )
 
   -- a get that was refused leaves the hand, and which seat it is
   pub refused : (s later : Standing B) (ring : ℕ) (refusal : DeqRefusal)

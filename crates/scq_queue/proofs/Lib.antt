@@ -4,3 +4,4 @@ mod HeldValues
 pub mod PassSteps
 mod NewPasses
 mod Ends
+mod HeldOnce

@@ -121,7 +121,7 @@ module _ {B : Type 0} where
         lifted = lifted;
         all_fulls =
             (let before = is.all_fulls in let one_more = ap fulls_in calls ∙ tally-append was_full s.calls (Nothing 0) in
-                let longer = ap length grown ∙ length-append heads (head ∷ []) in omega arith);
+            let longer = ap length grown ∙ length-append heads (head ∷ []) in omega arith);
         counted =
             ap (λ (n : ℕ). record counts { full = n }) (one ∙ ap (λ (c : Counts). min (c.full + 1) (2 ^ 64 - 1)) is.counted ∙ sym (length_more heads head))
             ∙ ap (λ (c : Counts). record c { full = counted (length (with_full head l).fulls) }) is.counted
@@ -135,9 +135,9 @@ module _ {B : Type 0} where
   refused_spent s later heads counts e adds is lifted drew kept =
       elim (cases_spent s.spent) [
         | inl none ↦ (
-              keeps_same s later heads counts e adds is lifted (drew none),
-              same_lists (pass_over s heads) (pass_over later heads) e adds (drew none) refl,
-            )
+          keeps_same s later heads counts e adds is lifted (drew none),
+          same_lists (pass_over s heads) (pass_over later heads) e adds (drew none) refl,
+        )
         | inr some ↦
             let same = kept some.0 some.1 in (
               subst (λ (t : Standing B). IsPass t heads counts) (sym same) is,

@@ -68,7 +68,12 @@ impl<B: Buffer> Queue<B> {
     ///
     /// Spent as with `lend`; the value comes back as it was.
     #[inline(always)]
-    pub fn send(&self, pass: &mut Pass<B>, topic: u32, held: Held<B>) -> Result<u64, (Held<B>, Spent)>
+    pub fn send(
+        &self,
+        pass: &mut Pass<B>,
+        topic: u32,
+        held: Held<B>,
+    ) -> Result<u64, (Held<B>, Spent)>
         requires pass { pass.old.queue ≡ self.now }
         requires topic { topic + 1 < self.now.setup.rings }
         requires held { IsHeldBy pass.old held }

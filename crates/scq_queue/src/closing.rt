@@ -27,11 +27,7 @@ pub struct Closed<B: Buffer> {
 }
 
 /// The seats of these passes and their counts, in their order, put into empty lists with room.
-fn unpack<B: Buffer>(
-    mut passes: Vec<Pass<B>>,
-    seats: &mut Vec<Seat<B>>,
-    counts: &mut Vec<Counts>,
-)
+fn unpack<B: Buffer>(mut passes: Vec<Pass<B>>, seats: &mut Vec<Seat<B>>, counts: &mut Vec<Counts>)
     requires empty { (seats.old.items ≡ []) × (counts.old.items ≡ []) }
     requires room { (vec_len passes ≤ vec_capacity seats.old) × (vec_len passes ≤ vec_capacity counts.old) }
     ensures seats { seats.new.items ≡ map seat_of passes.items }

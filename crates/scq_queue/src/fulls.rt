@@ -9,10 +9,7 @@ use std::snapshot::Snapshot;
 #[derive(Drop)]
 pub enum Fulls {
     Never,
-    After {
-        before: Snapshot<Fulls>,
-        head: u64,
-    },
+    After { before: Snapshot<Fulls>, head: u64 },
 }
 
 /// Full was never answered.

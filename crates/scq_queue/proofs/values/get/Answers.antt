@@ -10,8 +10,7 @@ use Rattle.scq_queue.proofs.values.get.Goals as goal
 
 pub lift-buffer-requires-clause-laid : goal.lift-buffer-requires-clause-laid
 lift-buffer-requires-clause-laid g c κs within =
-    let taken = c.in-Ok.ensures.got in
-    (
+    let taken = c.in-Ok.ensures.got in (
       taken.buffer,
       value_came g.B.Buffer.contents g.B.Buffer.IsSameBuffer c.args.seat.now c.deq.new.seat c.args.ring c.in-Ok.place c.in-Ok.index c.requires.lifted taken,
     )

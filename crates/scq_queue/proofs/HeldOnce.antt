@@ -1,0 +1,225 @@
+-- For the tests: what a pass holds after each call.
+use Rattle.std.proofs.Common.{◌≡◌, ◌≢◌, ◌⊎◌, ℕ, zero, suc, ◌+◌, ◌<◌, ◌≤◌, List, [], ◌∷◌, ◌++◌, length, map, refl, sym, ◌∙◌, ap, subst, inl, inr, arith, eq-eqb, ne_eqb}
+use Rattle.std.specs.Prelude.{All, Option, Some, None, Err, not, ◌==◌, filter, if◌then◌else◌, slice_get, sum_by}
+use Rattle.std.specs.List.{Contains}
+use Rattle.std.proofs.lemmas.Bool.{cases_eq}
+use Rattle.std.proofs.lemmas.List.{map-append}
+use Rattle.scq_word.specs.Sizes.{n_of}
+use Rattle.scq_law.specs.Hands.{times}
+use Rattle.scq_band.specs.Standing.{Identity}
+use Rattle.scq_band.proofs.SeatsHome.{contains_times}
+use Rattle.scq_band.proofs.Slots.{times-append}
+use Rattle.scq_queue.specs.declared.calls.LendRefusal.{LendRefusal}
+use Rattle.scq_queue.specs.declared.calls.LendRefusal.TheVariants.{Full, Spent as NoTicket}
+use Rattle.scq_queue.specs.declared.calls.TakeRefusal.{TakeRefusal}
+use Rattle.scq_queue.specs.declared.calls.TakeRefusal.TheVariants.{Empty, Spent}
+use Rattle.scq_queue.specs.Passes.{PassStanding, HeldStanding, IsHeldBy, FoundNothing, FoundFull, first_pass, without, after_put, after_get, after_spent_put, after_spent_get}
+use Rattle.scq_queue.specs.Closing.{AreTheHeld}
+use Rattle.scq_queue.specs.Trials.{AllOf, HoldsJust}
+use Rattle.scq_queue.proofs.Hands.{contains_last}
+use Rattle.scq_queue.proofs.HeldValues.{cases_spent}
+
+-- no index is held twice, once another came
+once_more : (held : List ℕ) (i : ℕ) → (Contains held i → ⊥) → ((j : ℕ) → times j held ≤ 1) → (j : ℕ) → times j (held ++ i ∷ []) ≤ 1
+once_more held i came once j =
+    let both = times-append j held (i ∷ []) in
+    elim (cases_eq i j) [
+      | inl same ↦
+          let one : times j (i ∷ []) ≡ 1 = rw (eq-eqb i j same) refl in
+          let none : times j held < 1 = below (times j held) (λ some. came (subst (λ (k : ℕ). Contains held k) (sym same) (contains_times held j some))) in
+          omega (arith, both, one, none)
+      | inr other ↦
+          let none : times j (i ∷ []) ≡ 0 = rw (ne_eqb i j other) refl in
+          let before = once j in
+          omega (arith, both, none, before)
+    ]
+  where
+    below : (n : ℕ) → (0 < n → ⊥) → n < 1
+    below zero nothing = omega arith
+    below (suc n) nothing = absurd (nothing (omega arith))
+
+-- what is held without its last, which is held once
+without_none : (held : List ℕ) (i : ℕ) → times i held ≡ 0 → without i held ≡ held
+without_none [] i none = refl
+without_none (x ∷ xs) i none =
+    elim (cases_eq x i) [
+      | inl same ↦ let one : 1 + times i xs ≡ 0 = rw (eq-eqb x i same) at none in absurd (omega arith)
+      | inr other ↦
+          let rest : 0 + times i xs ≡ 0 = rw (ne_eqb x i other) at none in
+          rw (ne_eqb x i other) (ap (λ (l : List ℕ). x ∷ l) (without_none xs i (omega (arith, rest))))
+    ]
+
+without-append : (xs : List ℕ) (i : ℕ) → without i (xs ++ i ∷ []) ≡ without i xs
+without-append [] i = rw (eq-eqb i i refl) refl
+without-append (x ∷ xs) i =
+    elim (cases_eq x i) [
+      | inl same ↦ rw (eq-eqb x i same) (without-append xs i)
+      | inr other ↦ rw (ne_eqb x i other) (ap (λ (l : List ℕ). x ∷ l) (without-append xs i))
+    ]
+
+last_left : (xs : List ℕ) (i : ℕ) → times i (xs ++ i ∷ []) ≤ 1 → without i (xs ++ i ∷ []) ≡ xs
+last_left xs i once =
+    let both = times-append i xs (i ∷ []) in
+    let one : times i (i ∷ []) ≡ 1 = rw (eq-eqb i i refl) refl in
+    without-append xs i ∙ without_none xs i (omega (arith, both, one, once))
+
+-- a list of one
+pub one_of : {A : Type 0} (xs : List A) (x y : A) → xs ++ x ∷ [] ≡ y ∷ [] → (xs ≡ []) × (x ≡ y)
+one_of [] x y e = let same : x ≡ y = cc in (refl, same)
+one_of (z ∷ []) x y e = absurd (cc)
+one_of (z ∷ w ∷ xs) x y e = absurd (cc)
+
+module _ {B : Type 0} where
+  indices : List (HeldStanding B) → List ℕ
+  indices values = map (λ (h : HeldStanding B). h.index) values
+
+  all-append : (queue : Identity B) (number : ℕ) (values : List (HeldStanding B)) (h : HeldStanding B) → AllOf queue number values → h.queue ≡ queue
+      → h.pass ≡ number → AllOf queue number (values ++ h ∷ [])
+  all-append queue number [] h all own is = (own, is, tt)
+  all-append queue number (v ∷ values) h all own is = (all.0, all.1, all-append queue number values h all.2 own is)
+
+  all_but_last : (queue : Identity B) (number : ℕ) (values : List (HeldStanding B)) (h : HeldStanding B) → AllOf queue number (values ++ h ∷ [])
+      → AllOf queue number values × (h.queue ≡ queue) × (h.pass ≡ number)
+  all_but_last queue number [] h all = (tt, all.0, all.1)
+  all_but_last queue number (v ∷ values) h all =
+      let rest = all_but_last queue number values h all.2 in
+      ((all.0, all.1, rest.0), rest.1, rest.2)
+
+  pub holds_more : (queue : Identity B) (old new : PassStanding B) (values : List (HeldStanding B)) (h : HeldStanding B) (ring place : ℕ) (w : List ℕ)
+      → HoldsJust queue old values → new ≡ after_get ring h.index place w old → IsHeldBy new h → (Contains old.held h.index → ⊥)
+      → HoldsJust queue new (values ++ h ∷ [])
+  holds_more queue old new values h ring place w before is held came =
+      let own : new.queue ≡ queue = ap (λ (p : PassStanding B). p.queue) is ∙ before.own in
+      let now : new.held ≡ old.held ++ h.index ∷ [] = ap (λ (p : PassStanding B). p.held) is in
+      let number : new.number ≡ old.number = ap (λ (p : PassStanding B). p.number) is in
+      record {
+        own = own;
+        awake = ap (λ (p : PassStanding B). p.retired) is ∙ before.awake;
+        same =
+            map-append (λ (v : HeldStanding B). v.index) values (h ∷ []) ∙ ap (λ (l : List ℕ). l ++ h.index ∷ []) before.same ∙ sym now;
+        all =
+            subst (λ (k : ℕ). AllOf queue k (values ++ h ∷ [])) (sym number)
+            (all-append queue old.number values h before.all (held.queue ∙ own) (held.pass ∙ number));
+        once = subst (λ (l : List ℕ). (j : ℕ) → times j l ≤ 1) (sym now) (once_more old.held h.index came before.once);
+      }
+
+  -- the last of the values is held by the pass
+  pub last_held : (queue : Identity B) (p : PassStanding B) (values : List (HeldStanding B)) (h : HeldStanding B) → HoldsJust queue p (values ++ h ∷ [])
+      → IsHeldBy p h
+  last_held queue p values h before =
+      let last = all_but_last queue p.number values h before.all in
+      record {
+        queue = last.1 ∙ sym before.own;
+        pass = last.2;
+        holds =
+            subst (λ (l : List ℕ). Contains l h.index) (sym (map-append (λ (v : HeldStanding B). v.index) values (h ∷ [])) ∙ before.same)
+            (contains_last (map (λ (v : HeldStanding B). v.index) values) h.index);
+      }
+
+  pub holds_less : (queue : Identity B) (old new : PassStanding B) (values : List (HeldStanding B)) (h : HeldStanding B) (ring place : ℕ) (w : List ℕ)
+      → HoldsJust queue old (values ++ h ∷ []) → new ≡ after_put ring h.index place w old → HoldsJust queue new values
+  holds_less queue old new values h ring place w before is =
+      let list : List ℕ = map (λ (v : HeldStanding B). v.index) values in
+      let was : old.held ≡ list ++ h.index ∷ [] = sym before.same ∙ map-append (λ (v : HeldStanding B). v.index) values (h ∷ []) in
+      let once = subst (λ (l : List ℕ). (j : ℕ) → times j l ≤ 1) was before.once in
+      let now : new.held ≡ list = ap (λ (p : PassStanding B). p.held) is ∙ ap (without h.index) was ∙ last_left list h.index (once h.index) in
+      let number : new.number ≡ old.number = ap (λ (p : PassStanding B). p.number) is in
+      record {
+        own = ap (λ (p : PassStanding B). p.queue) is ∙ before.own;
+        awake = ap (λ (p : PassStanding B). p.retired) is ∙ before.awake;
+        same = sym now;
+        all = subst (λ (k : ℕ). AllOf queue k values) (sym number) (all_but_last queue old.number values h before.all).0;
+        once =
+            λ j.
+            let both = times-append j list (h.index ∷ []) in
+            let before_j = once j in
+            subst (λ (l : List ℕ). times j l ≤ 1) (sym now) (omega (arith, both, before_j));
+      }
+
+  -- a pass that holds the same
+  pub record IsAlike (old new : PassStanding B) : Type 0 where
+    pub queue : new.queue ≡ old.queue
+    pub number : new.number ≡ old.number
+    pub held : new.held ≡ old.held
+    pub retired : new.retired ≡ old.retired
+
+  same_as : (old new t : PassStanding B) → new ≡ t → IsAlike old t → IsAlike old new
+  same_as old new t is keeps = subst (λ (p : PassStanding B). IsAlike old p) (sym is) keeps
+
+  -- a pass whose call was refused holds what it held
+  pub lend_refused : (old new : PassStanding B) (refusal : LendRefusal) → ((head : ℕ) → refusal ≡ Full head → FoundFull head old new)
+      → ((ticket : ℕ) → refusal ≡ NoTicket ticket → old.spent ≡ None → new ≡ after_spent_get 0 ticket old)
+      → ((ticket : ℕ) → old.spent ≡ Some ticket → new ≡ old) → IsAlike old new
+  lend_refused old new (Full head) full spent kept =
+      same_as old new _ (full head refl).pass (record { queue = refl; number = refl; held = refl; retired = refl })
+  lend_refused old new (NoTicket ticket) full spent kept =
+      elim (cases_spent old.spent) [
+        | inl none ↦ same_as old new _ (spent ticket refl none) (record { queue = refl; number = refl; held = refl; retired = refl })
+        | inr some ↦ same_as old new old (kept some.0 some.1) (record { queue = refl; number = refl; held = refl; retired = refl })
+      ]
+
+  pub take_refused : (topic : ℕ) (old new : PassStanding B) (refusal : TakeRefusal) → ((head : ℕ) → refusal ≡ Empty head → FoundNothing (suc topic) head old new)
+      → ((ticket : ℕ) → refusal ≡ Spent ticket → old.spent ≡ None → new ≡ after_spent_get (suc topic) ticket old)
+      → ((ticket : ℕ) → old.spent ≡ Some ticket → new ≡ old) → IsAlike old new
+  take_refused topic old new (Empty head) empty spent kept =
+      same_as old new _ (empty head refl).pass (record { queue = refl; number = refl; held = refl; retired = refl })
+  take_refused topic old new (Spent ticket) empty spent kept =
+      elim (cases_spent old.spent) [
+        | inl none ↦ same_as old new _ (spent ticket refl none) (record { queue = refl; number = refl; held = refl; retired = refl })
+        | inr some ↦ same_as old new old (kept some.0 some.1) (record { queue = refl; number = refl; held = refl; retired = refl })
+      ]
+
+  pub put_refused : (ring ticket : ℕ) (old new : PassStanding B) → (old.spent ≡ None → new ≡ after_spent_put ring ticket old)
+      → ((kept : ℕ) → old.spent ≡ Some kept → new ≡ old) → IsAlike old new
+  put_refused ring ticket old new spent kept =
+      elim (cases_spent old.spent) [
+        | inl none ↦ same_as old new _ (spent none) (record { queue = refl; number = refl; held = refl; retired = refl })
+        | inr some ↦ same_as old new old (kept some.0 some.1) (record { queue = refl; number = refl; held = refl; retired = refl })
+      ]
+
+  pub holds_same : (queue : Identity B) (old new : PassStanding B) (values : List (HeldStanding B)) → HoldsJust queue old values → IsAlike old new
+      → HoldsJust queue new values
+  holds_same queue old new values before is =
+      record {
+        own = is.queue ∙ before.own;
+        awake = is.retired ∙ before.awake;
+        same = before.same ∙ sym is.held;
+        all = subst (λ (k : ℕ). AllOf queue k values) (sym is.number) before.all;
+        once = subst (λ (l : List ℕ). (j : ℕ) → times j l ≤ 1) (sym is.held) before.once;
+      }
+
+  all_at : (queue : Identity B) (number : ℕ) (values : List (HeldStanding B)) → AllOf queue number values → (k : ℕ) (h : HeldStanding B)
+      → slice_get values k ≡ Some h → h.queue ≡ queue
+  all_at queue number [] all k h e = absurd (cc)
+  all_at queue number (v ∷ values) all zero h e = let same : v ≡ h = cc in subst (λ (u : HeldStanding B). u.queue ≡ queue) same all.0
+  all_at queue number (v ∷ values) all (suc k) h e = all_at queue number values all.2 k h e
+
+  -- the values of the one pass of a queue
+  pub held_alone : (queue : Identity B) (p : PassStanding B) (values : List (HeldStanding B)) → HoldsJust queue p values → length values ≤ n_of queue.setup.order
+      → AreTheHeld queue (p ∷ []) values
+  held_alone queue p values before few =
+      record {
+        queue_of = all_at queue p.number values before.all;
+        few = few;
+        all = λ i. ap (times i) before.same ∙ (omega arith);
+      }
+
+  -- a new pass holds nothing
+  pub holds_first : (queue : Identity B) → HoldsJust queue (first_pass queue 0) []
+  holds_first queue = record { own = refl; awake = refl; same = refl; all = tt; once = λ i. omega arith }
+
+  -- the last value with other bytes
+  pub holds_written : (queue : Identity B) (p : PassStanding B) (values : List (HeldStanding B)) (h v : HeldStanding B) → HoldsJust queue p (values ++ h ∷ [])
+      → v.queue ≡ h.queue → v.pass ≡ h.pass → v.index ≡ h.index → HoldsJust queue p (values ++ v ∷ [])
+  holds_written queue p values h v before same_queue same_pass same_index =
+      let last = all_but_last queue p.number values h before.all in
+      record {
+        own = before.own;
+        awake = before.awake;
+        same =
+            map-append (λ (u : HeldStanding B). u.index) values (v ∷ [])
+            ∙ ap (λ (i : ℕ). map (λ (u : HeldStanding B). u.index) values ++ i ∷ []) same_index
+            ∙ sym (map-append (λ (u : HeldStanding B). u.index) values (h ∷ [])) ∙ before.same;
+        all = all-append queue p.number values v last.0 (same_queue ∙ last.1) (same_pass ∙ last.2);
+        once = before.once;
+      }
