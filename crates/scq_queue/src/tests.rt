@@ -439,3 +439,93 @@ fn a_queue_closes_with_what_is_left_and_held(rt: HostRuntime) -> Result<(), Fail
 fn a_spent_ticket_is_kept(rt: HostRuntime) -> Result<(), Fail> {
     run_new(&rt, 16, SPENT, [1, 0], [0, 0, 0])
 }
+
+/// A queue of order 1 with one topic and two passes, over tagged buffers.
+fn made_two(alloc: Global) -> Result<(Queue<Tagged>, Vec<Pass<Tagged>>), Fail>
+    ensures setup { IfOk result (λ made. (made.0.setup.order ≡ 1) × (made.0.setup.rings ≡ 2) × (made.0.setup.seats ≡ 2)) }
+    ensures passes { IfOk result (λ made. made.1.items ≡ first_passes made.0 2) }
+{
+    let setup = Setup::new(1, 2, 2, 1 << 60)?;
+    let mut buffers = Vec::with_capacity(alloc, 2)?;
+    for tag in 10..12 {
+        buffers.push(Tagged {
+            tag,
+            bytes: vec![in alloc; b'a'; 1]?,
+        })?;
+    }
+    if buffers.len() != 2 {
+        return Err(Fail::from("not two buffers"));
+    }
+    match Queue::make(alloc, setup, buffers) {
+        Ok(made) => Ok(made),
+        Err(_) => Err(Fail::from("no memory")),
+    }
+}
+
+/// One pass sends and tells the other, which takes at the place that it learned of; then both retire. Closes with the value held.
+fn run_two<B: Buffer + Drop>(
+    rt: &(impl Abort + AllocGlobal),
+    queue: Queue<B>,
+    mut passes: Vec<Pass<B>>,
+    mut own_values: Vec<Held<B>>,
+    mut values: Vec<Held<B>>,
+) -> Closed<B>
+    requires setup { (queue.setup.order ≡ 1) × (queue.setup.rings ≡ 2) × (queue.setup.seats ≡ 2) }
+    requires passes { passes.items ≡ first_passes queue 2 }
+    requires own_values { (own_values.items ≡ []) × (1 ≤ vec_capacity own_values) }
+    requires values { (values.items ≡ []) × (1 ≤ vec_capacity values) }
+{
+    let Some(mut second) = passes.pop() else {
+        unreachable!()
+    };
+    let Some(mut first) = passes.pop() else {
+        unreachable!()
+    };
+    assert!(rt; !queue.closed(&mut first));
+    let index = lent(&queue, &mut first, &mut own_values);
+    assert_eq!(rt; index, Ok(0));
+    let place = sent(&queue, &mut first, 0, &mut own_values);
+    assert_eq!(rt; place, Some(Ok(4)));
+    assert!(rt; own_values.is_empty());
+    own_values.destroy_empty();
+    let told = queue.note(&mut first);
+    let own = queue.note(&mut first);
+    let _dropped = queue.note(&mut first);
+    queue.learn(&mut first, own);
+    queue.retire(&mut first);
+    assert!(rt; !queue.closed(&mut first));
+    queue.learn(&mut second, told);
+    let place = took(&queue, &mut second, 0, &mut values);
+    assert_eq!(rt; place, Ok(4));
+    queue.retire(&mut second);
+    assert!(rt; queue.closed(&mut first));
+    assert!(rt; queue.closed(&mut second));
+    assert!(rt; values.len() <= 2);
+    passes.push_reserved(first);
+    passes.push_reserved(second);
+    queue.close(passes, values)
+}
+
+#[test]
+fn two_passes_tell_each_other(rt: HostRuntime) -> Result<(), Fail> {
+    let alloc = rt.alloc();
+    let own_values = Vec::with_capacity(alloc, 1)?;
+    let Ok(values) = Vec::with_capacity(alloc, 1) else {
+        own_values.destroy_empty();
+        return Err(Fail::from("no memory"));
+    };
+    let (queue, passes) = match made_two(alloc) {
+        Ok(made) => made,
+        Err(fail) => {
+            own_values.destroy_empty();
+            values.destroy_empty();
+            return Err(fail);
+        }
+    };
+    let closed = run_two(&rt, queue, passes, own_values, values);
+    assert_eq!(rt; closed.left.as_slice(), [1, 0].as_slice());
+    assert_eq!(rt; closed.buffers.len(), 2);
+    assert_eq!(rt; closed.buffers[0].tag, 10);
+    assert_eq!(rt; closed.buffers[1].tag, 11);
+    Ok(())
+}
