@@ -408,3 +408,19 @@ fn no_words_are_refused(rt: HostRuntime) -> Result<(), Fail> {
     );
     Ok(())
 }
+
+#[test]
+fn faults_say_what_they_are(rt: HostRuntime) -> Result<(), Fail> {
+    let rows = [
+        (
+            WordsError::Refused(WordsFault::TooManyFiles),
+            "more than 64 files",
+        ),
+        (WordsError::NoMemory, "out of memory"),
+    ];
+    for (fault, want) in rows.iter() {
+        let said = fault.to_string(rt.alloc())?;
+        assert_eq!(rt; said.as_str(), *want);
+    }
+    Ok(())
+}
