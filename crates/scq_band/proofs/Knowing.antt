@@ -1,9 +1,7 @@
 -- What each view knows is true of the words: the rule says it of the state, and the words show the state.
-use Rattle.std.proofs.Common.{◌≡◌, ℕ, ◌<◌, ◌≤◌, List, sym, subst}
-use Rattle.std.specs.Prelude.{slice_index}
+use Rattle.std.proofs.Common.{ℕ, ◌<◌, ◌≤◌, List, sym, subst}
 use Rattle.scq_word.specs.declared.setup.Setup.{Setup}
 use Rattle.scq_core.specs.Machine.{tail_of, head_of}
-use Rattle.scq_band.specs.Layout.{at}
 use Rattle.scq_band.specs.Knowing.{EachViewKnowsTruth}
 
 pub each_knows : {S : Type 0} (Lies : ℕ → S → List ℕ → Type 0) (opening : List (List ℕ)) (c : Setup) → EachViewKnowsTruth Lies opening c

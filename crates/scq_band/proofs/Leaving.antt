@@ -14,7 +14,7 @@ use Rattle.scq_band.specs.Known.{Known}
 use Rattle.scq_band.specs.Turns.{Turned}
 use Rattle.scq_band.specs.Steps.{my}
 use Rattle.scq_band.specs.Seats.{IsAlone, with_part, at_phase, seated, goes_to, nothing_at}
-use Rattle.scq_band.proofs.Outcomes.{goes_as, turned_as}
+use Rattle.scq_band.proofs.Outcomes.{goes_as}
 
 not_at_most : {a b : ℕ} → b < a → nat_le a b ≡ false
 not_at_most {a} {b} less = elim (cases_Bool (nat_le a b)) [ inl holds ↦ absurd (let le = leb-true a b holds in omega arith) | inr fails ↦ fails ]
@@ -47,20 +47,6 @@ module _ {S : Type 0} (Lies : ℕ → S → List ℕ → Type 0) (c : Setup) (me
   pub caught_up : (from to : ℕ) → turn ≡ AtD9 r h from to → IsAlone me.0 → to ≤ x → Turned Lies c turn me x later → later.0 ≡ goes_to (AtD10 r h true) me.0
   caught_up from to is alone high turned =
       goes_as Lies c turn (AtD9 r h from to) me later x (goes_on (AtD10 r h true) (my me.0).part) is alone (λ y. rw (le-leb to x high) refl) turned
-
-  pub behind_again : (from to : ℕ) → turn ≡ AtD9 r h from to → IsAlone me.0 → x < to → Turned Lies c turn me x later → later.0 ≡ goes_to (AtD7 r h x to) me.0
-  behind_again from to is alone low turned =
-      goes_as Lies c turn (AtD9 r h from to) me later x (goes_on (AtD7 r h x to) (my me.0).part) is alone (λ y. rw (not_at_most low) refl) turned
-
-  pub tail_rose : (from to : ℕ) → turn ≡ AtD9 r h from to → Turned Lies c turn me x later → from < x
-  tail_rose from to is turned = (turned_as Lies c turn (AtD9 r h from to) me later x is turned).found
-
-  -- a get that leaves ends with Nothing, with what it learned at Tail
-  pub left_over : (v : Known) → turn ≡ AtD10 r h true → IsAlone me.0 → me.0 ≡ seated (at_phase (AtD10 r h true) (my v)) (changed empties r v.numbers) v
-      → Turned Lies c turn me x later → later.0 ≡ nothing_at r v
-  left_over v is alone here turned =
-      goes_as Lies c turn (AtD10 r h true) me later x (ends (Nothing r) (my me.0).part) is alone (λ y. refl) turned
-      ∙ ap (λ (u : Known). seated (with_part (ends (Nothing r) (my u).part) (my u)) u.numbers u) here
 
   pub ran_out : (v : Known) → turn ≡ AtD10 r h false → IsAlone me.0 → me.0 ≡ goes_to (AtD10 r h false) v → x ≤ zero_level → Turned Lies c turn me x later
       → later.0 ≡ nothing_at r v

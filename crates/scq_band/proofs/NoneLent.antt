@@ -1,5 +1,5 @@
 -- A hand in which each index has its buffer: a get and a put leave it so.
-use Rattle.std.proofs.Common.{◌≡◌, ℕ, ◌+◌, arith, List, [], ◌∷◌, ◌++◌, refl, ◌∙◌, ap, eq-eqb, ne_eqb, inl, inr}
+use Rattle.std.proofs.Common.{◌≡◌, ℕ, arith, List, [], ◌∷◌, ◌++◌, refl, ◌∙◌, ap, eq-eqb, ne_eqb, inl, inr}
 use Rattle.std.specs.Prelude.{Some, None, Option, All, sum_by}
 use Rattle.std.proofs.lemmas.List.Elements.{All-head, All-tail}
 use Rattle.std.proofs.lemmas.List.Sums.{sum_by-cons}

@@ -60,17 +60,9 @@ may_load c v word t s alone phase reads able =
 pub alone_seated : (v later : Known) (x : Member) (numbers : List Numbers) → x.brought ≡ [] → later ≡ seated x numbers v → IsAlone later
 alone_seated v later x numbers out is = subst IsAlone (sym is) (record { seats = refl; out = out })
 
--- a view is that of its one seat at its phase
-pub stays_at : (v : Known) (t : Phase) → IsAlone v → my_phase v ≡ t → v ≡ goes_to t v
-stays_at v t alone phase =
-    ap (λ (xs : List Member). record v { seats = xs }) alone.seats ∙ ap (λ (u : Phase). goes_to u v) phase
-
 -- a seat that went on from another view stands alone, is where it went, and may go on
 pub alone_at : (v later : Known) (t : Phase) → IsAlone v → later ≡ goes_to t v → IsAlone later
 alone_at v later t alone is = alone_seated v later (at_phase t (my v)) v.numbers alone.out is
-
-pub then_goes : (v w later : Known) (t u : Phase) → w ≡ goes_to t v → later ≡ goes_to u w → later ≡ goes_to u v
-then_goes v w later t u first next = next ∙ ap (goes_to u) first
 
 pub may_phase : (c : Setup) (v : Known) (t : Phase) (s : Step) → IsAlone v → my_phase v ≡ t → turn_at c (my v).part.hand (my v).part.spent t s ≡ Some t
     → MayTurn c v (my_phase v)

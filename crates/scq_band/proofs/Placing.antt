@@ -1,38 +1,27 @@
 -- The loop of E2 to E4: the exchange hits, or the entry has a higher rank than any that was found before.
-use Rattle.std.proofs.Common.{◌≡◌, ◌≢◌, ◌⊎◌, ℕ, ◌-◌, ◌/◌, ◌^◌, ◌<◌, ◌≤◌, List, refl, ◌∙◌, subst, inl, inr, arith, eq-eqb, ne_eqb}
+use Rattle.std.proofs.Common.{◌≡◌, ◌≢◌, ◌⊎◌, ℕ, ◌-◌, ◌/◌, ◌^◌, ◌<◌, ◌≤◌, List, refl, subst, inl, inr, arith, ne_eqb}
 use Rattle.std.proofs.Math.Nat.{div-le_self}
-use Rattle.atomic_table.specs.Table.{Me, rest}
+use Rattle.atomic_table.specs.Table.{Me}
 use Rattle.scq_word.specs.declared.setup.Setup.{Setup}
 use Rattle.scq_word.specs.Sizes.{n_of}
 use Rattle.scq_word.specs.Words.{rank_in}
 use Rattle.scq_word.proofs.WordLemmas.{rank_in_range}
 use Rattle.scq_word.proofs.EntryLemmas.{cycle_in_fits}
 use Rattle.scq_core.specs.declared.phase.Phase.{Phase}
-use Rattle.scq_core.specs.declared.phase.Phase.TheVariants.{AtE2, AtE4, AtE5}
-use Rattle.scq_core.specs.Table.{ring_slots, goes_on, hand_without}
+use Rattle.scq_core.specs.declared.phase.Phase.TheVariants.{AtE2, AtE4}
+use Rattle.scq_core.specs.Table.{ring_slots, goes_on}
 use Rattle.scq_band.specs.Known.{Known}
 use Rattle.scq_band.specs.Turns.{Turned}
 use Rattle.scq_band.specs.Steps.{my, my_phase}
-use Rattle.scq_band.specs.Seats.{IsAlone, goes_to, placed_to, index_of, content_of}
+use Rattle.scq_band.specs.Seats.{IsAlone, goes_to, index_of, content_of}
 use Rattle.scq_band.proofs.Outcomes.{goes_as, turned_as}
 
 module _ {S : Type 0} (Lies : ℕ → S → List ℕ → Type 0) (c : Setup) (me later : Me S Known) (turn : Phase) (x r i : ℕ) (w : List ℕ) (t e : ℕ) where
-  pub saw_placed : turn ≡ AtE4 r i w t e → IsAlone me.0 → x ≡ e → Turned Lies c turn me x later → later.0 ≡ placed_to r i w t me.0
-  saw_placed is alone hit turned =
-      goes_as Lies c turn (AtE4 r i w t e) me later x (goes_on (AtE5 r i w t) (record (my me.0).part { hand = hand_without i (my me.0).part.hand })) is alone
-      (λ y. rw (eq-eqb x e hit) refl) turned
-
   pub saw_missed : turn ≡ AtE4 r i w t e → IsAlone me.0 → x ≢ e → Turned Lies c turn me x later
       → later.0 ≡ goes_to (AtE2 r i w t (rank_in (ring_slots c) x)) me.0
   saw_missed is alone miss turned =
       goes_as Lies c turn (AtE4 r i w t e) me later x (goes_on (AtE2 r i w t (rank_in (ring_slots c) x)) (my me.0).part) is alone
       (λ y. rw (ne_eqb x e miss) refl) turned
-
-  pub slots_placed : turn ≡ AtE4 r i w t e → x ≡ e → Turned Lies c turn me x later → later.1 ≡ rest me.1
-  slots_placed is hit turned = let u = turned_as Lies c turn (AtE4 r i w t e) me later x is turned in u.slots ∙ rw (eq-eqb x e hit) refl
-
-  pub slots_missed : turn ≡ AtE4 r i w t e → x ≢ e → Turned Lies c turn me x later → later.1 ≡ me.1
-  slots_missed is miss turned = let u = turned_as Lies c turn (AtE4 r i w t e) me later x is turned in u.slots ∙ rw (ne_eqb x e miss) refl
 
   pub missed_rises : turn ≡ AtE4 r i w t e → x ≢ e → Turned Lies c turn me x later → rank_in (ring_slots c) e < rank_in (ring_slots c) x
   missed_rises is miss turned =

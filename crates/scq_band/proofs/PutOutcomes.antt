@@ -1,6 +1,6 @@
 -- What E2 and E3 make of a seat in the middle of a put, by what the entry and Head were.
-use Rattle.std.proofs.Common.{◌≡◌, ℕ, ◌+◌, ◌<◌, Bool, true, false, ◌==◌, ◌&&◌, List, refl, sym, ◌∙◌, ap, subst, inl, inr, arith}
-use Rattle.std.specs.Prelude.{nat_lt, nat_le, is_some}
+use Rattle.std.proofs.Common.{◌≡◌, ℕ, ◌<◌, Bool, true, false, ◌==◌, ◌&&◌, List, refl, sym, ◌∙◌, ap, subst, inl, inr, arith}
+use Rattle.std.specs.Prelude.{nat_lt, is_some}
 use Rattle.std.specs.Cmp.Derive.{both_true}
 use Rattle.std.proofs.lemmas.Bool.{cases_Bool, lt-ltb}
 use Rattle.scq_word.specs.declared.entry.Entry.{Entry}
@@ -11,7 +11,7 @@ use Rattle.atomic_table.specs.Table.{Me}
 use Rattle.scq_word.specs.declared.setup.Setup.{Setup}
 use Rattle.scq_word.specs.Words.{safe_in, cycle_in, is_none_in}
 use Rattle.scq_core.specs.declared.phase.Phase.{Phase}
-use Rattle.scq_core.specs.declared.phase.Phase.TheVariants.{AtE1, AtE2, AtE3, AtE4}
+use Rattle.scq_core.specs.declared.phase.Phase.TheVariants.{AtE2, AtE3}
 use Rattle.scq_core.specs.Table.{ring_slots, cycle, goes_on}
 use Rattle.scq_band.specs.Known.{Known}
 use Rattle.scq_band.specs.Turns.{Turned}
@@ -24,30 +24,10 @@ abbrev pub takes_an_index : Setup → ℕ → ℕ → Bool
 takes_an_index c t x = nat_lt (cycle_in (ring_slots c) x) (cycle c t) && is_none_in (ring_slots c) x
 
 module _ {S : Type 0} (Lies : ℕ → S → List ℕ → Type 0) (c : Setup) (me later : Me S Known) (turn : Phase) (x r i : ℕ) (w : List ℕ) where
-  pub saw_passed : (t l : ℕ) → turn ≡ AtE2 r i w t l → IsAlone me.0 → takes_an_index c t x ≡ false → Turned Lies c turn me x later
-      → later.0 ≡ goes_to (AtE1 r i w (t + 1)) me.0
-  saw_passed t l is alone fails turned =
-      goes_as Lies c turn (AtE2 r i w t l) me later x (goes_on (AtE1 r i w (t + 1)) (my me.0).part) is alone (λ y. rw fails refl) turned
-
-  pub saw_room : (t l : ℕ) → turn ≡ AtE2 r i w t l → IsAlone me.0 → takes_an_index c t x ≡ true → (safe_in (ring_slots c) x == 1) ≡ true
-      → Turned Lies c turn me x later → later.0 ≡ goes_to (AtE4 r i w t x) me.0
-  saw_room t l is alone does safe turned =
-      goes_as Lies c turn (AtE2 r i w t l) me later x (goes_on (AtE4 r i w t x) (my me.0).part) is alone (λ y. rw (does, safe) refl) turned
-
   pub saw_unsafe : (t l : ℕ) → turn ≡ AtE2 r i w t l → IsAlone me.0 → takes_an_index c t x ≡ true → (safe_in (ring_slots c) x == 1) ≡ false
       → Turned Lies c turn me x later → later.0 ≡ goes_to (AtE3 r i w t x) me.0
   saw_unsafe t l is alone does unsafe turned =
       goes_as Lies c turn (AtE2 r i w t l) me later x (goes_on (AtE3 r i w t x) (my me.0).part) is alone (λ y. rw (does, unsafe) refl) turned
-
-  pub saw_head_past : (t e : ℕ) → turn ≡ AtE3 r i w t e → IsAlone me.0 → nat_le x t ≡ false → Turned Lies c turn me x later
-      → later.0 ≡ goes_to (AtE1 r i w (t + 1)) me.0
-  saw_head_past t e is alone fails turned =
-      goes_as Lies c turn (AtE3 r i w t e) me later x (goes_on (AtE1 r i w (t + 1)) (my me.0).part) is alone (λ y. rw fails refl) turned
-
-  pub saw_head_low : (t e : ℕ) → turn ≡ AtE3 r i w t e → IsAlone me.0 → nat_le x t ≡ true → Turned Lies c turn me x later
-      → later.0 ≡ goes_to (AtE4 r i w t e) me.0
-  saw_head_low t e is alone holds turned =
-      goes_as Lies c turn (AtE3 r i w t e) me later x (goes_on (AtE4 r i w t e) (my me.0).part) is alone (λ y. rw holds refl) turned
 
 -- what the running tests of an entry say of its word
 unset_index : (order x : ℕ) → is_some (index_of_word order x) ≡ false → is_none_in (slots_of order) x ≡ true

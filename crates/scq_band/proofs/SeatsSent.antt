@@ -23,10 +23,11 @@ use Rattle.scq_band.specs.contracts.seat.Seat.TheInside as inside
 use Rattle.scq_band.specs.contracts.view.View as view
 
 -- a snapshot owns nothing
-snapshot_sent : (Y : RattleType) → IsSend (snapshot.the_row Y)
+pub snapshot_sent : (Y : RattleType) → IsSend (snapshot.the_row Y)
 snapshot_sent Y = record { owned = λ d vs. ((λ vss. (tt, ((λ uss. (tt, tt)), tt))), tt); leaving = λ k f vs. tt }
 
-option_sent : (B : RattleType) → IsSend B → IsSend (option.the_row B)
+-- an option may, where its value may
+pub option_sent : (B : RattleType) → IsSend B → IsSend (option.the_row B)
 option_sent B sends =
     let T = option.the_type B in
     recorded_send (Enum (shape T)) T.D T.to T.to_one (enum_send (shape T) (tt, ((sends, tt), tt)))
@@ -34,10 +35,11 @@ option_sent B sends =
 slot_sent : (B : RattleType) → IsSend B → IsSend (slot.the_row B)
 slot_sent B sends = declared_send (slot.the_type B) (option_sent B sends, tt)
 
-u32_sent : IsSend u32
+-- a number may
+pub u32_sent : IsSend u32
 u32_sent = search sendable
 
-u64_sent : IsSend u64
+pub u64_sent : IsSend u64
 u64_sent = search sendable
 
 numbers_sent : IsSend numbers.the_row

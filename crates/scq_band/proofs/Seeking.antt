@@ -1,7 +1,6 @@
 -- The loop of D3 to D5: an index is taken, the ticket is given up, or the entry has a higher rank than any that was found.
-use Rattle.std.proofs.Common.{◌≡◌, ◌≢◌, ◌⊎◌, ℕ, ◌<◌, ◌≤◌, false, List, refl, ◌∙◌, ap, subst, inl, inr, arith, eq-eqb, ne_eqb, lt-ltb, ltb-true}
-use Rattle.std.specs.Prelude.{nat_lt}
-use Rattle.std.proofs.lemmas.Bool.{cases_Bool, cases_eq}
+use Rattle.std.proofs.Common.{◌≡◌, ◌≢◌, ◌⊎◌, ℕ, ◌<◌, ◌≤◌, List, refl, ◌∙◌, ap, subst, inl, inr, arith, eq-eqb, ne_eqb, lt-ltb}
+use Rattle.std.proofs.lemmas.Bool.{cases_eq}
 use Rattle.scq_word.specs.declared.entry.Entry.{Entry}
 use Rattle.scq_word.specs.Sizes.{slots_of}
 use Rattle.scq_word.specs.Tickets.{cycle_of}
@@ -10,7 +9,7 @@ use Rattle.atomic_table.specs.Table.{Me}
 use Rattle.scq_word.specs.declared.setup.Setup.{Setup}
 use Rattle.scq_word.specs.Words.{index_in, cycle_in, rank_in}
 use Rattle.scq_core.specs.declared.phase.Phase.{Phase}
-use Rattle.scq_core.specs.declared.phase.Phase.TheVariants.{AtD3, AtD4, AtD5, AtD6}
+use Rattle.scq_core.specs.declared.phase.Phase.TheVariants.{AtD3, AtD4, AtD5}
 use Rattle.scq_core.specs.Table.{ring_slots, cycle, goes_on}
 use Rattle.scq_band.specs.Known.{Known}
 use Rattle.scq_band.specs.Turns.{Turned, Takes, made}
@@ -35,20 +34,6 @@ module _ {S : Type 0} (Lies : ℕ → S → List ℕ → Type 0) (c : Setup) (me
   saw_earlier l is alone low turned =
       goes_as Lies c turn (AtD3 r h l) me later x (goes_on (AtD5 r h x) (my me.0).part) is alone (λ y. rw (ne_eqb _ _ (apart_low low), lt-ltb _ _ low) refl)
       turned
-
-  pub saw_later : (l : ℕ) → turn ≡ AtD3 r h l → IsAlone me.0 → cycle c h < cycle_in (ring_slots c) x → Turned Lies c turn me x later
-      → later.0 ≡ goes_to (AtD6 r h) me.0
-  saw_later l is alone high turned =
-      goes_as Lies c turn (AtD3 r h l) me later x (goes_on (AtD6 r h) (my me.0).part) is alone (λ y. rw (ne_eqb _ _ (apart_high high), not_less) refl) turned
-    where
-      not_less : nat_lt (cycle_in (ring_slots c) x) (cycle c h) ≡ false
-      not_less =
-          elim (cases_Bool (nat_lt (cycle_in (ring_slots c) x) (cycle c h)))
-          [ inl holds ↦ absurd (let lt = ltb-true _ _ holds in omega arith) | inr fails ↦ fails ]
-
-  pub passed_hit : (e : ℕ) → turn ≡ AtD5 r h e → IsAlone me.0 → x ≡ e → Turned Lies c turn me x later → later.0 ≡ goes_to (AtD6 r h) me.0
-  passed_hit e is alone hit turned =
-      goes_as Lies c turn (AtD5 r h e) me later x (goes_on (AtD6 r h) (my me.0).part) is alone (λ y. rw (eq-eqb x e hit) refl) turned
 
   pub passed_missed : (e : ℕ) → turn ≡ AtD5 r h e → IsAlone me.0 → x ≢ e → Turned Lies c turn me x later
       → later.0 ≡ goes_to (AtD3 r h (rank_in (ring_slots c) x)) me.0

@@ -1,7 +1,7 @@
 -- A hand into which two indices came, of which the second was put and the first lifted.
-use Rattle.std.proofs.Common.{◌≡◌, ◌≢◌, ℕ, ◌+◌, List, [], ◌∷◌, ◌++◌, refl, sym, ◌∙◌, ap, subst, inl, inr, arith, eq-eqb, ne_eqb}
+use Rattle.std.proofs.Common.{◌≡◌, ◌≢◌, ℕ, List, [], ◌∷◌, ◌++◌, refl, sym, ◌∙◌, ap, subst, inl, inr, arith, eq-eqb, ne_eqb}
 use Rattle.std.specs.Prelude.{Some, None, Option, slice_index_or}
-use Rattle.std.specs.List.{Contains, remove}
+use Rattle.std.specs.List.{remove}
 use Rattle.std.proofs.lemmas.List.Elements.{Contains-push_cases}
 use Rattle.scq_law.specs.Hands.{times}
 use Rattle.scq_law.proofs.Base.SeatSums.{contains_none}

@@ -1,4 +1,5 @@
--- What the seats and notes of a band know, told of the running words.
+-- For the law of views (`each_view_knows_the_truth`) alone; no public call's contract cites it. What the seats and notes of a band
+-- know, told of the running words.
 use Rattle.std.specs.Prelude.{◌≡◌, ◌⊎◌, ℕ, ◌<◌, ◌≤◌, List, Some, slice_get, slice_index}
 use mathlib.Core.Option.{some}
 use lib.ListN.{get_elem?}

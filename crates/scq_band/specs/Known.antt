@@ -1,5 +1,6 @@
--- What a seat of the table knows, its view: the seats of the machine that stand in it with their parts, a lower bound of each
--- ring's counters, and what it read at the gate. A note is a view in which no seat stands.
+-- For the rule of the table and the law of views (`each_view_knows_the_truth`) alone; no public call's contract cites it. What a seat
+-- of the table knows, its view: the seats of the machine that stand in it with their parts, a lower bound of each ring's counters, and
+-- what it read at the gate. A note is a view in which no seat stands.
 use Rattle.std.specs.Prelude.{ℕ, List, [], ◌∷◌, ◌++◌, Option, Some, None, min}
 use Rattle.scq_core.specs.Machine.{Part}
 use Rattle.scq_band.specs.declared.numbers.Numbers.{Numbers}

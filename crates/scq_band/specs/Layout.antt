@@ -1,5 +1,6 @@
--- Where the words of the rings stand in the table: word 0 counts the seats that have not retired, and each ring has Tail,
--- Head, Threshold and its entries by slot, ring after ring. Nothing else knows the number of a word.
+-- For the rule of the table and the law of views (`each_view_knows_the_truth`) alone; no public call's contract cites it. Where the
+-- words of the rings stand in the table: word 0 counts the seats that have not retired, and each ring has Tail, Head, Threshold and
+-- its entries by slot, ring after ring. Nothing else knows the number of a word.
 use Rattle.std.specs.Prelude.{ℕ, [], zero, suc, ◌+◌, ◌*◌, ◌/◌, ◌%◌, ◌<◌}
 use Rattle.scq_word.specs.declared.setup.Setup.{Setup}
 use Rattle.scq_core.specs.Machine.{Location, tail_of, head_of, threshold_of, entry_of, read}

@@ -3,7 +3,7 @@ ghost use Rattle.std.specs.Prelude.{◌≡◌, ℕ, ◌<◌, ◌≤◌, Some, No
 ghost use Rattle.scq_word.specs.Sizes.{n_of};
 ghost use Rattle.scq_band.specs.Buffers.{opening_of};
 ghost use Rattle.scq_band.specs.Numbers.{known_of};
-ghost use Rattle.scq_band.specs.Standing.{LastStep, in_hand, bytes_in_hand, after_put, after_spent_put, after_spent_get, HasTaken, FoundEmpty};
+ghost use Rattle.scq_band.specs.Standing.{HeadWasPast, in_hand, bytes_in_hand, after_put, after_spent_put, after_spent_get, HasTaken, FoundEmpty};
 
 use crate::band::Band;
 use crate::dequeue::{Without, dequeue};
@@ -30,6 +30,7 @@ impl<B: Buffer> Band<B> {
     /// Puts an index that the seat has in its hand on a ring, with its buffer: answers its place, which is below the limit.
     /// Spent where the ticket that was drawn is at or past the limit; the seat keeps it, and answers it from then on, with no
     /// step made.
+    #[inline(always)]
     pub fn enq(&self, seat: &mut Seat<B>, ring: u32, index: u32) -> Result<u64, Spent>
         requires seat { seat.old.band ≡ self.now }
         requires ring { ring < self.now.setup.rings }
@@ -63,6 +64,7 @@ impl<B: Buffer> Band<B> {
     /// finished there had been claimed. The number is what the seat's view knows of Head now, which is true of the words at
     /// every moment (`laws::each_view_knows_the_truth`); the clause `head` says besides that a step of the machine ended the
     /// call, after which Head was at or past the number. Spent as with `enq`.
+    #[inline(always)]
     pub fn deq(&self, seat: &mut Seat<B>, ring: u32) -> Result<(u64, u32), DeqRefusal>
         requires seat { seat.old.band ≡ self.now }
         requires ring { ring < self.now.setup.rings }
@@ -72,8 +74,7 @@ impl<B: Buffer> Band<B> {
         ensures index { IfOk result (λ r. r.1 < n_of self.now.setup.order) }
         ensures empty { (head : ℕ) → result ≡ Err (DeqRefusal.Empty head) → FoundEmpty ring head seat.old seat.new }
         ensures head { (head : ℕ) → result ≡ Err (DeqRefusal.Empty head)
-            → (last : LastStep self.now.setup (opening_of B.contents self.now.given) seat.new.number seat.old.calls seat.new.calls)
-            × (head ≤ last.next.cells.head ring) }
+            → HeadWasPast self.now.setup (opening_of B.contents self.now.given) seat.new.number seat.old.calls seat.new.calls ring head }
         ensures spent { (ticket : ℕ) → result ≡ Err (DeqRefusal.Spent ticket) → seat.old.spent ≡ None
             → (seat.new ≡ after_spent_get ring ticket seat.old) × (self.now.setup.limit ≤ ticket) }
         ensures kept { (ticket : ℕ) → seat.old.spent ≡ Some ticket → (result ≡ Err (DeqRefusal.Spent ticket)) × (seat.new ≡ seat.old) }

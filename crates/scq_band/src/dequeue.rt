@@ -45,6 +45,7 @@ fn passed_by(ring: Ring, ticket: u64, found: u64) -> u64
 }
 
 /// D3 to D5 until an index is taken, or the ticket is given up.
+#[inline(always)]
 fn takes<B: Buffer>(words: &Words<B>, token: &mut Token<B>, ring: Ring, ticket: u64) -> Option<u32>
     requires own { (token.old.table_id ≡ words.now.table_id) × (words.now.table_id.words ≡ word_count words.now.key.setup) }
     requires ring { IsRing words.now.key.setup ring }
@@ -115,6 +116,7 @@ fn catch_up<B: Buffer>(words: &Words<B>, token: &mut Token<B>, ring: Ring, ticke
 }
 
 /// D6, and what follows a ticket that was given up: whether the call ends with Nothing.
+#[inline(always)]
 fn is_over<B: Buffer>(words: &Words<B>, token: &mut Token<B>, ring: Ring, ticket: u64) -> bool
     requires own { (token.old.table_id ≡ words.now.table_id) × (words.now.table_id.words ≡ word_count words.now.key.setup) }
     requires ring { IsRing words.now.key.setup ring }
@@ -145,6 +147,7 @@ pub enum Without {
 }
 
 /// A dequeue: the place and the index, whose slot now stands first.
+#[inline(always)]
 pub fn dequeue<B: Buffer>(
     words: &Words<B>,
     token: &mut Token<B>,

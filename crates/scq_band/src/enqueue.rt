@@ -19,6 +19,7 @@ use crate::steps::{draw, exchange, load, reset};
 use scq_word::{Buffer, Entry, cycle_of, pack, unpack};
 
 /// E2, and E3 where the entry is unsafe: the entry that the slot of the ticket takes an index in, if it takes one.
+#[inline(always)]
 fn finds_room<B: Buffer>(
     words: &Words<B>,
     token: &mut Token<B>,
@@ -50,6 +51,7 @@ fn finds_room<B: Buffer>(
 }
 
 /// E2 to E4 until the index is placed, or the slot is found passed.
+#[inline(always)]
 fn is_placed<B: Buffer>(
     words: &Words<B>,
     token: &mut Token<B>,
@@ -86,6 +88,7 @@ fn is_placed<B: Buffer>(
 }
 
 /// E5, and E6 where Threshold isn't what it is reset to.
+#[inline(always)]
 fn ends<B: Buffer>(words: &Words<B>, token: &mut Token<B>, ring: Ring, ticket: u64)
     requires own { (token.old.table_id ≡ words.now.table_id) × (words.now.table_id.words ≡ word_count words.now.key.setup) }
     requires ring { IsRing words.now.key.setup ring }
@@ -101,6 +104,7 @@ fn ends<B: Buffer>(words: &Words<B>, token: &mut Token<B>, ring: Ring, ticket: u
 }
 
 /// An enqueue of the index whose slot stands first: the place, or the ticket that was drawn at or past the limit.
+#[inline(always)]
 pub fn enqueue<B: Buffer>(
     words: &Words<B>,
     token: &mut Token<B>,

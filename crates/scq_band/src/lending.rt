@@ -10,6 +10,7 @@ use scq_word::Buffer;
 
 impl<B: Buffer> Band<B> {
     /// The buffer of an index in the seat's hand.
+    #[inline(always)]
     pub fn lift(&self, seat: &mut Seat<B>, index: u32) -> B
         requires seat { seat.old.band ≡ self.now }
         requires laid { (buffer : B) × (in_hand seat.old.hand index ≡ Some (Some buffer)) }
@@ -27,6 +28,7 @@ impl<B: Buffer> Band<B> {
     }
 
     /// Lays a buffer back that was lifted.
+    #[inline(always)]
     pub fn lay(&self, seat: &mut Seat<B>, index: u32, buffer: B)
         requires seat { seat.old.band ≡ self.now }
         requires lifted { in_hand seat.old.hand index ≡ Some None }

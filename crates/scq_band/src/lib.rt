@@ -21,6 +21,7 @@ mod hand;
 mod heap;
 pub mod laws;
 mod lending;
+mod lifted;
 mod making;
 mod notes;
 mod numbers;
@@ -36,11 +37,14 @@ pub use band::Band;
 pub use band_note::BandNote;
 pub use calls::{DeqRefusal, Spent};
 pub use closing::BandClosed;
+pub use lifted::Lifted;
 pub use numbers::Numbers;
 pub use seat::Seat;
 pub use slot::Slot;
 pub use view::View;
 
+#[cfg(test)]
+mod replay_tests;
 #[cfg(test)]
 mod tests;
 #[cfg(test)]

@@ -94,7 +94,7 @@ fn moved(
     }
 }
 
-fn number(text: Option<&str>) -> Result<u32, Fail> {
+pub fn number(text: Option<&str>) -> Result<u32, Fail> {
     Ok(text.ok_or("a number is missing")?.parse::<u32>()?)
 }
 
@@ -149,7 +149,7 @@ fn run(rt: &(impl Abort + AllocGlobal), order: u32, limit: u64, table: &str) -> 
 }
 
 /// Seat 0 moves the opening indices on, and finds rings empty: a put of its own raises the number that it answers.
-const ONE_SEAT: &str = "\
+pub const ONE_SEAT: &str = "\
 0 1 2 = empty 4
 0 0 1 = 4 0 4
 0 1 2 = 4 0 4
@@ -161,7 +161,7 @@ const ONE_SEAT: &str = "\
 ";
 
 /// Two seats in turn.
-const TWO_SEATS: &str = "\
+pub const TWO_SEATS: &str = "\
 0 0 1 = 4 0 4
 1 0 1 = 5 1 5
 1 1 2 = 4 0 4
@@ -172,7 +172,7 @@ const TWO_SEATS: &str = "\
 ";
 
 /// A small limit: the ticket that was at it is kept, and answered on every ring.
-const SPENT: &str = "\
+pub const SPENT: &str = "\
 0 0 0 = 4 0 6
 0 0 0 = 5 1 7
 0 0 0 = 6 0 8
@@ -271,7 +271,8 @@ fn the_gate_closes_once_all_have_retired(rt: HostRuntime) -> Result<(), Fail> {
     let mut seats = Vec::with_capacity(alloc, 2)?;
     seats.push_reserved(first);
     seats.push_reserved(second);
-    let closed = band.close(seats, Vec::new(alloc));
+    let none: Vec<(u32, Tagged)> = Vec::new(alloc);
+    let closed = band.close(seats, none);
     assert_eq!(rt; closed.left.as_slice(), [2, 0].as_slice());
     assert_eq!(rt; closed.buffers.len(), 2);
     assert_eq!(rt; closed.buffers[1].tag, 11);

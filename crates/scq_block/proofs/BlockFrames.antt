@@ -46,13 +46,6 @@ carved b start fs is dealt = record {
 }
 
 module _ (b : Block) where
-  pub same_from_number : (f g : Frame) → IsFrameOf b f → IsFrameOf b g → f.number ≡ g.number → IsSame f g
-  same_from_number f g own₁ own₂ e = record {
-    number = e;
-    start = own₁.placed.at ∙ ap (λ k. b.shell.ptr +ₚ k * b.cap) e ∙ sym own₂.placed.at;
-    size = own₁.placed.size ∙ sym own₂.placed.size;
-  }
-
   pub own_from_same : (f g : Frame) → IsFrameOf b f → IsSame f g → IsFrameOf b g
   own_from_same f g own same = record {
     number = omega (arith, own.number, same.number);

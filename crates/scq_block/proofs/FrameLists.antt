@@ -13,10 +13,6 @@ pub past_both : (p : Ptr) (m n : ℕ) → p +ₚ m +ₚ n ≡ p +ₚ (m + n)
 past_both (block_ptr b o) m n = let same : o + m + n ≡ o + (m + n) = omega arith in ap (block_ptr b) same
 past_both null_ptr m n = refl
 
-pub past_nothing : (p : Ptr) → p ≡ p +ₚ 0
-past_nothing (block_ptr b o) = let same : o ≡ o + 0 = omega arith in ap (block_ptr b) same
-past_nothing null_ptr = refl
-
 -- an element of a list with one more at its end
 get_or-front : (fs : List Frame) (f d : Frame) (k : ℕ) → k < length fs → get_or (fs ++ f ∷ []) k d ≡ get_or fs k d
 get_or-front [] f d k h = absurd (omega arith)
@@ -47,14 +43,6 @@ AreInOrder-push fs f all is k d h = elim (cases_lt k (length fs)) [
   | inr above ↦ let last : k ≡ length fs = omega (arith, longer fs f) in
       ap (λ j. (get_or (fs ++ f ∷ []) j d).number) last ∙ ap (λ g. g.number) (get_or-end fs f d) ∙ is ∙ sym last
 ]
-
-pub AreDealt-none : (start : Ptr) (cap : ℕ) → AreDealt start 0 cap []
-AreDealt-none start cap = record {
-  count = refl;
-  ordered = λ k d h. absurd (omega arith);
-  placed = All-nil (IsPlaced start cap);
-  zero = All-nil (λ g. bytes_of g ≡ replicate cap 0);
-}
 
 -- one more frame, of the next number
 pub AreDealt-push : (start : Ptr) (n cap : ℕ) (fs : List Frame) (f : Frame) → AreDealt start n cap fs → f.number ≡ n

@@ -88,19 +88,6 @@ module _ (lines : List (List ℕ)) (line : List ℕ) (rest : List (List ℕ)) (t
         few_events = omega (arith, counted.few_events, many_events);
       }
 
-  -- the next line is the first that is bad
-  pub found_bad : (at : ℕ) → at ≡ number + 1 → may_follow tokens events (line_of line) ≡ false → IsBadLine lines at
-  found_bad at a may =
-      record {
-        before = is.before;
-        line = line;
-        after = rest;
-        stands = is.stands;
-        numbered = omega (arith, is.numbered, a);
-        history = is.history;
-        bad = same_next ∙ may;
-      }
-
   -- the next line is the first whose event is out of place
   pub found_unlawful : (at : ℕ) → at ≡ number + 1 → may_follow tokens events (line_of line) ≡ true → ¬ IsLawful (events ++ events_in (line ∷ []))
       → IsUnlawfulLine lines at

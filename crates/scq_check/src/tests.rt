@@ -204,3 +204,20 @@ fn lines_and_contents_have_limits(rt: HostRuntime) -> Result<(), Fail> {
     }
     Ok(())
 }
+
+#[test]
+fn faults_say_what_they_are(rt: HostRuntime) -> Result<(), Fail> {
+    let rows = [
+        (HistoryFault::BadLine { line: 7 }, "line 7: not understood"),
+        (
+            HistoryFault::Unlawful { line: 8 },
+            "line 8: event out of place",
+        ),
+        (HistoryFault::NoMemory, "out of memory"),
+    ];
+    for (fault, want) in rows.iter() {
+        let said = fault.to_string(rt.alloc())?;
+        assert_eq!(rt; said.as_str(), *want);
+    }
+    Ok(())
+}

@@ -1,9 +1,8 @@
-pub mod Begun
-pub mod Gathered
 pub mod Judging
 pub mod Lines
-pub mod Places
+pub mod Merged
+pub mod Orders
 pub mod Positions
 mod Rows
-pub mod Sorting
 pub mod Sums
+pub mod Threads

@@ -8,8 +8,20 @@ use Rattle.scq_topics.specs.Topics.{topic_of, name_of, kind_of}
 use Rattle.scq_frames.specs.Text.{Framed, messages_of}
 use Rattle.scq_collect.specs.declared.answered.Answered.{Answered}
 
+-- the answer to a message: its file and line, its topic's number, how many bytes its payload has, and the reply
+pub record Answer : Type 0 where
+  pub file : ℕ
+  pub line : ℕ
+  pub topic : ℕ
+  pub bytes : ℕ
+  pub reply : List ℕ
+
+-- the answer alone, without the way in which a worker came to it
+abbrev pub without_way : Answered → Answer
+without_way a = record { file = a.file; line = a.line; topic = a.topic; bytes = a.bytes; reply = a.reply }
+
 -- the answer to a message of this file
-abbrev pub answer_to : List (List ℕ × Kind) → ℕ → Framed → Answered
+abbrev pub answer_to : List (List ℕ × Kind) → ℕ → Framed → Answer
 answer_to topics file m = record {
   file = file;
   line = m.line;
@@ -19,36 +31,36 @@ answer_to topics file m = record {
 }
 
 -- the answers to all messages of files with these contents, of which the first has this number
-abbrev pub answers_to : List (List ℕ × Kind) → ℕ → List (List ℕ) → List Answered
+abbrev pub answers_to : List (List ℕ × Kind) → ℕ → List (List ℕ) → List Answer
 answers_to topics file [] = []
 answers_to topics file (content ∷ more) =
     map (answer_to topics file) (messages_of content) ++ answers_to topics (file + 1) more
 
 -- the line for an answer: `file:line topic reply`
-abbrev pub reply_line : List (List ℕ × Kind) → Answered → List ℕ
+abbrev pub reply_line : List (List ℕ × Kind) → Answer → List ℕ
 reply_line topics a =
     decimal a.file ++ codes ":" ++ decimal a.line ++ codes " " ++ name_of topics a.topic ++ codes " " ++ a.reply ++ codes "\n"
 
 -- how many answers are on the topic with this number
-abbrev pub count_on : ℕ → List Answered → ℕ
+abbrev pub count_on : ℕ → List Answer → ℕ
 count_on topic answers = count_by (λ a. a.topic == topic) answers
 
 -- how many payload bytes their messages have
-abbrev pub bytes_on : ℕ → List Answered → ℕ
+abbrev pub bytes_on : ℕ → List Answer → ℕ
 bytes_on topic answers = sum_by (λ a. if a.topic == topic then a.bytes else 0) answers
 
 -- the line for the topic with this number: `total topic count bytes`
-abbrev pub total_line : List (List ℕ × Kind) → List Answered → ℕ → List ℕ
+abbrev pub total_line : List (List ℕ × Kind) → List Answer → ℕ → List ℕ
 total_line topics answers topic =
     codes "total " ++ name_of topics topic ++ codes " " ++ decimal (count_on topic answers) ++ codes " "
     ++ decimal (bytes_on topic answers) ++ codes "\n"
 
 -- the totals: the declared topics in their order, and last those that aren't declared
-abbrev pub total_lines : List (List ℕ × Kind) → List Answered → List ℕ
+abbrev pub total_lines : List (List ℕ × Kind) → List Answer → List ℕ
 total_lines topics answers = flat_map (total_line topics answers) (range_with_len 0 (length topics + 1))
 
 -- what is written of answers
-abbrev pub text_of_answers : List (List ℕ × Kind) → List Answered → List ℕ
+abbrev pub text_of_answers : List (List ℕ × Kind) → List Answer → List ℕ
 text_of_answers topics answers = flat_map (reply_line topics) answers ++ total_lines topics answers
 
 -- what one thread writes about files with these contents

@@ -1,104 +1,88 @@
-//! Messages merged with lists of what was answered: members that answer them, that don't quite, and none.
-ghost use Rattle.std.specs.Prelude.{◌≤◌, ◌↔◌, IsTrue};
-ghost use Rattle.std.specs.List.{All};
-
-use crate::{Handled, merge};
-use scq_frames::Message;
-use scq_topics::{Kind, Topics};
-use scq_word::Bytes;
+//! Members of lists merged: in whatever division and order they come, with short replies and long ones.
+use crate::{Answered, Way, merge};
+use scq_topics::ReplyBytes;
 use std::alloc::Global;
 use std::test::Fail;
 
-/// A message's file, line, topic and payload.
-type Row<'a> = (u32, u32, u32, &'a str);
-
-fn message(alloc: Global, row: &Row<'_>) -> Result<Message, Fail> {
-    let (file, line, topic, payload) = row;
-    Ok(Message {
-        file: *file,
-        line: *line,
-        topic: (*topic).min(1),
-        payload: Bytes::copy_of(alloc, payload.as_bytes())?,
-    })
+/// The member of each letter: file, line and way, and its reply.
+fn member(letter: u8) -> (u32, u32, Way, &'static str) {
+    match letter {
+        b'a' => (1, 2, Way::Taken { place: 128 }, "a"),
+        b'b' => (1, 7, Way::Direct { head: 131 }, ""),
+        b'c' => (
+            1,
+            10,
+            Way::Taken { place: 129 },
+            "ba7816bf8f01cfea414140de5dae2223b00361a396177a9cb410ff61f20015ad",
+        ),
+        b'd' => (2, 1, Way::Taken { place: 128 }, "d"),
+        b'e' => (64, u32::MAX, Way::Taken { place: u64::MAX }, "e"),
+        _ => (u32::MAX, 1, Way::Direct { head: u64::MAX }, "f"),
+    }
 }
 
-fn are_known(messages: &[Message], known: u32) -> bool
-    ensures { IsTrue result ↔ All (λ m. m.topic ≤ known) messages.now }
-{
-    messages.iter().all(|message| message.topic <= known)
-}
-
-fn handled(alloc: Global, rows: &[Row<'_>]) -> Result<Vec<Handled>, Fail> {
-    let mut list = Vec::new(alloc);
-    for row in rows {
-        list.push(Handled::new(alloc, Kind::Echo, message(alloc, row)?)?)?;
+/// The text of the merged members, a line for each. The lists are words of letters, with commas between.
+fn merged(alloc: Global, words: &str) -> Result<String, Fail> {
+    let mut lists = Vec::new(alloc);
+    for word in words.as_bytes().split(|byte| *byte == b',') {
+        let mut list = Vec::new(alloc);
+        for letter in word {
+            let (file, line, way, reply) = member(*letter);
+            list.push(Answered {
+                file,
+                line,
+                topic: file % 3,
+                bytes: u64::from(line),
+                reply: ReplyBytes::copy_of(alloc, reply.as_bytes())?,
+                way,
+            })?;
+        }
+        lists.push(list)?;
     }
-    Ok(list)
-}
-
-/// The text of the merged replies, each with its place, and how many were computed again.
-fn merged(alloc: Global, given: &[Row<'_>], lists: [&[Row<'_>]; 2]) -> Result<(String, u64), Fail> {
-    let topics = Topics::read("e=echo").ok().ok_or("topics")?;
-    let mut messages = Vec::new(alloc);
-    for row in given {
-        messages.push(message(alloc, row)?)?;
-    }
-    let mut all = Vec::new(alloc);
-    for rows in lists {
-        all.push(handled(alloc, rows)?)?;
-    }
-    if !are_known(messages.as_slice(), topics.len()) {
-        return Err(Fail::from("topic"));
-    }
-    let merged = merge(alloc, &topics, messages, all)?;
     let mut text = String::new(alloc);
-    for member in &merged.answered {
-        let reply = std::str::from_utf8(member.reply.bytes())
-            .ok()
-            .ok_or("reply")?;
-        text.push_str(format!(in alloc; "{}:{} {reply}\n", member.file, member.line)?.as_str())?;
+    for member in &merge(alloc, lists.as_slice())? {
+        text.push_str(line_of(alloc, member)?.as_str())?;
     }
-    Ok((text, merged.again))
+    Ok(text)
+}
+
+fn line_of(alloc: Global, member: &Answered) -> Result<String, Fail> {
+    let reply = std::str::from_utf8(member.reply.bytes())
+        .ok()
+        .ok_or("reply")?;
+    let way = match member.way {
+        Way::Taken { place } => format!(in alloc; "taken {place}")?,
+        Way::Direct { head } => format!(in alloc; "direct {head}")?,
+    };
+    let Answered {
+        file,
+        line,
+        topic,
+        bytes,
+        ..
+    } = member;
+    Ok(format!(in alloc; "{file}:{line} {topic} {bytes} {way} {reply}\n")?)
 }
 
 #[test]
-fn messages_are_merged_with_their_answers(rt: HostRuntime) -> Result<(), Fail> {
+fn members_are_merged_in_order_of_file_and_line(rt: HostRuntime) -> Result<(), Fail> {
     let alloc = rt.alloc();
-    let given = [(2, 1, 0, "c"), (1, 7, 0, "b"), (1, 2, 0, "a")];
-    let text = "1:2 a\n1:7 b\n2:1 c\n";
+    let three = "1:2 1 2 taken 128 a\n1:7 1 7 direct 131 \n2:1 2 1 taken 128 d\n";
+    let ends =
+        "1:2 1 2 taken 128 a\n1:10 1 10 taken 129 ba7816bf8f01cfea414140de5dae2223b00361a396177a9cb410ff61f20015ad\n64:4294967295 1 4294967295 taken 18446744073709551615 e\n4294967295:1 0 1 direct 18446744073709551615 f\n";
     let rows = [
-        (merged(alloc, &given, [&[], &[]])?, 3),
-        (
-            merged(
-                alloc,
-                &given,
-                [&[(2, 1, 0, "c")], &[(1, 2, 0, "a"), (1, 7, 0, "b")]],
-            )?,
-            0,
-        ),
-        (
-            merged(
-                alloc,
-                &given,
-                [&[(1, 2, 0, "x"), (1, 2, 0, "a")], &[(1, 7, 1, "b")]],
-            )?,
-            2,
-        ),
-        (
-            merged(
-                alloc,
-                &given,
-                [
-                    &[(1, 3, 0, "a"), (9, 9, 0, "z")],
-                    &[(2, 1, 0, "c"), (2, 1, 0, "c")],
-                ],
-            )?,
-            2,
-        ),
+        ("", ""),
+        (",,", ""),
+        ("abd", three),
+        ("dba", three),
+        ("d,b,a", three),
+        (",ba,,d", three),
+        ("bd,a", three),
+        ("fc,ea", ends),
     ];
-    for (row, ((got, again), wanted)) in rows.iter().enumerate() {
-        assert_eq!(rt; got.as_str(), text, "row {row}");
-        assert_eq!(rt; *again, *wanted, "row {row}");
+    for (row, (lists, wanted)) in rows.iter().enumerate() {
+        let text = merged(alloc, *lists)?;
+        assert_eq!(rt; text.as_str(), *wanted, "row {row}");
     }
     Ok(())
 }

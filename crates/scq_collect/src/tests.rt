@@ -1,7 +1,5 @@
-//! The text of answers, where topics are declared and where none is, and of files that are answered.
-use crate::{Answered, collect, output};
-use scq_frames::FrameFault;
-use scq_outside::PlainSource;
+//! The text of answers, where topics are declared and where none is.
+use crate::{Answered, Way, output};
 use scq_topics::{ReplyBytes, Topics};
 use std::alloc::Global;
 use std::test::Fail;
@@ -20,6 +18,7 @@ fn is_text(alloc: Global, topics: &str, rows: &[Row<'_>], wanted: &[u8]) -> Resu
             topic: (*topic).min(topics.len()),
             bytes: *bytes,
             reply: ReplyBytes::copy_of(alloc, *reply)?,
+            way: Way::Taken { place: 4 },
         })?;
     }
     let text = output(alloc, &topics, answered.as_slice())?;
@@ -62,63 +61,5 @@ fn totals_are_exact_at_the_largest_numbers(rt: HostRuntime) -> Result<(), Fail> 
     let full =
         b"1:1 p 1\n1:2 - 2\ntotal a 0 0\ntotal b 0 0\ntotal c 0 0\ntotal d 0 0\ntotal e 0 0\ntotal f 0 0\ntotal g 0 0\ntotal h 0 0\ntotal i 0 0\ntotal j 0 0\ntotal k 0 0\ntotal l 0 0\ntotal m 0 0\ntotal n 0 0\ntotal o 0 0\ntotal p 1 1\ntotal - 1 2\n";
     assert!(rt; is_text(alloc, names, &rows, full)?);
-    Ok(())
-}
-
-/// What is written of two files: their text, or the fault of the first that has one.
-fn text_of_files(
-    alloc: Global,
-    topics: &str,
-    size: u32,
-    files: (&str, &str),
-) -> Result<Vec<u8>, Fail> {
-    let topics = Topics::read(topics).ok().ok_or("topics")?;
-    let mut answered = Vec::new(alloc);
-    let mut first = PlainSource::new(files.0.as_bytes().to_vec(alloc)?);
-    let mut second = PlainSource::new(files.1.as_bytes().to_vec(alloc)?);
-    collect(alloc, &topics, size, 1, &mut first, &mut answered)?;
-    collect(alloc, &topics, size, 2, &mut second, &mut answered)?;
-    Ok(output(alloc, &topics, answered.as_slice())?.into())
-}
-
-// Expected texts are worked by hand, digests come from `sha256sum`.
-#[test]
-fn files_are_answered_as_worked(rt: HostRuntime) -> Result<(), Fail> {
-    let rows = [
-        (
-            "a=sum,b=words",
-            "a 1 2\nb hello world\n\nabc\n",
-            "",
-            "1:1 a 3\n1:2 b 2\n1:4 - 0\ntotal a 1 3\ntotal b 1 11\ntotal - 1 0\n",
-        ),
-        ("x=sum", "x 12", "", "1:1 x 12\ntotal x 1 2\ntotal - 0 0\n"),
-        (
-            "h=sha256",
-            "h abc\n",
-            "h\n",
-            "1:1 h ba7816bf8f01cfea414140de5dae2223b00361a396177a9cb410ff61f20015ad\n2:1 h e3b0c44298fc1c149afbf4c8996fb92427ae41e4649b934ca495991b7852b855\ntotal h 2 3\ntotal - 0 0\n",
-        ),
-        (
-            "s=sum",
-            "s 18446744073709551615 1\ns 1 x\n",
-            "s 18446744073709551615\ns\n",
-            "1:1 s bad\n1:2 s bad\n2:1 s 18446744073709551615\n2:2 s 0\ntotal s 4 45\ntotal - 0 0\n",
-        ),
-        (
-            "get=words,err=echo",
-            "get /index.html 200\nerr disk sda1 is 91% full\n",
-            "get /a.css 404",
-            "1:1 get 2\n1:2 err disk sda1 is 91% full\n2:1 get 2\ntotal get 2 25\ntotal err 1 21\ntotal - 0 0\n",
-        ),
-    ];
-    for (row, (topics, first, second, wanted)) in rows.iter().enumerate() {
-        let text = text_of_files(rt.alloc(), *topics, 25, (*first, *second))?;
-        assert_eq!(rt; text.as_slice(), wanted.as_bytes(), "row {row}");
-    }
-    let alloc = rt.alloc();
-    let mut long = PlainSource::new(b"\ns 1234567890123456789012345".to_vec(alloc)?);
-    let mut answered = Vec::new(alloc);
-    let collected = collect(alloc, &Topics::none(), 24, 1, &mut long, &mut answered);
-    assert_eq!(rt; collected, Err(FrameFault::TooLong { line: 2, len: 25 }));
     Ok(())
 }

@@ -1,7 +1,6 @@
-ghost use Rattle.std.specs.Prelude.{◌≡◌, ℕ, ◌<◌, ◌≤◌, ◌++◌, List, length, slice_index, codes, decimal, IfOk, OnOk};
+ghost use Rattle.std.specs.Prelude.{◌≡◌, ℕ, ◌<◌, ◌≤◌, ◌++◌, List, length, map, slice_index, codes, decimal, IfOk, OnOk};
 ghost use Rattle.std.specs.List.{All};
-ghost use Rattle.scq_collect.specs.declared.answered.Answered.{Answered as TheAnswered};
-ghost use Rattle.scq_collect.specs.Output.{answers_to, count_on, bytes_on, one_thread_output, reply_line, text_of_answers, total_line, total_lines};
+ghost use Rattle.scq_collect.specs.Output.{Answer, answers_to, count_on, bytes_on, one_thread_output, reply_line, text_of_answers, total_line, total_lines, without_way};
 
 use crate::Answered;
 use crate::totals::{Totals, totals_of};
@@ -17,8 +16,8 @@ const MOST_POSITION: usize = 22;
 /// declared topic and for all others together. It fails only for want of memory.
 pub fn output(alloc: Global, topics: &Topics, answered: &[Answered]) -> Result<Bytes, NoMemory>
     requires { All (λ a. a.topic ≤ length topics.now) answered.now }
-    ensures text { IfOk result (λ bytes. bytes ≡ text_of_answers topics.now answered.now) }
-    ensures one_thread { (contents : List (List ℕ)) → answered.now ≡ answers_to topics.now 1 contents
+    ensures text { IfOk result (λ bytes. bytes ≡ text_of_answers topics.now (map without_way answered.now)) }
+    ensures one_thread { (contents : List (List ℕ)) → map without_way answered.now ≡ answers_to topics.now 1 contents
         → IfOk result (λ bytes. bytes ≡ one_thread_output topics.now contents) }
 {
     let mut text = Vec::new(alloc);
@@ -36,7 +35,7 @@ pub fn push_totals(
     answered: &[Answered],
 ) -> Result<(), NoMemory>
     requires { All (λ a. a.topic ≤ length topics.now) answered.now }
-    ensures { OnOk result (text.new.items ≡ text.old.items ++ total_lines topics.now answered.now) }
+    ensures { OnOk result (text.new.items ≡ text.old.items ++ total_lines topics.now (map without_way answered.now)) }
 {
     let numbers = topics.len() + 1;
     let totals = totals_of(answered);
@@ -49,7 +48,7 @@ pub fn push_totals(
 /// Adds the line for an answer: `file:line topic reply`.
 fn push_line(text: &mut Vec<u8>, topics: &Topics, member: &Answered) -> Result<(), NoMemory>
     requires { member.now.topic ≤ length topics.now }
-    ensures { OnOk result (text.new.items ≡ text.old.items ++ reply_line topics.now member.now) }
+    ensures { OnOk result (text.new.items ≡ text.old.items ++ reply_line topics.now (without_way member.now)) }
 {
     push_position(text, member.file, member.line)?;
     text.extend_from_slice(topics.name(member.topic))?;
@@ -81,7 +80,7 @@ fn push_total(
 ) -> Result<(), NoMemory>
     requires known { topic ≤ length topics.now }
     requires within { topic < 17 }
-    ensures { (answers : List TheAnswered) → slice_index totals.now.counts topic ≡ count_on topic answers → slice_index totals.now.bytes topic ≡ bytes_on topic answers
+    ensures { (answers : List Answer) → slice_index totals.now.counts topic ≡ count_on topic answers → slice_index totals.now.bytes topic ≡ bytes_on topic answers
         → OnOk result (text.new.items ≡ text.old.items ++ total_line topics.now answers topic) }
 {
     text.extend_from_slice(b"total ")?;

@@ -1,6 +1,6 @@
-ghost use Rattle.std.specs.Prelude.{◌≡◌, ℕ, ◌<◌, ◌≤◌, length, slice_index};
+ghost use Rattle.std.specs.Prelude.{◌≡◌, ℕ, ◌<◌, ◌≤◌, length, map, slice_index};
 ghost use Rattle.std.specs.List.{All};
-ghost use Rattle.scq_collect.specs.Output.{count_on, bytes_on};
+ghost use Rattle.scq_collect.specs.Output.{count_on, bytes_on, without_way};
 
 use crate::Answered;
 
@@ -18,8 +18,8 @@ pub struct Totals {
 /// The totals of all topics, in one pass.
 pub fn totals_of(answered: &[Answered]) -> Totals
     requires { All (λ a. a.topic < 17) answered.now }
-    ensures counts { (topic : ℕ) → topic < 17 → slice_index result.counts topic ≡ count_on topic answered.now }
-    ensures bytes { (topic : ℕ) → topic < 17 → slice_index result.bytes topic ≡ bytes_on topic answered.now }
+    ensures counts { (topic : ℕ) → topic < 17 → slice_index result.counts topic ≡ count_on topic (map without_way answered.now) }
+    ensures bytes { (topic : ℕ) → topic < 17 → slice_index result.bytes topic ≡ bytes_on topic (map without_way answered.now) }
 {
     let mut counts = [0; MOST_NUMBERS];
     let mut bytes = [0; MOST_NUMBERS];

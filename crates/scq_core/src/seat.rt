@@ -85,6 +85,13 @@ impl Seat {
         self.spent
     }
 
+    /// The calls of its record, oldest first.
+    pub fn calls(&self) -> &[Ended]
+        ensures { result.now ≡ self.now.calls }
+    {
+        self.calls.as_slice()
+    }
+
     /// The newest call of its record.
     pub fn last(&self) -> Option<&Ended>
         ensures { option_copied result ≡ slice_get self.now.calls (length self.now.calls - 1) }

@@ -209,6 +209,14 @@ impl State {
         }
     }
 
+    /// The calls of the seat's record, oldest first.
+    pub fn calls(&self, seat: u32) -> &[Ended]
+        requires { seat < self.now.setup.seats }
+        ensures { result.now ≡ ((machine_of self.now).part seat).calls }
+    {
+        self.seats[seat as usize].calls()
+    }
+
     /// The newest call of the seat's record.
     pub fn last(&self, seat: u32) -> Option<&Ended>
         requires { seat < self.now.setup.seats }

@@ -13,9 +13,6 @@ module _ (xs : List ℕ) (a b : ℕ) where
   pub get_or-part : (k : ℕ) → a + k < b → get_or (slice_range xs a b) k 0 ≡ get_or xs (a + k) 0
   get_or-part k h = get_or-take (b - a) (drop a xs) k 0 (omega arith) ∙ get_or-drop a xs k 0
 
-  get_or-part_any : (k d : ℕ) → a + k < b → get_or (slice_range xs a b) k d ≡ get_or xs (a + k) d
-  get_or-part_any k d h = get_or-take (b - a) (drop a xs) k d (omega arith) ∙ get_or-drop a xs k d
-
   pub length-part : b ≤ length xs → length (slice_range xs a b) ≡ b - a
   length-part h = omega (arith, length-take (b - a) (drop a xs), length-drop a xs)
 
@@ -102,24 +99,6 @@ clear_again xs zs a s b d same low high clear k from to is =
     sym (get_or-part xs a b (k - d) (omega arith)) ∙ ap (λ l. get_or l (k - d) 0) (sym same)
     ∙ get_or-part zs d (d + (b - a)) (k - d) (omega arith) ∙ ap (λ (i : ℕ). get_or zs i 0) at in
     clear (a + (k - d)) (omega arith) (omega arith) (reads ∙ is)
-
--- bytes that were copied stand where they were copied to
-pub part-copied : (xs ys : List ℕ) (a n b : ℕ) → length ys ≡ length xs → a + n ≤ length xs → b + n ≤ length xs → CopiedTo xs ys a b n
-    → slice_range ys b (b + n) ≡ slice_range xs a (a + n)
-part-copied xs ys a n b same from to copied =
-    let one : length (slice_range ys b (b + n)) ≡ n = length-part ys b (b + n) (omega (arith, same, to)) ∙ omega arith in
-    let two : length (slice_range xs a (a + n)) ≡ n = length-part xs a (a + n) from ∙ omega arith in
-    same_lists (slice_range ys b (b + n)) (slice_range xs a (a + n)) (one ∙ sym two)
-    (λ k d h.
-    let low : k < n = omega (arith, h, one) in
-    get_or-part_any ys b (b + n) k d (omega (arith, low)) ∙ copied (b + k) d (omega arith) (omega (arith, low))
-    ∙ ap (λ (i : ℕ). get_or xs i d) (omega arith) ∙ sym (get_or-part_any xs a (a + n) k d (omega (arith, low))))
-
--- bytes from a position on that stayed
-pub drop-same : (xs ys : List ℕ) (n : ℕ) → length ys ≡ length xs → SameFrom xs ys n → drop n ys ≡ drop n xs
-drop-same xs ys n same stayed =
-    same_lists (drop n ys) (drop n xs) (length-drop n ys ∙ ap (λ (k : ℕ). k - n) same ∙ sym (length-drop n xs))
-    (λ k d h. get_or-drop n ys k d ∙ stayed (n + k) d (omega arith) ∙ sym (get_or-drop n xs k d))
 
 -- a part with its middle gone, after its front was moved up to the rest
 pub part-cut : (xs ys : List ℕ) (a from to b : ℕ) → from ≤ to → a + to ≤ b

@@ -1,6 +1,7 @@
 -- What contracts see of a framer, and what its calls do.
-use Rattle.std.specs.Prelude.{◌≡◌, ℕ, ◌+◌, ◌-◌, ◌*◌, ◌<◌, Bool, false, IfSome, List, [], ◌++◌, Option, Result, Ok, Err, length, map, max, if◌then◌else◌}
+use Rattle.std.specs.Prelude.{◌≡◌, ℕ, ◌+◌, ◌-◌, ◌*◌, ◌<◌, Bool, false, IsTrue, IfSome, List, [], ◌++◌, Option, Result, Ok, Err, length, map, max, if◌then◌else◌}
 use Rattle.std.specs.Option.{option_map, option_to_list}
+use Rattle.scq_outside.specs.Faults.{Rose}
 use Rattle.scq_frames.specs.declared.message.Message.{Message}
 use Rattle.scq_frames.specs.declared.fault.FrameFault.{FrameFault}
 use Rattle.scq_frames.specs.Text.{messages_after}
@@ -58,6 +59,13 @@ pub record IsNext (old new : Framing) (m : Message) : Type 0 where
   pub above : old.line < m.line
   pub line : new.line ≡ m.line
   pub weight : new.weight ≡ old.weight + weight_of m
+
+-- a call's source answered its end once where the framer came to know it in that call, and else not at all: none is read again
+-- behind its end
+pub record EndsOnce (was is : Bool) (before after : ℕ) : Type 0 where
+  pub rose : was ≡ false → IsTrue is → Rose before after
+  pub going : is ≡ false → after ≡ before
+  pub over : IsTrue was → after ≡ before
 
 -- a framer of a file that was not read yet
 abbrev pub fresh : ℕ → ℕ → ℕ → Framing

@@ -8,7 +8,7 @@ ghost use Rattle.scq_frames.specs.Finding.{IsTooLong};
 ghost use Rattle.scq_frames.specs.Coming.{Found};
 ghost use Rattle.scq_frames.specs.Lines.{EndsAt, HasNoLineFeed};
 ghost use Rattle.scq_frames.specs.Trimming.{IsTrimmed};
-ghost use Rattle.scq_frames.specs.Framing.{Fetched, IsNext, NothingLeft, fresh, given_by, visible_ahead, visible_size, weight_of, work_left};
+ghost use Rattle.scq_frames.specs.Framing.{EndsOnce, Fetched, IsNext, NothingLeft, fresh, given_by, visible_ahead, visible_size, weight_of, work_left};
 
 use crate::cut::{message_of_line, split_line};
 use crate::window::{READ, Window};
@@ -94,6 +94,9 @@ impl Framer {
         ensures end { (IsTrue self.old.ended → NothingLeft (S.left source.old)) → IsTrue self.new.ended → NothingLeft (S.left source.new) }
         ensures ended { IsTrue self.old.ended → (source.new ≡ source.old) × IsTrue self.new.ended }
         ensures again { IsTrue self.old.ended → self.old.held ≡ [] → result ≡ Ok None }
+
+        // No source is read again behind its end: the end is answered just once, in the call after which it is known.
+        ensures ends { EndsOnce self.old.ended self.new.ended (S.ends source.old) (S.ends source.new) }
 
         // Of every source, also where nothing is visible, the messages are of the framer's file, their
         // lines rise, and their weights are at most one more than the limit. No other answer adds any.
@@ -246,6 +249,7 @@ impl Framer {
         ensures found { Found self.old self.new (S.left source.old) (S.left source.new) (Err result) }
         ensures size { visible_size self.new (S.left source.new) ≡ visible_size self.old (S.left source.old) }
         ensures end { IsTrue self.new.ended → NothingLeft (S.left source.new) }
+        ensures ends { EndsOnce self.old.ended self.new.ended (S.ends source.old) (S.ends source.new) }
         ensures held { length self.new.held ≤ self.new.size + 4130 }
 
         ensures read_fault { result ≡ FrameFault.ReadFault → Rose (S.faults source.old) (S.faults source.new) }
@@ -308,6 +312,7 @@ impl Framer {
             OnOk result (visible_ahead number self.old (S.left source.old) ≡ visible_ahead number self.new (S.left source.new)) }
         ensures size { visible_size self.new (S.left source.new) ≡ visible_size self.old (S.left source.old) }
         ensures end { IsTrue self.new.ended → NothingLeft (S.left source.new) }
+        ensures ends { EndsOnce self.old.ended self.new.ended (S.ends source.old) (S.ends source.new) }
         ensures within { OnOk result (self.new.read ≤ self.new.most) }
         ensures held { length self.new.held ≤ self.new.size + 4130 }
         ensures falls { OnOk result (work_left self.new < work_left self.old) }

@@ -16,10 +16,13 @@ struct Pieces<'a> {
     size: usize,
     reads: u64,
     faults: u64,
+    ends: u64,
 }
 
 impl Source for Pieces<'_> {
     ghost faults = { λ s. s.faults };
+
+    ghost ends = { λ s. s.ends };
 
     ghost left = { λ _. None };
 
@@ -33,6 +36,9 @@ impl Source for Pieces<'_> {
         let (piece, rest) = self.rest.split_at(count);
         into[..count].copy_from_slice(piece);
         self.rest = rest;
+        if count == 0 {
+            self.ends = self.ends.saturating_add(1);
+        }
         Ok(count)
     }
 }
@@ -110,6 +116,7 @@ fn gives_the_same_messages_however_reads_are_cut(rt: HostRuntime) -> Result<(), 
                 size: piece,
                 reads: u64::MAX,
                 faults: 0,
+                ends: 0,
             };
             let limits = Limits {
                 size,
@@ -138,6 +145,7 @@ fn finds_what_ends_before_a_failed_read(rt: HostRuntime) -> Result<(), Fail> {
             size: 4,
             reads,
             faults: 0,
+            ends: 0,
         };
         let limits = Limits { size: 3, most: 99 };
         assert_eq!(rt;
@@ -185,6 +193,7 @@ fn gives_lines_longer_than_the_room(rt: HostRuntime) -> Result<(), Fail> {
             size: piece,
             reads: u64::MAX,
             faults: 0,
+            ends: 0,
         };
         let limits = Limits {
             size: 65_536,
@@ -237,6 +246,7 @@ fn counts_what_of_a_line_is_not_held(rt: HostRuntime) -> Result<(), Fail> {
                 size: piece,
                 reads: u64::MAX,
                 faults: 0,
+                ends: 0,
             };
             let limits = Limits {
                 size,
@@ -261,6 +271,7 @@ fn a_line_that_is_too_long_ends_with_its_source(rt: HostRuntime) -> Result<(), F
             size: 4096,
             reads,
             faults: 0,
+            ends: 0,
         };
         let limits = Limits {
             size: 16,

@@ -1,4 +1,4 @@
-ghost use Rattle.std.specs.Prelude.{◌≡◌, ℕ, ◌+◌, ◌-◌, ◌<◌, ◌≤◌, ◌++◌, [], length, take, drop, slice_range, vec_len, IfOk, IfErr, IfSome, IfNone, OnOk, OnErr, IsErrOf, ◌⊎◌, ◌≢◌};
+ghost use Rattle.std.specs.Prelude.{◌≡◌, ℕ, ◌+◌, ◌-◌, ◌<◌, ◌≤◌, ◌++◌, [], length, take, drop, slice_range, vec_len, Ok, IfOk, IfErr, IfSome, IfNone, OnOk, OnErr, IsErrOf, ◌⊎◌, ◌≢◌};
 ghost use Rattle.std.specs.Option.{option_map};
 ghost use Rattle.scq_outside.specs.Faults.{Rose};
 ghost use Rattle.std.specs.List.{before_first};
@@ -137,6 +137,8 @@ impl Window {
 
         ensures rose { IsErrOf result FrameFault.ReadFault → Rose (S.faults source.old) (S.faults source.new) }
         ensures kept { result ≢ Err FrameFault.ReadFault → S.faults source.new ≡ S.faults source.old }
+        ensures ended { result ≡ Ok 0 → Rose (S.ends source.old) (S.ends source.new) }
+        ensures not_ended { result ≢ Ok 0 → S.ends source.new ≡ S.ends source.old }
     {
         let held = self.end - self.start;
         let from = make_room(&mut self.room, self.start, self.end, most)?;

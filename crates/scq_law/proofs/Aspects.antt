@@ -8,6 +8,7 @@ pub mod CoupledPuts
 pub mod CoupledGets
 pub mod FinishedPuts
 pub mod EventRecording
+pub mod EndedCalls
 pub mod DecidingGets
 pub mod CoupledTurns
 pub mod CoupledRuns

@@ -7,3 +7,4 @@ pub mod Tickets
 pub mod Aspects
 pub mod Balance
 pub mod Retries
+pub mod Order

@@ -18,3 +18,8 @@ pub mod Begun
 pub mod Retries
 pub mod CallSteps
 pub mod Lasting
+pub mod RunSteps
+pub mod Points
+pub mod Plain
+pub mod Order
+pub mod Notes

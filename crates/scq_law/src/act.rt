@@ -1,9 +1,11 @@
-//! What a turn may add to what its run records.
+//! What a turn may add to what its run records, and the call that it has ended.
 
-ghost use Rattle.std.specs.Prelude.{◌≡◌, IfOk};
-ghost use Rattle.scq_law.specs.Acts.{act_of};
+ghost use Rattle.std.specs.Prelude.{◌≡◌, ◌<◌, IfOk};
+ghost use Rattle.std.specs.Option.{option_copied};
+ghost use Rattle.scq_core.specs.StateLists.{machine_of};
+ghost use Rattle.scq_law.specs.Acts.{act_of, ended_in};
 
-use scq_core::{Phase, Step};
+use scq_core::{Ended, Phase, State, Step};
 use scq_hist::Call;
 use scq_word::{Bytes, NoMemory};
 use std::alloc::Global;
@@ -42,5 +44,16 @@ pub(crate) fn act_of(alloc: Global, phase: &Phase, step: &Step) -> Result<Act, N
         }
         (Phase::AtD10 { ring, .. }, _) => Ok(Act::Fails { ring: *ring }),
         _ => Ok(Act::Moves),
+    }
+}
+
+/// The call that has ended, where the seat is idle.
+pub(crate) fn ended(state: &State, seat: u32) -> Option<&Ended>
+    requires { seat < state.now.setup.seats }
+    ensures { let part = (machine_of state.now).part seat in option_copied result ≡ ended_in part.phase part.calls }
+{
+    match state.phase(seat) {
+        Phase::Idle => state.last(seat),
+        _ => None,
     }
 }

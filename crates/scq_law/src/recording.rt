@@ -1,16 +1,15 @@
 //! What a run records, kept step by step.
 
 ghost use Rattle.std.specs.Prelude.{◌≡◌, ℕ, ◌+◌, ◌^◌, ◌<◌, List, ◌++◌, Some, None, Err, length, slice_index, vec_len, unwrap_or, IfOk, OnOk};
-ghost use Rattle.std.specs.Option.{option_copied};
 ghost use Rattle.scq_word.specs.Sizes.{n_of};
 ghost use Rattle.scq_core.specs.StateLists.{machine_of};
 ghost use Rattle.scq_core.specs.Reach.{IsReachable};
 ghost use Rattle.scq_law.specs.Run.{Recorded, recorded_reply, first_placer, recorded_by, recorded_first};
-ghost use Rattle.scq_law.specs.Acts.{IsOnRing, starts_by, puts_by, names_by, resets_by, fails_by, ended_in};
+ghost use Rattle.scq_law.specs.Acts.{IsOnRing, starts_by, puts_by, names_by, resets_by, fails_by};
 ghost use Rattle.scq_law.specs.Names.{name_at, placer_in};
 ghost use Rattle.scq_law.specs.Recording.{Shows, HasRoom, AddsTurn, finishes_by};
 
-use crate::act::{Act, act_of};
+use crate::act::{Act, act_of, ended};
 use scq_core::{ApplyFault, Ended, Phase, State, Step};
 use scq_hist::{Call, Event, PutName, Reply};
 use scq_word::{Bytes, NoMemory, Setup};
@@ -183,17 +182,6 @@ fn finish(
         events.push(Event::End { seat, reply })?;
     }
     Ok(())
-}
-
-/// The call that has ended, where the seat is idle.
-fn ended(state: &State, seat: u32) -> Option<&Ended>
-    requires { seat < state.now.setup.seats }
-    ensures { let part = (machine_of state.now).part seat in option_copied result ≡ ended_in part.phase part.calls }
-{
-    match state.phase(seat) {
-        Phase::Idle => state.last(seat),
-        _ => None,
-    }
 }
 
 /// The reply of a call that has ended.

@@ -29,7 +29,11 @@ impl<R: rt::Files<File = File> + Drop> Files for DiskFiles<R> {
 
     fn source(&mut self, name: &str) -> Result<DiskSource<File>, Failed> {
         match File::open(&self.system, name) {
-            Ok(file) => Ok(DiskSource { file, faults: 0 }),
+            Ok(file) => Ok(DiskSource {
+                file,
+                faults: 0,
+                ends: 0,
+            }),
             Err(_) => {
                 self.faults = self.faults.saturating_add(1);
                 Err(Failed)
@@ -43,16 +47,24 @@ impl<R: rt::Files<File = File> + Drop> Files for DiskFiles<R> {
 pub struct DiskSource<F> {
     file: F,
     faults: u64,
+    ends: u64,
 }
 
 impl<F: Read + Send + Drop> Source for DiskSource<F> {
     ghost faults = { λ source. source.faults };
 
+    ghost ends = { λ source. source.ends };
+
     ghost left = { λ _. None };
 
     fn read(&mut self, into: &mut [u8]) -> Result<usize, Failed> {
         match self.file.read(into) {
-            Ok(count) => Ok(count),
+            Ok(count) => {
+                if count == 0 {
+                    self.ends = self.ends.saturating_add(1);
+                }
+                Ok(count)
+            }
             Err(_) => {
                 self.faults = self.faults.saturating_add(1);
                 Err(Failed)

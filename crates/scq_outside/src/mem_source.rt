@@ -1,4 +1,4 @@
-ghost use Rattle.std.specs.Prelude.{◌≡◌, ℕ, ◌<◌, ◌≤◌, ◌++◌, List, [], Some, IsTrue, false, length, take, drop, min, IfOk, OnOk, OnErr, IsErr, ◌↔◌};
+ghost use Rattle.std.specs.Prelude.{◌≡◌, ◌≢◌, ℕ, ◌<◌, ◌≤◌, ◌++◌, List, [], Some, Ok, IsTrue, false, length, take, drop, min, IfOk, OnOk, OnErr, IsErr, ◌↔◌};
 ghost use Rattle.scq_outside.specs.Calls.{are_pieces, first_call, next_call, fails_next, granted};
 ghost use Rattle.scq_outside.specs.Faults.{one_more};
 ghost use Rattle.scq_outside.specs.Readable.{Readable};
@@ -20,14 +20,14 @@ pub struct MemSource {
 impl Model for MemSource {
     ghost Value = { Readable };
 
-    ghost view = { λ s. record { left = s.rest; reads = s.reads; faults = s.faults } };
+    ghost view = { λ s. record { left = s.rest.left; reads = s.reads; faults = s.faults; ends = s.rest.ends } };
 }
 
 impl MemSource {
     /// The vector's own bytes, in no new memory.
     pub fn new(bytes: Vec<u8>, pieces: Vec<u32>, fails: Vec<u32>) -> MemSource
         requires { IsTrue (are_pieces pieces.items) }
-        ensures { result ≡ record { left = bytes.items; reads = first_call pieces.items fails.items; faults = 0 } }
+        ensures { result ≡ record { left = bytes.items; reads = first_call pieces.items fails.items; faults = 0; ends = 0 } }
     {
         MemSource {
             rest: PlainSource::new(bytes),
@@ -39,6 +39,8 @@ impl MemSource {
 
 impl Source for MemSource {
     ghost faults = { λ s. s.faults };
+
+    ghost ends = { λ s. s.ends };
 
     ghost left = { λ s. Some s.left };
 
@@ -52,6 +54,8 @@ impl Source for MemSource {
         ensures behind { IfOk result (λ k. drop k into.new ≡ drop k into.old) }
         ensures next { self.new.reads ≡ next_call self.old.reads }
         ensures kept { OnOk result (self.new.faults ≡ self.old.faults) }
+        ensures ended { result ≡ Ok 0 → self.new.ends ≡ one_more self.old.ends }
+        ensures not_ended { result ≢ Ok 0 → self.new.ends ≡ self.old.ends }
 
         // A read that fails moves nothing, and counts once.
         ensures unmoved { OnErr result (self.new.left ≡ self.old.left) }

@@ -1,4 +1,4 @@
-ghost use Rattle.std.specs.Prelude.{◌≡◌, ℕ, ◌<◌, ◌≤◌, ◌++◌, List, [], Option, length, take, IfOk, OnOk, OnErr, IfSome};
+ghost use Rattle.std.specs.Prelude.{◌≡◌, ◌≢◌, ℕ, ◌<◌, ◌≤◌, ◌++◌, List, [], Option, Ok, length, take, IfOk, OnOk, OnErr, IfSome};
 ghost use Rattle.std.specs.Option.{option_map};
 ghost use Rattle.scq_outside.specs.Faults.{Rose};
 
@@ -14,6 +14,9 @@ pub trait Source: Send + Drop {
     /// How often a read has failed. The count stands still at the last value of a u64.
     ghost faults: { Self → ℕ };
 
+    /// How many reads have answered the end. The count stands still at the last value of a u64.
+    ghost ends: { Self → ℕ };
+
     /// The bytes that are left, where they are visible.
     ghost left: { Self → Option (List ℕ) };
 
@@ -25,6 +28,11 @@ pub trait Source: Send + Drop {
         ensures moved { IfOk result (λ k. left self.old ≡ option_map (λ rest. take k into.new ++ rest) (left self.new)) }
         ensures end { IfOk result (λ k. k ≡ 0 → IfSome (left self.old) (λ bytes. bytes ≡ [])) }
         ensures kept { OnOk result (faults self.new ≡ faults self.old) }
+
+        // An end that is answered is counted, and nothing else is: so that a caller can say that it read no source again
+        // behind its end.
+        ensures ended { result ≡ Ok 0 → Rose (ends self.old) (ends self.new) }
+        ensures not_ended { result ≢ Ok 0 → ends self.new ≡ ends self.old }
 
         // After a fault the source has what it had.
         ensures unmoved { OnErr result (left self.new ≡ left self.old) }

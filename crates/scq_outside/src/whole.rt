@@ -1,5 +1,5 @@
 //! A source read to its end.
-ghost use Rattle.std.specs.Prelude.{◌≡◌, ◌≢◌, ℕ, ◌^◌, ◌<◌, ◌≤◌, List, [], length, Err, IfOk, IfErr, OnOk, IfSome, IsErrOf};
+ghost use Rattle.std.specs.Prelude.{◌≡◌, ◌≢◌, ℕ, ◌^◌, ◌<◌, ◌≤◌, List, [], length, Err, IfOk, IfErr, OnOk, OnErr, IfSome, IsErrOf};
 ghost use Rattle.scq_outside.specs.Faults.{Rose};
 ghost use Rattle.scq_outside.specs.Taking.{Took, TookUntil};
 
@@ -16,6 +16,8 @@ pub fn read_all<S: Source>(alloc: Global, source: &mut S, most: u64) -> Result<B
     ensures all { IfOk result (λ bytes. Took bytes (S.left source.old) (S.left source.new)) }
     ensures end { OnOk result (IfSome (S.left source.new) (λ left. left ≡ [])) }
     ensures fits { IfOk result (λ bytes. length bytes ≤ most) }
+    ensures ended { OnOk result (Rose (S.ends source.old) (S.ends source.new)) }
+    ensures not_ended { OnErr result (S.ends source.new ≡ S.ends source.old) }
     ensures until { IfErr result (TookUntil most (S.left source.old) (S.left source.new)) }
     ensures read_fault { IsErrOf result ReadAllFault.ReadFault → Rose (S.faults source.old) (S.faults source.new) }
     ensures kept { result ≢ Err ReadAllFault.ReadFault → S.faults source.new ≡ S.faults source.old }

@@ -1,10 +1,9 @@
--- For the tests: what a pass holds after each call.
-use Rattle.std.proofs.Common.{◌≡◌, ◌≢◌, ◌⊎◌, ℕ, zero, suc, ◌+◌, ◌<◌, ◌≤◌, List, [], ◌∷◌, ◌++◌, length, map, refl, sym, ◌∙◌, ap, subst, inl, inr, arith, eq-eqb, ne_eqb}
-use Rattle.std.specs.Prelude.{All, Option, Some, None, Err, not, ◌==◌, filter, if◌then◌else◌, slice_get, sum_by}
+-- What a pass holds after each call: for those who call, and have to show at the end which values are held.
+use Rattle.std.proofs.Common.{◌≡◌, ℕ, zero, suc, ◌+◌, ◌<◌, ◌≤◌, List, [], ◌∷◌, ◌++◌, length, map, refl, sym, ◌∙◌, ap, subst, inl, inr, arith, eq-eqb, ne_eqb}
+use Rattle.std.specs.Prelude.{Some, None, slice_get}
 use Rattle.std.specs.List.{Contains}
 use Rattle.std.proofs.lemmas.Bool.{cases_eq}
 use Rattle.std.proofs.lemmas.List.{map-append}
-use Rattle.scq_word.specs.Sizes.{n_of}
 use Rattle.scq_law.specs.Hands.{times}
 use Rattle.scq_band.specs.Standing.{Identity}
 use Rattle.scq_band.proofs.SeatsHome.{contains_times}
@@ -13,7 +12,7 @@ use Rattle.scq_queue.specs.declared.calls.LendRefusal.{LendRefusal}
 use Rattle.scq_queue.specs.declared.calls.LendRefusal.TheVariants.{Full, Spent as NoTicket}
 use Rattle.scq_queue.specs.declared.calls.TakeRefusal.{TakeRefusal}
 use Rattle.scq_queue.specs.declared.calls.TakeRefusal.TheVariants.{Empty, Spent}
-use Rattle.scq_queue.specs.Passes.{PassStanding, HeldStanding, IsHeldBy, FoundNothing, FoundFull, first_pass, without, after_put, after_get, after_spent_put, after_spent_get}
+use Rattle.scq_queue.specs.Passes.{PassStanding, HeldStanding, IsHeldBy, FoundNothing, FoundFull, without, after_put, after_get, after_spent_put, after_spent_get}
 use Rattle.scq_queue.specs.Closing.{AreTheHeld}
 use Rattle.scq_queue.specs.Trials.{AllOf, HoldsJust}
 use Rattle.scq_queue.proofs.Hands.{contains_last}
@@ -68,6 +67,13 @@ pub one_of : {A : Type 0} (xs : List A) (x y : A) → xs ++ x ∷ [] ≡ y ∷ [
 one_of [] x y e = let same : x ≡ y = cc in (refl, same)
 one_of (z ∷ []) x y e = absurd (cc)
 one_of (z ∷ w ∷ xs) x y e = absurd (cc)
+
+-- what stands before the last two of a list of two
+pub none_before : {A : Type 0} (xs : List A) (x y a b : A) → (xs ++ x ∷ []) ++ y ∷ [] ≡ a ∷ b ∷ [] → xs ≡ []
+none_before [] x y a b e = refl
+none_before (z ∷ []) x y a b e = absurd (cc)
+none_before (z ∷ w ∷ []) x y a b e = absurd (cc)
+none_before (z ∷ w ∷ v ∷ xs) x y a b e = absurd (cc)
 
 module _ {B : Type 0} where
   indices : List (HeldStanding B) → List ℕ
@@ -195,18 +201,12 @@ module _ {B : Type 0} where
   all_at queue number (v ∷ values) all (suc k) h e = all_at queue number values all.2 k h e
 
   -- the values of the one pass of a queue
-  pub held_alone : (queue : Identity B) (p : PassStanding B) (values : List (HeldStanding B)) → HoldsJust queue p values → length values ≤ n_of queue.setup.order
-      → AreTheHeld queue (p ∷ []) values
-  held_alone queue p values before few =
+  pub held_alone : (queue : Identity B) (p : PassStanding B) (values : List (HeldStanding B)) → HoldsJust queue p values → AreTheHeld queue (p ∷ []) values
+  held_alone queue p values before =
       record {
         queue_of = all_at queue p.number values before.all;
-        few = few;
         all = λ i. ap (times i) before.same ∙ (omega arith);
       }
-
-  -- a new pass holds nothing
-  pub holds_first : (queue : Identity B) → HoldsJust queue (first_pass queue 0) []
-  holds_first queue = record { own = refl; awake = refl; same = refl; all = tt; once = λ i. omega arith }
 
   -- the last value with other bytes
   pub holds_written : (queue : Identity B) (p : PassStanding B) (values : List (HeldStanding B)) (h v : HeldStanding B) → HoldsJust queue p (values ++ h ∷ [])
@@ -222,4 +222,23 @@ module _ {B : Type 0} where
             ∙ sym (map-append (λ (u : HeldStanding B). u.index) values (h ∷ [])) ∙ before.same;
         all = all-append queue p.number values v last.0 (same_queue ∙ last.1) (same_pass ∙ last.2);
         once = before.once;
+      }
+
+  -- a pass without values holds nothing
+  pub none_held : (queue : Identity B) (p : PassStanding B) (values : List (HeldStanding B)) → HoldsJust queue p values → length values ≡ 0 → p.held ≡ []
+  none_held queue p [] before none = sym before.same
+  none_held queue p (v ∷ values) before none = absurd (omega (arith, none))
+
+  -- the values of two passes, of which the first holds none
+  pub held_two : (queue : Identity B) (first second old : PassStanding B) (values : List (HeldStanding B)) → HoldsJust queue old values → first.held ≡ []
+      → second.held ≡ old.held → AreTheHeld queue (first ∷ second ∷ []) values
+  held_two queue first second old values before none same =
+      record {
+        queue_of = all_at queue old.number values before.all;
+        all =
+            λ i.
+            let mine = ap (times i) before.same in
+            let empty = ap (times i) none in
+            let its = ap (times i) same in
+            omega arith;
       }

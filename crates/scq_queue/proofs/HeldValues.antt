@@ -1,9 +1,9 @@
 -- What a pass is after its seat got a value, put one, or was refused: the buffers of all that it holds are lifted in between.
-use Rattle.std.proofs.Common.{◌≡◌, ◌⊎◌, ℕ, ◌+◌, List, [], ◌∷◌, ◌++◌, refl, sym, ◌∙◌, ap, subst, inl, inr}
+use Rattle.std.proofs.Common.{◌≡◌, ◌⊎◌, ℕ, List, [], ◌∷◌, ◌++◌, refl, sym, ◌∙◌, ap, subst, inl, inr}
 use Rattle.std.specs.Prelude.{Option, Some, None}
 use Rattle.std.specs.List.{Contains}
-use Rattle.scq_core.specs.declared.ended.Ended.TheVariants.{Done, Got}
-use Rattle.scq_band.specs.Numbers.{changed, finishes, sees, passes}
+use Rattle.scq_core.specs.declared.ended.Ended.TheVariants.{Done}
+use Rattle.scq_band.specs.Numbers.{changed, finishes}
 use Rattle.scq_band.specs.declared.calls.DeqRefusal.{DeqRefusal}
 use Rattle.scq_band.specs.declared.calls.DeqRefusal.TheVariants.{Empty, Spent}
 use Rattle.scq_band.specs.Standing as band

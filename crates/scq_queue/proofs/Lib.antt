@@ -4,4 +4,6 @@ mod HeldValues
 pub mod PassSteps
 mod NewPasses
 mod Ends
-mod HeldOnce
+pub mod HeldOnce
+pub mod PassesSent
+pub mod QueuesShared

@@ -1,6 +1,6 @@
 -- What a call of its seat makes of a pass: what it keeps, and its lists.
-use Rattle.std.proofs.Common.{◌≡◌, ◌⊎◌, ℕ, zero, suc, ◌+◌, ◌-◌, ◌^◌, ◌<◌, ◌≤◌, List, [], ◌∷◌, ◌++◌, length, refl, sym, ◌∙◌, ap, subst, inl, inr, arith}
-use Rattle.std.specs.Prelude.{Option, Some, None, min}
+use Rattle.std.proofs.Common.{◌≡◌, ℕ, suc, ◌+◌, ◌-◌, ◌^◌, ◌<◌, ◌≤◌, List, [], ◌∷◌, ◌++◌, length, refl, sym, ◌∙◌, ap, subst, inl, inr, arith}
+use Rattle.std.specs.Prelude.{Some, None, min}
 use Rattle.std.proofs.lemmas.List.{append-nil, length-append}
 use Rattle.scq_core.specs.declared.ended.Ended.{Ended}
 use Rattle.scq_core.specs.declared.ended.Ended.TheVariants.{Done, Got, Nothing, Spent}
@@ -8,7 +8,7 @@ use Rattle.scq_law.specs.Bounds.{tally}
 use Rattle.scq_band.specs.Numbers.{known_of}
 use Rattle.scq_band.specs.Standing.{Identity, Standing}
 use Rattle.scq_queue.specs.declared.counts.Counts.{Counts}
-use Rattle.scq_queue.specs.Lists.{Lists, sent_by, taken_by, was_full, fulls_in, sends_of, takes_of, with_send, with_take, with_full, counted, counts_of}
+use Rattle.scq_queue.specs.Lists.{sent_by, taken_by, was_full, fulls_in, sends_of, takes_of, with_send, with_take, with_full, counted, counts_of}
 use Rattle.scq_queue.specs.Passes.{PassStanding, HeldStanding, HasGot, WasLent, WasGivenBack, lists_of, after_put}
 use Rattle.scq_queue.specs.Kept.{AreLifted, IsPass, pass_over}
 use Rattle.scq_queue.proofs.HeldValues.{cases_spent}

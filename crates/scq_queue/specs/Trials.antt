@@ -1,4 +1,4 @@
--- For the tests: a pass of a queue with just the values that it holds, in the order in which they came.
+-- For those who call: a pass of a queue with just the values that it holds, in the order in which they came.
 use Rattle.std.specs.Prelude.{◌≡◌, ℕ, ◌≤◌, List, [], ◌∷◌, map, None}
 use Rattle.scq_law.specs.Hands.{times}
 use Rattle.scq_band.specs.Standing.{Identity}

@@ -27,4 +27,6 @@ pub use queue::Queue;
 pub use scq_band::Spent;
 
 #[cfg(test)]
+mod pair_tests;
+#[cfg(test)]
 mod tests;

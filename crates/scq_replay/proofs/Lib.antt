@@ -1,2 +1,4 @@
 pub mod StepsRun
 pub mod Rings
+pub mod ScheduleRuns
+pub mod RingOrders

@@ -1,12 +1,16 @@
 -- The steps of a schedule so far: their lines are printed, and the rest gives what it gives from the state reached.
-use Rattle.std.proofs.Common.{◌≡◌, ℕ, ◌+◌, List, [], ◌∷◌, ◌++◌, append_assoc, Some, None, Result, Ok, Err, refl, sym, ◌∙◌, ap}
+use Rattle.std.proofs.Common.{◌≡◌, ℕ, ◌+◌, List, [], ◌∷◌, ◌++◌, append_assoc, Option, Some, None, Result, Ok, Err, ◌⊎◌, inl, inr, refl, sym, ◌∙◌, ap, subst}
+use Rattle.std.specs.Prelude.{IfErr}
+use Rattle.std.specs.Result.{IsErrAnd}
 use Rattle.std.proofs.lemmas.List.{append-nil}
 use Rattle.scq_word.specs.declared.setup.Setup.{Setup}
 use Rattle.scq_core.specs.Machine.{Machine}
+use Rattle.scq_core.specs.declared.step.Step.{Step}
+use Rattle.scq_core.specs.Table.{step_of}
 use Rattle.scq_replay.specs.declared.replaying.ScheduleFault.{ScheduleFault}
-use Rattle.scq_replay.specs.declared.replaying.ScheduleFault.TheVariants.{BadLine, NotEnabled}
-use Rattle.scq_replay.specs.Replay.{onto, turn_of_line, steps_from}
-use Rattle.scq_replay.specs.Steps.{IsMade, IsNotEnabled}
+use Rattle.scq_replay.specs.declared.replaying.ScheduleFault.TheVariants.{Unfinished, NoMemory}
+use Rattle.scq_replay.specs.Replay.{onto, made, taken, turn_of_line, steps_from, schedule_start, Gives, no_setup, steps_of}
+use Rattle.scq_replay.specs.Steps.{IsMade, IsRefused, bad_line, not_enabled}
 
 -- all the lines give what was printed, before what the rest gives
 pub record IsRun (c : Setup) (start : Machine) (lines : List (List ℕ)) (m : Machine) (number : ℕ) (rest : List (List ℕ)) (printed : List ℕ) : Type 0 where
@@ -32,19 +36,50 @@ run_more c start lines m next number line rest more old new cut run made =
           ∙ (rw (made.says, made.leads, made.prints) (onto-onto old _ (steps_from c next (number + 1) more)));
     }
 
-pub run_bad : (c : Setup) (start : Machine) (lines : List (List ℕ)) (m : Machine) (number at : ℕ) (line : List ℕ) (rest more : List (List ℕ)) (old : List ℕ)
-    → rest ≡ line ∷ more → IsRun c start lines m number rest old → at ≡ number + 1 → turn_of_line c number line ≡ None
-    → steps_from c start 1 lines ≡ Err (BadLine at)
-run_bad c start lines m number at line rest more old cut run numbered none =
-    run.gives ∙ ap (λ r. onto old (steps_from c m number r)) cut ∙ (rw (none, numbered) refl)
-
-pub run_stopped : (c : Setup) (start : Machine) (lines : List (List ℕ)) (m : Machine) (number at : ℕ) (line : List ℕ) (rest more : List (List ℕ)) (old : List ℕ)
-    → rest ≡ line ∷ more → IsRun c start lines m number rest old → at ≡ number + 1 → IsNotEnabled c number line m
-    → steps_from c start 1 lines ≡ Err (NotEnabled at)
-run_stopped c start lines m number at line rest more old cut run numbered stops =
-    run.gives ∙ ap (λ r. onto old (steps_from c m number r)) cut ∙ (rw (stops.says, stops.not_enabled, numbered) refl)
+pub run_refused : (c : Setup) (start : Machine) (lines : List (List ℕ)) (m : Machine) (number : ℕ) (line : List ℕ) (rest more : List (List ℕ)) (old : List ℕ)
+    (fault : ScheduleFault) → rest ≡ line ∷ more → IsRun c start lines m number rest old → IsRefused c number line m fault → steps_from c start 1 lines ≡ Err fault
+run_refused c start lines m number line rest more old fault cut run (bad_line none) =
+    run.gives ∙ ap (λ r. onto old (steps_from c m number r)) cut ∙ (rw none refl)
+run_refused c start lines m number line rest more old fault cut run (not_enabled turn says none) =
+    run.gives ∙ ap (λ r. onto old (steps_from c m number r)) cut ∙ (rw (says, none) refl)
 
 pub run_end : (c : Setup) (start : Machine) (lines : List (List ℕ)) (m : Machine) (number : ℕ) (rest : List (List ℕ)) (printed : List ℕ)
     → rest ≡ [] → IsRun c start lines m number rest printed → steps_from c start 1 lines ≡ Ok printed
 run_end c start lines m number rest printed none run =
     run.gives ∙ ap (λ r. onto printed (steps_from c m number r)) none ∙ ap Ok (append-nil printed)
+
+-- no line is refused for a call that hasn't ended
+of_rest : (text : List ℕ) (seat : ℕ) (r : Result (List ℕ) ScheduleFault) → onto text r ≡ Err (Unfinished seat) → r ≡ Err (Unfinished seat)
+of_rest text seat (Ok rest) is = absurd (cc)
+of_rest text seat (Err fault) is = is
+
+module _ (c : Setup) (m : Machine) (number : ℕ) (seat : ℕ) (go_on : Machine → Result (List ℕ) ScheduleFault)
+    (never : (next : Machine) → go_on next ≡ Err (Unfinished seat) → ⊥) where
+  by_step : (turn : ℕ × Step) (next : Option Machine) → made c m number turn next go_on ≡ Err (Unfinished seat) → ⊥
+  by_step turn None stops = absurd (cc)
+  by_step turn (Some next) goes = never next (of_rest _ seat (go_on next) goes)
+
+  by_turn : (turn : Option (ℕ × Step)) → taken c m number turn go_on ≡ Err (Unfinished seat) → ⊥
+  by_turn None bad = absurd (cc)
+  by_turn (Some turn) good = by_step turn (step_of c m turn.0 turn.1) good
+
+never_unfinished : (c : Setup) (m : Machine) (number : ℕ) (lines : List (List ℕ)) (seat : ℕ) → steps_from c m number lines ≡ Err (Unfinished seat) → ⊥
+never_unfinished c m number [] seat is = absurd (cc)
+never_unfinished c m number (line ∷ more) seat is =
+    by_turn c m number seat (λ next. steps_from c next (number + 1) more) (λ next goes. never_unfinished c next (number + 1) more seat goes)
+    (turn_of_line c number line) is
+
+given_never : (lines : List (List ℕ)) (r : Result (List ℕ) ScheduleFault) (seat : ℕ) → Gives lines r → r ≡ Err (Unfinished seat) → ⊥
+given_never lines r seat (no_setup none) is = absurd (cc)
+given_never lines r seat (steps_of c steps has) is = never_unfinished c (schedule_start c) 1 steps seat is
+
+pub refused_never : {T : Type 0} (lines : List (List ℕ)) (r : Result T ScheduleFault) (seat : ℕ)
+    → IfErr r (λ fault. (fault ≡ NoMemory) ⊎ Gives lines (Err fault)) → r ≡ Err (Unfinished seat) → ⊥
+refused_never lines (Ok x) seat refused is = absurd (cc)
+refused_never lines (Err fault) seat (inl want) is = let same : fault ≡ Unfinished seat = cc in absurd (let both : NoMemory ≡ Unfinished seat = sym want ∙ same in cc)
+refused_never lines (Err fault) seat (inr gives) is = given_never lines (Err fault) seat gives (let same : fault ≡ Unfinished seat = cc in ap Err same)
+
+-- what `?` hands on has what is said of the fault
+pub handed_on : {T E : Type 0} (r : Result T E) (fault : E) (P : E → Type 0) → IsErrAnd r (λ passed. passed ≡ fault) → P fault → IfErr r P
+handed_on (Ok x) fault P passed said = absurd passed
+handed_on (Err x) fault P passed said = subst P (sym passed) said

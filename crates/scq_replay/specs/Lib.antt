@@ -2,3 +2,5 @@ pub mod Schedule
 pub mod Printed
 pub mod Replay
 pub mod Steps
+pub mod OrderText
+pub mod OrderSteps

@@ -1,5 +1,5 @@
 -- How a step of a schedule is printed: the words of its call's ring after it, and the reply where it ends the call
-use Rattle.std.specs.Prelude.{ℕ, zero, suc, ◌-◌, ℤ, pos, ◌-ℤ◌, List, [], ◌∷◌, ◌++◌, length, Option, Some, None, unwrap_or, slice_get, codes, decimal}
+use Rattle.std.specs.Prelude.{ℕ, zero, suc, ◌-◌, ℤ, pos, ◌-ℤ◌, List, [], ◌++◌, length, Option, Some, None, unwrap_or, slice_get, codes, decimal}
 use Rattle.std.specs.Fmt.{signed_decimal}
 use Rattle.std.specs.Option.{option_or}
 use Rattle.scq_word.specs.declared.setup.Setup.{Setup}
@@ -9,7 +9,7 @@ use Rattle.scq_core.specs.declared.phase.Phase.{Phase}
 use Rattle.scq_core.specs.declared.phase.Phase.TheVariants.{Idle}
 use Rattle.scq_core.specs.declared.step.Step.{Step}
 use Rattle.scq_core.specs.declared.step.Step.TheVariants.{E1, E1Again, E2, E3, E4, E5, E6, D1, D2, D3, D4, D5, D6, D7, D8, D9, D10}
-use Rattle.scq_core.specs.Machine.{Cells, Part, Machine}
+use Rattle.scq_core.specs.Machine.{Cells, Machine}
 use Rattle.scq_core.specs.Table.{ring_slots, zero_level}
 use Rattle.scq_core.specs.Turn.{ring_under_way}
 use Rattle.scq_lines.specs.Lines.{content_text}

@@ -70,7 +70,7 @@ fn add_head(text: &mut Vec<u8>, number: u32, seat: u32, step: &Step) -> Result<(
     Ok(())
 }
 
-fn add_number(text: &mut Vec<u8>, before: &[u8], number: u64) -> Result<(), NoMemory>
+pub(crate) fn add_number(text: &mut Vec<u8>, before: &[u8], number: u64) -> Result<(), NoMemory>
     ensures { OnOk result (text.new.items ≡ text.old.items ++ before.now ++ decimal number) }
 {
     text.extend_from_slice(before)?;
@@ -161,7 +161,7 @@ fn ended(state: &State, seat: u32) -> Option<&Ended>
     }
 }
 
-fn add_reply(text: &mut Vec<u8>, ended: Option<&Ended>) -> Result<(), NoMemory>
+pub(crate) fn add_reply(text: &mut Vec<u8>, ended: Option<&Ended>) -> Result<(), NoMemory>
     ensures { OnOk result (text.new.items ≡ text.old.items ++ reply_words (option_copied ended.entry)) }
 {
     match ended {

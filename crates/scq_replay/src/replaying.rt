@@ -1,29 +1,23 @@
 //! A schedule run from its start, and printed.
 
-ghost use Rattle.std.specs.Prelude.{◌≡◌, ◌⊎◌, ◌+◌, ◌++◌, ◌<◌, ◌≤◌, [], ℕ, Some, None, Ok, Err, IfOk, OnOk, IfErr, MatchResult, MatchOption, is_ok, replicate, vec_len};
-ghost use Rattle.scq_word.specs.Sizes.{n_of};
+ghost use Rattle.std.specs.Prelude.{◌≡◌, ◌⊎◌, ◌≤◌, ℕ, Ok, Err, IfOk, OnOk, IfErr};
 ghost use Rattle.scq_core.specs.Reach.{IsReachable};
 ghost use Rattle.scq_core.specs.StateLists.{machine_of};
-ghost use Rattle.scq_core.specs.Table.{step_of, ring_slots};
 ghost use Rattle.scq_lines.specs.Lines.{lines_of};
-ghost use Rattle.scq_replay.specs.Schedule.{turn_in};
-ghost use Rattle.scq_replay.specs.Printed.{call_ring, step_line};
-ghost use Rattle.scq_replay.specs.Replay.{turn_of_line, steps_from, schedule_start, Gives};
-ghost use Rattle.scq_replay.specs.Steps.{IsMade, IsNotEnabled};
+ghost use Rattle.scq_replay.specs.Replay.{steps_from, Gives};
+ghost use Rattle.scq_replay.specs.Steps.{IsMade, IsRefused};
 ghost use Rattle.scq_replay.specs.declared.replaying.ScheduleFault.TheVariants.{NoMemory as OutOfMemory};
 
 use crate::printing::{add_step, call_ring};
-use crate::schedule::{read_setup, read_turn};
-use scq_core::{ApplyFault, State};
+use crate::stepping::{first_line, make_step, no_contents, turn_of_line};
+use scq_core::State;
 use scq_lines::next_line;
 use scq_word::{Bytes, NoMemory, Setup};
 use std::alloc::Global;
 use thiserror::Error;
 
-// The most steps of a schedule.
-const MOST_STEPS: u32 = 10_000;
-
-/// Why a schedule was not run to its end: the first line with a fault, from 1. Or memory was wanted.
+/// Why a schedule was not run to its end: the first line with a fault, from 1. Where an order is asked for and no line has one:
+/// the lowest seat whose call has not ended. Or memory was wanted.
 #[derive(Clone, Copy, Debug, PartialEq, Eq, Error)]
 pub enum ScheduleFault {
     /// The line is not of the form, or is one line too many; or there is no first line.
@@ -32,6 +26,9 @@ pub enum ScheduleFault {
     /// No line of the step table allows the step after the ones before it.
     #[error("line {line}: step not enabled")]
     NotEnabled { line: u32 },
+    /// After all steps this seat, the lowest such, is in the middle of a call.
+    #[error("seat {seat}: call not ended")]
+    Unfinished { seat: u32 },
     #[error("out of memory")]
     NoMemory,
 }
@@ -52,29 +49,11 @@ impl From<NoMemory> for ScheduleFault {
 pub fn schedule_text(alloc: Global, text: &[u8]) -> Result<Bytes, ScheduleFault>
     ensures printed { IfOk result (λ printed. Gives (lines_of text.now) (Ok printed)) }
     ensures refused { IfErr result (λ fault. (fault ≡ OutOfMemory) ⊎ Gives (lines_of text.now) (Err fault)) }
+    ensures of_line { (seat : ℕ) → result ≡ Err (ScheduleFault.Unfinished seat) → ⊥ }
 {
-    let Some((line, steps)) = next_line(text) else {
-        return Err(ScheduleFault::BadLine { line: 1 });
-    };
-    let Some(setup) = read_setup(line) else {
-        return Err(ScheduleFault::BadLine { line: 1 });
-    };
+    let (setup, steps) = first_line(text)?;
     let state = State::start(alloc, setup, no_contents(alloc, &setup)?)?;
     steps_text(alloc, &setup, state, steps)
-}
-
-// As many empty contents as the setup has indices.
-fn no_contents(alloc: Global, setup: &Setup) -> Result<Vec<Bytes>, NoMemory>
-    ensures many { IfOk result (λ contents. vec_len contents ≡ n_of setup.now.order) }
-    ensures none { IfOk result (λ contents. contents.items ≡ replicate (n_of setup.now.order) []) }
-{
-    let mut contents = Vec::new(alloc);
-    for _ in 0..setup.shape().n() {
-        contents
-            .push(Bytes::from(Vec::new(alloc)))
-            .map_err(|_| NoMemory)?;
-    }
-    Ok(contents)
 }
 
 // Runs and prints the steps that lines say.
@@ -95,7 +74,7 @@ fn steps_text(
     let mut number = 1;
     let mut rest = text;
     'lines: while let Some((line, more)) = next_line(rest) {
-        make_step(alloc, setup, &mut state, &mut printed, number, line)?;
+        print_step(alloc, setup, &mut state, &mut printed, number, line)?;
         number += 1;
         rest = more;
     }
@@ -103,7 +82,7 @@ fn steps_text(
 }
 
 // Makes the step of this number, which a line says, and prints it.
-fn make_step(
+fn print_step(
     alloc: Global,
     setup: &Setup,
     state: &mut State,
@@ -118,23 +97,11 @@ fn make_step(
     ensures reachable { IsReachable state.new.setup (machine_of state.new) }
     ensures few { OnOk result (number ≤ 10000) }
     ensures made { OnOk result (IsMade setup.now number line.now (machine_of state.old) (machine_of state.new) printed.old.items printed.new.items) }
-    ensures bad_line { (at : ℕ) → result ≡ Err (ScheduleFault.BadLine at)
-        → (at ≡ number + 1) × (turn_of_line setup.now number line.now ≡ None) }
-    ensures not_enabled { (at : ℕ) → result ≡ Err (ScheduleFault.NotEnabled at)
-        → (at ≡ number + 1) × IsNotEnabled setup.now number line.now (machine_of state.old) }
+    ensures refused { IfErr result (λ fault. (fault ≡ OutOfMemory) ⊎ IsRefused setup.now number line.now (machine_of state.old) fault) }
 {
-    if number > MOST_STEPS {
-        return Err(ScheduleFault::BadLine { line: number + 1 });
-    }
-    let Some((seat, step)) = read_turn(alloc, setup, line)? else {
-        return Err(ScheduleFault::BadLine { line: number + 1 });
-    };
+    let (seat, step) = turn_of_line(alloc, setup, number, line)?;
     let ring = call_ring(state, seat, &step);
-    match state.apply(seat, &step) {
-        Ok(()) => {}
-        Err(ApplyFault::NotEnabled) => return Err(ScheduleFault::NotEnabled { line: number + 1 }),
-        Err(ApplyFault::NoMemory) => return Err(ScheduleFault::NoMemory),
-    }
+    make_step(state, number, seat, &step)?;
     add_step(
         printed,
         number,

@@ -5,7 +5,7 @@ ghost use Rattle.std.specs.Prelude.{◌≡◌, ℕ, ◌<◌, IfOk, vec_len};
 ghost use Rattle.std.specs.List.{All};
 ghost use Rattle.scq_core.specs.declared.step.Step.{Step as StepOf};
 
-use crate::{judge_run, schedule_text};
+use crate::{ScheduleFault, judge_run, schedule_text};
 use scq_check::Verdict;
 use scq_core::Step;
 use scq_law::ReplayFault;
@@ -204,5 +204,22 @@ fn runs_are_judged(rt: HostRuntime) -> Result<(), Fail> {
     let mut alone = Vec::new(rt.alloc());
     alone.push((0, Step::E2))?;
     assert_eq!(rt; judged(rt.alloc(), &alone), not_enabled(0));
+    Ok(())
+}
+
+#[test]
+fn faults_say_what_they_are(rt: HostRuntime) -> Result<(), Fail> {
+    let rows = [
+        (ScheduleFault::BadLine { line: 7 }, "line 7: not understood"),
+        (
+            ScheduleFault::NotEnabled { line: 8 },
+            "line 8: step not enabled",
+        ),
+        (ScheduleFault::NoMemory, "out of memory"),
+    ];
+    for (fault, want) in rows.iter() {
+        let said = fault.to_string(rt.alloc())?;
+        assert_eq!(rt; said.as_str(), *want);
+    }
     Ok(())
 }

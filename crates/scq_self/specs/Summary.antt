@@ -3,12 +3,11 @@ use Rattle.std.specs.Prelude.{ℕ, List, [], ◌∷◌, ◌++◌, codes, decimal
 use Rattle.hex.specs.Hex.{encode_lower}
 use Rattle.sha2.specs.Sha256.{sha256}
 use Rattle.scq_topics.specs.declared.kind.Kind.{Kind}
-use Rattle.scq_collect.specs.Output.{answers_to, text_of_answers, total_lines}
-use Rattle.scq_collect.specs.declared.answered.Answered.{Answered}
+use Rattle.scq_collect.specs.Output.{Answer, answers_to, text_of_answers, total_lines}
 use Rattle.scq_self.specs.Generated.{generated, self_topics}
 
 -- how many lines, the totals, and the digest of the whole text
-abbrev pub summary_of : List (List ℕ × Kind) → ℕ → List Answered → List ℕ
+abbrev pub summary_of : List (List ℕ × Kind) → ℕ → List Answer → List ℕ
 summary_of topics lines answers =
     codes "lines " ++ decimal lines ++ codes "\n" ++ total_lines topics answers
     ++ codes "digest " ++ encode_lower (sha256 (text_of_answers topics answers)) ++ codes "\n"

@@ -1,6 +1,6 @@
-ghost use Rattle.std.specs.Prelude.{◌≡◌, ◌≤◌, ℕ, [], ◌∷◌, length, IfOk};
+ghost use Rattle.std.specs.Prelude.{◌≡◌, ◌≤◌, ℕ, [], ◌∷◌, length, map, IfOk};
 ghost use Rattle.std.specs.List.{All};
-ghost use Rattle.scq_collect.specs.Output.{answers_to};
+ghost use Rattle.scq_collect.specs.Output.{answers_to, without_way};
 ghost use Rattle.scq_self.specs.Generated.{generated, self_topics};
 ghost use Rattle.scq_self.specs.Summary.{self_summary, summary_of};
 
@@ -20,8 +20,8 @@ pub fn summary_text(
     answered: &[Answered],
 ) -> Result<Bytes, NoMemory>
     requires { All (λ a. a.topic ≤ length topics.now) answered.now }
-    ensures text { IfOk result (λ bytes. bytes ≡ summary_of topics.now lines answered.now) }
-    ensures of_self { (seed : ℕ) → topics.now ≡ self_topics → answered.now ≡ answers_to self_topics 1 (generated seed lines ∷ [])
+    ensures text { IfOk result (λ bytes. bytes ≡ summary_of topics.now lines (map without_way answered.now)) }
+    ensures of_self { (seed : ℕ) → topics.now ≡ self_topics → map without_way answered.now ≡ answers_to self_topics 1 (generated seed lines ∷ [])
         → IfOk result (λ bytes. bytes ≡ self_summary seed lines) }
 {
     let whole = output(alloc, topics, answered)?;

@@ -2,7 +2,7 @@
 ghost use Rattle.std.specs.Prelude.{◌^◌, ◌<◌};
 
 use crate::{generate, self_topics, summary_text};
-use scq_collect::Answered;
+use scq_collect::{Answered, Way};
 use scq_topics::reply;
 use scq_word::Bytes;
 use sha2::{Digest, Sha256};
@@ -87,6 +87,7 @@ fn summary_of_file(alloc: Global, seed: u32, lines: u32) -> Result<Bytes, Fail>
                 topic,
                 bytes: payload.len() as u64,
                 reply: reply(alloc, topics.kind(topic), payload)?,
+                way: Way::Taken { place: 4 },
             })?;
         }
     }

@@ -3,6 +3,7 @@ pub mod Completeness
 pub mod Files
 pub mod OneFile
 pub mod Pieces
+pub mod ReportLines
 mod Rows
 pub mod Working
 pub mod Writings

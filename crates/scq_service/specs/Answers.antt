@@ -1,14 +1,18 @@
--- What was got for the workers, and what they answered of it.
-use Rattle.std.specs.Prelude.{◌≡◌, ℕ, ◌<◌, ◌≤◌, Bool, true, false, List, [], ◌∷◌, Option, Some, None, IsSome, IfSome, Result, Ok, Err, length, take}
+-- What was got for the workers, and what they did with it.
+use Rattle.std.specs.Prelude.{◌≡◌, ℕ, ◌^◌, ◌<◌, ◌≤◌, Bool, true, false, List, [], ◌∷◌, map, Option, Some, None, IsSome, IfSome, Result, Ok, Err, length, take}
 use Rattle.std.specs.List.{All}
 use Rattle.std.specs.Option.{option_map}
-use Rattle.scq_collect.specs.Output.{answers_to}
+use Rattle.std.specs.List.Sorted.{IsPermutation}
+use Rattle.scq_frames.specs.declared.message.Message.{Message}
+use Rattle.scq_collect.specs.Merging.{members_in}
+use Rattle.scq_collect.specs.Output.{answers_to, without_way}
 use Rattle.scq_self.specs.Generated.{generated, self_topics}
 use Rattle.scq_topics.specs.declared.kind.Kind.{Kind}
 use Rattle.scq_words.specs.Asked.{Asked}
 use Rattle.scq_words.specs.Asked as asks
 use Rattle.scq_words.specs.declared.fault.WordsFault.{WordsFault}
-use Rattle.scq_work.specs.Ends.{all_left}
+use Rattle.scq_work.specs.AllWorkers.{HasWorked}
+use Rattle.scq_work.specs.Ends.{all_left, messages_in}
 use Rattle.scq_work.specs.declared.worked.Worked.{Worked}
 use Rattle.scq_service.specs.Contents.{without_names}
 use Rattle.scq_service.specs.Ends.{Left, IsUnchanged, IfGot, HasMissed}
@@ -33,13 +37,24 @@ WorkedAt None worked = IsSome worked
 WorkedAt (Some WriteFault) worked = IsSome worked
 WorkedAt (Some fault) worked = worked ≡ None
 
--- they are those of one thread to the contents, as far as these are visible
-abbrev pub IsWorkOf : {S : Type 0} → List (List ℕ × Kind) → List (List ℕ) → Left S → Option Worked → Type 0
-IsWorkOf topics names r worked = IfSome worked (λ w. IfGot names r (λ contents. w.answered.items ≡ answers_to topics 1 contents))
+-- the workers did their work for a job of these numbers: on the contents, as far as these are visible
+abbrev pub IsWorkOf : {S : Type 0} → List (List ℕ × Kind) → ℕ → ℕ → ℕ → List (List ℕ) → Left S → Option Worked → Type 0
+IsWorkOf topics order size workers names r worked =
+    IfSome worked (λ w. IfGot names r (λ contents. HasWorked topics order size workers (messages_in topics 1 contents) w))
 
--- what workers answered in a run that is asked for this
+-- and on some messages in every case
+abbrev pub IsWork : List (List ℕ × Kind) → ℕ → ℕ → ℕ → Option Worked → Type 0
+IsWork topics order size workers worked = IfSome worked (λ w. (given : List (List Message)) × HasWorked topics order size workers given w)
+
+-- the answers in all lists are those of one thread to the contents, as far as these are visible
+abbrev pub IsOfOneThread : {S : Type 0} → List (List ℕ × Kind) → List (List ℕ) → Left S → Option Worked → Type 0
+IsOfOneThread topics names r worked =
+    IfSome worked (λ w. IfGot names r (λ contents. IsPermutation (map without_way (members_in w.answered.items)) (answers_to topics 1 contents)))
+
+-- what workers did in a run that is asked for this. A generated file has 2^6 buffers, and payloads of at most 2^16 bytes.
 abbrev pub WorkedAs : {S : Type 0} → Result Asked WordsFault → Left S → Option Fault → Option Worked → Type 0
-WorkedAs (Ok (asks.run a)) r end worked = WorkedAt end worked × IsWorkOf a.topics a.files r worked
+WorkedAs (Ok (asks.run a)) r end worked =
+    WorkedAt end worked × IsWorkOf a.topics a.order a.size a.workers a.files r worked × IsWork a.topics a.order a.size a.workers worked
 WorkedAs (Ok (asks.generated a)) r end worked =
-    WorkedAt end worked × IfSome worked (λ w. w.answered.items ≡ answers_to self_topics 1 (generated a.seed a.lines ∷ []))
+    WorkedAt end worked × IfSome worked (λ w. HasWorked self_topics 6 (2 ^ 16) a.workers (messages_in self_topics 1 (generated a.seed a.lines ∷ [])) w)
 WorkedAs asked r end worked = worked ≡ None

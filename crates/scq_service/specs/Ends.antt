@@ -19,7 +19,7 @@ use Rattle.scq_service.specs.Contents.{IfVisible, IsMissing, without_names}
 use Rattle.scq_service.specs.Telling.{Tells, IsOfText}
 use Rattle.scq_service.specs.Writing.{written_with, WrotePart}
 use Rattle.scq_service.specs.declared.fault.Fault.{Fault}
-use Rattle.scq_service.specs.declared.fault.Fault.TheVariants.{Words, OpenFault, ReadFault, TooLong, TooLarge, WriteFault, BadLine, NotEnabled, Unlawful, NoMemory}
+use Rattle.scq_service.specs.declared.fault.Fault.TheVariants.{Words, OpenFault, ReadFault, TooLong, TooLarge, WriteFault, BadLine, NotEnabled, Unlawful, Unfinished, NoMemory}
 
 -- a count or what is visible of an object, before a call and after it
 pub record Change (A : Type 0) : Type 0 where
@@ -119,6 +119,7 @@ ReadsOver size faults left names r (Some WriteFault) = ⊥
 ReadsOver size faults left names r (Some (BadLine line)) = ⊥
 ReadsOver size faults left names r (Some (NotEnabled line)) = ⊥
 ReadsOver size faults left names r (Some (Unlawful line)) = ⊥
+ReadsOver size faults left names r (Some (Unfinished seat)) = ⊥
 ReadsOver size faults left names r (Some (Words fault)) = ⊥
 
 -- how a run over files of these names ends: with the text written, with a front of it where out failed,

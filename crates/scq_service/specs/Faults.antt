@@ -7,7 +7,7 @@ use Rattle.scq_words.specs.declared.fault.WordsFault.TheVariants.{NotUnderstood,
 use Rattle.scq_work.specs.declared.worked.WorkFault.{WorkFault}
 use Rattle.scq_work.specs.declared.worked.WorkFault.TheVariants as work
 use Rattle.scq_service.specs.declared.fault.Fault.{Fault}
-use Rattle.scq_service.specs.declared.fault.Fault.TheVariants.{Words, OpenFault, ReadFault, TooLong, TooLarge, WriteFault, BadLine, NotEnabled, Unlawful, NoMemory}
+use Rattle.scq_service.specs.declared.fault.Fault.TheVariants.{Words, OpenFault, ReadFault, TooLong, TooLarge, WriteFault, BadLine, NotEnabled, Unlawful, Unfinished, NoMemory}
 use Rattle.scq_outside.specs.declared.read_all_fault.ReadAllFault.{ReadAllFault}
 use Rattle.scq_outside.specs.declared.read_all_fault.ReadAllFault.TheVariants as whole
 use Rattle.scq_check.specs.declared.history.HistoryFault.{HistoryFault}
@@ -26,6 +26,7 @@ status_of_fault WriteFault = 4
 status_of_fault (BadLine line) = 8
 status_of_fault (NotEnabled line) = 9
 status_of_fault (Unlawful line) = 10
+status_of_fault (Unfinished seat) = 11
 status_of_fault NoMemory = 5
 
 -- the status that the program ends with
@@ -71,6 +72,10 @@ payload_line line len limit = (decimal line ++ codes ": payload of ") ++ limit_l
 abbrev pub text_line : ℕ → List ℕ → List ℕ
 text_line line what = codes "line " ++ decimal line ++ what
 
+-- what is said of a seat of a schedule
+abbrev pub seat_line : ℕ → List ℕ → List ℕ
+seat_line seat what = codes "seat " ++ decimal seat ++ what
+
 -- the line about a fault
 abbrev pub fault_line : Fault → List ℕ
 fault_line (Words fault) = words_line fault
@@ -82,12 +87,8 @@ fault_line WriteFault = codes "write fault\n"
 fault_line (BadLine line) = text_line line (codes ": not understood\n")
 fault_line (NotEnabled line) = text_line line (codes ": step not enabled\n")
 fault_line (Unlawful line) = text_line line (codes ": event out of place\n")
+fault_line (Unfinished seat) = seat_line seat (codes ": call not ended\n")
 fault_line NoMemory = codes "out of memory\n"
-
--- what is reported of the end: the fault's line, or nothing
-abbrev pub report_of : Option Fault → List ℕ
-report_of None = []
-report_of (Some fault) = fault_line fault
 
 -- a fault of the workers, where a payload may have `size` bytes
 abbrev pub fault_of_work : ℕ → WorkFault → Fault
@@ -120,4 +121,5 @@ fault_of_history history.NoMemory = NoMemory
 abbrev pub fault_of_schedule : ScheduleFault → Fault
 fault_of_schedule (schedule.BadLine line) = BadLine line
 fault_of_schedule (schedule.NotEnabled line) = NotEnabled line
+fault_of_schedule (schedule.Unfinished seat) = Unfinished seat
 fault_of_schedule schedule.NoMemory = NoMemory

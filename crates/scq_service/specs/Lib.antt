@@ -5,3 +5,4 @@ pub mod Faults
 pub mod Writing
 pub mod Telling
 pub mod Answers
+pub mod Reports

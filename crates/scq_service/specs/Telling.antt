@@ -5,12 +5,13 @@ use Rattle.scq_hist.specs.declared.events.Event.{Event}
 use Rattle.scq_check.specs.HistoryText.{tokens_in, events_in, IsHistory, IsBadLine, IsUnlawfulLine}
 use Rattle.scq_check.specs.Verdicts.{IsVerdict, verdict_lines}
 use Rattle.scq_check.specs.declared.verdicts.Verdict.{Verdict}
+use Rattle.scq_replay.specs.OrderText.{IsOrderText, HasNoOrders}
 use Rattle.scq_replay.specs.Replay.{Gives}
 use Rattle.scq_replay.specs.declared.replaying.ScheduleFault.TheVariants as schedule
 use Rattle.scq_words.specs.declared.text_request.TextCommand.{TextCommand}
-use Rattle.scq_words.specs.declared.text_request.TextCommand.TheVariants.{Check, Replay}
+use Rattle.scq_words.specs.declared.text_request.TextCommand.TheVariants.{Check, Replay, Order}
 use Rattle.scq_service.specs.declared.fault.Fault.{Fault}
-use Rattle.scq_service.specs.declared.fault.Fault.TheVariants.{BadLine, NotEnabled, Unlawful}
+use Rattle.scq_service.specs.declared.fault.Fault.TheVariants.{BadLine, NotEnabled, Unlawful, Unfinished}
 
 -- the verdict of a history: of each aspect the first event that breaks it
 pub record IsVerdictOf (opening : List (List ℕ)) (events : List Event) (verdict : Verdict) : Type 0 where
@@ -34,6 +35,10 @@ Tells Check lines (Err (Unlawful line)) = IsUnlawfulLine lines line
 Tells Replay lines (Ok text) = Gives lines (Ok text)
 Tells Replay lines (Err (BadLine line)) = Gives lines (Err (schedule.BadLine line))
 Tells Replay lines (Err (NotEnabled line)) = Gives lines (Err (schedule.NotEnabled line))
+Tells Order lines (Ok text) = IsOrderText lines text
+Tells Order lines (Err (BadLine line)) = HasNoOrders lines (schedule.BadLine line)
+Tells Order lines (Err (NotEnabled line)) = HasNoOrders lines (schedule.NotEnabled line)
+Tells Order lines (Err (Unfinished seat)) = HasNoOrders lines (schedule.Unfinished seat)
 Tells command lines (Err fault) = ⊥
 
 -- the faults that a text may have for a command
@@ -42,4 +47,7 @@ IsOfText Check (BadLine line) = Unit {0}
 IsOfText Check (Unlawful line) = Unit {0}
 IsOfText Replay (BadLine line) = Unit {0}
 IsOfText Replay (NotEnabled line) = Unit {0}
+IsOfText Order (BadLine line) = Unit {0}
+IsOfText Order (NotEnabled line) = Unit {0}
+IsOfText Order (Unfinished seat) = Unit {0}
 IsOfText command fault = ⊥

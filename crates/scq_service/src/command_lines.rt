@@ -25,7 +25,10 @@ check --help|words not understood
 check |file 1 has no name
 replay|words not understood
 replay f g|words not understood
-replay --order f|words not understood
+replay --order|words not understood
+replay --order=true f|words not understood
+replay --order --order f|words not understood
+replay --order |file 1 has no name
 replay -h|words not understood
 replay |file 1 has no name
  run f|words not understood
@@ -49,7 +52,7 @@ run -x|words not understood
 run -1|words not understood
 run --frob f|words not understood
 run --frob=1 f|words not understood
-run --report f|words not understood
+run --report --report f|words not understood
 run --seed 1 f|words not understood
 run --work 2 f|words not understood
 run f --workers 2 g|

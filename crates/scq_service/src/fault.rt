@@ -36,6 +36,10 @@ pub enum Fault {
     NotEnabled {
         line: u32,
     },
+    /// After all steps of a schedule whose orders are asked for, this seat is in the middle of a call.
+    Unfinished {
+        seat: u32,
+    },
     /// The event of this line of a history is out of place.
     Unlawful {
         line: u32,
@@ -60,6 +64,7 @@ impl Fault {
             Fault::BadLine { .. } => 8,
             Fault::NotEnabled { .. } => 9,
             Fault::Unlawful { .. } => 10,
+            Fault::Unfinished { .. } => 11,
         }
     }
 }
@@ -100,6 +105,7 @@ impl From<ScheduleFault> for Fault {
         match refused {
             ScheduleFault::BadLine { line } => Fault::BadLine { line },
             ScheduleFault::NotEnabled { line } => Fault::NotEnabled { line },
+            ScheduleFault::Unfinished { seat } => Fault::Unfinished { seat },
             ScheduleFault::NoMemory => Fault::NoMemory,
         }
     }

@@ -1,8 +1,12 @@
-ghost use Rattle.std.specs.Prelude.{◌≡◌, ◌<◌, ◌≤◌, ◌^◌, [], ◌∷◌, IfOk, IfSome, length};
+ghost use Rattle.std.specs.Prelude.{◌≡◌, ℕ, ◌<◌, ◌≤◌, ◌^◌, [], ◌∷◌, IfOk, IfSome, length, map};
 ghost use Rattle.std.specs.List.{All};
-ghost use Rattle.scq_collect.specs.Output.{answers_to};
+ghost use Rattle.std.specs.List.Sorted.{IsPermutation};
+ghost use Rattle.scq_collect.specs.Merging.{members_in};
+ghost use Rattle.scq_collect.specs.Output.{answers_to, without_way};
 ghost use Rattle.scq_self.specs.Generated.{generated as the_file, self_topics as the_topics};
 ghost use Rattle.scq_self.specs.Summary.{self_summary};
+ghost use Rattle.scq_work.specs.AllWorkers.{HasWorked};
+ghost use Rattle.scq_work.specs.Ends.{messages_in};
 ghost use Rattle.scq_service.specs.Answers.{WorkedAt};
 ghost use Rattle.scq_service.specs.Ends.{EndsAlone};
 ghost use Rattle.scq_service.specs.Faults.{status_of};
@@ -10,12 +14,13 @@ ghost use Rattle.scq_service.specs.Faults.{status_of};
 use crate::job::job_of;
 use crate::writing::write_all;
 use crate::{Fault, Outcome};
+use scq_collect::merge;
 use scq_outside::{Failed, PlainSource, Sink};
 use scq_self::{generate, self_topics, summary_text};
-use scq_word::NoMemory;
+use scq_topics::Topics;
+use scq_word::{Bytes, NoMemory};
 use scq_work::{Gate, WorkEnd, Worked, work};
 use std::alloc::Global;
-use std::sync::Wait;
 use std::thread::Threads;
 
 /// There are 2^6 buffers.
@@ -25,7 +30,7 @@ const ORDER: u32 = 6;
 const SIZE: u32 = 1 << 16;
 
 /// Makes the file of the seed, answers it, and writes its summary once that is whole. No source is got.
-pub fn run_self<R: Threads + Wait + Sync, S, K: Sink, G: Gate>(
+pub fn run_self<R: Threads + Sync, S, K: Sink, G: Gate>(
     rt: &R,
     alloc: Global,
     seed: u32,
@@ -44,13 +49,13 @@ pub fn run_self<R: Threads + Wait + Sync, S, K: Sink, G: Gate>(
     ensures read { result.read ≡ 0 }
     ensures status { result.status ≡ status_of result.fault }
     ensures worked { WorkedAt result.fault result.worked }
-    ensures answers { IfSome result.worked (λ w. w.answered.items ≡ answers_to the_topics 1 (the_file seed lines ∷ [])) }
+    ensures told { IfSome result.worked (λ w. HasWorked the_topics 6 (2 ^ 16) workers (messages_in the_topics 1 (the_file seed lines ∷ [])) w) }
 {
     let Ok(worked) = answer_file(rt, alloc, seed, lines, workers, gate) else {
         return Outcome::at(Vec::new(alloc), Fault::NoMemory);
     };
     let topics = self_topics();
-    match summary_text(alloc, &topics, lines, worked.answered.as_slice()) {
+    match summary_of(alloc, &topics, lines, &worked) {
         Ok(text) => {
             let outcome = Outcome::answered(Vec::new(alloc), worked);
             match write_all(out, text.bytes()) {
@@ -64,7 +69,7 @@ pub fn run_self<R: Threads + Wait + Sync, S, K: Sink, G: Gate>(
 
 /// Makes the file of the seed and answers its messages. Its lines are short and its source never fails,
 /// so where answers are wanting, memory is.
-fn answer_file<R: Threads + Wait + Sync, G: Gate>(
+fn answer_file<R: Threads + Sync, G: Gate>(
     rt: &R,
     alloc: Global,
     seed: u32,
@@ -74,8 +79,9 @@ fn answer_file<R: Threads + Wait + Sync, G: Gate>(
 ) -> Result<Worked, NoMemory>
     requires seed { seed < 2 ^ 31 }
     requires workers { (0 < workers) × (workers ≤ 64) }
-    ensures known { IfOk result (λ w. All (λ a. a.topic ≤ length the_topics) w.answered.items) }
-    ensures answers { IfOk result (λ w. w.answered.items ≡ answers_to the_topics 1 (the_file seed lines ∷ [])) }
+    ensures known { IfOk result (λ w. All (λ a. a.topic ≤ length the_topics) (members_in w.answered.items)) }
+    ensures answers { IfOk result (λ w. IsPermutation (map without_way (members_in w.answered.items)) (answers_to the_topics 1 (the_file seed lines ∷ []))) }
+    ensures told { IfOk result (λ w. HasWorked the_topics 6 (2 ^ 16) workers (messages_in the_topics 1 (the_file seed lines ∷ [])) w) }
 {
     let job = job_of(ORDER, SIZE, workers, self_topics());
     let source = PlainSource::new(generate(alloc, seed, lines)?);
@@ -86,4 +92,20 @@ fn answer_file<R: Threads + Wait + Sync, G: Gate>(
         Ok(worked) => Ok(worked),
         Err(_) => Err(NoMemory),
     }
+}
+
+/// The summary of what workers answered of so many lines.
+fn summary_of(
+    alloc: Global,
+    topics: &Topics,
+    lines: u32,
+    worked: &Worked,
+) -> Result<Bytes, NoMemory>
+    requires { All (λ a. a.topic ≤ length topics.now) (members_in worked.now.answered.items) }
+    ensures { (seed : ℕ) → topics.now ≡ the_topics
+        → IsPermutation (map without_way (members_in worked.now.answered.items)) (answers_to the_topics 1 (the_file seed lines ∷ []))
+        → IfOk result (λ text. text ≡ self_summary seed lines) }
+{
+    let answered = merge(alloc, worked.answered.as_slice())?;
+    summary_text(alloc, topics, lines, answered.as_slice())
 }

@@ -8,7 +8,6 @@ use scq_outside::{Failed, Files, MemSink, MemSource, PlainSource, Source};
 use scq_word::NoMemory;
 use scq_work::{FreeGate, Gate};
 use std::alloc::Global;
-use std::sync::Wait;
 use std::thread::Threads;
 
 /// How a stream is cut: its greatest piece, and the number of the call that fails, if there is one.
@@ -19,15 +18,15 @@ pub type Cut = (u32, Option<u32>);
 pub struct Ran {
     pub status: u8,
     pub read: u64,
-    /// How many replies workers computed again, where there is what they answered.
-    pub again: Option<u64>,
+    /// Whether there is what workers answered.
+    pub worked: bool,
     pub out: MemSink,
     pub err: MemSink,
 }
 
 /// The service over these files, with room for 1,000 bytes in each sink. The words stand between the
 /// spaces of a line.
-pub fn run_over<R: Threads + Wait + Sync, F: Files>(
+pub fn run_over<R: Threads + Sync, F: Files>(
     rt: &R,
     alloc: Global,
     words: &str,
@@ -50,8 +49,33 @@ pub fn run_over<R: Threads + Wait + Sync, F: Files>(
     )
 }
 
+/// The service over the files of a text, with room for 131,072 bytes in each sink.
+pub fn run_wide<R: Threads + Sync>(
+    rt: &R,
+    alloc: Global,
+    words: &str,
+    files: &str,
+) -> Result<Ran, NoMemory> {
+    let mut owned = Vec::new(alloc);
+    for word in words.split(' ') {
+        owned.push(String::from_str(alloc, word)?)?;
+    }
+    let mut files = text_files(alloc, files, (4096, None));
+    let mut out = MemSink::new(alloc, 1 << 17, Vec::new(alloc), Vec::new(alloc))?;
+    let mut err = MemSink::new(alloc, 1 << 17, Vec::new(alloc), Vec::new(alloc))?;
+    let words = owned.as_slice();
+    let outcome = serve(rt, alloc, words, &mut files, &mut out, &mut err, &FreeGate);
+    Ok(Ran {
+        status: outcome.status,
+        read: outcome.read,
+        worked: outcome.worked.is_some(),
+        out,
+        err,
+    })
+}
+
 /// The service with these words and this gate.
-pub fn run_words<R: Threads + Wait + Sync, F: Files, G: Gate>(
+pub fn run_words<R: Threads + Sync, F: Files, G: Gate>(
     rt: &R,
     alloc: Global,
     words: &[String],
@@ -66,14 +90,14 @@ pub fn run_words<R: Threads + Wait + Sync, F: Files, G: Gate>(
     Ok(Ran {
         status: outcome.status,
         read: outcome.read,
-        again: outcome.worked.map(|worked| worked.again),
+        worked: outcome.worked.is_some(),
         out,
         err,
     })
 }
 
 /// The service over the files of a text: `name:content`, with `|` between them.
-pub fn run_text<R: Threads + Wait + Sync>(
+pub fn run_text<R: Threads + Sync>(
     rt: &R,
     alloc: Global,
     words: &str,
@@ -187,6 +211,8 @@ pub struct Endless;
 
 impl Source for Endless {
     ghost faults = { λ _. 0 };
+
+    ghost ends = { λ _. 0 };
 
     ghost left = { λ _. None };
 

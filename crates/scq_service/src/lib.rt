@@ -22,6 +22,7 @@ mod tests;
 #[cfg(test)]
 mod text_commands;
 mod whole;
+mod worker_report;
 #[cfg(test)]
 mod worker_tests;
 mod writing;

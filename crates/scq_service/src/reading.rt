@@ -1,6 +1,7 @@
 ghost use Rattle.std.specs.Prelude.{◌≡◌, ◌≤◌, [], IfSome, length, map, string_bytes, vec_len, vec_capacity};
 ghost use Rattle.std.specs.List.{All};
-ghost use Rattle.scq_service.specs.Answers.{HaveCome, HaveAllCome, IsWorkOf, WorkedAt};
+ghost use Rattle.scq_collect.specs.Merging.{members_in};
+ghost use Rattle.scq_service.specs.Answers.{HaveCome, HaveAllCome, IsOfOneThread, IsWork, IsWorkOf, WorkedAt};
 ghost use Rattle.scq_service.specs.Ends.{HasGot, ReadsOver};
 ghost use Rattle.scq_service.specs.Faults.{status_of};
 
@@ -8,7 +9,6 @@ use crate::{Fault, Outcome};
 use scq_outside::{Failed, Files};
 use scq_work::{Gate, Job, WorkEnd, work};
 use std::alloc::Global;
-use std::sync::Wait;
 use std::thread::Threads;
 
 /// Gets the sources of the files in order, up to the first that isn't got, and says whether all were got.
@@ -41,7 +41,7 @@ fn get_sources<F: Files>(names: &[String], files: &mut F, sources: &mut Vec<F::S
 
 /// Gets the sources of the files, up to the first that isn't got, and answers the messages of those that
 /// it got. Each source is asked for once and read at most once.
-pub fn read_files<R: Threads + Wait + Sync, F: Files, G: Gate>(
+pub fn read_files<R: Threads + Sync, F: Files, G: Gate>(
     rt: &R,
     alloc: Global,
     job: &Job,
@@ -64,13 +64,20 @@ pub fn read_files<R: Threads + Wait + Sync, F: Files, G: Gate>(
     }) result.fault }
     ensures status { result.status ≡ status_of result.fault }
     ensures worked { WorkedAt result.fault result.worked }
-    ensures known { IfSome result.worked (λ w. All (λ a. a.topic ≤ length job.now.topics) w.answered.items) }
-    ensures answers { IsWorkOf job.now.topics (map string_bytes names.now) (record {
+    ensures known { IfSome result.worked (λ w. All (λ a. a.topic ≤ length job.now.topics) (members_in w.answered.items)) }
+    ensures answers { IsOfOneThread job.now.topics (map string_bytes names.now) (record {
       table = record { old = F.table files.old; new = F.table files.new };
       opens = record { old = F.faults files.old; new = F.faults files.new };
       sources = result.sources.items;
       read = result.read;
     }) result.worked }
+    ensures told { IsWorkOf job.now.topics job.now.order job.now.size job.now.workers (map string_bytes names.now) (record {
+      table = record { old = F.table files.old; new = F.table files.new };
+      opens = record { old = F.faults files.old; new = F.faults files.new };
+      sources = result.sources.items;
+      read = result.read;
+    }) result.worked }
+    ensures work { IsWork job.now.topics job.now.order job.now.size job.now.workers result.worked }
 {
     let Ok(mut sources) = Vec::with_capacity(alloc, names.len()) else {
         return Outcome::at(Vec::new(alloc), Fault::NoMemory);

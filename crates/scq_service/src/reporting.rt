@@ -1,6 +1,6 @@
-ghost use Rattle.std.specs.Prelude.{◌≡◌, ◌⊎◌, ◌++◌, codes, decimal, OnOk, OnErr};
+ghost use Rattle.std.specs.Prelude.{◌≡◌, ◌++◌, codes, decimal, OnOk, OnErr};
 ghost use Rattle.scq_outside.specs.Faults.{Rose};
-ghost use Rattle.scq_service.specs.Faults.{entry_line, fault_line, file_line, limit_line, payload_line, report_of, text_line, topics_line, words_line};
+ghost use Rattle.scq_service.specs.Faults.{entry_line, fault_line, file_line, limit_line, payload_line, seat_line, text_line, topics_line, words_line};
 ghost use Rattle.scq_service.specs.Writing.{written_with, WrotePart};
 
 use crate::Fault;
@@ -32,6 +32,7 @@ pub fn report<K: Sink>(sink: &mut K, fault: &Fault) -> Result<(), Failed>
         Fault::BadLine { line } => write_of_line(sink, *line, b": not understood\n"),
         Fault::NotEnabled { line } => write_of_line(sink, *line, b": step not enabled\n"),
         Fault::Unlawful { line } => write_of_line(sink, *line, b": event out of place\n"),
+        Fault::Unfinished { seat } => write_of_seat(sink, *seat, b": call not ended\n"),
         Fault::NoMemory => write_all(sink, b"out of memory\n"),
     }
 }
@@ -136,6 +137,16 @@ fn write_of_line<K: Sink>(sink: &mut K, line: u32, what: &[u8]) -> Result<(), Fa
     write_count(sink, u64::from(line), what)
 }
 
+fn write_of_seat<K: Sink>(sink: &mut K, seat: u32, what: &[u8]) -> Result<(), Failed>
+    ensures whole { OnOk result (K.written sink.new ≡ written_with (K.written sink.old) (seat_line seat what.now)) }
+    ensures part { WrotePart (K.written sink.old) (K.written sink.new) (seat_line seat what.now) }
+    ensures kept { OnOk result (K.faults sink.new ≡ K.faults sink.old) }
+    ensures rose { OnErr result (Rose (K.faults sink.old) (K.faults sink.new)) }
+{
+    write_all(sink, b"seat ")?;
+    write_count(sink, u64::from(seat), what)
+}
+
 fn write_entry<K: Sink>(sink: &mut K, at: u32, what: &[u8]) -> Result<(), Failed>
     ensures whole { OnOk result (K.written sink.new ≡ written_with (K.written sink.old) (entry_line at what.now)) }
     ensures part { WrotePart (K.written sink.old) (K.written sink.new) (entry_line at what.now) }
@@ -154,14 +165,4 @@ fn write_count<K: Sink>(sink: &mut K, count: u64, what: &[u8]) -> Result<(), Fai
 {
     write_all(sink, Buffer::new().format(count).as_bytes())?;
     write_all(sink, what)
-}
-
-/// Reports the fault, where there is one. Nothing depends on whether the sink takes it.
-pub fn report_end<K: Sink>(sink: &mut K, fault: &Option<Fault>)
-    ensures reported { Rose (K.faults sink.old) (K.faults sink.new) ⊎ (K.written sink.new ≡ written_with (K.written sink.old) (report_of fault.now)) }
-    ensures front { WrotePart (K.written sink.old) (K.written sink.new) (report_of fault.now) }
-{
-    if let Some(fault) = fault {
-        let _ = report(sink, fault);
-    }
 }

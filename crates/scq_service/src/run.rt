@@ -1,22 +1,24 @@
-ghost use Rattle.std.specs.Prelude.{◌≡◌, ◌≤◌, length, map, string_bytes};
-ghost use Rattle.scq_collect.specs.Output.{one_thread_output};
-ghost use Rattle.scq_service.specs.Answers.{IsWorkOf, WorkedAt};
+ghost use Rattle.std.specs.Prelude.{◌≡◌, ℕ, ◌≤◌, List, length, map, string_bytes, IfOk, All};
+ghost use Rattle.std.specs.List.Sorted.{IsPermutation};
+ghost use Rattle.scq_collect.specs.Merging.{members_in};
+ghost use Rattle.scq_collect.specs.Output.{answers_to, one_thread_output, without_way};
+ghost use Rattle.scq_service.specs.Answers.{IsWork, IsWorkOf, WorkedAt};
 ghost use Rattle.scq_service.specs.Ends.{EndsOver, HasGot};
 ghost use Rattle.scq_service.specs.Faults.{status_of};
 
 use crate::reading::read_files;
 use crate::writing::write_all;
 use crate::{Fault, Outcome};
-use scq_collect::output;
+use scq_collect::{merge, output};
 use scq_outside::{Failed, Files, Sink};
-use scq_word::NoMemory;
-use scq_work::{Gate, Job};
+use scq_topics::Topics;
+use scq_word::{Bytes, NoMemory};
+use scq_work::{Gate, Job, Worked};
 use std::alloc::Global;
-use std::sync::Wait;
 use std::thread::Threads;
 
 /// Reads the files, answers their messages, and writes the output once it is whole.
-pub fn run_files<R: Threads + Wait + Sync, F: Files, K: Sink, G: Gate>(
+pub fn run_files<R: Threads + Sync, F: Files, K: Sink, G: Gate>(
     rt: &R,
     alloc: Global,
     job: &Job,
@@ -42,16 +44,17 @@ pub fn run_files<R: Threads + Wait + Sync, F: Files, K: Sink, G: Gate>(
         (record { written = record { old = K.written out.old; new = K.written out.new }; faults = record { old = K.faults out.old; new = K.faults out.new } }) result.fault }
     ensures status { result.status ≡ status_of result.fault }
     ensures worked { WorkedAt result.fault result.worked }
-    ensures answers { IsWorkOf job.now.topics (map string_bytes names.now) (record {
+    ensures told { IsWorkOf job.now.topics job.now.order job.now.size job.now.workers (map string_bytes names.now) (record {
       table = record { old = F.table files.old; new = F.table files.new };
       opens = record { old = F.faults files.old; new = F.faults files.new };
       sources = result.sources.items;
       read = result.read;
     }) result.worked }
+    ensures work { IsWork job.now.topics job.now.order job.now.size job.now.workers result.worked }
 {
     let outcome = read_files(rt, alloc, job, names, files, gate);
     let text = match &outcome.worked {
-        Some(worked) => output(alloc, &job.topics, worked.answered.as_slice()),
+        Some(worked) => text_of(alloc, &job.topics, worked),
         None => return outcome,
     };
     match text {
@@ -61,4 +64,14 @@ pub fn run_files<R: Threads + Wait + Sync, F: Files, K: Sink, G: Gate>(
         },
         Err(NoMemory) => Outcome::at(outcome.sources, Fault::NoMemory),
     }
+}
+
+/// What is written of what workers answered.
+fn text_of(alloc: Global, topics: &Topics, worked: &Worked) -> Result<Bytes, NoMemory>
+    requires { All (λ a. a.topic ≤ length topics.now) (members_in worked.now.answered.items) }
+    ensures { (contents : List (List ℕ)) → IsPermutation (map without_way (members_in worked.now.answered.items)) (answers_to topics.now 1 contents)
+        → IfOk result (λ text. text ≡ one_thread_output topics.now contents) }
+{
+    let answered = merge(alloc, worked.answered.as_slice())?;
+    output(alloc, topics, answered.as_slice())
 }

@@ -3,29 +3,29 @@ ghost use Rattle.scq_outside.specs.Faults.{Rose};
 ghost use Rattle.scq_words.specs.Asked.{asked, generated, run, whole, RunAsked, SelfAsked, TextAsked};
 ghost use Rattle.scq_service.specs.Answers.{WorkedAs};
 ghost use Rattle.scq_service.specs.Ends.{EndsAs, IsCalm, IsCalmText, IsOfTextAlone};
-ghost use Rattle.scq_service.specs.Faults.{status_of, report_of};
+ghost use Rattle.scq_service.specs.Faults.{status_of};
+ghost use Rattle.scq_service.specs.Reports.{asks_report, reported};
 ghost use Rattle.scq_service.specs.declared.fault.Fault.TheVariants.{NoMemory};
 ghost use Rattle.scq_service.specs.Writing.{written_with, WrotePart};
 
 use crate::generated::run_self;
 use crate::job::job_of;
-use crate::reporting::report_end;
 use crate::run::run_files;
 use crate::whole::run_text;
+use crate::worker_report::report_run;
 use crate::{Fault, Outcome};
 use scq_outside::{Files, Sink};
 use scq_words::{Request, SelfRequest, WordsError, read_words};
 use scq_work::Gate;
 use std::alloc::Global;
-use std::sync::Wait;
 use std::thread::Threads;
 
 /// Runs what the words ask for: gets the sources of the files that they name, up to the first that isn't
 /// got, answers their messages, or those of a generated file, by as many workers as they ask for, and
 /// writes the output, or the summary, once it is whole. At a fault it writes one line to `err`, in no
-/// memory; a failing `err` changes nothing. Workers call the gate, which has no meaning. They share a list
-/// under a lock, so the call may wait; it owes no return.
-pub fn serve<R: Threads + Wait + Sync, F: Files, K: Sink, G: Gate>(
+/// memory; a failing `err` changes nothing. Workers call the gate, which has no meaning. They share a
+/// queue of buffers. Where it is asked for, what each worker sent, took and answered directly is reported to `err` too.
+pub fn serve<R: Threads + Sync, F: Files, K: Sink, G: Gate>(
     rt: &R,
     alloc: Global,
     words: &[String],
@@ -83,46 +83,73 @@ pub fn serve<R: Threads + Wait + Sync, F: Files, K: Sink, G: Gate>(
         (record { written = record { old = K.written out.old; new = K.written out.new }; faults = record { old = K.faults out.old; new = K.faults out.new } })
         → IsOfTextAlone a.command result.fault }
 
-    // Err has the fault's line, whole where it didn't fail.
-    ensures reported { Rose (K.faults err.old) (K.faults err.new) ⊎ (K.written err.new ≡ written_with (K.written err.old) (report_of result.fault)) }
-    ensures reported_front { WrotePart (K.written err.old) (K.written err.new) (report_of result.fault) }
+    // Err has the fault's line, or at status 0 the lines of the workers where they are asked for: whole where it didn't fail.
+    ensures reported { Rose (K.faults err.old) (K.faults err.new)
+        ⊎ (K.written err.new ≡ written_with (K.written err.old) (reported (asks_report (asked (map string_bytes words.now))) result.fault result.worked)) }
+    ensures reported_front { WrotePart (K.written err.old) (K.written err.new) (reported (asks_report (asked (map string_bytes words.now))) result.fault result.worked) }
 {
-    let outcome = run(rt, alloc, words, files, out, gate);
-    report_end(err, &outcome.fault);
+    let Ran { outcome, report } = run(rt, alloc, words, files, out, gate);
+    report_run(err, &outcome.fault, &outcome.worked, report);
     outcome
 }
 
+/// How a run ended, and whether the words ask for the lines of the workers.
+#[derive(Drop)]
+struct Ran<S> {
+    outcome: Outcome<S>,
+    report: bool,
+}
+
+impl<S> Ran<S> {
+    ghost use Rattle.std.specs.Prelude.{◌≡◌, false};
+
+    /// A run whose workers are not reported.
+    fn quiet(outcome: Outcome<S>) -> Ran<S>
+        ensures outcome { result.outcome ≡ outcome }
+        ensures report { result.report ≡ false }
+    {
+        Ran {
+            outcome,
+            report: false,
+        }
+    }
+}
+
 /// Runs what the words ask for, and reports no fault yet.
-fn run<R: Threads + Wait + Sync, F: Files, K: Sink, G: Gate>(
+fn run<R: Threads + Sync, F: Files, K: Sink, G: Gate>(
     rt: &R,
     alloc: Global,
     words: &[String],
     files: &mut F,
     out: &mut K,
     gate: &G,
-) -> Outcome<F::Src>
-    ensures status { result.status ≡ status_of result.fault }
+) -> Ran<F::Src>
+    ensures status { result.outcome.status ≡ status_of result.outcome.fault }
     ensures end { EndsAs F.Src.faults F.Src.left (asked (map string_bytes words.now))
         (record {
           table = record { old = F.table files.old; new = F.table files.new };
           opens = record { old = F.faults files.old; new = F.faults files.new };
-          sources = result.sources.items;
-          read = result.read;
+          sources = result.outcome.sources.items;
+          read = result.outcome.read;
         })
-        (record { written = record { old = K.written out.old; new = K.written out.new }; faults = record { old = K.faults out.old; new = K.faults out.new } }) result.fault }
+        (record { written = record { old = K.written out.old; new = K.written out.new }; faults = record { old = K.faults out.old; new = K.faults out.new } }) result.outcome.fault }
     ensures worked { WorkedAs (asked (map string_bytes words.now))
         (record {
           table = record { old = F.table files.old; new = F.table files.new };
           opens = record { old = F.faults files.old; new = F.faults files.new };
-          sources = result.sources.items;
-          read = result.read;
-        }) result.fault result.worked }
+          sources = result.outcome.sources.items;
+          read = result.outcome.read;
+        }) result.outcome.fault result.outcome.worked }
+    ensures report { result.outcome.fault ≡ None → result.report ≡ asks_report (asked (map string_bytes words.now)) }
 {
     match read_words(alloc, words) {
         Ok(Request::Run(asked)) => {
             let job = job_of(asked.order, asked.size, asked.workers, asked.topics);
             let names = asked.files.as_slice();
-            run_files(rt, alloc, &job, names, files, out, gate)
+            Ran {
+                outcome: run_files(rt, alloc, &job, names, files, out, gate),
+                report: asked.report,
+            }
         }
         Ok(Request::SelfRun(asked)) => {
             let SelfRequest {
@@ -130,12 +157,15 @@ fn run<R: Threads + Wait + Sync, F: Files, K: Sink, G: Gate>(
                 lines,
                 workers,
             } = asked;
-            run_self(rt, alloc, seed, lines, workers, out, gate)
+            Ran::quiet(run_self(rt, alloc, seed, lines, workers, out, gate))
         }
         Ok(Request::Text(asked)) => {
-            run_text(alloc, asked.command, asked.file.as_str(), files, out)
+            let name = asked.file.as_str();
+            Ran::quiet(run_text(alloc, asked.command, name, files, out))
         }
-        Err(WordsError::Refused(fault)) => Outcome::at(Vec::new(alloc), Fault::Words(fault)),
-        Err(WordsError::NoMemory) => Outcome::at(Vec::new(alloc), Fault::NoMemory),
+        Err(WordsError::Refused(fault)) => {
+            Ran::quiet(Outcome::at(Vec::new(alloc), Fault::Words(fault)))
+        }
+        Err(WordsError::NoMemory) => Ran::quiet(Outcome::at(Vec::new(alloc), Fault::NoMemory)),
     }
 }

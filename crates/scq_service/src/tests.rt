@@ -2,7 +2,6 @@
 //! writes in pieces of which one fails.
 use crate::harness::{Cut, EndlessFiles, run_over, run_text};
 use std::alloc::Global;
-use std::sync::Wait;
 use std::test::Fail;
 use std::thread::Threads;
 
@@ -15,7 +14,7 @@ const SPACED_OUTPUT: &str = "1:2 - 2\n1:4 - 0\n1:5 - 11\ntotal - 3 13\n";
 /// Words, files, the status, and what is written to standard output and standard error.
 pub(crate) type Row = (&'static str, &'static str, u8, &'static str, &'static str);
 
-pub(crate) static WORKED: [Row; 14] = [
+pub(crate) static WORKED: [Row; 16] = [
     ("run f", "f:", 0, "total - 0 0\n", ""),
     ("run f", "f:x 1\n", 0, "1:1 - 1\ntotal - 1 1\n", ""),
     ("run f", "f:x 12", 0, "1:1 - 2\ntotal - 1 2\n", ""),
@@ -96,6 +95,20 @@ pub(crate) static WORKED: [Row; 14] = [
         "1:1 a 1\n3:1 a 2\n3:2 - 0\ntotal a 2 2\ntotal - 1 0\n",
         "",
     ),
+    (
+        "run --order 1 --workers 1 --report f",
+        "f:x 1\nx 2\nx 3\nx 4\n",
+        0,
+        "1:1 - 1\n1:2 - 1\n1:3 - 1\n1:4 - 1\ntotal - 4 4\n",
+        "worker 1 sent 3 taken 3 direct 1\nall sent 3 taken 3 direct 1\n",
+    ),
+    (
+        "run --workers 1 --report --size 1 f",
+        "f:x 1\nx 12\n",
+        1,
+        "",
+        "file 1 line 2: payload of 2 bytes, limit 1\n",
+    ),
 ];
 
 pub(crate) static SEVERAL: [Row; 8] = [
@@ -140,8 +153,8 @@ pub(crate) static SEVERAL: [Row; 8] = [
 ];
 
 /// Whether a run ends so, with reads and writes in pieces of one size. What workers answered is there
-/// exactly where the text of it was whole, and no reply was computed again.
-pub(crate) fn ends_so<R: Threads + Wait + Sync>(
+/// exactly where the text of it was whole.
+pub(crate) fn ends_so<R: Threads + Sync>(
     rt: &R,
     alloc: Global,
     row: Row,
@@ -150,20 +163,16 @@ pub(crate) fn ends_so<R: Threads + Wait + Sync>(
 ) -> Result<bool, Fail> {
     let (words, files, status, output, line) = row;
     let ran = run_text(rt, alloc, words, files, reads, writes, (3, None))?;
-    let again = if status == 0 || status == 4 {
-        Some(0)
-    } else {
-        None
-    };
+    let worked = status == 0 || status == 4;
     Ok(
         ran.status == status
-            && ran.again == again
+            && ran.worked == worked
             && ran.out.bytes() == output.as_bytes()
             && ran.err.bytes() == line.as_bytes(),
     )
 }
 
-pub(crate) fn all_end_so<R: Threads + Wait + Sync>(
+pub(crate) fn all_end_so<R: Threads + Sync>(
     rt: &R,
     alloc: Global,
     rows: &[Row],

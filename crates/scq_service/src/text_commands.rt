@@ -7,7 +7,7 @@ const WHOLE: Cut = (4096, None);
 /// Words, the file `f` if there is one, the status, and what is written to standard output and standard error.
 type Row = (&'static str, &'static str, u8, &'static str, &'static str);
 
-static ROWS: [Row; 22] = [
+static ROWS: [Row; 28] = [
     (
         "check f",
         "f:start 0 put 1 78\nend 0 done\nstart 0 get 1\nend 0 nothing\n",
@@ -144,6 +144,43 @@ static ROWS: [Row; 22] = [
     ),
     ("replay f", "f:setup 1 2 1 1000", 0, "", ""),
     ("replay f", "f:", 8, "", "line 1: not understood\n"),
+    (
+        "replay --order f",
+        "f:setup 1 2 1 1000\n0 D1 0\n0 D2\n0 D3\n0 D4\n",
+        0,
+        "ring 0\nopening 0\nopening 1\n0 1 got 4 -\nring 1\n",
+        "",
+    ),
+    (
+        "replay f --order",
+        "f:setup 1 2 2 1000\n0 D1 0\n0 D2\n0 D3\n0 D4\n1 D1 0\n1 D2\n1 D3\n1 D4\n0 E1 1 0 61\n1 E1 1 1 62\n1 E2\n1 E4\n\
+         1 E5\n1 E6\n1 D1 1\n1 D2\n1 D3\n1 D5\n1 D6\n1 D10\n1 D2\n1 D3\n1 D4\n0 E2\n0 E1\n0 E2\n0 E4\n0 E5\n0 E6\n",
+        0,
+        "ring 0\nopening 0\nopening 1\n0 1 got 4 -\n1 1 got 5 -\nring 1\n1 2 done 5\n1 3 got 5 62\n0 2 done 6\n",
+        "",
+    ),
+    (
+        "replay --order f",
+        "f:setup 1 2 1 1000\n0 D1 0\n0 D2\n0 D3\n",
+        11,
+        "",
+        "seat 0: call not ended\n",
+    ),
+    (
+        "replay --order f",
+        "f:setup 1 2 1 1000\n0 D1 0\n0 D2\n0 E2\n",
+        9,
+        "",
+        "line 4: step not enabled\n",
+    ),
+    (
+        "replay --order f",
+        "f:setup 1 2 1 1000\n0 D1 0\n0 D2\n\n",
+        8,
+        "",
+        "line 4: not understood\n",
+    ),
+    ("replay --order g", "f:", 3, "", "file 1: cannot open\n"),
 ];
 
 #[test]

@@ -10,7 +10,7 @@ use crate::writing::write_all;
 use crate::{Fault, Outcome};
 use scq_check::{HistoryFault, judge, read_history, verdict_text};
 use scq_outside::{Failed, Files, ReadAllFault, Sink, read_all};
-use scq_replay::{ScheduleFault, schedule_text};
+use scq_replay::{ScheduleFault, order_text, schedule_text};
 use scq_word::Bytes;
 use scq_words::TextCommand;
 use std::alloc::Global;
@@ -104,6 +104,7 @@ fn tell(alloc: Global, command: TextCommand, text: &[u8]) -> Result<Bytes, Fault
     match command {
         TextCommand::Check => judged(alloc, text),
         TextCommand::Replay => Ok(schedule_text(alloc, text)?),
+        TextCommand::Order => Ok(order_text(alloc, text)?),
     }
 }
 

@@ -1,11 +1,11 @@
 //! The same runs with several workers, summaries of generated files, and two workers at one time.
 ghost use Rattle.std.specs.Prelude.{◌<◌};
 
-use crate::harness::{run_text, run_words, text_files};
+use crate::harness::{run_text, run_wide, run_words, text_files};
 use crate::tests::{Row, SEVERAL, WHOLE, WORKED, all_end_so};
+use scq_outside::MemSink;
 use scq_work::{Gate, Point};
 use std::alloc::Global;
-use std::sync::Wait;
 use std::sync::atomic::{AtomicU64, Ordering};
 use std::test::Fail;
 use std::thread::Threads;
@@ -85,7 +85,7 @@ fn words_with(alloc: Global, words: &str, workers: &str) -> Result<String, Fail>
 }
 
 /// Whether rows end so with this number of workers.
-fn end_so_with<R: Threads + Wait + Sync>(
+fn end_so_with<R: Threads + Sync>(
     rt: &R,
     alloc: Global,
     workers: &str,
@@ -112,6 +112,80 @@ fn each_number_of_workers_ends_the_same(rt: HostRuntime) -> Result<(), Fail> {
         assert!(rt; end_so_with(&rt, alloc, workers, &SEVERAL)?, "{workers}");
         assert!(rt; end_so_with(&rt, alloc, workers, &GENERATED)?, "{workers}");
     }
+    Ok(())
+}
+
+/// A generated file of so many lines, summed up by so many workers.
+fn summary_by<R: Threads + Sync>(
+    rt: &R,
+    alloc: Global,
+    lines: &str,
+    workers: &str,
+) -> Result<MemSink, Fail> {
+    let words = format!(in alloc; "self --seed 1 --lines {lines} --workers {workers}")?;
+    let ran = run_text(rt, alloc, words.as_str(), "f:", WHOLE, WHOLE, WHOLE)?;
+    if ran.status != 0 {
+        return Err(Fail::from("status"));
+    }
+    Ok(ran.out)
+}
+
+#[test]
+fn eight_workers_sum_a_long_file_up_as_one_does(rt: HostRuntime) -> Result<(), Fail> {
+    let alloc = rt.alloc();
+    let one = summary_by(&rt, alloc, "100000", "1")?;
+    let eight = summary_by(&rt, alloc, "100000", "8")?;
+    assert!(rt; one.bytes() == eight.bytes());
+    Ok(())
+}
+
+/// Two files of so many nonempty lines each.
+fn two_files(alloc: Global, lines: u32) -> Result<String, Fail> {
+    let mut text = String::new(alloc);
+    text.push_str("f:")?;
+    for _ in 0..lines {
+        text.push_str("a 12 30\n")?;
+    }
+    text.push_str("|g:")?;
+    for _ in 0..lines {
+        text.push_str("b hello\n")?;
+    }
+    Ok(text)
+}
+
+/// The number behind a word of a line.
+fn number_behind(line: &str, word: &str) -> Option<u64> {
+    let (_, rest) = line.split_once(word)?;
+    let number = rest.split(' ').next()?;
+    number.trim().parse().ok()
+}
+
+/// The last line of a report.
+fn last_line(report: &str) -> &str {
+    report.lines().last().unwrap_or("")
+}
+
+#[test]
+fn what_is_sent_is_reported_as_taken(rt: HostRuntime) -> Result<(), Fail> {
+    let alloc = rt.alloc();
+    let files = two_files(alloc, 1000)?;
+    let one = run_wide(&rt, alloc, "run --order 1 --workers 1 f g", files.as_str())?;
+    let two = run_wide(
+        &rt,
+        alloc,
+        "run --order 1 --workers 2 --report f g",
+        files.as_str(),
+    )?;
+    assert_eq!(rt; two.status, 0);
+    assert!(rt; one.out.bytes() == two.out.bytes());
+    let report = std::str::from_utf8(two.err.bytes()).ok().ok_or("report")?;
+    let all = last_line(report);
+    assert!(rt; all.starts_with("all sent "));
+    let sent = number_behind(all, "sent ").ok_or("sent")?;
+    let taken = number_behind(all, "taken ").ok_or("taken")?;
+    let direct = number_behind(all, "direct ").ok_or("direct")?;
+    assert_eq!(rt; sent, taken);
+    assert_eq!(rt; sent.saturating_add(direct), 2000);
     Ok(())
 }
 
@@ -188,7 +262,7 @@ fn two_workers_meet_at_each_point(rt: HostRuntime) -> Result<(), Fail> {
         &gate,
     )?;
     assert_eq!(rt; ran.status, 0);
-    assert_eq!(rt; ran.again, Some(0));
+    assert!(rt; ran.worked);
     assert_eq!(rt;
         ran.out.bytes(),
         b"1:1 - 1\n2:1 - 1\ntotal - 2 2\n".as_slice()

@@ -38,11 +38,6 @@ pub index_in_small : (m w : ℕ) → 0 < m → index_in m w < m
 unfolding index_in
 index_in_small m w some = mod_below w m some
 
--- words with the same parts are one
-pub same_word : (m v w : ℕ) → cycle_in m v ≡ cycle_in m w → safe_in m v ≡ safe_in m w → index_in m v ≡ index_in m w → v ≡ w
-same_word m v w c s i =
-    sym (packed-parts m v) ∙ rw (c, s, i) (packed-parts m w)
-
 -- the rank by the three cases
 pub rank_in-empty : (m w : ℕ) → is_none_in m w ≡ true → rank_in m w ≡ 3 * cycle_in m w + 2
 unfolding rank_in
@@ -83,19 +78,3 @@ bit_or-mark k w =
     let apart = or_block k (w / 2 ^ k) 0 (w % 2 ^ k) (2 ^ k - 1) small mark in
     let fields : bit_or w (2 ^ k - 1) ≡ w / 2 ^ k * 2 ^ k + (2 ^ k - 1) = rw (parts, alone, or_zero_r (w / 2 ^ k), or_index k (w % 2 ^ k) small) at apart in
     fields ∙ sym (packed_row (2 ^ k) (w / 2 ^ k / 2) (w / 2 ^ k % 2) (2 ^ k - 1) ∙ rw (div-add-mod' (w / 2 ^ k) 2) refl)
-
--- what is consumed has no index, and the cycle and the safe bit that it had
-pub cycle_in-consumed : (k w : ℕ) → cycle_in (2 ^ k) (bit_or w (2 ^ k - 1)) ≡ cycle_in (2 ^ k) w
-cycle_in-consumed k w =
-    let some : 0 < 2 ^ k = pow_pos k in
-    rw (bit_or-mark k w) (cycle_in-packed (2 ^ k) (cycle_in (2 ^ k) w) (safe_in (2 ^ k) w) (2 ^ k - 1) (omega arith) (safe_in_bit (2 ^ k) w))
-
-pub safe_in-consumed : (k w : ℕ) → safe_in (2 ^ k) (bit_or w (2 ^ k - 1)) ≡ safe_in (2 ^ k) w
-safe_in-consumed k w =
-    let some : 0 < 2 ^ k = pow_pos k in
-    rw (bit_or-mark k w) (safe_in-packed (2 ^ k) (cycle_in (2 ^ k) w) (safe_in (2 ^ k) w) (2 ^ k - 1) (omega arith) (safe_in_bit (2 ^ k) w))
-
-pub index_in-consumed : (k w : ℕ) → index_in (2 ^ k) (bit_or w (2 ^ k - 1)) ≡ 2 ^ k - 1
-index_in-consumed k w =
-    let some : 0 < 2 ^ k = pow_pos k in
-    rw (bit_or-mark k w) (index_in-packed (2 ^ k) (cycle_in (2 ^ k) w) (safe_in (2 ^ k) w) (2 ^ k - 1) (omega arith))

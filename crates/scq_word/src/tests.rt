@@ -6,7 +6,7 @@ ghost use Rattle.std.specs.Vec.{with_items};
 ghost use Rattle.scq_word.specs.Written.{rewritten};
 
 use crate::{
-    Buffer, Bytes, Entry, Setup, SetupFault, Shape, cycle_of, pack, rank, slot_of, unpack,
+    Buffer, Bytes, Entry, NoMemory, Setup, SetupFault, Shape, cycle_of, pack, rank, slot_of, unpack,
 };
 use std::test::Fail;
 
@@ -166,6 +166,8 @@ fn faults_say_what_they_are(rt: HostRuntime) -> Result<(), Fail> {
         let said = fault.to_string(rt.alloc())?;
         assert_eq!(rt; said.as_str(), *want);
     }
+    let wanted = NoMemory.to_string(rt.alloc())?;
+    assert_eq!(rt; wanted.as_str(), "out of memory");
     Ok(())
 }
 

@@ -7,7 +7,7 @@ use Rattle.clap.specs.Words.{Row, all_of, first_of, first_value, matched_of, mat
 use Rattle.clap.specs.declared.parser.matches.Found.{Found}
 use Rattle.clap.proofs.WalkLemmas.{first_value-rows, raw_values-rows}
 use Rattle.scq_words.specs.Commands.{run_app, self_app, text_app}
-use Rattle.scq_words.specs.Asked.{Asked, RunTexts, SelfTexts, answered_by, asked_of_run, asked_of_self, asked_of_text, refused_names, text_file, whole, first_of_tests, generated, refused_by_clap, run, run_asked, run_tests, run_texts, self_asked, self_tests, self_texts, texts_of_run, texts_of_self}
+use Rattle.scq_words.specs.Asked.{Asked, RunTexts, SelfTexts, answered_by, asked_of_run, asked_of_self, asked_of_text, is_given, refused_names, text_command, text_file, whole, with_flag, first_of_tests, generated, refused_by_clap, run, run_asked, run_tests, run_texts, self_asked, self_tests, self_texts, texts_of_run, texts_of_self}
 use Rattle.scq_words.specs.declared.fault.WordsFault.{WordsFault}
 use Rattle.scq_words.specs.declared.fault.WordsFault.TheVariants.{NoName}
 use Rattle.scq_words.specs.declared.text_request.TextCommand.{TextCommand}
@@ -22,16 +22,17 @@ files-same : (f : Found) (rows : List Row) (name : List ℕ) (files : Option (Li
     → unwrap_or files [] ≡ unwrap_or (all_of name rows) []
 files-same f rows name files same got = ap (λ o. unwrap_or o []) (got ∙ raw_values-rows f name ∙ ap (all_of name) same)
 
-pub run-texts : (f : Found) (rows : List Row) (workers order size topics : Option (List ℕ)) (files : Option (List (List ℕ))) → rows_of f ≡ rows
-    → workers ≡ first_value f (codes "workers") → order ≡ first_value f (codes "order") → size ≡ first_value f (codes "size") → topics ≡ first_value f (codes "topics")
-    → files ≡ option_map raw_values (matched_of f (codes "files")) → texts_of_run workers order size topics (unwrap_or files []) ≡ run_texts rows
-run-texts f rows workers order size topics files same w o s t fs =
+pub run-texts : (f : Found) (rows : List Row) (workers order size topics report : Option (List ℕ)) (files : Option (List (List ℕ))) → rows_of f ≡ rows
+    → workers ≡ first_value f (codes "workers") → order ≡ first_value f (codes "order") → size ≡ first_value f (codes "size") → topics ≡ first_value f (codes "topics") → report ≡ first_value f (codes "report")
+    → files ≡ option_map raw_values (matched_of f (codes "files")) → texts_of_run workers order size topics report (unwrap_or files []) ≡ run_texts rows
+run-texts f rows workers order size topics report files same w o s t r fs =
     let ew = text-same f rows (codes "workers") workers same w in
     let eo = text-same f rows (codes "order") order same o in
     let es = text-same f rows (codes "size") size same s in
     let et = text-same f rows (codes "topics") topics same t in
+    let er = text-same f rows (codes "report") report same r in
     let ef = files-same f rows (codes "files") files same fs in
-    λ i. texts_of_run (ew i) (eo i) (es i) (et i) (ef i)
+    λ i. texts_of_run (ew i) (eo i) (es i) (et i) (er i) (ef i)
 
 pub self-texts : (f : Found) (rows : List Row) (seed lines workers : Option (List ℕ)) → rows_of f ≡ rows
     → seed ≡ first_value f (codes "seed") → lines ≡ first_value f (codes "lines") → workers ≡ first_value f (codes "workers")
@@ -81,19 +82,29 @@ asked-refused-self words fault refused =
 pub file-text : (f : Found) (rows : List Row) (file : Option (List ℕ)) → rows_of f ≡ rows → file ≡ first_value f (codes "file") → unwrap_or file [] ≡ text_file rows
 file-text f rows file same got = ap (λ o. unwrap_or o []) (text-same f rows (codes "file") file same got)
 
-pub text-answer : (command : TextCommand) (words : List (List ℕ)) (file : List ℕ) (said : Result Asked WordsFault) → refused_by_clap (text_app command) words ≡ None
-    → file ≡ text_file (matches_of (text_app command) words)
-    → answered_by (first_of_tests (refused_names (file ∷ []) ∷ [])) (whole (record { command = command; file = file })) ≡ said → asked_of_text command words ≡ said
+-- the flag of `replay`
+pub flag-text : (command : TextCommand) (f : Found) (rows : List Row) (text : Option (List ℕ)) → rows_of f ≡ rows → text ≡ first_value f (codes "order")
+    → with_flag command (is_given text) ≡ text_command command rows
+flag-text command f rows text same got = ap (λ o. with_flag command (is_given o)) (text-same f rows (codes "order") text same got)
+
+pub text-answer : (command asks : TextCommand) (words : List (List ℕ)) (file : List ℕ) (said : Result Asked WordsFault)
+    → refused_by_clap (text_app command) words ≡ None → file ≡ text_file (matches_of (text_app command) words)
+    → asks ≡ text_command command (matches_of (text_app command) words)
+    → answered_by (first_of_tests (refused_names (file ∷ []) ∷ [])) (whole (record { command = asks; file = file })) ≡ said → asked_of_text command words ≡ said
 unfolding asked_of_text
-text-answer command words file said passes is answer =
+text-answer command asks words file said passes is flag answer =
     after_clap (refused_by_clap (text_app command) words) _ _ said passes
-    (ap (λ (file : List ℕ). answered_by (first_of_tests (refused_names (file ∷ []) ∷ [])) (whole (record { command = command; file = file }))) (sym is) ∙ answer)
+    (ap (λ (file : List ℕ). answered_by (first_of_tests (refused_names (file ∷ []) ∷ []))
+    (whole (record { command = text_command command (matches_of (text_app command) words); file = file }))) (sym is)
+    ∙ ap (λ (asks : TextCommand). answered_by (first_of_tests (refused_names (file ∷ []) ∷ [])) (whole (record { command = asks; file = file }))) (sym flag)
+    ∙ answer)
 
 pub asked-refused-text : (command : TextCommand) (words : List (List ℕ)) (fault : WordsFault) → refused_by_clap (text_app command) words ≡ Some fault → asked_of_text command words ≡ Err fault
 unfolding asked_of_text
 asked-refused-text command words fault refused =
-    let file = text_file (matches_of (text_app command) words) in
-    ap (λ test. answered_by (option_or test (first_of_tests (refused_names (file ∷ []) ∷ []))) (whole (record { command = command; file = file }))) refused
+    let rows = matches_of (text_app command) words in
+    let what = whole (record { command = text_command command rows; file = text_file rows }) in
+    ap (λ test. answered_by (option_or test (first_of_tests (refused_names (text_file rows ∷ []) ∷ []))) what) refused
 
 -- a text or the empty one, behind a reference or not
 pub text_or_empty : {X : Type 0} (o : Option X) (d : X) (f : X → List ℕ) → f d ≡ [] → f (unwrap_or o d) ≡ unwrap_or (option_map f o) []

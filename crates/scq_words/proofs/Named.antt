@@ -14,7 +14,3 @@ position-names files = ap (λ n. cond (ltb n (length files)) (Some n) None) (sym
     same : (files : List (Bor (List ℕ))) → position_or_len (λ name. eqb (length name) 0) (map (λ name. name.now) files) ≡ position_or_len (λ name. eqb (length name.now) 0) files
     same [] = refl
     same (name ∷ more) = ap (λ n. cond (not (eqb (length name.now) 0)) (1 + n) 0) (same more)
-
--- it is one of them
-pub position-within : (n len at : ℕ) → cond (ltb n len) (Some n) None ≡ Some at → at < len
-position-within n len at found = grind (arith, nat_tests)

@@ -1,5 +1,5 @@
 -- Rows of what is asked, worked out by hand.
-use Rattle.std.proofs.Common.{◌≡◌, refl, [], ◌∷◌, Ok, Err}
+use Rattle.std.proofs.Common.{◌≡◌, refl, true, false, [], ◌∷◌, Ok, Err}
 use Rattle.std.specs.Prelude.{codes}
 use Rattle.clap.specs.Faults.{walk_fault, defaults_fault}
 use Rattle.clap.specs.Walk.{walked}
@@ -16,13 +16,25 @@ row-alone : asked (codes "run" ∷ []) ≡ Err NotUnderstood
 unfolding asked_of_run walk_fault walked defaults_fault
 row-alone = refl
 
-row-one : asked (codes "run" ∷ codes "f" ∷ []) ≡ Ok (run (record { workers = 4; order = 6; size = 65536; topics = []; files = codes "f" ∷ [] }))
+row-one : asked (codes "run" ∷ codes "f" ∷ []) ≡ Ok (run (record { workers = 4; order = 6; size = 65536; topics = []; report = false; files = codes "f" ∷ [] }))
 unfolding asked_of_run walk_fault walked defaults_fault
 row-one = refl
 
-row-two : asked (codes "run" ∷ codes "f" ∷ codes "g" ∷ []) ≡ Ok (run (record { workers = 4; order = 6; size = 65536; topics = []; files = codes "f" ∷ codes "g" ∷ [] }))
+row-two : asked (codes "run" ∷ codes "f" ∷ codes "g" ∷ []) ≡ Ok (run (record { workers = 4; order = 6; size = 65536; topics = []; report = false; files = codes "f" ∷ codes "g" ∷ [] }))
 unfolding asked_of_run walk_fault walked defaults_fault
 row-two = refl
+
+row-report : asked (codes "run" ∷ codes "--report" ∷ codes "f" ∷ []) ≡ Ok (run (record { workers = 4; order = 6; size = 65536; topics = []; report = true; files = codes "f" ∷ [] }))
+unfolding asked_of_run walk_fault walked defaults_fault
+row-report = refl
+
+row-report_twice : asked (codes "run" ∷ codes "--report" ∷ codes "f" ∷ codes "--report" ∷ []) ≡ Err NotUnderstood
+unfolding asked_of_run walk_fault walked defaults_fault
+row-report_twice = refl
+
+row-report_value : asked (codes "run" ∷ codes "--report=true" ∷ codes "f" ∷ []) ≡ Err NotUnderstood
+unfolding asked_of_run walk_fault walked defaults_fault
+row-report_value = refl
 
 row-nameless : asked (codes "run" ∷ [] ∷ []) ≡ Err (NoName 1)
 unfolding asked_of_run walk_fault walked defaults_fault

@@ -1,5 +1,5 @@
 -- What the words of a command line ask for, or the first test that refuses them.
-use Rattle.std.specs.Prelude.{ℕ, ◌+◌, ◌^◌, ◌==◌, Bool, nat_lt, min, string_bytes, List, [], ◌∷◌, length, map, codes, Option, Some, None, option_map, unwrap_or, Result, Ok, Err, if◌then◌else◌}
+use Rattle.std.specs.Prelude.{ℕ, ◌+◌, ◌^◌, ◌==◌, Bool, true, false, nat_lt, min, string_bytes, List, [], ◌∷◌, length, map, codes, Option, Some, None, option_map, unwrap_or, Result, Ok, Err, if◌then◌else◌}
 use Rattle.std.specs.List.{position}
 use Rattle.std.specs.Option.{option_or}
 use Rattle.std.specs.Str.{bytes_eq}
@@ -16,7 +16,7 @@ use Rattle.scq_words.specs.declared.request.Request.TheVariants.{Run, SelfRun, T
 use Rattle.scq_words.specs.declared.request.RunRequest.{RunRequest}
 use Rattle.scq_words.specs.declared.request.SelfRequest.{SelfRequest}
 use Rattle.scq_words.specs.declared.text_request.TextCommand.{TextCommand}
-use Rattle.scq_words.specs.declared.text_request.TextCommand.TheVariants.{Check, Replay}
+use Rattle.scq_words.specs.declared.text_request.TextCommand.TheVariants.{Check, Replay, Order as Ordering}
 use Rattle.scq_words.specs.declared.text_request.TextRequest.{TextRequest}
 
 -- the first fault of a list of tests
@@ -53,12 +53,18 @@ workers_or order text = number_or (min 4 (2 ^ order)) text
 abbrev pub refused_workers : ℕ → Option (List ℕ) → Option WordsFault
 refused_workers order workers = refused_if (nat_lt (2 ^ order) (workers_or order workers)) MoreWorkers
 
+-- whether a flag is given, whose text is then `true`
+abbrev pub is_given : Option (List ℕ) → Bool
+is_given None = false
+is_given (Some text) = bytes_eq text (codes "true")
+
 -- what is asked of files
 pub record RunAsked : Type 0 where
   pub workers : ℕ
   pub order : ℕ
   pub size : ℕ
   pub topics : List (List ℕ × Kind)
+  pub report : Bool
   pub files : List (List ℕ)
 
 -- what is asked of a generated file
@@ -83,6 +89,7 @@ pub record RunTexts : Type 0 where
   pub order : Option (List ℕ)
   pub size : Option (List ℕ)
   pub topics : Option (List ℕ)
+  pub report : Option (List ℕ)
   pub files : List (List ℕ)
 
 -- those of `self`
@@ -91,9 +98,9 @@ pub record SelfTexts : Type 0 where
   pub lines : Option (List ℕ)
   pub workers : Option (List ℕ)
 
-abbrev pub texts_of_run : Option (List ℕ) → Option (List ℕ) → Option (List ℕ) → Option (List ℕ) → List (List ℕ) → RunTexts
-texts_of_run workers order size topics files =
-    record { workers = workers; order = order; size = size; topics = topics; files = files }
+abbrev pub texts_of_run : Option (List ℕ) → Option (List ℕ) → Option (List ℕ) → Option (List ℕ) → Option (List ℕ) → List (List ℕ) → RunTexts
+texts_of_run workers order size topics report files =
+    record { workers = workers; order = order; size = size; topics = topics; report = report; files = files }
 
 abbrev pub texts_of_self : Option (List ℕ) → Option (List ℕ) → Option (List ℕ) → SelfTexts
 texts_of_self seed lines workers = record { seed = seed; lines = lines; workers = workers }
@@ -101,7 +108,7 @@ texts_of_self seed lines workers = record { seed = seed; lines = lines; workers 
 abbrev pub run_texts : List Row → RunTexts
 run_texts rows =
     texts_of_run (first_of (codes "workers") rows) (first_of (codes "order") rows) (first_of (codes "size") rows)
-    (first_of (codes "topics") rows) (unwrap_or (all_of (codes "files") rows) [])
+    (first_of (codes "topics") rows) (first_of (codes "report") rows) (unwrap_or (all_of (codes "files") rows) [])
 
 abbrev pub self_texts : List Row → SelfTexts
 self_texts rows = texts_of_self (first_of (codes "seed") rows) (first_of (codes "lines") rows) (first_of (codes "workers") rows)
@@ -134,6 +141,7 @@ run_asked t = record {
   order = number_or 6 t.order;
   size = number_or 65536 t.size;
   topics = topics_or_none t.topics;
+  report = is_given t.report;
   files = t.files;
 }
 
@@ -161,9 +169,18 @@ asked_of_self words = let t = self_texts (matches_of self_app words) in
 abbrev pub text_file : List Row → List ℕ
 text_file rows = unwrap_or (first_of (codes "file") rows) []
 
+-- `replay` asks for orders where the flag is given
+abbrev pub with_flag : TextCommand → Bool → TextCommand
+with_flag Replay true = Ordering
+with_flag command given = command
+
+abbrev pub text_command : TextCommand → List Row → TextCommand
+text_command command rows = with_flag command (is_given (first_of (codes "order") rows))
+
 unfoldable pub asked_of_text : TextCommand → List (List ℕ) → Result Asked WordsFault
-asked_of_text command words = let file = text_file (matches_of (text_app command) words) in
-    answered_by (first_of_tests (refused_by_clap (text_app command) words ∷ refused_names (file ∷ []) ∷ [])) (whole (record { command = command; file = file }))
+asked_of_text command words = let rows = matches_of (text_app command) words in let file = text_file rows in
+    answered_by (first_of_tests (refused_by_clap (text_app command) words ∷ refused_names (file ∷ []) ∷ []))
+    (whole (record { command = text_command command rows; file = file }))
 
 -- what the words ask for: the first is a command, and those after it are its arguments
 abbrev pub asked : List (List ℕ) → Result Asked WordsFault
@@ -182,6 +199,7 @@ run_of r = record {
   order = r.order;
   size = r.size;
   topics = r.topics;
+  report = r.report;
   files = map string_bytes r.files.items;
 }
 

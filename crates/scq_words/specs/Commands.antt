@@ -1,14 +1,10 @@
--- The commands as `clap` knows them: `run` and `self` with their options and files, `check` and `replay` with one file.
+-- The commands as `clap` knows them: `run` and `self` with their options and files, `check` and `replay` with one file, and `replay`
+-- with a flag besides.
 use Rattle.std.specs.Prelude.{ℕ, List, Some, true, codes}
 use Rattle.clap.specs.Words.{App, Rule, new_app, new_rule, with_rule}
 use Rattle.scq_words.specs.declared.text_request.TextCommand.{TextCommand}
-use Rattle.scq_words.specs.declared.text_request.TextCommand.TheVariants.{Check, Replay}
-use Rattle.clap.specs.declared.builder.action.ArgAction.TheVariants.{Append}
-
--- the words of the commands that take one file
-abbrev pub command_name : TextCommand → List ℕ
-command_name Check = codes "check"
-command_name Replay = codes "replay"
+use Rattle.scq_words.specs.declared.text_request.TextCommand.TheVariants.{Check}
+use Rattle.clap.specs.declared.builder.action.ArgAction.TheVariants.{Append, SetTrue}
 
 -- a command that reads the words as they are, with neither help nor version
 abbrev pub plain_app : List ℕ → App
@@ -23,6 +19,10 @@ option_rule name = record (new_rule name) { long = Some name }
 abbrev pub required_rule : List ℕ → Rule
 required_rule name = record (option_rule name) { required = true }
 
+-- `--name`, at most once
+abbrev pub flag_rule : List ℕ → Rule
+flag_rule name = record (option_rule name) { action = Some SetTrue }
+
 -- one or more files
 abbrev pub files_rule : Rule
 files_rule = record (new_rule (codes "files")) { required = true; action = Some Append }
@@ -34,7 +34,7 @@ run_numbers_app =
     (option_rule (codes "order"))) (option_rule (codes "size"))
 
 abbrev pub run_app : App
-run_app = with_rule (with_rule run_numbers_app (option_rule (codes "topics"))) files_rule
+run_app = with_rule (with_rule (with_rule run_numbers_app (option_rule (codes "topics"))) (flag_rule (codes "report"))) files_rule
 
 abbrev pub self_app : App
 self_app =
@@ -45,6 +45,11 @@ self_app =
 abbrev pub file_rule : Rule
 file_rule = record (new_rule (codes "file")) { required = true }
 
+-- the word of a command; `replay`, by which orders are asked for too, knows `--order`
+abbrev pub named_app : TextCommand → App
+named_app Check = plain_app (codes "check")
+named_app _ = with_rule (plain_app (codes "replay")) (flag_rule (codes "order"))
+
 -- a command that takes one file
 abbrev pub text_app : TextCommand → App
-text_app command = with_rule (plain_app (command_name command)) file_rule
+text_app command = with_rule (named_app command) file_rule

@@ -1,7 +1,7 @@
 ghost use Rattle.std.specs.Prelude.{◌≡◌, ◌≢◌, IfOk, IfErr, map, string_bytes, false};
 ghost use Rattle.clap.specs.Words.{app_of, found_of, kind_of, matches_of, rows_of, rule_of, takes};
 ghost use Rattle.scq_words.specs.Asked.{refused_by_clap};
-ghost use Rattle.scq_words.specs.Commands.{files_rule, option_rule, plain_app, run_app, run_numbers_app, self_app, text_app};
+ghost use Rattle.scq_words.specs.Commands.{files_rule, flag_rule, named_app, option_rule, plain_app, run_app, run_numbers_app, self_app, text_app};
 
 use crate::{TextCommand, WordsError, WordsFault};
 use clap::error::ErrorKind;
@@ -28,6 +28,7 @@ fn run_command<'a>(alloc: Global) -> Result<Command<'a>, AllocError>
 {
     run_options(alloc)?
         .arg(option(alloc, "topics"))?
+        .arg(flag(alloc, "report"))?
         .arg(files(alloc))
 }
 
@@ -96,11 +97,18 @@ pub fn text_matches<'a>(
 fn text_command<'a>(alloc: Global, command: TextCommand) -> Result<Command<'a>, AllocError>
     ensures { IfOk result (λ app. app_of app ≡ text_app command) }
 {
-    let name = match command {
-        TextCommand::Check => "check",
-        TextCommand::Replay => "replay",
-    };
-    plain_command(alloc, name).arg(Arg::new(alloc, "file").required(true))
+    named_command(alloc, command)?.arg(Arg::new(alloc, "file").required(true))
+}
+
+fn named_command<'a>(alloc: Global, command: TextCommand) -> Result<Command<'a>, AllocError>
+    ensures { IfOk result (λ app. app_of app ≡ named_app command) }
+{
+    match command {
+        TextCommand::Check => Ok(plain_command(alloc, "check")),
+        TextCommand::Replay | TextCommand::Order => {
+            plain_command(alloc, "replay").arg(flag(alloc, "order"))
+        }
+    }
 }
 
 /// A command that reads the words as they are, with neither help nor version.
@@ -119,6 +127,14 @@ fn option<'a>(alloc: Global, name: &'a str) -> Arg<'a>
     ensures local { result.global ≡ false }
 {
     Arg::new(alloc, name).long(name)
+}
+
+/// `--name`.
+fn flag<'a>(alloc: Global, name: &'a str) -> Arg<'a>
+    ensures rule { rule_of result ≡ flag_rule name.entry.now }
+    ensures local { result.global ≡ false }
+{
+    option(alloc, name).action(ArgAction::SetTrue)
 }
 
 /// Want of memory stays one; every other error is that the words are not understood.

@@ -4,13 +4,15 @@ use crate::TextRequest;
 use scq_topics::Topics;
 
 /// What is asked of files. Workers are in `1..=4096` and at most `2^order`, the order in `1..=12`, the
-/// size of a payload in `1..=65536`, and there are 1 to 64 files, each with a name.
+/// size of a payload in `1..=65536`, and there are 1 to 64 files, each with a name. `report` asks for
+/// what each worker did.
 #[derive(Debug, Drop)]
 pub struct RunRequest {
     pub workers: u32,
     pub order: u32,
     pub size: u32,
     pub topics: Topics,
+    pub report: bool,
     pub files: Vec<String>,
     ghost few: { vec_len files ≤ 64 },
 }

@@ -1,7 +1,7 @@
 ghost use Rattle.std.specs.Prelude.{◌≡◌, ◌≤◌, Ok, Err, None, Some, false, length, map, string_bytes, IfOk, IsErrOf};
 ghost use Rattle.std.specs.Result.{result_err};
 ghost use Rattle.scq_words.specs.declared.fault.WordsFault.{WordsFault as TheFault};
-ghost use Rattle.scq_words.specs.Asked.{asked_of_run, first_of_tests, refused_topics, run, run_asked, run_of, run_tests, texts_of_run, topics_or_none};
+ghost use Rattle.scq_words.specs.Asked.{asked_of_run, first_of_tests, is_given, refused_topics, run, run_asked, run_of, run_tests, texts_of_run, topics_or_none};
 ghost use Rattle.clap.specs.Words.{takes};
 ghost use Rattle.scq_words.specs.Commands.{run_app};
 ghost use Rattle.scq_words.specs.Numbers.{text_in};
@@ -27,9 +27,10 @@ pub fn read_run(alloc: Global, words: &[String]) -> Result<RunRequest, WordsErro
     let order = matches.get_str("order");
     let size = matches.get_str("size");
     let topics = matches.get_str("topics");
+    let report = matches.get_str("report");
     match matches.get_strs("files") {
-        Some(files) => check_run(alloc, workers, order, size, topics, files),
-        None => check_run(alloc, workers, order, size, topics, &[]),
+        Some(files) => check_run(alloc, workers, order, size, topics, report, files),
+        None => check_run(alloc, workers, order, size, topics, report, &[]),
     }
 }
 
@@ -40,11 +41,12 @@ fn check_run(
     order: Option<&str>,
     size: Option<&str>,
     topics: Option<&str>,
+    report: Option<&str>,
     files: &[&str],
 ) -> Result<RunRequest, WordsError>
-    ensures request { let texts = texts_of_run (text_in workers.entry) (text_in order.entry) (text_in size.entry) (text_in topics.entry) (map (λ name. name.now) files.now) in
+    ensures request { let texts = texts_of_run (text_in workers.entry) (text_in order.entry) (text_in size.entry) (text_in topics.entry) (text_in report.entry) (map (λ name. name.now) files.now) in
         IfOk result (λ request. (first_of_tests (run_tests texts) ≡ None) × (run_asked texts ≡ run_of request)) }
-    ensures refused { let texts = texts_of_run (text_in workers.entry) (text_in order.entry) (text_in size.entry) (text_in topics.entry) (map (λ name. name.now) files.now) in
+    ensures refused { let texts = texts_of_run (text_in workers.entry) (text_in order.entry) (text_in size.entry) (text_in topics.entry) (text_in report.entry) (map (λ name. name.now) files.now) in
         (fault : TheFault) → IsErrOf result (WordsError.Refused fault) → first_of_tests (run_tests texts) ≡ Some fault }
     ensures ranges { IfOk result (λ request. IsRunInRange (run_of request)) }
 {
@@ -61,8 +63,19 @@ fn check_run(
         order,
         size,
         topics,
+        report: is_given(report),
         files,
     })
+}
+
+/// Whether a flag is given: its text is `true` then.
+pub fn is_given(text: Option<&str>) -> bool
+    ensures { result ≡ is_given (text_in text.entry) }
+{
+    match text {
+        Some(text) => text == "true",
+        None => false,
+    }
 }
 
 /// The declared topics, or none where no text is given.

@@ -3,7 +3,7 @@ use crate::{Request, RunRequest, SelfRequest, TextRequest, WordsError, WordsFaul
 use std::alloc::Global;
 use std::test::Fail;
 
-static COMMANDS: [(&str, &str); 45] = [
+static COMMANDS: [(&str, &str); 52] = [
     ("", "words not understood"),
     ("run", "words not understood"),
     ("walk f", "words not understood"),
@@ -19,7 +19,15 @@ static COMMANDS: [(&str, &str); 45] = [
     ("check --order 1 f", "words not understood"),
     ("check ", "file 1 has no name"),
     ("replay", "words not understood"),
-    ("replay --order f", "words not understood"),
+    ("replay --order f", "Order f"),
+    ("replay f --order", "Order f"),
+    ("replay -- --order", "Replay --order"),
+    ("replay --order --order f", "words not understood"),
+    ("replay --order=true f", "words not understood"),
+    ("replay --order", "words not understood"),
+    ("replay --order f g", "words not understood"),
+    ("replay --order ", "file 1 has no name"),
+    ("check --order f", "words not understood"),
     ("stages f", "words not understood"),
     (" run f", "words not understood"),
     ("run f", "run 4 6 65536 0 f"),
@@ -42,7 +50,6 @@ static COMMANDS: [(&str, &str); 45] = [
     ("run -1", "words not understood"),
     ("run --frob f", "words not understood"),
     ("run --frob=1 f", "words not understood"),
-    ("run --report f", "words not understood"),
     ("run --seed 1 f", "words not understood"),
     ("run --work 2 f", "words not understood"),
     ("run f --workers 2 g", "run 2 6 65536 0 f,g"),
@@ -303,6 +310,30 @@ static SELVES: [(&str, &str); 41] = [
     ("self --seed", "words not understood"),
 ];
 
+static REPORTS: [(&str, &str); 18] = [
+    ("run --report f", "run 4 6 65536 0 report f"),
+    ("run f --report", "run 4 6 65536 0 report f"),
+    ("run f --report g", "run 4 6 65536 0 report f,g"),
+    ("run --report true f", "run 4 6 65536 0 report true,f"),
+    (
+        "run --report --workers 2 --order=3 --size 16 --topics a=len f",
+        "run 2 3 16 1 report f",
+    ),
+    ("run -- --report", "run 4 6 65536 0 --report"),
+    ("run --report", "words not understood"),
+    ("run --report --report f", "words not understood"),
+    ("run --report f --report", "words not understood"),
+    ("run --report=true f", "words not understood"),
+    ("run --report= f", "words not understood"),
+    ("run --Report f", "words not understood"),
+    ("run --rep f", "words not understood"),
+    ("run --report ", "file 1 has no name"),
+    ("run --report --workers 0 f", "workers is not in 1..4096"),
+    ("self --seed 1 --lines 1 --report", "words not understood"),
+    ("check --report f", "words not understood"),
+    ("replay f --report", "words not understood"),
+];
+
 /// The words of a line, which stand between its spaces.
 fn words_of(alloc: Global, line: &str) -> Result<Vec<String>, Fail> {
     let mut words = Vec::new(alloc);
@@ -312,7 +343,7 @@ fn words_of(alloc: Global, line: &str) -> Result<Vec<String>, Fail> {
     Ok(words)
 }
 
-/// What a line asks for, or its fault, as text: the numbers, how many topics, the files.
+/// What a line asks for, or its fault, as text: the numbers, how many topics, whether to report, the files.
 fn answer(alloc: Global, line: &str) -> Result<String, Fail> {
     let words = words_of(alloc, line)?;
     let mut text = String::new(alloc);
@@ -339,6 +370,9 @@ fn answer(alloc: Global, line: &str) -> Result<String, Fail> {
 fn write_run(text: &mut String, run: &RunRequest) -> Result<(), Fail> {
     let (workers, order, size) = (run.workers, run.order, run.size);
     write!(text, "run {workers} {order} {size} {} ", run.topics.len())?;
+    if run.report {
+        text.push_str("report ")?;
+    }
     for (at, file) in run.files.iter().enumerate() {
         if at > 0 {
             text.push(',')?;
@@ -400,11 +434,33 @@ fn selves_are_read_or_refused(rt: HostRuntime) -> Result<(), Fail> {
 }
 
 #[test]
+fn reports_are_asked_for_once_and_of_files(rt: HostRuntime) -> Result<(), Fail> {
+    assert!(rt; is_answered(rt.alloc(), &REPORTS)?);
+    Ok(())
+}
+
+#[test]
 fn no_words_are_refused(rt: HostRuntime) -> Result<(), Fail> {
     let refused = read_words(rt.alloc(), &[]).err();
     assert_eq!(rt;
         refused,
         Some(WordsError::Refused(WordsFault::NotUnderstood))
     );
+    Ok(())
+}
+
+#[test]
+fn faults_say_what_they_are(rt: HostRuntime) -> Result<(), Fail> {
+    let rows = [
+        (
+            WordsError::Refused(WordsFault::TooManyFiles),
+            "more than 64 files",
+        ),
+        (WordsError::NoMemory, "out of memory"),
+    ];
+    for (fault, want) in rows.iter() {
+        let said = fault.to_string(rt.alloc())?;
+        assert_eq!(rt; said.as_str(), *want);
+    }
     Ok(())
 }

@@ -2,9 +2,10 @@ ghost use Rattle.std.specs.Prelude.{◌≡◌, ◌<◌, Ok, Err, false, length, 
 ghost use Rattle.clap.specs.Words.{takes};
 ghost use Rattle.scq_words.specs.Commands.{text_app};
 ghost use Rattle.scq_words.specs.declared.fault.WordsFault.{WordsFault as TheFault};
-ghost use Rattle.scq_words.specs.Asked.{asked_of_text, text_of, whole};
+ghost use Rattle.scq_words.specs.Asked.{asked_of_text, text_of, whole, with_flag};
 
 use crate::parsing::text_matches;
+use crate::run::is_given;
 use crate::{WordsError, WordsFault};
 use std::alloc::Global;
 
@@ -15,6 +16,8 @@ pub enum TextCommand {
     Check,
     /// Runs the schedule that the file holds.
     Replay,
+    /// Runs it, and writes the one-thread order of each ring.
+    Order,
 }
 
 /// What is asked of one file, which has a name.
@@ -24,7 +27,7 @@ pub struct TextRequest {
     pub file: String,
 }
 
-/// What the words after the command ask for.
+/// What the words after the command, which is `check` or `replay`, ask for.
 pub(crate) fn read_text(
     alloc: Global,
     command: TextCommand,
@@ -40,6 +43,17 @@ pub(crate) fn read_text(
     if name.is_empty() {
         return Err(WordsError::Refused(WordsFault::NoName { file: 1 }));
     }
+    let command = with_flag(command, is_given(matches.get_str("order")));
     let file = String::from_str(alloc, name)?;
     Ok(TextRequest { command, file })
+}
+
+/// `replay` asks for orders where the flag is given.
+fn with_flag(command: TextCommand, given: bool) -> TextCommand
+    ensures { result ≡ with_flag command given }
+{
+    match command {
+        TextCommand::Replay if given => TextCommand::Order,
+        command => command,
+    }
 }

@@ -3,7 +3,8 @@ use Rattle.std.proofs.Common.{◌≡◌, ◌≢◌, ◌∙◌, refl, sym, ap, su
 use Rattle.std.specs.Prelude.{slice_index_or}
 use Rattle.std.proofs.lemmas.List.{map-append, reverse-append, length-append, length-take-le, take-append-le, take_all, take-take, get_or-take, get_or_push}
 use Rattle.scq_work.specs.Files.{is_of, files_of}
-use Rattle.scq_work.specs.Desks.{ids_of, AreDealt}
+use Rattle.scq_work.specs.Dealings.{AreDealt, without_files}
+use Rattle.scq_work.specs.Desks.{ids_of}
 use Rattle.scq_work.specs.declared.desk.Desk.{Desk}
 use Rattle.scq_work.specs.declared.own_file.OwnFile.{OwnFile}
 
@@ -64,8 +65,12 @@ desk-empty workers w at (x ∷ xs) some same none =
     omega (arith, length-append (reverse (files_of workers w (at + 1 + 1) xs)) ((at + 1, x) ∷ []))
 
 -- desks whose files are the same are dealt the same
-pub still-dealt : {S : Type 0} (file : ℕ) (sources : List S) (old new : List (Desk S)) → length new ≡ length old
-    → ((w : ℕ) (d : Desk S) → w < length old → ids_of (slice_index_or new w d).files.items ≡ ids_of (slice_index_or old w d).files.items) → AreDealt file sources old → AreDealt file sources new
+pub still-dealt : {B S : Type 0} (file : ℕ) (sources : List S) (old new : List (Desk B S)) → length new ≡ length old
+    → ((w : ℕ) (d : Desk B S) → w < length old → ids_of (slice_index_or new w d).files.items ≡ ids_of (slice_index_or old w d).files.items) → AreDealt file sources old → AreDealt file sources new
 still-dealt file sources old new long same dealt w d less =
     let within : w < length old = omega (arith, less, long) in
     subst (λ m. ids_of (slice_index_or new w d).files.items ≡ reverse (files_of m w file sources)) (sym long) (same w d within ∙ dealt w d within)
+
+-- desks with one worker and one kept value
+pub same-without : {B S : Type 0} (a b : Desk B S) → (a.worker ≡ b.worker) × (a.kept ≡ b.kept) → without_files a ≡ without_files b
+same-without a b same = λ i. (same.0 i, same.1 i)

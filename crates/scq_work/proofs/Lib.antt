@@ -1,6 +1,28 @@
-pub mod Given
-pub mod Lists
-pub mod DeskLemmas
-pub mod SoFar
+mod Distinct
+mod SendsAndTakes
+mod Splits
+mod Blocks
+mod KnownNumbers
+mod PassLemmas
+mod RecordSteps
+mod WorkerSteps
+mod LeftLemmas
+mod ListLemmas
+mod PassedOn
+mod FileLists
+mod ReadLemmas
+mod RunLemmas
+mod NoneSpent
+mod AllAnswered
+mod Lists
+mod Dealt
+mod Conclusion
+mod DeskLemmas
+mod SoFar
+mod Cleared
+mod Faults
 pub mod Orders
-pub mod Faults
+mod AllRun
+mod FirstPasses
+mod Parting
+mod Settled

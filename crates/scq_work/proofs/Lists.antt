@@ -1,7 +1,7 @@
 -- Lists in which one element is replaced.
-use Rattle.std.proofs.Common.{◌≡◌, ◌≢◌, ◌∙◌, refl, sym, subst, inl, inr, arith, ℕ, ◌<◌, List, [], ◌∷◌, ◌++◌, length, take, drop, get_or, set, get_or-set_same, get_or-set_other}
+use Rattle.std.proofs.Common.{◌≡◌, ◌≢◌, ◌∙◌, refl, sym, subst, inl, inr, arith, ℕ, ◌<◌, List, [], ◌∷◌, ◌++◌, length, take, drop, get_or, set, map, ap, get_or-set_same, get_or-set_other}
 use Rattle.std.proofs.lemmas.Bool.{cases_eq}
-use Rattle.std.proofs.lemmas.List.{length-append, get_or_append_left, get_or_push, take-append-le, take_all}
+use Rattle.std.proofs.lemmas.List.{map-set, set-get_or, get_or-map, length-append, get_or_append_left, get_or_push, take-append-le, take_all}
 use Rattle.std.specs.Prelude.{slice_index_or}
 use Rattle.std.specs.List.{All}
 
@@ -23,3 +23,12 @@ all-last P xs y all = subst P (get_or_push xs y y (length xs) refl) (all (length
 -- what a whole slice was written back as
 pub written-back : {X : Type 0} (n : ℕ) (new old : List X) → length new ≡ n → take n (new ++ drop (length new) old) ≡ new
 written-back n new old long = take-append-le n new (drop (length new) old) (omega (arith, long)) ∙ take_all n new (omega (arith, long))
+
+-- a new element that looks as the old one did
+pub set-unseen : {X Y : Type 0} (f : X → Y) (xs : List X) (at : ℕ) (y d : X) → at < length xs → f y ≡ f (get_or xs at d) → map f (set xs at y) ≡ map f xs
+set-unseen f xs at y d within same =
+    map-set f xs at y ∙ ap (set (map f xs) at) (same ∙ sym (get_or-map f xs at d (f d) within)) ∙ set-get_or (map f xs) at (f d)
+
+-- the right side of an equation
+abbrev pub right-of : {X : Type 0} {x y : X} → x ≡ y → X
+right-of {y = y} e = y

@@ -1,18 +1,13 @@
 -- What is gathered of files in their order, one file after the other.
-use Rattle.std.proofs.Common.{◌≡◌, ◌≢◌, ◌∙◌, refl, sym, ap, subst, inl, inr, arith, false, ℕ, ◌+◌, ◌-◌, ◌<◌, ◌≤◌, Bool, List, [], ◌∷◌, ◌++◌, length, map, take, get_or, append_assoc, Option, Some, None}
-use Rattle.std.specs.Prelude.{slice_index_or, IfSome}
+use Rattle.std.proofs.Common.{◌≡◌, ◌≢◌, ◌∙◌, refl, sym, ap, subst, inl, inr, arith, ℕ, ◌+◌, ◌-◌, ◌<◌, ◌≤◌, List, [], ◌∷◌, ◌++◌, length, get_or, Option, Some, None}
+use Rattle.std.specs.Prelude.{slice_index_or}
 use Rattle.std.specs.Option.{option_map, option_or}
 use Rattle.std.proofs.lemmas.Bool.{cases_eq}
-use Rattle.std.proofs.lemmas.List.{append-nil, length-append, length-take-le, get_or_append_left, get_or_push, take_more}
-use Rattle.scq_topics.specs.declared.kind.Kind.{Kind}
-use Rattle.scq_topics.specs.Topics.{topic_of}
+use Rattle.std.proofs.lemmas.List.{length-append, get_or_append_left, get_or_push}
 use Rattle.scq_frames.specs.declared.fault.FrameFault.{FrameFault}
 use Rattle.scq_frames.specs.declared.fault.FrameFault.TheVariants.{NoMemory}
-use Rattle.scq_frames.specs.declared.message.Message.{Message}
-use Rattle.scq_frames.specs.Numbered.{numbered}
-use Rattle.scq_frames.specs.Text.{messages_of}
-use Rattle.scq_work.specs.Reading.{AreOf, EndsSo, GaveAll, IsRead, IsWhole, IsStopped}
-use Rattle.scq_work.specs.Ends.{AreGiven, HasMoved, StopsAt, end_fault}
+use Rattle.scq_work.specs.Reading.{EndsSo, IsWhole, IsStopped}
+use Rattle.scq_work.specs.Ends.{HasMoved, StopsAt, end_fault}
 use Rattle.scq_work.specs.declared.own_file.FileEnd.{FileEnd}
 use Rattle.scq_work.specs.declared.own_file.FileEnd.TheVariants.{Unread, Whole, Stopped}
 
@@ -36,36 +31,12 @@ moved-by size faults left old new Unread same = record { bytes = []; moved = ap 
 moved-by size faults left old new Whole whole = record { bytes = whole.judged.bytes; moved = whole.judged.moved }
 moved-by size faults left old new (Stopped fault) stopped = record { bytes = stopped.judged.bytes; moved = stopped.judged.moved }
 
--- the messages of one file more
-given-push : {S : Type 0} (topics : List (List ℕ × Kind)) (left : S → Option (List ℕ)) (file n : ℕ) (xs : List S) (x : S) (given own : List Message) → n ≡ file + length xs
-    → AreGiven topics left file xs given → AreOf (length topics) n 0 own → IfSome (left x) (λ bytes. own ≡ map (numbered n (topic_of topics)) (messages_of bytes))
-    → AreGiven topics left file (xs ++ x ∷ []) (given ++ own)
-given-push topics left file n [] x given own same none of all =
-    let is : n ≡ file = omega arith in
-    record {
-      own = own;
-      others = [];
-      whole = ap (λ (front : List Message). front ++ own) none ∙ sym (append-nil own);
-      of = subst (λ k. AreOf (length topics) k 0 own) is of;
-      all = subst (λ k. IfSome (left x) (λ bytes. own ≡ map (numbered k (topic_of topics)) (messages_of bytes))) is all;
-      more = refl;
-    }
-given-push topics left file n (y ∷ ys) x given own same are of all = record {
-  own = are.own;
-  others = are.others ++ own;
-  whole = ap (λ (front : List Message). front ++ own) are.whole ∙ append_assoc are.own are.others own;
-  of = are.of;
-  all = are.all;
-  more = given-push topics left (file + 1) n ys x are.others own (omega arith) are.more of all;
-}
-
 -- what is gathered of the first files, so many of those with these sources
-pub record SoFar {S : Type 0} (topics : List (List ℕ × Kind)) (size : ℕ) (faults : S → ℕ) (left : S → Option (List ℕ)) (was : List S) (at : ℕ) (sources : List S)
-    (fault : Option (ℕ × FrameFault)) (starved : Bool) (given : List Message) : Type 0 where
+pub record SoFar {S : Type 0} (size : ℕ) (faults : S → ℕ) (left : S → Option (List ℕ)) (was : List S) (at : ℕ) (sources : List S)
+    (fault : Option (ℕ × FrameFault)) : Type 0 where
   pub count : length sources ≡ at
   pub moved : (k : ℕ) (d : S) → k < at → HasMoved left (slice_index_or was k d) (slice_index_or sources k d)
   pub sound : fault ≡ None → (k : ℕ) (d : S) → k < at → IsWhole size faults left (slice_index_or was k d) (slice_index_or sources k d)
-  pub messages : fault ≡ None → starved ≡ false → AreGiven topics left 1 (take at was) given
   pub cause : (file : ℕ) (f : FrameFault) → fault ≡ Some (file, f) → f ≢ NoMemory → (file ≤ at) × StopsAt size faults left was sources file f
 
 -- what holds of the elements so far and of one more
@@ -79,18 +50,16 @@ index-push P xs x d at long each here k less = elim (cases_eq k at) [
 ]
 
 -- one file more
-pub so-far-more : {S : Type 0} (topics : List (List ℕ × Kind)) (size : ℕ) (faults : S → ℕ) (left : S → Option (List ℕ)) (was : List S) (at : ℕ) (sources : List S)
-    (fault : Option (ℕ × FrameFault)) (starved starved' : Bool) (given given' own : List Message) (old new : S) (number : ℕ) (end : FileEnd)
-    → SoFar topics size faults left was at sources fault starved given → at < length was → number ≡ at + 1 → ((d : S) → slice_index_or was at d ≡ old)
-    → IsRead topics size faults left number old new own end → (starved' ≡ false → (starved ≡ false) × (given' ≡ given ++ own))
-    → SoFar topics size faults left was (at + 1) (sources ++ new ∷ []) (option_or fault (end_fault number end)) starved' given'
-so-far-more {S} topics size faults left was at sources fault starved starved' given given' own old new number end s within is_next is_old read fed = record {
+pub so-far-more : {S : Type 0} (size : ℕ) (faults : S → ℕ) (left : S → Option (List ℕ)) (was : List S) (at : ℕ) (sources : List S)
+    (fault : Option (ℕ × FrameFault)) (old new : S) (number : ℕ) (end : FileEnd)
+    → SoFar size faults left was at sources fault → at < length was → number ≡ at + 1 → ((d : S) → slice_index_or was at d ≡ old)
+    → EndsSo size faults left old new end → SoFar size faults left was (at + 1) (sources ++ new ∷ []) (option_or fault (end_fault number end))
+so-far-more {S} size faults left was at sources fault old new number end s within is_next is_old ends = record {
   count = length-append sources (new ∷ []) ∙ ap (λ n. n + 1) s.count;
   moved = λ k d less. index-push (λ j y. HasMoved left (slice_index_or was j d) y) sources new d at s.count (λ j below. s.moved j d below)
-      (subst (λ x. HasMoved left x new) (sym (is_old d)) (moved-by size faults left old new end read.ends)) k less;
-  sound = sound fault end read.ends s.sound;
-  messages = messages fault end read.ends read.gave s.messages;
-  cause = cause fault end read.ends s.sound s.cause;
+      (subst (λ x. HasMoved left x new) (sym (is_old d)) (moved-by size faults left old new end ends)) k less;
+  sound = sound fault end ends s.sound;
+  cause = cause fault end ends s.sound s.cause;
 } where
   Sound : Type 0
   Sound = (k : ℕ) (d : S) → k < at → IsWhole size faults left (slice_index_or was k d) (slice_index_or sources k d)
@@ -102,19 +71,6 @@ so-far-more {S} topics size faults left was at sources fault starved starved' gi
   sound None (Stopped f) ends so none k d less = absurd (cc)
   sound None Whole ends so none k d less = index-push (λ j y. IsWhole size faults left (slice_index_or was j d) y) sources new d at s.count (λ j below. so refl j d below)
       (subst (λ x. IsWhole size faults left x new) (sym (is_old d)) ends) k less
-
-  messages : (fault : Option (ℕ × FrameFault)) (end : FileEnd) → EndsSo size faults left old new end → GaveAll topics number (left old) end own
-      → (fault ≡ None → starved ≡ false → AreGiven topics left 1 (take at was) given)
-      → option_or fault (end_fault number end) ≡ None → starved' ≡ false → AreGiven topics left 1 (take (at + 1) was) given'
-  messages (Some f) end ends gave so none sated = absurd (cc)
-  messages None Unread ends gave so none sated = absurd (cc)
-  messages None (Stopped f) ends gave so none sated = absurd (cc)
-  messages None Whole ends gave so none sated =
-      let fed_now = fed sated in
-      let front : take (at + 1) was ≡ take at was ++ old ∷ [] = take_more was at old within ∙ ap (λ x. take at was ++ x ∷ []) (is_old old) in
-      subst (λ (xs : List S). AreGiven topics left 1 xs given') (sym front)
-      (subst (λ (ms : List Message). AreGiven topics left 1 (take at was ++ old ∷ []) ms) (sym fed_now.1)
-      (given-push topics left 1 number (take at was) old given own (omega (arith, is_next, length-take-le at was (omega arith))) (so refl fed_now.0) read.all gave))
 
   cause : (fault : Option (ℕ × FrameFault)) (end : FileEnd) → EndsSo size faults left old new end → (fault ≡ None → Sound)
       → ((file : ℕ) (f : FrameFault) → fault ≡ Some (file, f) → f ≢ NoMemory → (file ≤ at) × StopsAt size faults left was sources file f)

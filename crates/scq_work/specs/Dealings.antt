@@ -1,17 +1,24 @@
--- What a worker's list of answered messages becomes.
-use Rattle.std.specs.Prelude.{◌≡◌, ◌⊎◌, ℕ, Bool, true, List, [], ◌∷◌, ◌++◌}
-use Rattle.scq_topics.specs.declared.kind.Kind.{Kind}
-use Rattle.scq_topics.specs.Topics.{kind_of}
-use Rattle.scq_frames.specs.declared.message.Message.{Message}
-use Rattle.scq_collect.specs.declared.handled.Handled.{Handled}
+-- Desks before their workers begin: each has a new pass and its own of the files.
+use Rattle.std.specs.Prelude.{◌≡◌, ℕ, ◌<◌, List, [], reverse, length, Option, None, slice_index_or}
+use Rattle.scq_band.specs.Standing.{Identity}
+use Rattle.scq_queue.specs.Passes.{HeldStanding, first_pass}
+use Rattle.scq_work.specs.Desks.{ids_of}
+use Rattle.scq_work.specs.Files.{files_of}
+use Rattle.scq_work.specs.declared.desk.Desk.{Desk}
+use Rattle.scq_work.specs.declared.worker.Worker.{Worker}
 
--- it has one member more: this message, with the reply of its topic's kind
-pub record Lists (topics : List (List ℕ × Kind)) (m : Message) (old new : List Handled) : Type 0 where
-  pub member : Handled
-  pub message : member.message ≡ m
-  pub kind : member.kind ≡ kind_of topics m.topic
-  pub grown : new ≡ old ++ member ∷ []
+module _ {B S : Type 0} where
+  -- a worker that is to begin: it has the new pass of its number
+  pub record IsFresh (shared : Identity B) (d : Desk B S) : Type 0 where
+    pub pass : d.worker.pass ≡ first_pass shared d.worker.number
+    pub members : d.worker.members.items ≡ []
+    pub kept : d.kept ≡ None
 
--- the message was answered, or memory is wanted and the list stayed
-abbrev pub Answers : List (List ℕ × Kind) → Message → List Handled → List Handled → Bool → Type 0
-Answers topics m old new starved = Lists topics m old new ⊎ ((new ≡ old) × (starved ≡ true))
+  -- each worker has its own of the files from this number on, which have these sources, from the last to the first
+  abbrev pub AreDealt : ℕ → List S → List (Desk B S) → Type 0
+  AreDealt file sources desks =
+      (w : ℕ) (d : Desk B S) → w < length desks → ids_of (slice_index_or desks w d).files.items ≡ reverse (files_of (length desks) w file sources)
+
+  -- a desk without its files
+  abbrev pub without_files : Desk B S → Worker B × Option (HeldStanding B)
+  without_files d = (d.worker, d.kept)

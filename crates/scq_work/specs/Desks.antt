@@ -1,9 +1,16 @@
--- The files on a worker's desk.
-use Rattle.std.specs.Prelude.{◌≡◌, ℕ, ◌<◌, List, [], map, reverse, length, slice_index_or}
-use Rattle.scq_work.specs.Files.{files_of}
+-- A desk: a worker, its files, and the value that it keeps where it met a ticket past the limit. What the worker's whole work makes of it.
+use Rattle.std.specs.Prelude.{◌≡◌, ℕ, ◌+◌, false, Bool, List, [], map, reverse, flat_map, length, Option, Some, None, IfSome, All}
+use Rattle.scq_topics.specs.declared.kind.Kind.{Kind}
+use Rattle.scq_frames.specs.declared.message.Message.{Message}
+use Rattle.scq_collect.specs.declared.answered.Answered.{Answered}
+use Rattle.scq_band.specs.Standing.{Identity}
+use Rattle.scq_queue.specs.Passes.{PassStanding, HeldStanding}
+use Rattle.scq_work.specs.Given.{given_in}
+use Rattle.scq_work.specs.Reading.{IsRead}
+use Rattle.scq_work.specs.Together.{HasRetired, HasSwept}
+use Rattle.scq_work.specs.Working.{IsSweeping, IsThrifty, HasListed, index_of}
 use Rattle.scq_work.specs.declared.own_file.OwnFile.{OwnFile}
 use Rattle.scq_work.specs.declared.own_file.FileEnd.TheVariants.{Unread}
-use Rattle.scq_work.specs.declared.desk.Desk.{Desk}
 
 -- the numbers of files, each with what its source was
 abbrev pub ids_of : {S : Type 0} → List (OwnFile S) → List (ℕ × S)
@@ -12,10 +19,25 @@ ids_of files = map (λ f. (f.number, f.was.value)) files
 -- a file that isn't read yet
 pub record IsNew {S : Type 0} (f : OwnFile S) : Type 0 where
   pub source : f.source ≡ f.was.value
-  pub given : f.given.items ≡ []
+  pub given : given_in f.given.value ≡ []
   pub end : f.end ≡ Unread
 
--- each worker has its own of the files from this number on, which have these sources, from the last to the first
-abbrev pub AreDealt : {S : Type 0} → ℕ → List S → List (Desk S) → Type 0
-AreDealt {S} file sources desks =
-    (w : ℕ) (d : Desk S) → w < length desks → ids_of (slice_index_or desks w d).files.items ≡ reverse (files_of (length desks) w file sources)
+-- the messages that files gave, which lie on the desk from the last to the first: in the order in which they were read
+abbrev pub all_given : {S : Type 0} → List (OwnFile S) → List Message
+all_given files = flat_map (λ f. given_in f.given.value) (reverse files)
+
+-- a worker has done its work: what its files gave it has passed on, it has retired, and it has left after a sweep, unless it met a ticket
+-- past the limit. `kept` is the value that it then kept. `faults` and `left` are what sources tell.
+pub record HasRun {B S : Type 0} (shared : Identity B) (topics : List (List ℕ × Kind)) (size : ℕ) (faults : S → ℕ) (left : S → Option (List ℕ))
+    (files : List (OwnFile S)) (pass : PassStanding B) (members : List Answered) (starved : Bool) (kept : Option (HeldStanding B)) : Type 0 where
+  pub read : All (λ f. IsRead topics size faults left f.number f.was.value f.source (given_in f.given.value) f.end) files
+  pub thrifty : IsThrifty 1 (length (all_given files)) pass
+  pub queue : pass.queue ≡ shared
+  pub retired : (calls : ℕ) × (pass.retired ≡ Some calls)
+  pub held : pass.held ≡ index_of kept
+  pub its : IfSome kept (λ h. h.queue ≡ shared)
+  -- where it met no such ticket
+  pub sweeping : pass.spent ≡ None → IsSweeping (length topics + 1) pass
+  pub ended : pass.spent ≡ None → HasRetired (length topics + 1) pass
+  pub swept : pass.spent ≡ None → HasSwept pass
+  pub listed : pass.spent ≡ None → starved ≡ false → HasListed topics (all_given files) pass members

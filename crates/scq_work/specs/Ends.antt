@@ -1,5 +1,5 @@
--- How the reading of files ended that have these sources, before and after. Files are numbered from 1.
-use Rattle.std.specs.Prelude.{◌≡◌, ℕ, ◌+◌, ◌-◌, ◌<◌, ◌≤◌, Bool, true, false, List, [], ◌∷◌, ◌++◌, Option, Some, None, IfSome, option_and_then, length, map, slice_index_or}
+-- How the work on all files ended: the fault, its cause, and the messages that they gave. Files are numbered from 1.
+use Rattle.std.specs.Prelude.{◌≡◌, ℕ, ◌+◌, ◌-◌, ◌<◌, ◌≤◌, Bool, true, false, List, [], ◌∷◌, ◌++◌, Option, Some, None, IfSome, option_and_then, length, map, slice_index_or, All}
 use Rattle.std.specs.Option.{option_map}
 use Rattle.scq_topics.specs.declared.kind.Kind.{Kind}
 use Rattle.scq_topics.specs.Topics.{topic_of}
@@ -8,6 +8,7 @@ use Rattle.scq_frames.specs.declared.fault.FrameFault.TheVariants as frame
 use Rattle.scq_frames.specs.declared.message.Message.{Message}
 use Rattle.scq_frames.specs.Numbered.{numbered}
 use Rattle.scq_frames.specs.Text.{messages_of}
+use Rattle.scq_work.specs.Files.{OfEachFile}
 use Rattle.scq_work.specs.Reading.{AreOf, IsWhole, IsStopped}
 use Rattle.scq_work.specs.declared.own_file.FileEnd.{FileEnd}
 use Rattle.scq_work.specs.declared.own_file.FileEnd.TheVariants.{Unread, Whole, Stopped}
@@ -54,17 +55,18 @@ abbrev pub all_left : {S : Type 0} → (S → Option (List ℕ)) → List S → 
 all_left left [] = Some []
 all_left left (source ∷ sources) = option_and_then (λ content. option_map (λ more. content ∷ more) (all_left left sources)) (left source)
 
--- the messages that a file gave, and behind them others that are so: its own are on known topics, in order,
--- and all of its messages where its bytes are visible
-pub record FileGave {S : Type 0} (topics : List (List ℕ × Kind)) (left : S → Option (List ℕ)) (file : ℕ) (source : S) (Others : List Message → Type 0) (given : List Message) : Type 0 where
-  pub own : List Message
-  pub others : List Message
-  pub whole : given ≡ own ++ others
-  pub of : AreOf (length topics) file 0 own
-  pub all : IfSome (left source) (λ bytes. own ≡ map (numbered file (topic_of topics)) (messages_of bytes))
-  pub more : Others others
+-- the messages that a file gave: on known topics, in order, with payloads of at most `size` bytes, and all of its messages where its bytes
+-- are visible
+pub record FileGave {S : Type 0} (topics : List (List ℕ × Kind)) (size : ℕ) (left : S → Option (List ℕ)) (file : ℕ) (source : S) (given : List Message) : Type 0 where
+  pub of : AreOf (length topics) file 0 given
+  pub short : All (λ m. length m.payload ≤ size) given
+  pub all : IfSome (left source) (λ bytes. given ≡ map (numbered file (topic_of topics)) (messages_of bytes))
 
--- the messages of files of which the first has this number, one file behind the other
-abbrev pub AreGiven : {S : Type 0} → List (List ℕ × Kind) → (S → Option (List ℕ)) → ℕ → List S → List Message → Type 0
-AreGiven topics left file [] given = given ≡ []
-AreGiven topics left file (source ∷ sources) given = FileGave topics left file source (λ others. AreGiven topics left (file + 1) sources others) given
+-- the messages of each of the files with these sources, of which the first has this number
+abbrev pub AreGiven : {S : Type 0} → List (List ℕ × Kind) → ℕ → (S → Option (List ℕ)) → ℕ → List S → List (List Message) → Type 0
+AreGiven topics size left file sources given = OfEachFile (λ f own. FileGave topics size left f.0 f.1 own) file sources given
+
+-- the messages of each file where these are the files' contents
+abbrev pub messages_in : List (List ℕ × Kind) → ℕ → List (List ℕ) → List (List Message)
+messages_in topics file [] = []
+messages_in topics file (content ∷ more) = map (numbered file (topic_of topics)) (messages_of content) ∷ messages_in topics (file + 1) more

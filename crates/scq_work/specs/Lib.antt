@@ -1,6 +1,13 @@
 pub mod Jobs
-pub mod Dealings
 pub mod Files
-pub mod Desks
-pub mod Ends
+pub mod Records
+pub mod Members
+pub mod Passing
+pub mod Together
+pub mod Working
+pub mod Given
 pub mod Reading
+pub mod Desks
+pub mod Dealings
+pub mod Ends
+pub mod AllWorkers

@@ -1,6 +1,6 @@
 -- How the reading of a file ended, by its source before and after. Sources have a count of faults, and
 -- what they have left may be visible. A payload may have `size` bytes.
-use Rattle.std.specs.Prelude.{◌≡◌, ◌≢◌, ℕ, ◌+◌, ◌^◌, ◌<◌, ◌≤◌, List, [], ◌∷◌, Option, Some, None, IfSome, length, map}
+use Rattle.std.specs.Prelude.{◌≡◌, ◌≢◌, ℕ, ◌+◌, ◌^◌, ◌<◌, ◌≤◌, List, [], ◌∷◌, Option, Some, None, IfSome, length, map, All}
 use Rattle.std.specs.Option.{option_map}
 use Rattle.scq_outside.specs.Faults.{Rose}
 use Rattle.scq_topics.specs.declared.kind.Kind.{Kind}
@@ -36,19 +36,24 @@ EndsSo size faults left old new Unread = new ≡ old
 EndsSo size faults left old new Whole = IsWhole size faults left old new
 EndsSo size faults left old new (Stopped fault) = IsStopped size faults left old new fault
 
--- the messages that were given of a file with this number: where its bytes are visible and all were read, all of them
+-- the messages that were given of a file with this number: none of an unread one, and where its bytes are visible and all were read, all
+-- of them
 abbrev pub GaveAll : List (List ℕ × Kind) → ℕ → Option (List ℕ) → FileEnd → List Message → Type 0
 GaveAll topics file content Whole given = IfSome content (λ bytes. given ≡ map (numbered file (topic_of topics)) (messages_of bytes))
-GaveAll topics file content _ given = Unit {0}
+GaveAll topics file content Unread given = given ≡ []
+GaveAll topics file content (Stopped fault) given = Unit {0}
 
 -- messages of this file on known topics, whose lines rise from above this one
 abbrev pub AreOf : ℕ → ℕ → ℕ → List Message → Type 0
 AreOf known file line [] = Unit {0}
 AreOf known file line (m ∷ ms) = (m.file ≡ file) × (line < m.line) × (m.topic ≤ known) × AreOf known file m.line ms
 
--- what is known of a file by how it ended: its source before and after, and the messages that it gave
+-- what is known of a file by how it ended: its source before and after, and the messages that it gave. They are few: each adds at least
+-- two to the sum that its framer keeps below 2 ^ 30 + 2.
 pub record IsRead {S : Type 0} (topics : List (List ℕ × Kind)) (size : ℕ) (faults : S → ℕ) (left : S → Option (List ℕ)) (file : ℕ) (old new : S) (given : List Message) (end : FileEnd)
     : Type 0 where
   pub ends : EndsSo size faults left old new end
   pub gave : GaveAll topics file (left old) end given
   pub all : AreOf (length topics) file 0 given
+  pub short : All (λ m. length m.payload ≤ size) given
+  pub few : length given ≤ 2 ^ 29

@@ -1,23 +1,28 @@
-ghost use Rattle.std.specs.Prelude.{◌≡◌, ◌≢◌, ℕ, ◌+◌, ◌^◌, ◌<◌, ◌≤◌, ◌++◌, ◌∷◌, [], None, Some, false, length, take, slice_index_or, vec_len, vec_capacity};
+//! What became of the files is gathered once the workers have left, and their desks are cleared.
+ghost use Rattle.std.specs.Prelude.{◌≡◌, ◌≢◌, ℕ, ◌+◌, ◌^◌, ◌<◌, ◌≤◌, ◌++◌, ◌∷◌, [], None, Some, false, length, map, flat_map, slice_index_or, vec_len, vec_capacity};
 ghost use Rattle.std.specs.List.{All};
+ghost use Rattle.std.specs.Option.{option_to_list};
 ghost use Rattle.scq_frames.specs.declared.fault.FrameFault.{FrameFault as TheFault};
-ghost use Rattle.scq_work.specs.Desks.{AreDealt};
-ghost use Rattle.scq_work.specs.Ends.{AreGiven, HasMoved, StopsAt, end_fault};
+ghost use Rattle.scq_work.specs.Dealings.{AreDealt, without_files};
+ghost use Rattle.scq_work.specs.Ends.{HasMoved, StopsAt, end_fault};
+ghost use Rattle.scq_work.specs.Given.{given_in};
 ghost use Rattle.scq_work.specs.Reading.{IsRead, IsWhole};
 
 use crate::Job;
 use crate::desk::Desk;
 use crate::own_file::{FileEnd, OwnFile};
-use scq_frames::{FrameFault, Message};
+use crate::worker::Worker;
+use scq_collect::Answered;
+use scq_frames::FrameFault;
 use scq_outside::Source;
+use scq_queue::{Held, Pass};
+use scq_word::Buffer;
 use std::snapshot::Snapshot;
 
-/// What is gathered of files in their order: their sources, the messages that they gave, the first fault
-/// with its file's number, and whether memory was wanted.
+/// What is gathered of files in their order: their sources, the first fault with its file's number, and whether memory was wanted.
 #[derive(Drop)]
 pub struct Gathered<S> {
     pub sources: Vec<S>,
-    pub given: Vec<Message>,
     pub fault: Option<(u32, FrameFault)>,
     pub starved: bool,
 }
@@ -43,46 +48,46 @@ impl<S> Gathered<S> {
         ensures len { vec_len self.new.sources ≡ vec_len self.old.sources + 1 }
         ensures capacity { vec_capacity self.new.sources ≡ vec_capacity self.old.sources }
         ensures fault { self.new.fault ≡ option_or self.old.fault (end_fault file.number file.end) }
-        ensures given { self.new.starved ≡ false → (self.old.starved ≡ false) × (self.new.given.items ≡ self.old.given.items ++ file.given.items) }
+        ensures starved { self.new.starved ≡ false → self.old.starved ≡ false }
     {
         let OwnFile {
             number,
             source,
             was: _,
-            mut given,
+            given: _,
             end,
         } = file;
         self.sources.push_reserved(source);
         if self.fault.is_none() {
             self.fault = fault_of_end(number, end);
         }
-        let wants = matches!(end, FileEnd::Stopped(FrameFault::NoMemory));
-        if self.given.append(&mut given).is_err() || wants {
+        if matches!(end, FileEnd::Stopped(FrameFault::NoMemory)) {
             self.starved = true;
         }
     }
 }
 
 /// Gathers the files of all desks in their order.
-pub fn gather<S: Source>(
+pub fn gather<B: Buffer, S: Source>(
     job: &Job,
     was: &Snapshot<Vec<S>>,
-    desks: &mut [Desk<S>],
+    desks: &mut [Desk<B, S>],
     count: usize,
     gathered: &mut Gathered<S>,
 )
     requires count { (count ≡ vec_len was.now.value) × (count < 2 ^ 32) }
     requires some { 0 < length desks.old }
     requires dealt { AreDealt 1 was.now.value.items desks.old }
-    requires read { All (λ d. All (λ f. IsRead job.now.topics job.now.size S.faults S.left f.number f.was.value f.source f.given.items f.end) d.files.items) desks.old }
-    requires empty { (gathered.old.sources.items ≡ []) × (vec_len gathered.old.sources ≡ 0) × (count ≤ vec_capacity gathered.old.sources) × (gathered.old.given.items ≡ []) × (gathered.old.fault ≡ None) }
+    requires read { All (λ d. All (λ f. IsRead job.now.topics job.now.size S.faults S.left f.number f.was.value f.source (given_in f.given.value) f.end) d.files.items) desks.old }
+    requires empty { (gathered.old.sources.items ≡ []) × (vec_len gathered.old.sources ≡ 0) × (count ≤ vec_capacity gathered.old.sources) × (gathered.old.fault ≡ None) }
     ensures count { length gathered.new.sources.items ≡ vec_len was.now.value }
     ensures moved { (k : ℕ) (d : S) → k < vec_len was.now.value → HasMoved S.left (slice_index_or was.now.value.items k d) (slice_index_or gathered.new.sources.items k d) }
     ensures sound { gathered.new.fault ≡ None → (k : ℕ) (d : S) → k < vec_len was.now.value
         → IsWhole job.now.size S.faults S.left (slice_index_or was.now.value.items k d) (slice_index_or gathered.new.sources.items k d) }
-    ensures given { gathered.new.fault ≡ None → gathered.new.starved ≡ false → AreGiven job.now.topics S.left 1 was.now.value.items gathered.new.given.items }
+    ensures whole { gathered.new.fault ≡ None → All (λ d. All (λ f. f.end ≡ FileEnd.Whole) d.files.items) desks.old }
     ensures cause { (file : ℕ) (fault : TheFault) → gathered.new.fault ≡ Some (file, fault) → fault ≢ FrameFault.NoMemory
         → StopsAt job.now.size S.faults S.left was.now.value.items gathered.new.sources.items file fault }
+    ensures same { map without_files desks.new ≡ map without_files desks.old }
 {
     let workers = desks.len();
     'files: for at in 0..count {
@@ -90,4 +95,79 @@ pub fn gather<S: Source>(
             gathered.take_in(file);
         }
     }
+}
+
+/// What workers leave behind, in the order of their numbers: their passes, the values that they kept, their lists, and whether any wanted
+/// memory.
+pub struct Left<B: Buffer> {
+    pub passes: Vec<Pass<B>>,
+    pub held: Vec<Held<B>>,
+    pub lists: Vec<Vec<Answered>>,
+    pub starved: bool,
+}
+
+impl<B: Buffer> Left<B> {
+    ghost use Rattle.std.specs.Prelude.{◌≡◌, ◌+◌, ◌<◌, ◌≤◌, ◌++◌, ◌∷◌, [], false, vec_len, vec_capacity};
+    ghost use Rattle.std.specs.Option.{option_to_list};
+
+    /// Ends it where nothing was left behind.
+    pub fn destroy_empty(self)
+        requires { self.held.items ≡ [] }
+    {
+        let Left {
+            passes: _,
+            held,
+            lists: _,
+            starved: _,
+        } = self;
+        held.destroy_empty();
+    }
+
+    /// Takes in what is on a desk, behind the others.
+    fn take_in<S: Source>(&mut self, desk: Desk<B, S>)
+        requires passes { vec_len self.old.passes < vec_capacity self.old.passes }
+        requires held { vec_len self.old.held < vec_capacity self.old.held }
+        requires lists { vec_len self.old.lists < vec_capacity self.old.lists }
+        ensures passes { self.new.passes.items ≡ self.old.passes.items ++ desk.worker.pass ∷ [] }
+        ensures held { self.new.held.items ≡ self.old.held.items ++ option_to_list desk.kept }
+        ensures lists { self.new.lists.items ≡ self.old.lists.items ++ desk.worker.members ∷ [] }
+        ensures starved { self.new.starved ≡ false → (self.old.starved ≡ false) × (desk.worker.starved ≡ false) }
+        ensures passes_len { (vec_len self.new.passes ≡ vec_len self.old.passes + 1) × (vec_capacity self.new.passes ≡ vec_capacity self.old.passes) }
+        ensures held_len { (vec_len self.new.held ≤ vec_len self.old.held + 1) × (vec_capacity self.new.held ≡ vec_capacity self.old.held) }
+        ensures lists_len { (vec_len self.new.lists ≡ vec_len self.old.lists + 1) × (vec_capacity self.new.lists ≡ vec_capacity self.old.lists) }
+    {
+        let Desk {
+            worker,
+            files: _,
+            kept,
+        } = desk;
+        let Worker {
+            number: _,
+            pass,
+            members,
+            starved,
+        } = worker;
+        self.passes.push_reserved(pass);
+        self.lists.push_reserved(members);
+        self.starved = self.starved || starved;
+        if let Some(value) = kept {
+            self.held.push_reserved(value);
+        }
+    }
+}
+
+/// Takes the desks apart. What the workers leave behind is put into empty lists with room.
+pub fn clear<B: Buffer, S: Source>(mut desks: Vec<Desk<B, S>>, left: &mut Left<B>)
+    requires empty { (left.old.passes.items ≡ []) × (left.old.held.items ≡ []) × (left.old.lists.items ≡ []) }
+    requires room { (vec_len desks ≤ vec_capacity left.old.passes) × (vec_len desks ≤ vec_capacity left.old.held) × (vec_len desks ≤ vec_capacity left.old.lists) }
+    ensures passes { left.new.passes.items ≡ map (λ d. d.worker.pass) desks.items }
+    ensures held { left.new.held.items ≡ flat_map (λ d. option_to_list d.kept) desks.items }
+    ensures lists { left.new.lists.items ≡ map (λ d. d.worker.members) desks.items }
+    ensures starved { left.new.starved ≡ false → All (λ d. d.worker.starved ≡ false) desks.items }
+{
+    desks.reverse();
+    'desks: while let Some(desk) = desks.pop() {
+        left.take_in(desk);
+    }
+    desks.destroy_empty();
 }

@@ -1,27 +1,34 @@
-//! Work over sources in memory: for each number of workers the text that one thread writes, the faults of
+//! Work over sources in memory: for each number of workers the answers of one thread, the faults of
 //! several files, and two workers at one time.
 ghost use Rattle.std.specs.Prelude.{◌<◌};
 
 use crate::{FreeGate, Gate, Job, Point, WorkFault, work};
-use scq_collect::output;
+use scq_collect::merge;
 use scq_outside::{MemSource, PlainSource};
 use scq_topics::Topics;
 use std::alloc::Global;
-use std::sync::Wait;
 use std::sync::atomic::{AtomicU64, Ordering};
 use std::test::Fail;
 use std::thread::Threads;
 
-/// What is written about the files of a text, which stand between its bars, and how many replies were
-/// computed again.
-fn text_of<R: Threads + Wait + Sync, G: Gate>(
+/// What workers sent, took and answered directly, all together.
+#[derive(Clone, Copy, Debug, PartialEq, Eq)]
+struct Sums {
+    sent: u64,
+    taken: u64,
+    direct: u64,
+}
+
+/// The answers about the files of a text, which stand between its bars: a line each, with file, line, topic and reply; and what the
+/// workers did.
+fn text_of<R: Threads + Sync, G: Gate>(
     rt: &R,
     alloc: Global,
     order: u32,
     workers: u32,
     files: &str,
     gate: &G,
-) -> Result<(Vec<u8>, u64), Fail> {
+) -> Result<(Vec<u8>, Sums), Fail> {
     let topics = Topics::read("a=sum").ok().ok_or("topics")?;
     let job = Job::new(order, 65_536, workers, topics).ok_or("job")?;
     let mut sources = Vec::new(alloc);
@@ -33,8 +40,25 @@ fn text_of<R: Threads + Wait + Sync, G: Gate>(
     }
     let end = work(rt, alloc, &job, sources, gate);
     let worked = end.result.ok().ok_or("work")?;
-    let text = output(alloc, &job.topics, worked.answered.as_slice())?;
-    Ok((text.into(), worked.again))
+    let mut sums = Sums {
+        sent: 0,
+        taken: 0,
+        direct: 0,
+    };
+    for worker in &worked.counts {
+        sums.sent = sums.sent.saturating_add(worker.sent);
+        sums.taken = sums.taken.saturating_add(worker.taken);
+        sums.direct = sums.direct.saturating_add(worker.full);
+    }
+    let answered = merge(alloc, worked.answered.as_slice())?;
+    let mut text = Vec::new(alloc);
+    for answer in answered.iter() {
+        let place = format!(in alloc; "{}:{} {} ", answer.file, answer.line, answer.topic)?;
+        text.extend_from_slice(place.as_bytes())?;
+        text.extend_from_slice(answer.reply.bytes())?;
+        text.push(b'\n')?;
+    }
+    Ok((text, sums))
 }
 
 // Expected texts are worked by hand.
@@ -42,36 +66,21 @@ fn text_of<R: Threads + Wait + Sync, G: Gate>(
 fn each_number_of_workers_writes_the_same(rt: HostRuntime) -> Result<(), Fail> {
     let alloc = rt.alloc();
     let rows = [
-        (
-            3,
-            1,
-            "a 1\n||a 2\nb\n",
-            "1:1 a 1\n3:1 a 2\n3:2 - 0\ntotal a 2 2\ntotal - 1 0\n",
-        ),
-        (
-            3,
-            2,
-            "a 1\n||a 2\nb\n",
-            "1:1 a 1\n3:1 a 2\n3:2 - 0\ntotal a 2 2\ntotal - 1 0\n",
-        ),
-        (
-            3,
-            7,
-            "a 1\n||a 2\nb\n",
-            "1:1 a 1\n3:1 a 2\n3:2 - 0\ntotal a 2 2\ntotal - 1 0\n",
-        ),
+        (3, 1, "a 1\n||a 2\nb\n", "1:1 0 1\n3:1 0 2\n3:2 1 0\n"),
+        (3, 2, "a 1\n||a 2\nb\n", "1:1 0 1\n3:1 0 2\n3:2 1 0\n"),
+        (3, 7, "a 1\n||a 2\nb\n", "1:1 0 1\n3:1 0 2\n3:2 1 0\n"),
         (
             1,
             1,
             "x 1\nx 2\nx 3\nx 4\n",
-            "1:1 - 1\n1:2 - 1\n1:3 - 1\n1:4 - 1\ntotal a 0 0\ntotal - 4 4\n",
+            "1:1 1 1\n1:2 1 1\n1:3 1 1\n1:4 1 1\n",
         ),
-        (1, 2, "", "total a 0 0\ntotal - 0 0\n"),
+        (1, 2, "", ""),
     ];
     for (row, (order, workers, files, wanted)) in rows.iter().enumerate() {
-        let (text, again) = text_of(&rt, alloc, *order, *workers, *files, &FreeGate)?;
+        let (text, sums) = text_of(&rt, alloc, *order, *workers, *files, &FreeGate)?;
         assert_eq!(rt; text.as_slice(), wanted.as_bytes(), "row {row}");
-        assert_eq!(rt; again, 0, "row {row}");
+        assert_eq!(rt; sums.sent, sums.taken, "row {row}");
     }
     Ok(())
 }
@@ -90,18 +99,37 @@ fn two_files(alloc: Global, lines: u32) -> Result<String, Fail> {
 }
 
 #[test]
-fn no_reply_is_computed_again(rt: HostRuntime) -> Result<(), Fail> {
+fn what_is_sent_is_taken(rt: HostRuntime) -> Result<(), Fail> {
     let alloc = rt.alloc();
     let files = two_files(alloc, 1000)?;
-    let (one, _) = text_of(&rt, alloc, 1, 1, files.as_str(), &FreeGate)?;
-    let (two, again) = text_of(&rt, alloc, 1, 2, files.as_str(), &FreeGate)?;
+    let (one, alone) = text_of(&rt, alloc, 1, 1, files.as_str(), &FreeGate)?;
+    let (two, both) = text_of(&rt, alloc, 1, 2, files.as_str(), &FreeGate)?;
     assert!(rt; one == two);
-    assert_eq!(rt; again, 0);
+    assert_eq!(rt; alone.sent, alone.taken);
+    assert_eq!(rt; both.sent, both.taken);
+    assert_eq!(rt; alone.sent.saturating_add(alone.direct), 2000);
+    assert_eq!(rt; both.sent.saturating_add(both.direct), 2000);
+    Ok(())
+}
+
+// With two buffers every third line finds none free: it is answered directly.
+#[test]
+fn one_worker_answers_a_line_directly(rt: HostRuntime) -> Result<(), Fail> {
+    let alloc = rt.alloc();
+    let (_, sums) = text_of(&rt, alloc, 1, 1, "x 1\nx 2\nx 3\nx 4\n", &FreeGate)?;
+    assert_eq!(rt;
+        sums,
+        Sums {
+            sent: 3,
+            taken: 3,
+            direct: 1
+        }
+    );
     Ok(())
 }
 
 /// How work ends over two sources, of which the first fails at the read of this number.
-fn fault_of<R: Threads + Wait + Sync>(
+fn fault_of<R: Threads + Sync>(
     rt: &R,
     alloc: Global,
     workers: u32,
@@ -209,12 +237,16 @@ fn two_workers_meet_at_each_point(rt: HostRuntime) -> Result<(), Fail> {
         ],
         saw: AtomicU64::new(0),
     };
-    let (text, again) = text_of(&rt, alloc, 3, 2, "a 1\n|a 2\n", &gate)?;
+    let (text, sums) = text_of(&rt, alloc, 3, 2, "a 1\n|a 2\n", &gate)?;
+    assert_eq!(rt; text.as_slice(), b"1:1 0 1\n2:1 0 2\n".as_slice());
     assert_eq!(rt;
-        text.as_slice(),
-        b"1:1 a 1\n2:1 a 2\ntotal a 2 2\ntotal - 0 0\n".as_slice()
+        sums,
+        Sums {
+            sent: 2,
+            taken: 2,
+            direct: 0
+        }
     );
-    assert_eq!(rt; again, 0);
     assert_eq!(rt; gate.saw.load(Ordering::SeqCst), 6);
     Ok(())
 }

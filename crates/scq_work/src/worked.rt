@@ -1,11 +1,18 @@
+//! How the work of all workers ends.
 use scq_collect::Answered;
+use scq_queue::{Counts, HeapBuffer, Pass};
+use std::snapshot::Snapshot;
 
-/// What workers answered: the answers in order of file and line, and to how many messages the reply had
-/// to be computed again once they had returned.
+/// What workers answered, each the list of one worker in the order of their numbers, and how much each sent, took and answered directly.
+///
+/// For contracts alone it has the workers' passes as they were when the queue was closed, and how much was left in each of the queue's
+/// rings: these have no bytes when the program runs.
 #[derive(Drop)]
 pub struct Worked {
-    pub answered: Vec<Answered>,
-    pub again: u64,
+    pub counts: Vec<Counts>,
+    pub answered: Vec<Vec<Answered>>,
+    pub passes: Snapshot<Vec<Pass<HeapBuffer>>>,
+    pub left: Snapshot<Vec<u64>>,
 }
 
 /// Why workers answer nothing. Files and lines are numbered from 1.

@@ -1,105 +1,58 @@
-ghost use Rattle.std.specs.Prelude.{◌≡◌, ◌≤◌, ◌<◌, ◌⊎◌, true, false, [], length, IfSome, IfNone, IsTrue};
-ghost use Rattle.scq_frames.specs.declared.message.Message.{Message as TheMessage};
+ghost use Rattle.std.specs.Prelude.{◌≡◌, ◌≤◌, ◌<◌, ◌+◌, ◌^◌, ◌++◌, ◌∷◌, ◌==◌, ℕ, suc, List, true, false, [], length, filter, count_by, slice_get, Some, None, Ok, if◌then◌else◌, IfOk, IfErr, IfSome, IsSome, OnOk};
+ghost use Rattle.scq_core.specs.declared.ended.Ended.{Ended as TheEnded};
+ghost use Rattle.scq_frames.specs.Views.{message_of_view};
+ghost use Rattle.scq_queue.specs.Lists.{Placed};
+ghost use Rattle.scq_queue.specs.Passes.{known_on, IsHeldBy, after_put, after_spent_put};
+ghost use Rattle.scq_work.specs.Records.{is_take};
+ghost use Rattle.scq_work.specs.Members.{answered, is_taken, is_direct, AnswersSoFar};
+ghost use Rattle.scq_work.specs.Passing.{Sends};
+ghost use Rattle.scq_work.specs.Working.{Suits, HasTaken, HasAnswered, HasLeft, takes_left, after_retire};
 
-use crate::waiting::Waiting;
 use crate::{Gate, Job, Point};
-use scq_collect::Handled;
-use scq_frames::Message;
+use scq_collect::{Answered, Way};
+use scq_frames::{Message, View, decode, encode};
+use scq_queue::{Held, Pass, Queue, TakeRefusal};
+use scq_topics::reply;
+use scq_word::Buffer;
 use std::alloc::Global;
-use std::sync::{Mutex, Wait};
 
-/// What a worker last did with the list that it shares.
-#[derive(Clone, Copy, Debug, PartialEq, Eq)]
-pub enum Dealing {
-    Nothing,
-    /// It put a message there.
-    Pushed,
-    /// It found no room for one.
-    Full,
-    /// It took a message.
-    Popped,
-    /// It found none.
-    Empty,
-}
+/// How many sweeps in a row that take nothing let a worker leave.
+const MOST_IDLE: u32 = 64;
 
-/// A worker: what it has answered, what it last did with the shared list, and whether it wanted memory.
-#[derive(Drop)]
-pub struct Worker {
+/// A worker: the pass by which it makes its calls, what it has answered, and whether it wanted memory.
+pub struct Worker<B: Buffer> {
     pub number: u32,
-    pub handled: Vec<Handled>,
-    pub last: Dealing,
+    pub pass: Pass<B>,
+    pub members: Vec<Answered>,
     pub starved: bool,
 }
 
-/// How many sweeps in a row that find nothing let a worker leave.
-const MOST_IDLE: u32 = 64;
-
-/// Shares a message, or gives it back where there is no room.
-fn share<R: Wait>(
-    rt: &R,
-    waiting: &Mutex<Waiting>,
-    message: Message,
-    last: &mut Dealing,
-) -> Option<Message>
-    ensures pushed { IfNone result (last.new ≡ Dealing.Pushed) }
-    ensures full { IfSome result (λ m. (m ≡ message) × (last.new ≡ Dealing.Full)) }
-{
-    let left = waiting.lock(rt).push(message);
-    *last = match left {
-        Some(_) => Dealing::Full,
-        None => Dealing::Pushed,
-    };
-    left
+/// Why a worker leaves at once: a ticket at or past the limit was drawn. It has the value that came back, where there is one.
+pub struct AtLimit<B: Buffer> {
+    pub held: Option<Held<B>>,
 }
 
-/// Takes the message that has waited longest.
-fn take_shared<R: Wait>(rt: &R, waiting: &Mutex<Waiting>, last: &mut Dealing) -> Option<Message>
-    ensures popped { IfSome result (λ _. last.new ≡ Dealing.Popped) }
-    ensures empty { IfNone result (last.new ≡ Dealing.Empty) }
-{
-    let taken = waiting.lock(rt).pop();
-    *last = match taken {
-        Some(_) => Dealing::Popped,
-        None => Dealing::Empty,
-    };
-    taken
-}
-
-fn retire<R: Wait>(rt: &R, waiting: &Mutex<Waiting>) {
-    waiting.lock(rt).retire();
-}
-
-/// Whether all workers had retired.
-fn have_retired<R: Wait>(rt: &R, waiting: &Mutex<Waiting>, workers: u32) -> bool {
-    waiting.lock(rt).retired() >= workers
-}
-
-impl Worker {
-    ghost use Rattle.scq_work.specs.Dealings.{Answers};
-
-    pub fn new(alloc: Global, number: u32) -> Worker
-        ensures number { result.number ≡ number }
-        ensures handled { result.handled.items ≡ [] }
-    {
-        Worker {
-            number,
-            handled: Vec::new(alloc),
-            last: Dealing::Nothing,
-            starved: false,
-        }
-    }
-
-    /// Answers a message.
-    fn answer(&mut self, alloc: Global, job: &Job, message: Message)
+impl<B: Buffer> Worker<B> {
+    /// Puts the answer to a message behind the list.
+    fn answer(&mut self, alloc: Global, job: &Job, message: View<'_>, way: Way)
         requires { message.topic ≤ length job.now.topics }
-        ensures answered { Answers job.now.topics message self.old.handled.items self.new.handled.items self.new.starved }
-        ensures last { self.new.last ≡ self.old.last }
-        ensures number { self.new.number ≡ self.old.number }
+        ensures listed { self.new.starved ≡ false
+            → self.new.members.items ≡ self.old.members.items ++ answered job.now.topics way (message_of_view message.entry) ∷ [] }
+        ensures starved { self.new.starved ≡ false → self.old.starved ≡ false }
+        ensures same { (self.new.pass ≡ self.old.pass) × (self.new.number ≡ self.old.number) }
     {
         let kind = job.topics.kind(message.topic);
-        match Handled::new(alloc, kind, message) {
-            Ok(handled) => {
-                if self.handled.push(handled).is_err() {
+        match reply(alloc, kind, message.payload) {
+            Ok(reply) => {
+                let member = Answered {
+                    file: message.file,
+                    line: message.line,
+                    topic: message.topic,
+                    bytes: message.payload.len() as u64,
+                    reply,
+                    way,
+                };
+                if self.members.push(member).is_err() {
                     self.starved = true;
                 }
             }
@@ -107,116 +60,224 @@ impl Worker {
         }
     }
 
-    /// Shares a message, or answers it where there is no room for it.
-    fn produce<R: Wait, G: Gate>(
-        &mut self,
-        rt: &R,
-        alloc: Global,
-        job: &Job,
-        waiting: &Mutex<Waiting>,
-        gate: &G,
-        message: Message,
-    )
-        requires { message.topic ≤ length job.now.topics }
-        ensures produced { ((self.new.last ≡ Dealing.Pushed) × (self.new.handled.items ≡ self.old.handled.items))
-            ⊎ ((self.new.last ≡ Dealing.Full) × Answers job.now.topics message self.old.handled.items self.new.handled.items self.new.starved) }
-        ensures number { self.new.number ≡ self.old.number }
+    /// Answers what was taken at a place, where its bytes are those of a message on one of the job's topics.
+    fn answer_taken(&mut self, alloc: Global, job: &Job, place: u64, bytes: &[u8])
+        ensures takes { self.new.starved ≡ false → (topic : ℕ) (takes : List Placed)
+            → AnswersSoFar job.now.topics takes (filter is_taken self.old.members.items)
+            → AnswersSoFar job.now.topics (takes ++ record { topic = topic; place = place; bytes = bytes.now } ∷ []) (filter is_taken self.new.members.items) }
+        ensures directs { self.new.starved ≡ false → filter is_direct self.new.members.items ≡ filter is_direct self.old.members.items }
+        ensures starved { self.new.starved ≡ false → self.old.starved ≡ false }
+        ensures same { (self.new.pass ≡ self.old.pass) × (self.new.number ≡ self.old.number) }
     {
-        match share(rt, waiting, message, &mut self.last) {
-            Some(message) => self.answer(alloc, job, message),
-            None => gate.at(self.number, Point::AfterSend),
+        if self.starved {
+            return;
+        }
+        if let Some(message) = decode(bytes) {
+            if message.topic <= job.topics.len() {
+                self.answer(alloc, job, message, Way::Taken { place });
+            }
         }
     }
 
-    /// Takes one message and answers it, where its topic is one of the job's and memory isn't wanted.
-    /// Whether there was one.
-    fn take<R: Wait, G: Gate>(
+    /// Takes once from a topic. What it got it answers and gives back. Whether it got anything.
+    fn take_one<G: Gate>(
         &mut self,
-        rt: &R,
         alloc: Global,
         job: &Job,
-        waiting: &Mutex<Waiting>,
+        queue: &Queue<B>,
         gate: &G,
-    ) -> bool
-        ensures popped { IsTrue result → (self.new.last ≡ Dealing.Popped) × ((self.new.handled.items ≡ self.old.handled.items)
-            ⊎ ((m : TheMessage) × Answers job.now.topics m self.old.handled.items self.new.handled.items self.new.starved)) }
-        ensures empty { result ≡ false → (self.new.last ≡ Dealing.Empty) × (self.new.handled.items ≡ self.old.handled.items) }
+        topic: u32,
+    ) -> Result<bool, AtLimit<B>>
+        requires suits { Suits queue.now (length job.now.topics) self.old.pass }
+        requires topic { topic ≤ length job.now.topics }
+        ensures taken { OnOk result (HasTaken self.old.pass self.new.pass) }
+        ensures one { OnOk result ((t : ℕ)
+            → count_by (is_take t) self.new.pass.calls ≡ count_by (is_take t) self.old.pass.calls + (if topic == t then 1 else 0)) }
+        ensures answered { OnOk result (self.new.starved ≡ false
+            → HasAnswered job.now.topics self.old.pass self.new.pass self.old.members.items self.new.members.items) }
+        ensures some { result ≡ Ok true → ((known_on topic self.old.pass).head < (known_on topic self.new.pass).head)
+            × ((known_on topic self.old.pass).head < queue.now.setup.limit) }
+        ensures empty { result ≡ Ok false → (known_on topic self.new.pass).finished < (known_on topic self.new.pass).head }
+        ensures left { IfErr result (λ l. (messages : ℕ) → HasLeft messages messages self.old.pass self.new.pass l.held) }
+        ensures starved { self.new.starved ≡ false → self.old.starved ≡ false }
         ensures number { self.new.number ≡ self.old.number }
     {
         gate.at(self.number, Point::BeforeTake);
-        let Some(message) = take_shared(rt, waiting, &mut self.last) else {
-            return false;
-        };
-        if message.topic <= job.topics.len() && !self.starved {
-            self.answer(alloc, job, message);
+        match queue.take(&mut self.pass, topic) {
+            Ok((place, held)) => {
+                self.answer_taken(alloc, job, place, held.bytes());
+                match queue.give_back(&mut self.pass, held) {
+                    Ok(()) => Ok(true),
+                    Err((held, _)) => Err(AtLimit { held: Some(held) }),
+                }
+            }
+            Err(TakeRefusal::Empty { .. }) => Ok(false),
+            Err(TakeRefusal::Spent { .. }) => Err(AtLimit { held: None }),
         }
-        true
     }
 
-    /// Shares a message. Where there was no room for it, it helps by answering one that waits.
-    pub fn pass_on<R: Wait, G: Gate>(
+    /// Takes once from each topic.
+    pub fn help<G: Gate>(
         &mut self,
-        rt: &R,
         alloc: Global,
         job: &Job,
-        waiting: &Mutex<Waiting>,
+        queue: &Queue<B>,
         gate: &G,
-        message: Message,
-    )
-        requires { message.topic ≤ length job.now.topics }
-        ensures { self.new.number ≡ self.old.number }
+    ) -> Result<(), AtLimit<B>>
+        requires { Suits queue.now (length job.now.topics) self.old.pass }
+        ensures taken { OnOk result (HasTaken self.old.pass self.new.pass) }
+        ensures each { OnOk result ((t : ℕ) → t < length job.now.topics + 1
+            → count_by (is_take t) self.new.pass.calls ≡ count_by (is_take t) self.old.pass.calls + 1) }
+        ensures answered { OnOk result (self.new.starved ≡ false
+            → HasAnswered job.now.topics self.old.pass self.new.pass self.old.members.items self.new.members.items) }
+        ensures left { IfErr result (λ l. (messages : ℕ) → HasLeft messages messages self.old.pass self.new.pass l.held) }
+        ensures starved { self.new.starved ≡ false → self.old.starved ≡ false }
+        ensures number { self.new.number ≡ self.old.number }
     {
-        self.produce(rt, alloc, job, waiting, gate, message);
-        if self.last == Dealing::Full {
-            self.take(rt, alloc, job, waiting, gate);
+        'topics: for topic in 0..job.topics.len() + 1 {
+            self.take_one(alloc, job, queue, gate, topic)?;
+        }
+        Ok(())
+    }
+
+    /// Answers a message directly, where no buffer was free: with this head of the ring of free buffers.
+    pub fn answer_directly(&mut self, alloc: Global, job: &Job, message: &Message, head: u64)
+        requires { message.now.topic ≤ length job.now.topics }
+        ensures listed { self.new.starved ≡ false
+            → self.new.members.items ≡ self.old.members.items ++ answered job.now.topics (Way.Direct head) message.now ∷ [] }
+        ensures starved { self.new.starved ≡ false → self.old.starved ≡ false }
+        ensures same { (self.new.pass ≡ self.old.pass) × (self.new.number ≡ self.old.number) }
+    {
+        let view = View {
+            file: message.file,
+            line: message.line,
+            topic: message.topic,
+            payload: message.payload.bytes(),
+        };
+        self.answer(alloc, job, view, Way::Direct { head });
+    }
+
+    /// Sends a message in a value that it holds.
+    pub fn send_in(
+        &mut self,
+        queue: &Queue<B>,
+        message: &Message,
+        held: Held<B>,
+    ) -> Result<(), AtLimit<B>>
+        requires pass { (self.old.pass.queue ≡ queue.now) × (self.old.pass.spent ≡ None) × (self.old.pass.retired ≡ None) }
+        requires topic { message.now.topic + 1 < queue.now.setup.rings }
+        requires held { IsHeldBy self.old.pass held }
+        requires room { length message.now.payload + 16 ≤ length (B.contents held.buffer) }
+        requires short { length message.now.payload < 2 ^ 32 }
+        ensures sent { OnOk result ((place : ℕ) × (bytes : List ℕ) × (self.new.pass ≡ after_put (suc message.now.topic) held.index place bytes self.old.pass)
+            × Sends message.now (record { topic = message.now.topic; place = place; bytes = bytes })) }
+        ensures spent { IfErr result (λ l. (ticket : ℕ) × (self.new.pass ≡ after_spent_put (suc message.now.topic) ticket self.old.pass)) }
+        ensures back { IfErr result (λ l. IfSome l.held (λ h. (h.index ≡ held.index) × (h.queue ≡ held.queue))) }
+        ensures kept { IfErr result (λ l. IsSome l.held) }
+        ensures same { (self.new.members.items ≡ self.old.members.items) × (self.new.starved ≡ self.old.starved) × (self.new.number ≡ self.old.number) }
+    {
+        // Its numbers are read here, so that it is known of each that it is one of 32 bits, as encode writes it.
+        let _file = message.file;
+        let _line = message.line;
+        let topic = message.topic;
+        let mut held = held;
+        encode(message, held.bytes_mut());
+        match queue.send(&mut self.pass, topic, held) {
+            Ok(_) => Ok(()),
+            Err((held, _)) => Err(AtLimit { held: Some(held) }),
         }
     }
 
-    /// Answers what waits until nothing does. Whether anything did.
-    fn sweep<R: Wait, G: Gate>(
+    /// Takes from a topic until nothing is there. Whether anything was.
+    fn sweep_topic<G: Gate>(
         &mut self,
-        rt: &R,
         alloc: Global,
         job: &Job,
-        waiting: &Mutex<Waiting>,
+        queue: &Queue<B>,
         gate: &G,
-    ) -> bool
-        ensures empty { self.new.last ≡ Dealing.Empty }
+        topic: u32,
+    ) -> Result<bool, AtLimit<B>>
+        requires suits { Suits queue.now (length job.now.topics) self.old.pass }
+        requires topic { topic ≤ length job.now.topics }
+        ensures taken { OnOk result (HasTaken self.old.pass self.new.pass) }
+        ensures empty { OnOk result ((known_on topic self.new.pass).finished < (known_on topic self.new.pass).head) }
+        ensures answered { OnOk result (self.new.starved ≡ false
+            → HasAnswered job.now.topics self.old.pass self.new.pass self.old.members.items self.new.members.items) }
+        ensures some { result ≡ Ok true → ((known_on topic self.old.pass).head < (known_on topic self.new.pass).head)
+            × ((known_on topic self.old.pass).head < queue.now.setup.limit) }
+        ensures left { IfErr result (λ l. (messages : ℕ) → HasLeft messages messages self.old.pass self.new.pass l.held) }
+        ensures starved { self.new.starved ≡ false → self.old.starved ≡ false }
         ensures number { self.new.number ≡ self.old.number }
     {
         let mut some = false;
-        for _ in rt.forever() {
-            if !self.take(rt, alloc, job, waiting, gate) {
-                break;
+        'takes: loop {
+            let more = self.take_one(alloc, job, queue, gate, topic)?;
+            if more {
+                some = true;
+            } else {
+                return Ok(some);
             }
-            some = true;
         }
-        some
     }
 
-    /// Retires, and leaves once it has found nothing and every worker had retired before it looked, or
-    /// once it has found nothing 64 times in a row.
-    pub fn finish<R: Wait, G: Gate>(
+    /// Takes from each topic until nothing is there. Whether anything was in any.
+    fn sweep<G: Gate>(
         &mut self,
-        rt: &R,
         alloc: Global,
         job: &Job,
-        waiting: &Mutex<Waiting>,
+        queue: &Queue<B>,
         gate: &G,
-    )
-        ensures empty { self.new.last ≡ Dealing.Empty }
+    ) -> Result<bool, AtLimit<B>>
+        requires { Suits queue.now (length job.now.topics) self.old.pass }
+        ensures taken { OnOk result (HasTaken self.old.pass self.new.pass) }
+        ensures empty { OnOk result ((t : ℕ) → t < length job.now.topics + 1
+            → (known_on t self.new.pass).finished < (known_on t self.new.pass).head) }
+        ensures answered { OnOk result (self.new.starved ≡ false
+            → HasAnswered job.now.topics self.old.pass self.new.pass self.old.members.items self.new.members.items) }
+        ensures some { result ≡ Ok true → takes_left queue.now.setup.limit (length job.now.topics + 1) self.new.pass
+            < takes_left queue.now.setup.limit (length job.now.topics + 1) self.old.pass }
+        ensures left { IfErr result (λ l. (messages : ℕ) → HasLeft messages messages self.old.pass self.new.pass l.held) }
+        ensures starved { self.new.starved ≡ false → self.old.starved ≡ false }
         ensures number { self.new.number ≡ self.old.number }
     {
-        retire(rt, waiting);
+        let mut some = false;
+        'swept: for topic in 0..job.topics.len() + 1 {
+            let more = self.sweep_topic(alloc, job, queue, gate, topic)?;
+            some = some || more;
+        }
+        Ok(some)
+    }
+
+    /// Retires and sweeps: leaves after a sweep before which every worker had retired, or after 64 in a row that took nothing.
+    pub fn leave<G: Gate>(
+        &mut self,
+        alloc: Global,
+        job: &Job,
+        queue: &Queue<B>,
+        gate: &G,
+    ) -> Result<(), AtLimit<B>>
+        requires suits { Suits queue.now (length job.now.topics) self.old.pass }
+        requires stays { self.old.pass.retired ≡ None }
+        ensures taken { OnOk result (HasTaken (after_retire self.old.pass) self.new.pass) }
+        ensures empty { OnOk result ((t : ℕ) → t < length job.now.topics + 1
+            → (known_on t self.new.pass).finished < (known_on t self.new.pass).head) }
+        ensures answered { OnOk result (self.new.starved ≡ false
+            → HasAnswered job.now.topics self.old.pass self.new.pass self.old.members.items self.new.members.items) }
+        ensures left { IfErr result (λ l. (messages : ℕ) → HasLeft messages messages (after_retire self.old.pass) self.new.pass l.held) }
+        ensures starved { self.new.starved ≡ false → self.old.starved ≡ false }
+        ensures number { self.new.number ≡ self.old.number }
+    {
+        queue.retire(&mut self.pass);
         let mut idle = 0;
-        for _ in rt.forever() {
-            let over = have_retired(rt, waiting, job.workers);
-            let some = self.sweep(rt, alloc, job, waiting, gate);
+        'sweeps: loop {
+            let over = queue.closed(&mut self.pass);
+            let some = self.sweep(alloc, job, queue, gate)?;
             idle = if some { 0 } else { idle + 1 };
             if over || idle == MOST_IDLE {
                 break;
             }
         }
         gate.at(self.number, Point::BeforeLeave);
+        Ok(())
     }
 }

@@ -1,74 +1,180 @@
-ghost use Rattle.std.specs.Prelude.{◌≡◌, ◌⊎◌, ℕ, ◌+◌, ◌<◌, ◌≤◌, [], None, Some, false, length, map, slice_index_or, vec_len, vec_capacity, IfOk, IfErr, IfSome, OnOk};
+//! The work of all workers together.
+ghost use Rattle.std.specs.Prelude.{◌≡◌, Bool, ℕ, ◌+◌, ◌^◌, ◌<◌, ◌≤◌, List, [], None, Some, false, length, map, slice_index_or, vec_len, vec_capacity, IfOk, IfErr, IfSome, OnOk};
 ghost use Rattle.std.specs.List.{All};
-ghost use Rattle.scq_collect.specs.Collected.{answer_of};
-ghost use Rattle.scq_collect.specs.Merging.{IsInOrder, IsMerged, place_of, place_of_answer, unanswered};
-ghost use Rattle.scq_collect.specs.Output.{answers_to};
-ghost use Rattle.scq_work.specs.Desks.{IsNew, ids_of};
-ghost use Rattle.scq_work.specs.Ends.{HasCause, HasMoved, all_left, fault_of_workers};
-ghost use Rattle.scq_work.specs.Reading.{IsRead, IsWhole};
+ghost use Rattle.std.specs.List.Sorted.{IsPermutation};
+ghost use Rattle.scq_frames.specs.declared.message.Message.{Message as TheMessage};
+ghost use Rattle.scq_collect.specs.Merging.{members_in};
+ghost use Rattle.scq_collect.specs.Output.{answers_to, without_way};
+ghost use Rattle.scq_queue.specs.Passes.{first_passes};
+ghost use Rattle.scq_work.specs.AllWorkers.{HasWorked};
+ghost use Rattle.scq_work.specs.Dealings.{IsFresh};
+ghost use Rattle.scq_work.specs.Desks.{IsNew, HasRun, ids_of};
+ghost use Rattle.scq_work.specs.Ends.{AreGiven, HasCause, HasMoved, all_left, fault_of_workers, messages_in};
+ghost use Rattle.scq_work.specs.Reading.{IsWhole};
 
-use crate::dealing::deal;
+use crate::dealing::{deal, make_desks};
 use crate::desk::Desk;
-use crate::gathering::{Gathered, gather};
-use crate::waiting::Waiting;
-use crate::worker::Worker;
+use crate::gathering::{Gathered, Left, clear, gather};
+use crate::own_file::OwnFile;
 use crate::{Gate, Job, WorkEnd, WorkFault, Worked};
-use scq_collect::{Handled, Merged, merge};
-use scq_frames::{FrameFault, Message};
+use scq_frames::FrameFault;
 use scq_outside::Source;
-use scq_word::NoMemory;
+use scq_queue::{Closed, HeapBuffer, Pass, Queue};
+use scq_word::{NoMemory, Setup};
 use std::alloc::Global;
 use std::snapshot::Snapshot;
-use std::sync::{Mutex, Wait};
 use std::thread;
 use std::thread::Threads;
 
-/// A desk for each worker, with room for so many files on each.
-fn make_desks<S: Source>(
+/// The limit of the queue's tickets, which no work comes near.
+const LIMIT: u64 = 1 << 60;
+
+/// How many bytes stand in front of a message's payload.
+const HEADER: u32 = 16;
+
+/// What the work needs room for, beside its queue: the lists of each worker's files, the desks, and what the workers leave behind.
+struct Room<S: Source> {
+    files: Vec<Vec<OwnFile<S>>>,
+    desks: Vec<Desk<HeapBuffer, S>>,
+    left: Left<HeapBuffer>,
+}
+
+impl<S: Source> Room<S> {
+    ghost use Rattle.std.specs.Prelude.{◌≡◌, []};
+
+    /// Ends it where nothing was put into it.
+    fn destroy_empty(self)
+        requires { (self.desks.items ≡ []) × (self.left.held.items ≡ []) }
+    {
+        let Room {
+            files: _,
+            desks,
+            left,
+        } = self;
+        desks.destroy_empty();
+        left.destroy_empty();
+    }
+}
+
+/// A list for each worker, with room for so many files.
+fn make_lists<S: Source>(
     alloc: Global,
     workers: u32,
     files: usize,
-) -> Result<Vec<Desk<S>>, NoMemory>
-    ensures { IfOk result (λ desks. (length desks.items ≡ workers)
-        × All (λ d. (d.files.items ≡ []) × (vec_len d.files ≡ 0) × (files ≤ vec_capacity d.files)) desks.items) }
+) -> Result<Vec<Vec<OwnFile<S>>>, NoMemory>
+    ensures { IfOk result (λ lists. (vec_len lists ≡ workers)
+        × All (λ list. (list.items ≡ []) × (vec_len list ≡ 0) × (files ≤ vec_capacity list)) lists.items) }
 {
-    let mut desks = Vec::with_capacity(alloc, workers as usize)?;
-    'desks: for number in 0..workers {
-        desks.push_reserved(make_desk(alloc, number, files)?);
+    let mut lists = Vec::with_capacity(alloc, workers as usize)?;
+    'lists: for _number in 0..workers {
+        lists.push_reserved(Vec::with_capacity(alloc, files)?);
     }
-    Ok(desks)
+    Ok(lists)
 }
 
-fn make_desk<S: Source>(alloc: Global, number: u32, files: usize) -> Result<Desk<S>, NoMemory>
-    ensures { IfOk result (λ d. (d.files.items ≡ []) × (vec_len d.files ≡ 0) × (files ≤ vec_capacity d.files)) }
+fn make_left(alloc: Global, workers: usize) -> Result<Left<HeapBuffer>, NoMemory>
+    ensures empty { IfOk result (λ left. (left.passes.items ≡ []) × (left.held.items ≡ []) × (left.lists.items ≡ [])) }
+    ensures room { IfOk result (λ left. (workers ≤ vec_capacity left.passes) × (workers ≤ vec_capacity left.held) × (workers ≤ vec_capacity left.lists)) }
 {
-    Ok(Desk {
-        worker: Worker::new(alloc, number),
-        files: Vec::with_capacity(alloc, files)?,
+    let passes = Vec::with_capacity(alloc, workers)?;
+    let lists = Vec::with_capacity(alloc, workers)?;
+    let held = Vec::with_capacity(alloc, workers)?;
+    Ok(Left {
+        passes,
+        held,
+        lists,
+        starved: false,
     })
 }
 
+fn make_room<S: Source>(alloc: Global, job: &Job, files: usize) -> Result<Room<S>, NoMemory>
+    ensures files { IfOk result (λ room. (vec_len room.files ≡ job.now.workers)
+        × All (λ list. (list.items ≡ []) × (vec_len list ≡ 0) × (files ≤ vec_capacity list)) room.files.items) }
+    ensures desks { IfOk result (λ room. (room.desks.items ≡ []) × (job.now.workers ≤ vec_capacity room.desks)) }
+    ensures left { IfOk result (λ room. (room.left.passes.items ≡ []) × (room.left.held.items ≡ []) × (room.left.lists.items ≡ [])) }
+    ensures room { IfOk result (λ room. (job.now.workers ≤ vec_capacity room.left.passes) × (job.now.workers ≤ vec_capacity room.left.held)
+        × (job.now.workers ≤ vec_capacity room.left.lists)) }
+{
+    let workers = job.workers as usize;
+    let files = make_lists(alloc, job.workers, files)?;
+    let left = make_left(alloc, workers)?;
+    let Ok(desks) = Vec::with_capacity(alloc, workers) else {
+        left.destroy_empty();
+        return Err(NoMemory);
+    };
+    Ok(Room { files, desks, left })
+}
+
+/// The buffers of a queue for a job: each has room for a message.
+fn make_buffers(alloc: Global, job: &Job) -> Result<Vec<HeapBuffer>, NoMemory>
+    ensures count { IfOk result (λ buffers. vec_len buffers ≡ 2 ^ job.now.order) }
+    ensures room { IfOk result (λ buffers. All (λ b. job.now.size + 16 ≤ length b.bytes.items) buffers.items) }
+{
+    let count: u32 = 1 << job.order;
+    let mut buffers = Vec::with_capacity(alloc, count as usize)?;
+    'buffers: for _number in 0..count {
+        buffers.push_reserved(HeapBuffer::new(alloc, job.size + HEADER)?);
+    }
+    Ok(buffers)
+}
+
+/// The queue of a job, with a pass for each worker: a topic for each declared one, and one for all others.
+fn make_queue(
+    alloc: Global,
+    job: &Job,
+) -> Result<(Queue<HeapBuffer>, Vec<Pass<HeapBuffer>>), NoMemory>
+    ensures setup { IfOk result (λ made. (made.0.setup.order ≡ job.now.order) × (made.0.setup.rings ≡ length job.now.topics + 2)
+        × (made.0.setup.seats ≡ job.now.workers) × (made.0.setup.limit ≡ 2 ^ 60)) }
+    ensures passes { IfOk result (λ made. made.1.items ≡ first_passes made.0 made.0.setup.seats) }
+    ensures room { IfOk result (λ made. All (λ b. job.now.size + 16 ≤ length b.bytes.items) made.0.given) }
+{
+    let buffers = make_buffers(alloc, job)?;
+    let setup = setup_of(job);
+    match Queue::make(alloc, setup, buffers) {
+        Ok(made) => Ok(made),
+        Err(_) => Err(NoMemory),
+    }
+}
+
+fn setup_of(job: &Job) -> Setup
+    ensures order { result.order ≡ job.now.order }
+    ensures rings { result.rings ≡ length job.now.topics + 2 }
+    ensures seats { result.seats ≡ job.now.workers }
+    ensures limit { result.limit ≡ 2 ^ 60 }
+{
+    match Setup::new(job.order, job.topics.len() + 2, job.workers, LIMIT) {
+        Ok(setup) => setup,
+        Err(_) => unreachable!(),
+    }
+}
+
 /// Lets each worker work, in threads of their own.
-fn run_all<R: Threads + Wait + Sync, S: Source, G: Gate>(
+fn run_all<R: Threads + Sync, S: Source, G: Gate>(
     rt: &R,
     alloc: Global,
     job: &Job,
-    waiting: &Mutex<Waiting>,
+    queue: &Queue<HeapBuffer>,
     gate: &G,
-    desks: &mut [Desk<S>],
+    desks: &mut [Desk<HeapBuffer, S>],
 )
     requires some { 0 < length desks.old }
+    requires rings { queue.now.setup.rings ≡ length job.now.topics + 2 }
+    requires room { All (λ b. job.now.size + 16 ≤ length b.bytes.items) queue.now.given }
+    requires fresh { All (IsFresh queue.now) desks.old }
     requires unread { All (λ d. All IsNew d.files.items) desks.old }
     ensures same { (w : ℕ) (d : _) → w < length desks.old → ids_of (slice_index_or desks.new w d).files.items ≡ ids_of (slice_index_or desks.old w d).files.items }
-    ensures read { (w : ℕ) (d : _) → w < length desks.old
-        → All (λ f. IsRead job.now.topics job.now.size S.faults S.left f.number f.was.value f.source f.given.items f.end) (slice_index_or desks.new w d).files.items }
+    ensures numbers { (w : ℕ) (d : _) → w < length desks.old → (slice_index_or desks.new w d).worker.pass.number ≡ (slice_index_or desks.old w d).worker.pass.number }
+    ensures run { All (λ d. HasRun queue.now job.now.topics job.now.size S.faults S.left d.files.items d.worker.pass d.worker.members.items d.worker.starved d.kept) desks.new }
 {
     let threads = desks.len();
-    let run = |_: usize, desk: &mut Desk<S>|
-        requires { All IsNew desk.now.files.items }
+    let run = |_: usize, desk: &mut Desk<HeapBuffer, S>|
+        requires { (queue.now.setup.rings ≡ length job.now.topics + 2) × All (λ b. job.now.size + 16 ≤ length b.bytes.items) queue.now.given
+            × IsFresh queue.now desk.now × All IsNew desk.now.files.items }
         ensures { (ids_of desk.exit.now.files.items ≡ ids_of desk.entry.now.files.items)
-            × All (λ f. IsRead job.entry.now.topics job.entry.now.size S.faults S.left f.number f.was.value f.source f.given.items f.end) desk.exit.now.files.items }
-    { desk.run(rt, alloc, job, waiting, gate) };
+            × (desk.exit.now.worker.pass.number ≡ desk.entry.now.worker.pass.number)
+            × HasRun queue.entry.now job.entry.now.topics job.entry.now.size S.faults S.left desk.exit.now.files.items desk.exit.now.worker.pass
+            desk.exit.now.worker.members.items desk.exit.now.worker.starved desk.exit.now.kept }
+    { desk.run(alloc, job, queue, gate) };
     thread::for_each_mut(rt, desks, threads, &run);
 }
 
@@ -88,67 +194,9 @@ fn fault_of_all(starved: bool, first: Option<(u32, FrameFault)>) -> Option<WorkF
     })
 }
 
-/// Takes each worker's list of what it answered, and whether a worker wanted memory.
-fn take_lists<S: Source>(
-    desks: Vec<Desk<S>>,
-    lists: &mut Vec<Vec<Handled>>,
-) -> Result<(), NoMemory> {
-    let mut left = desks;
-    'desks: while let Some(desk) = left.pop() {
-        let Desk { worker, files: _ } = desk;
-        if worker.starved {
-            return Err(NoMemory);
-        }
-        lists.push(worker.handled)?;
-    }
-    Ok(())
-}
-
-/// Merges what was answered, where there is no fault.
-fn conclude(
-    alloc: Global,
-    job: &Job,
-    given: Vec<Message>,
-    lists: Vec<Vec<Handled>>,
-    fault: Option<WorkFault>,
-) -> Result<Worked, WorkFault>
-    requires { fault ≡ None → All (λ m. m.topic ≤ length job.now.topics) given.items }
-    ensures sound { OnOk result (fault ≡ None) }
-    ensures cause { IfErr result (λ f. (f ≡ WorkFault.NoMemory) ⊎ (fault ≡ Some f)) }
-    ensures in_order { IsInOrder place_of given.items → IfOk result (λ w. w.answered.items ≡ map (answer_of job.now.topics) given.items) }
-{
-    if let Some(fault) = fault {
-        return Err(fault);
-    }
-    match merge(alloc, &job.topics, given, lists) {
-        Ok(Merged { answered, again }) => Ok(Worked { answered, again }),
-        Err(NoMemory) => Err(WorkFault::NoMemory),
-    }
-}
-
-/// What the work needs room for: what the workers share, their desks, and the list of their lists.
-#[derive(Drop)]
-struct Room<S> {
-    waiting: Waiting,
-    desks: Vec<Desk<S>>,
-    lists: Vec<Vec<Handled>>,
-}
-
-fn make_room<S: Source>(alloc: Global, job: &Job, files: usize) -> Result<Room<S>, NoMemory>
-    ensures desks { IfOk result (λ room. length room.desks.items ≡ job.now.workers) }
-    ensures empty { IfOk result (λ room. All (λ d. (d.files.items ≡ []) × (vec_len d.files ≡ 0) × (files ≤ vec_capacity d.files)) room.desks.items) }
-{
-    Ok(Room {
-        waiting: Waiting::new(alloc, 1 << job.order)?,
-        desks: make_desks(alloc, job.workers, files)?,
-        lists: Vec::with_capacity(alloc, job.workers as usize)?,
-    })
-}
-
-/// Answers the messages of all sources by the job's workers, each of which reads its own files: file f, from
-/// 1, is that of worker (f - 1) mod the number of workers. The sources come back in their order in every
-/// case. It may wait.
-pub fn work<R: Threads + Wait + Sync, S: Source, G: Gate>(
+/// Answers the messages of all sources by the job's workers, each of which reads its own files: file f, from 1, is that of worker
+/// (f - 1) mod the number of workers. They share a queue of buffers. The sources come back in their order in every case.
+pub fn work<R: Threads + Sync, S: Source, G: Gate>(
     rt: &R,
     alloc: Global,
     job: &Job,
@@ -159,72 +207,133 @@ pub fn work<R: Threads + Wait + Sync, S: Source, G: Gate>(
     ensures count { length result.sources.items ≡ length sources.items }
     ensures moved { (k : ℕ) (d : S) → k < length sources.items → HasMoved S.left (slice_index_or sources.items k d) (slice_index_or result.sources.items k d) }
 
-    // Each source was read to its end, and where the bytes of all are visible the answers are those of one
-    // thread. Of every source they are in order of file and line, on known topics.
+    // Each source was read to its end, and where the bytes of all are visible the answers are those of one thread.
     ensures whole { OnOk result.result ((k : ℕ) (d : S) → k < length sources.items
         → IsWhole job.now.size S.faults S.left (slice_index_or sources.items k d) (slice_index_or result.sources.items k d)) }
-    ensures answers { IfOk result.result (λ w. IfSome (all_left S.left sources.items) (λ contents. w.answered.items ≡ answers_to job.now.topics 1 contents)) }
-    ensures in_order { IfOk result.result (λ w. IsInOrder place_of_answer w.answered.items) }
-    ensures known { IfOk result.result (λ w. All (λ a. a.topic ≤ length job.now.topics) w.answered.items) }
+    ensures answers { IfOk result.result (λ w. IfSome (all_left S.left sources.items) (λ contents.
+        IsPermutation (map without_way (members_in w.answered.items)) (answers_to job.now.topics 1 contents))) }
+
+    // The lists answer for the messages that the files gave, and the passes for what was sent and taken: of contents that are visible, and of
+    // every source.
+    ensures told { IfOk result.result (λ w. IfSome (all_left S.left sources.items) (λ contents.
+        HasWorked job.now.topics job.now.order job.now.size job.now.workers (messages_in job.now.topics 1 contents) w)) }
+    ensures worked { IfOk result.result (λ w. (given : List (List TheMessage)) × AreGiven job.now.topics job.now.size S.left 1 sources.items given
+        × HasWorked job.now.topics job.now.order job.now.size job.now.workers given w) }
 
     // A fault is that of its file, and those in front of it were read to their ends.
     ensures cause { IfErr result.result (λ fault. HasCause job.now.size S.faults S.left sources.items result.sources.items fault) }
 {
-    match make_room(alloc, job, sources.len()) {
-        Ok(room) => work_in(rt, alloc, job, sources, gate, room),
-        Err(NoMemory) => WorkEnd {
+    let Ok(room) = make_room(alloc, job, sources.len()) else {
+        return WorkEnd {
             sources,
             result: Err(WorkFault::NoMemory),
-        },
+        };
+    };
+    match make_queue(alloc, job) {
+        Ok((queue, passes)) => work_in(rt, alloc, job, sources, gate, room, queue, passes),
+        Err(NoMemory) => {
+            room.destroy_empty();
+            WorkEnd {
+                sources,
+                result: Err(WorkFault::NoMemory),
+            }
+        }
     }
 }
 
-/// The same, once there is room.
-fn work_in<R: Threads + Wait + Sync, S: Source, G: Gate>(
+/// The same, once there are room and a queue.
+fn work_in<R: Threads + Sync, S: Source, G: Gate>(
     rt: &R,
     alloc: Global,
     job: &Job,
     sources: Vec<S>,
     gate: &G,
     room: Room<S>,
+    queue: Queue<HeapBuffer>,
+    passes: Vec<Pass<HeapBuffer>>,
 ) -> WorkEnd<S>
     requires few { vec_len sources ≤ 64 }
-    requires desks { length room.desks.items ≡ job.now.workers }
-    requires empty { All (λ d. (d.files.items ≡ []) × (vec_len d.files ≡ 0) × (vec_len sources ≤ vec_capacity d.files)) room.desks.items }
+    requires setup { (queue.setup.order ≡ job.now.order) × (queue.setup.rings ≡ length job.now.topics + 2) × (queue.setup.seats ≡ job.now.workers)
+        × (queue.setup.limit ≡ 2 ^ 60) }
+    requires buffers { All (λ b. job.now.size + 16 ≤ length b.bytes.items) queue.given }
+    requires passes { passes.items ≡ first_passes queue queue.setup.seats }
+    requires files { (vec_len room.files ≡ job.now.workers)
+        × All (λ list. (list.items ≡ []) × (vec_len list ≡ 0) × (vec_len sources ≤ vec_capacity list)) room.files.items }
+    requires desks { (room.desks.items ≡ []) × (job.now.workers ≤ vec_capacity room.desks) }
+    requires left { (room.left.passes.items ≡ []) × (room.left.held.items ≡ []) × (room.left.lists.items ≡ []) }
+    requires room { (job.now.workers ≤ vec_capacity room.left.passes) × (job.now.workers ≤ vec_capacity room.left.held)
+        × (job.now.workers ≤ vec_capacity room.left.lists) }
     ensures count { length result.sources.items ≡ length sources.items }
     ensures moved { (k : ℕ) (d : S) → k < length sources.items → HasMoved S.left (slice_index_or sources.items k d) (slice_index_or result.sources.items k d) }
     ensures whole { OnOk result.result ((k : ℕ) (d : S) → k < length sources.items
         → IsWhole job.now.size S.faults S.left (slice_index_or sources.items k d) (slice_index_or result.sources.items k d)) }
-    ensures answers { IfOk result.result (λ w. IfSome (all_left S.left sources.items) (λ contents. w.answered.items ≡ answers_to job.now.topics 1 contents)) }
-    ensures in_order { IfOk result.result (λ w. IsInOrder place_of_answer w.answered.items) }
-    ensures known { IfOk result.result (λ w. All (λ a. a.topic ≤ length job.now.topics) w.answered.items) }
+    ensures answers { IfOk result.result (λ w. IfSome (all_left S.left sources.items) (λ contents.
+        IsPermutation (map without_way (members_in w.answered.items)) (answers_to job.now.topics 1 contents))) }
+    ensures told { IfOk result.result (λ w. IfSome (all_left S.left sources.items) (λ contents.
+        HasWorked job.now.topics job.now.order job.now.size job.now.workers (messages_in job.now.topics 1 contents) w)) }
+    ensures worked { IfOk result.result (λ w. (given : List (List TheMessage)) × AreGiven job.now.topics job.now.size S.left 1 sources.items given
+        × HasWorked job.now.topics job.now.order job.now.size job.now.workers given w) }
     ensures cause { IfErr result.result (λ fault. HasCause job.now.size S.faults S.left sources.items result.sources.items fault) }
 {
     let Room {
-        waiting,
+        files,
         mut desks,
-        mut lists,
+        mut left,
     } = room;
-    let waiting = Mutex::new(waiting);
     let was = Snapshot::of(&sources);
     let count = sources.len();
-    let mut left = sources;
-    deal(alloc, &was, &mut left, desks.as_mut_slice());
-    run_all(rt, alloc, job, &waiting, gate, desks.as_mut_slice());
+    let mut sources = sources;
+    make_desks(alloc, &queue, passes, files, count, &mut desks);
+    deal(&was, &mut sources, desks.as_mut_slice());
+    run_all(rt, alloc, job, &queue, gate, desks.as_mut_slice());
     let mut gathered = Gathered {
-        sources: left,
-        given: Vec::new(alloc),
+        sources,
         fault: None,
         starved: false,
     };
     gather(job, &was, desks.as_mut_slice(), count, &mut gathered);
+    clear(desks, &mut left);
+    let Left {
+        passes,
+        held,
+        lists,
+        starved,
+    } = left;
+    let Closed {
+        buffers: _,
+        left,
+        counts,
+        passes,
+    } = queue.close(passes, held);
     let Gathered {
         sources,
-        given,
         fault,
-        starved,
+        starved: wants,
     } = gathered;
-    let starved = take_lists(desks, &mut lists).is_err() || starved;
-    let result = conclude(alloc, job, given, lists, fault_of_all(starved, fault));
-    WorkEnd { sources, result }
+    let worked = Worked {
+        counts,
+        answered: lists,
+        passes,
+        left: Snapshot::of(&left),
+    };
+    WorkEnd {
+        sources,
+        result: conclude(worked, starved, wants, fault),
+    }
+}
+
+/// What was answered, where no worker wanted memory and no file has a fault.
+fn conclude(
+    worked: Worked,
+    starved: bool,
+    wants: bool,
+    first: Option<(u32, FrameFault)>,
+) -> Result<Worked, WorkFault>
+    ensures ok { IfOk result (λ w. (w ≡ worked) × (starved ≡ false) × (first ≡ None)) }
+    ensures err { IfErr result (λ f. (memory : Bool) × (fault_of_workers memory first ≡ Some f)) }
+{
+    match fault_of_all(starved || wants, first) {
+        Some(fault) => Err(fault),
+        None => Ok(worked),
+    }
 }

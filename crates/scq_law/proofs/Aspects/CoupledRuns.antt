@@ -1,6 +1,6 @@
 -- Each run has a ghost, and its history is tied to its state. Plan: the tie holds at the start, and is kept by each turn
 -- in two parts; what is recorded of the turn is what the two parts make.
-use Rattle.std.proofs.Common.{eqb-true, leb-true, lt-ltb, le-leb, ◌≡◌, ◌≢◌, ℕ, ◌+◌, ◌-◌, ◌<◌, ◌≤◌, ◌⊎◌, inl, inr, true, List, [], ◌∷◌, ◌++◌, length, refl, ap, sym, ◌∙◌, subst, arith, eq-eqb}
+use Rattle.std.proofs.Common.{eqb-true, leb-true, lt-ltb, le-leb, ◌≡◌, ℕ, ◌+◌, ◌-◌, ◌<◌, ◌≤◌, ◌⊎◌, inl, inr, true, List, [], ◌∷◌, ◌++◌, length, refl, ap, sym, ◌∙◌, subst, arith, eq-eqb}
 use Rattle.std.specs.Prelude.{nat_le, nat_lt, ◌&&◌, ◌==◌, Some, None, slice_index_or, All}
 use Rattle.std.proofs.lemmas.Bool.{cases_Bool, cases_eq, and_parts, and_from}
 use Rattle.std.proofs.lemmas.Option.{slice_get-get_or}
@@ -18,11 +18,12 @@ use Rattle.scq_core.proofs.Turns.{Begins, begins_put, begins_get, begins, awake}
 use Rattle.scq_hist.specs.declared.events.Event as history
 use Rattle.scq_hist.specs.declared.events.PutName.{PutName}
 use Rattle.scq_hist.specs.declared.events.PutName.TheVariants.{Opening}
-use Rattle.scq_law.specs.Run.{Recorded, recorded_reply, placer_after, starts, finishes, puts_after, recorded_after, recorded_first, first_placer, nobody, IsRun}
+use Rattle.scq_law.specs.Acts.{ended_in}
+use Rattle.scq_law.specs.Run.{Recorded, placer_after, starts, end_of, finishes, puts_after, recorded_after, recorded_first, first_placer, nobody, IsRun}
 use Rattle.scq_law.specs.Places.{opening_put}
 use Rattle.scq_law.proofs.Base.Ghosts.{Ghost, placed, is_placed, stood, start_ghost}
 use Rattle.scq_core.specs.Stances.{Stance, resting, stance_of}
-use Rattle.scq_law.proofs.Base.TicketEvents.{TicketEvent, calm, drew, fell, laid, finished, entered, refused, began, died, saw_end, lifted, taken, lowered, emptied, overran, stance_by, ended_by, event}
+use Rattle.scq_law.proofs.Base.TicketEvents.{TicketEvent, stance_by, ended_by, event}
 use Rattle.scq_law.proofs.Base.Traces.{Trace, trace_start, trace_step, ghost_after}
 use Rattle.scq_law.proofs.Base.EventFacts.{stance}
 use Rattle.scq_law.proofs.Base.Based.{based}
@@ -34,7 +35,8 @@ use Rattle.scq_law.proofs.Replays.RecordedRuns.{all_along}
 use Rattle.scq_law.proofs.Aspects.CoupledTurns.{opens_call, tied_event}
 use Rattle.scq_law.proofs.Aspects.PlacedPuts.{IsNamed, IsPlaced}
 use Rattle.scq_law.proofs.Aspects.Coupling.{calls_of, IsTied}
-use Rattle.scq_law.proofs.Aspects.EventRecording.{Within, within, puts_none, ends_by, finishes_none, finishes_last, placer_by, placer_turn}
+use Rattle.scq_law.proofs.Aspects.EventRecording.{Within, within, puts_none, ends_by, placer_by, placer_turn}
+use Rattle.scq_law.proofs.Aspects.EndedCalls.{first_of_calls, seen_end, turn_stance}
 
 -- the first part leaves it to the second who places
 placer_then : (c : Setup) (k : ℕ) (p : Part) (turn : Phase) (x : ℕ) (y : List ℕ) (puts : ℕ → ℕ) (placer : ℕ → ℕ → PutName) → (turn ≡ Idle → ⊥)
@@ -50,45 +52,19 @@ placer_then c k p turn x y puts placer awake_turn from =
     first t more (begins_put r i w ring index held) = elim (cases_Bool (nat_le c.limit x)) [ inl past ↦ rw past refl | inr under ↦ rw under refl ]
     first t more (begins_get r ring) = elim (cases_Bool (nat_lt x zero_level)) [ inl less ↦ rw less refl | inr high ↦ rw high refl ]
 
--- and what the seat is doing afterwards
-stance_then : (c : Setup) (p : Part) (turn : Phase) (x : ℕ) (y : List ℕ) → (turn ≡ p.phase) ⊎ ((p.phase ≡ Idle) × (p.spent ≡ None) × Begins c p.hand turn)
-    → stance_by (event c turn x y) (stance_of p.phase) ≡ stance_by (event c turn x y) (stance_of turn)
-stance_then c p turn x y from =
-    elim from [
-      | inl same ↦ rw same refl
-      | inr new ↦ first turn (stance_of p.phase) new.2
-    ]
-  where
-    first : (t : Phase) (z : Stance) → Begins c p.hand t → stance_by (event c t x y) z ≡ stance_by (event c t x y) (stance_of t)
-    first t z (begins_put r i w ring index held) = elim (cases_Bool (nat_le c.limit x)) [ inl past ↦ rw past refl | inr under ↦ rw under refl ]
-    first t z (begins_get r ring) = elim (cases_Bool (nat_lt x zero_level)) [ inl less ↦ rw less refl | inr high ↦ rw high refl ]
-
 -- the End that is recorded is that of the call which the event ends
-module _ (k : ℕ) (placer : ℕ → ℕ → PutName) (q : Part) (old : List Ended) (s : Stance) where
-  ends_none : (e : TicketEvent) → stance_by e s ≢ resting → stance_of q.phase ≡ stance_by e s → finishes k placer q.phase q.calls ≡ []
-  ends_none e busy is = finishes_none k placer q.phase q.calls (λ rests. busy (sym is ∙ rests))
+finishes_end : (k : ℕ) (placer : ℕ → ℕ → PutName) (phase : Phase) (calls : List Ended) → finishes k placer phase calls ≡ end_of k placer (ended_in phase calls)
+finishes_end k placer Idle calls = refl
+finishes_end k placer phase calls = refl
 
-  ends_last : (x : Ended) → stance_of q.phase ≡ resting → q.calls ≡ old ++ x ∷ []
-      → finishes k placer q.phase q.calls ≡ history.TheVariants.End k (recorded_reply placer x) ∷ []
-  ends_last x rests is = rw is (finishes_last k placer q.phase old x rests)
+end_first : (k : ℕ) (placer : ℕ → ℕ → PutName) (calls : List Ended) → end_of k placer (first_of_calls calls) ≡ ends_by k placer calls
+end_first k placer [] = refl
+end_first k placer (x ∷ xs) = refl
 
-  ends_event : (e : TicketEvent) → Within e s → stance_of q.phase ≡ stance_by e s → q.calls ≡ old ++ ended_by e
-      → finishes k placer q.phase q.calls ≡ ends_by k placer (ended_by e)
-  ends_event calm at is calls = ends_none calm at is
-  ends_event (drew r i w t) at is calls = ends_none (drew r i w t) (λ x. cc) is
-  ends_event (fell r i w t found) at is calls = ends_none (fell r i w t found) (λ x. cc) is
-  ends_event (laid r i w t) at is calls = ends_none (laid r i w t) (λ x. cc) is
-  ends_event (finished r i w t) at is calls = ends_last _ is calls
-  ends_event (entered r) at is calls = ends_none (entered r) (λ x. cc) is
-  ends_event (refused r) at is calls = ends_last _ is calls
-  ends_event (began r h) at is calls = ends_none (began r h) (λ x. cc) is
-  ends_event (died r h) at is calls = ends_none (died r h) (λ x. cc) is
-  ends_event (saw_end r h) at is calls = ends_none (saw_end r h) (λ x. cc) is
-  ends_event (lifted r h to) at is calls = ends_none (lifted r h to) (λ x. cc) is
-  ends_event (taken r h i w) at is calls = ends_last _ is calls
-  ends_event (lowered r h) at is calls = ends_none (lowered r h) (λ x. cc) is
-  ends_event (emptied r h) at is calls = ends_last _ is calls
-  ends_event (overran r t is_put) at is calls = ends_last _ is calls
+ends_event : (k : ℕ) (placer : ℕ → ℕ → PutName) (q : Part) (old : List Ended) (s : Stance) (e : TicketEvent) → Within e s → stance_of q.phase ≡ stance_by e s
+    → q.calls ≡ old ++ ended_by e → finishes k placer q.phase q.calls ≡ ends_by k placer (ended_by e)
+ends_event k placer q old s e at is calls =
+    finishes_end k placer q.phase q.calls ∙ ap (end_of k placer) (seen_end q old s e at is calls) ∙ end_first k placer (ended_by e)
 
 -- functions with the same values are the same
 all_stances : (f h : ℕ → Stance) → ((j : ℕ) → f j ≡ h j) → f ≡ h
@@ -134,7 +110,7 @@ tied_turn c opening full recorded time g k step turn low enabled trace tied =
     let placer2 = placer_after k turn x recorded.puts recorded.placer in
     let same_placer : placer2 ≡ placer1 = placer_turn c k turn x y recorded.puts recorded.placer
     ∙ sym (placer_then c k p turn x y recorded.puts recorded.placer awake_turn from) in
-    let after : stance n k ≡ stance_by e s = sc.event_facts.stance ∙ stance_then c p turn x y from in
+    let after : stance n k ≡ stance_by e s = sc.event_facts.stance ∙ turn_stance c p step turn x y enabled in
     let ends : finishes k placer2 (n.part k).phase (n.part k).calls ≡ ends_by k placer2 (ended_by e) =
     ends_event k placer2 (n.part k) p.calls s e at after sc.event_facts.calls in
     let now = updated (stance m) k s in

@@ -1,5 +1,5 @@
 -- What is recorded of a turn, by its event: which call the seat is in, what is recorded of its end, who placed.
-use Rattle.std.proofs.Common.{◌≡◌, ◌≢◌, ℕ, ◌+◌, ◌-◌, true, false, ◌&&◌, List, [], ◌∷◌, ◌++◌, length, refl, ◌⊎◌, inl, inr, arith}
+use Rattle.std.proofs.Common.{◌≡◌, ◌≢◌, ℕ, ◌+◌, true, false, ◌&&◌, List, [], ◌∷◌, refl, ◌⊎◌, inl, inr}
 use Rattle.std.specs.Prelude.{◌==◌, nat_lt, nat_le}
 use Rattle.std.proofs.lemmas.Bool.{cases_Bool}
 use Rattle.scq_word.specs.declared.setup.Setup.{Setup}
@@ -13,10 +13,9 @@ use Rattle.scq_hist.specs.declared.events.Event as history
 use Rattle.scq_hist.specs.declared.events.Event.TheVariants.{End}
 use Rattle.scq_hist.specs.declared.events.PutName.{PutName}
 use Rattle.scq_hist.specs.declared.events.PutName.TheVariants.{Of}
-use Rattle.scq_law.specs.Run.{recorded_reply, starts, finishes, puts_after, placer_after}
+use Rattle.scq_law.specs.Run.{recorded_reply, starts, puts_after, placer_after}
 use Rattle.scq_core.specs.Stances.{Stance, resting, drawing, putting, landed, asking, seeking, trying, gave_up, stance_of}
 use Rattle.scq_law.proofs.Base.TicketEvents.{TicketEvent, calm, drew, fell, laid, finished, entered, refused, began, died, saw_end, lifted, taken, lowered, emptied, overran, event}
-use Rattle.scq_law.proofs.Aspects.GrowingHistory.{length_grown, new_at}
 
 -- what a seat is in the middle of at its turn, by the turn's event
 abbrev pub Within : TicketEvent → Stance → Type 0
@@ -87,19 +86,6 @@ puts_none seat phase puts awake = refl
 abbrev pub ends_by : ℕ → (ℕ → ℕ → PutName) → List Ended → List history.Event
 ends_by seat placer [] = []
 ends_by seat placer (x ∷ xs) = End seat (recorded_reply placer x) ∷ []
-
-pub finishes_none : (seat : ℕ) (placer : ℕ → ℕ → PutName) (phase : Phase) (calls : List Ended) → stance_of phase ≢ resting
-    → finishes seat placer phase calls ≡ []
-finishes_none seat placer Idle calls busy = absurd (busy refl)
-finishes_none seat placer phase calls busy = refl
-
-pub finishes_last : (seat : ℕ) (placer : ℕ → ℕ → PutName) (phase : Phase) (calls : List Ended) (x : Ended) → stance_of phase ≡ resting
-    → finishes seat placer phase (calls ++ x ∷ []) ≡ End seat (recorded_reply placer x) ∷ []
-finishes_last seat placer Idle calls x rests =
-    let long = length_grown calls x in
-    let last : length (calls ++ x ∷ []) - 1 ≡ length calls = omega arith in
-    rw (last, new_at calls x) refl
-finishes_last seat placer phase calls x rests = absurd (cc)
 
 -- who placed, after an event
 abbrev pub placer_by : TicketEvent → ℕ → (ℕ → ℕ) → (ℕ → ℕ → PutName) → ℕ → ℕ → PutName

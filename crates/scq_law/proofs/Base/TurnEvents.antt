@@ -261,7 +261,7 @@ first_forgets c (AtD1 r) x y s z first =
 first_forgets c turn x y s z first = absurd (cc)
 
 -- the stance afterwards, recorded from the seat's own before
-own_stance : (c : Setup) (p : Part) (turn : Phase) (x : ℕ) (y : List ℕ) → From p turn
+pub own_stance : (c : Setup) (p : Part) (turn : Phase) (x : ℕ) (y : List ℕ) → From p turn
     → stance_by (event c turn x y) (stance_of turn) ≡ stance_by (event c turn x y) (stance_of p.phase)
 own_stance c p turn x y from =
     elim from [

@@ -1,7 +1,6 @@
 use Rattle.std.proofs.Common.{◌≡◌, ℕ, List, length, refl, ◌∙◌, ap}
 use Rattle.std.specs.Prelude.{Err}
 use Rattle.scq_band.specs.declared.heap.Heap.{Heap}
-use Rattle.scq_band.specs.declared.calls.DeqRefusal.TheVariants.{Empty, Spent}
 use Rattle.scq_band.specs.Standing.{Standing, in_hand, bytes_in_hand, after_spent_put, after_spent_get}
 use Rattle.scq_band.proofs.Starting.{in_hand-come}
 use Rattle.scq_band.proofs.NoneLent.{lent_after_get, lent_after_nothing, lent_after_put, lent_after_spent}

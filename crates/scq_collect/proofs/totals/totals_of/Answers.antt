@@ -1,8 +1,7 @@
 use Rattle.std.proofs.Common.{◌∙◌, ◌≤◌, ◌<◌, ap, sym, subst, arith, ◌+◌, take, cond, eqb}
 use Rattle.std.proofs.lemmas.List.{length-set}
 use Rattle.scq_collect.specs.declared.answered.Answered.{Answered}
-use Rattle.scq_collect.specs.Output.{count_on, bytes_on}
-use Rattle.scq_collect.proofs.Sums.{count-more, bytes-more, bytes-small, added}
+use Rattle.scq_collect.proofs.Sums.{bytes_in, count_in, count-more, bytes-more, bytes-small, added}
 use Rattle.scq_collect.proofs.totals.totals_of.Goals as goal
 
 pub overflow_add-bytes : goal.overflow_add-bytes
@@ -23,9 +22,9 @@ loop-member-preserved c =
     record {
       count_len = length-set c.loop-member.counts a.topic _ ∙ known.count_len;
       bytes_len = length-set c.loop-member.bytes a.topic _ ∙ known.bytes_len;
-      counts = added c.loop-member.counts (λ k. count_on k (take i answers)) (λ k. count_on k (take (i + 1) answers)) a.topic 1 known.count_len short known.counts
+      counts = added c.loop-member.counts (λ k. count_in k (take i answers)) (λ k. count_in k (take (i + 1) answers)) a.topic 1 known.count_len short known.counts
           (λ k. count-more answers i k a within c.member-item.is);
-      bytes = added c.loop-member.bytes (λ k. bytes_on k (take i answers)) (λ k. bytes_on k (take (i + 1) answers)) a.topic c.wide.result known.bytes_len short known.bytes
-          (λ k. bytes-more answers i k a within c.member-item.is ∙ ap (λ n. bytes_on k (take i answers) + cond (eqb a.topic k) n 0) (sym c.wide.ensures.same));
+      bytes = added c.loop-member.bytes (λ k. bytes_in k (take i answers)) (λ k. bytes_in k (take (i + 1) answers)) a.topic c.wide.result known.bytes_len short known.bytes
+          (λ k. bytes-more answers i k a within c.member-item.is ∙ ap (λ n. bytes_in k (take i answers) + cond (eqb a.topic k) n 0) (sym c.wide.ensures.same));
       small = λ k. bytes-small answers i k a within c.member-item.is few (known.small k);
     }

@@ -1,4 +1,4 @@
-use Rattle.std.proofs.Common.{◌≡◌, ℕ, List, ◌∷◌, [], ◌++◌, refl, sym, ◌∙◌, ap, subst}
+use Rattle.std.proofs.Common.{List, sym, ap, subst}
 use Rattle.std.specs.Prelude.{Err}
 use Rattle.scq_queue.specs.declared.calls.LendRefusal.{LendRefusal}
 use Rattle.scq_queue.specs.Passes.{HeldStanding}

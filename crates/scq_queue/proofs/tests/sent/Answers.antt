@@ -1,4 +1,4 @@
-use Rattle.std.proofs.Common.{◌≡◌, ℕ, suc, List, ◌∷◌, [], ◌++◌, refl, sym, ◌∙◌, ap, subst}
+use Rattle.std.proofs.Common.{suc, List, ◌∷◌, [], ◌++◌, sym, ◌∙◌, ap, subst}
 use Rattle.scq_queue.specs.Passes.{HeldStanding}
 use Rattle.scq_queue.specs.Trials.{HoldsJust}
 use Rattle.scq_queue.proofs.HeldOnce.{last_held, holds_less, holds_same, put_refused}

@@ -1,4 +1,4 @@
-use Rattle.std.proofs.Common.{◌≡◌, ℕ, suc, List, ◌∷◌, [], ◌++◌, refl, sym, ◌∙◌, ap, subst}
+use Rattle.std.proofs.Common.{suc, List, sym, ap, subst}
 use Rattle.std.specs.Prelude.{Err}
 use Rattle.scq_queue.specs.declared.calls.TakeRefusal.{TakeRefusal}
 use Rattle.scq_queue.specs.Passes.{HeldStanding}

@@ -1,4 +1,4 @@
-use Rattle.std.proofs.Common.{◌≡◌, List, refl, sym, subst}
+use Rattle.std.proofs.Common.{List, refl, sym, subst}
 use Rattle.scq_queue.specs.Passes.{HeldStanding}
 use Rattle.scq_queue.specs.Trials.{HoldsJust}
 use Rattle.scq_queue.proofs.HeldOnce.{holds_written}

@@ -1,9 +1,9 @@
-use Rattle.std.proofs.Common.{◌≡◌, ℕ, List, refl, sym, ◌∙◌, ap, subst, inl, inr}
-use Rattle.std.specs.Prelude.{Option, Some, None, Err}
+use Rattle.std.proofs.Common.{◌≡◌, ◌∙◌, ap, inl, inr}
+use Rattle.std.specs.Prelude.{Some, None, Err}
 use Rattle.scq_band.specs.declared.calls.Spent.{Spent}
 use Rattle.scq_band.specs.Standing.{Standing, in_hand}
-use Rattle.scq_queue.specs.Passes.{HeldStanding, after_put, after_spent_put}
-use Rattle.scq_queue.specs.Kept.{AreLifted, held_of, pass_over}
+use Rattle.scq_queue.specs.Passes.{HeldStanding, after_put}
+use Rattle.scq_queue.specs.Kept.{held_of, pass_over}
 use Rattle.scq_queue.proofs.HeldValues.{value_at, value_laid, value_put, value_spent, value_kept, stays_lifted, cases_spent}
 use Rattle.scq_queue.proofs.values.put.Goals as goal
 

@@ -1,4 +1,4 @@
-use Rattle.std.proofs.Common.{◌≡◌, ℕ, List, ◌++◌, append_assoc, sym, ◌∙◌, ap, refl}
+use Rattle.std.proofs.Common.{◌≡◌, ℕ, List, ◌++◌, append_assoc, ◌∙◌, ap, refl}
 use Rattle.scq_replay.specs.Printed.{reply_words}
 use Rattle.scq_replay.proofs.printing.add_step.Goals as goal
 

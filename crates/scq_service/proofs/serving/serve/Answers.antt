@@ -11,7 +11,7 @@ pub returns-clause-complete : goal.returns-clause-complete
 returns-clause-complete g c = λ a is calm.
     let faults = g.F.Src.Source.faults in
     let left = g.F.Src.Source.left in
-    let outcome = c.run-outcome.result in
+    let outcome = c.run-outcome.result.outcome in
     let r : Left _ = record {
       table = record { old = g.F.Files.table c.args.files.now; new = g.F.Files.table c.run-outcome.new.files };
       opens = record { old = g.F.Files.faults c.args.files.now; new = g.F.Files.faults c.run-outcome.new.files };
@@ -29,7 +29,7 @@ pub returns-clause-complete_self : goal.returns-clause-complete_self
 returns-clause-complete_self g c = λ a is calm.
     let faults = g.F.Src.Source.faults in
     let left = g.F.Src.Source.left in
-    let outcome = c.run-outcome.result in
+    let outcome = c.run-outcome.result.outcome in
     let r : Left _ = record {
       table = record { old = g.F.Files.table c.args.files.now; new = g.F.Files.table c.run-outcome.new.files };
       opens = record { old = g.F.Files.faults c.args.files.now; new = g.F.Files.faults c.run-outcome.new.files };
@@ -47,7 +47,7 @@ pub returns-clause-complete_text : goal.returns-clause-complete_text
 returns-clause-complete_text g c = λ a is calm.
     let faults = g.F.Src.Source.faults in
     let left = g.F.Src.Source.left in
-    let outcome = c.run-outcome.result in
+    let outcome = c.run-outcome.result.outcome in
     let r : Left _ = record {
       table = record { old = g.F.Files.table c.args.files.now; new = g.F.Files.table c.run-outcome.new.files };
       opens = record { old = g.F.Files.faults c.args.files.now; new = g.F.Files.faults c.run-outcome.new.files };

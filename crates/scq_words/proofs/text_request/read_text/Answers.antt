@@ -2,10 +2,10 @@ use Rattle.std.proofs.Common.{◌≡◌, ◌∙◌, refl, ℕ, List, length, eqb
 use Rattle.std.specs.Prelude.{string_bytes}
 use Rattle.clap.specs.Words.{found_of, matches_of}
 use Rattle.scq_words.specs.Commands.{text_app}
-use Rattle.scq_words.specs.Asked.{whole, text_file}
+use Rattle.scq_words.specs.Asked.{whole, text_command, text_file, with_flag}
 use Rattle.scq_words.specs.declared.fault.WordsError.TheVariants.{Refused}
 use Rattle.scq_words.specs.declared.fault.WordsFault.TheVariants.{NotUnderstood, NoName}
-use Rattle.scq_words.proofs.Answering.{file-text, text-answer, text_or_empty, name-missing, name-there, answer-ok, answer-err, asked-refused-text, handed-on, refused-same, refused-some}
+use Rattle.scq_words.proofs.Answering.{file-text, flag-text, text-answer, text_or_empty, name-missing, name-there, answer-ok, answer-err, asked-refused-text, handed-on, refused-same, refused-some}
 use Rattle.scq_words.proofs.text_request.read_text.Goals as goal
 
 pub returns-in_err-matches-clause-refused : goal.returns-in_err-matches-clause-refused
@@ -19,20 +19,26 @@ returns-in_err-matches-clause-refused c = λ fault is.
 pub returns-then-is_empty-clause-refused : goal.returns-then-is_empty-clause-refused
 returns-then-is_empty-clause-refused c = λ fault is.
     let words = map string_bytes c.args.words.now in
-    let file = file-text (found_of c.in_ok-matches.matches) (matches_of (text_app c.args.command) words) _ c.in_ok-matches.ensures.rows c.get_str.ensures in
+    let rows = matches_of (text_app c.args.command) words in
+    let file = file-text (found_of c.in_ok-matches.matches) rows _ c.in_ok-matches.ensures.rows c.get_str.ensures in
     let name = c.unwrap_or-name.result.now in
-    let is_name : name ≡ text_file (matches_of (text_app c.args.command) words) = ap (λ r. r.now) c.unwrap_or-name.ensures ∙ text_or_empty c.get_str.result _ (λ r. r.now) refl ∙ file in
+    let is_name : name ≡ text_file rows = ap (λ r. r.now) c.unwrap_or-name.ensures ∙ text_or_empty c.get_str.result _ (λ r. r.now) refl ∙ file in
     let empty : eqb (length name) 0 ≡ true = sym c.is_empty.ensures ∙ c.if-is_empty.true in
     let one : NoName 1 ≡ fault = cc in
-    text-answer c.args.command words name (Err fault) c.in_ok-matches.ensures.passes is_name
+    text-answer c.args.command _ words name (Err fault) c.in_ok-matches.ensures.passes is_name refl
     (answer-err _ _ fault (name-missing name empty ∙ ap Some one))
 
 pub returns-clause-request : goal.returns-clause-request
 returns-clause-request c =
     let words = map string_bytes c.args.words.now in
-    let file = file-text (found_of c.in_ok-matches.matches) (matches_of (text_app c.args.command) words) _ c.in_ok-matches.ensures.rows c.get_str.ensures in
+    let rows = matches_of (text_app c.args.command) words in
+    let file = file-text (found_of c.in_ok-matches.matches) rows _ c.in_ok-matches.ensures.rows c.get_str.ensures in
     let name = c.unwrap_or-name.result.now in
-    let is_name : name ≡ text_file (matches_of (text_app c.args.command) words) = ap (λ r. r.now) c.unwrap_or-name.ensures ∙ text_or_empty c.get_str.result _ (λ r. r.now) refl ∙ file in
+    let is_name : name ≡ text_file rows = ap (λ r. r.now) c.unwrap_or-name.ensures ∙ text_or_empty c.get_str.result _ (λ r. r.now) refl ∙ file in
     let there : eqb (length name) 0 ≡ false = sym c.is_empty.ensures ∙ c.if-is_empty.false in
-    text-answer c.args.command words name _ c.in_ok-matches.ensures.passes is_name
-    (answer-ok _ _ _ (name-there name there) (ap (λ (file : List ℕ). whole (record { command = c.args.command; file = file })) (sym c.in_ok-file.ensures.ok)))
+    let asks : c.with_flag-command.result ≡ text_command c.args.command rows =
+    c.with_flag-command.ensures ∙ ap (with_flag c.args.command) c.is_given.ensures
+    ∙ flag-text c.args.command (found_of c.in_ok-matches.matches) rows _ c.in_ok-matches.ensures.rows c.get_str-2.ensures in
+    text-answer c.args.command c.with_flag-command.result words name _ c.in_ok-matches.ensures.passes is_name asks
+    (answer-ok _ _ _ (name-there name there)
+    (ap (λ (file : List ℕ). whole (record { command = c.with_flag-command.result; file = file })) (sym c.in_ok-file.ensures.ok)))

@@ -4,16 +4,18 @@ use Rattle.std.specs.List.{All}
 use Rattle.std.proofs.lemmas.List.{length-set, get_or_default}
 use Rattle.std.proofs.lemmas.List.Elements.{All-push}
 use Rattle.scq_work.specs.Files.{files_of}
-use Rattle.scq_work.specs.Desks.{AreDealt, IsNew, ids_of}
+use Rattle.scq_work.specs.Dealings.{AreDealt, without_files}
+use Rattle.scq_work.specs.Desks.{IsNew, ids_of}
 use Rattle.scq_work.specs.declared.desk.Desk.{Desk}
 use Rattle.scq_work.specs.declared.own_file.OwnFile.{OwnFile}
-use Rattle.scq_work.proofs.Lists.{set-each}
-use Rattle.scq_work.proofs.DeskLemmas.{laid, other-first, taken-apart}
+use Rattle.scq_work.proofs.Lists.{set-each, set-unseen}
+use Rattle.scq_work.proofs.DeskLemmas.{same-without, laid, other-first, taken-apart}
 use Rattle.scq_work.proofs.dealing.deal.Goals as goal
 
 pub sources-preserved : goal.sources-preserved
 sources-preserved g c =
     let S = g.row.S.Denot in
+    let B = g.row.B.Denot in
     let inv = c.sources.invariant in
     let src = c.args.sources.now.items in
     let desks = c.sources.desks in
@@ -32,14 +34,14 @@ sources-preserved g c =
     let new = c.lay.new.self in
     let changed = set desks j new in
     let long = length-set desks j new in
-    let old : (d : Desk S) → get_or desks j desk ≡ get_or desks j d = λ d. get_or_default desks j desk d within in
+    let old : (d : Desk B S) → get_or desks j desk ≡ get_or desks j d = λ d. get_or_default desks j desk d within in
     let dealt_old : AreDealt (at + 1 + 1) (drop (at + 1) src) desks = subst (λ k. AreDealt (k + 1) (drop k src) desks) (sym next) inv.dealt in
     let mine : j ≡ at % workers = ap (λ m. at % m) (sym inv.long) in
     let dealt_here : ids_of new.files.items ≡ reverse (files_of workers j (at + 1) (x ∷ drop (at + 1) src)) =
     ap ids_of c.lay.ensures.files
     ∙ laid workers j at (get_or desks j desk).files.items c.new-file.result x (drop (at + 1) src) (sym mine) (c.new-file.ensures.number ∙ ap (λ m. m + 1) refl) c.new-file.ensures.was (dealt_old j desk within) in
-    let dealt : (w : ℕ) (d : Desk S) → w < length changed → ids_of (slice_index_or changed w d).files.items ≡ reverse (files_of workers w (at + 1) (x ∷ drop (at + 1) src)) =
-    λ w d less. set-each (λ v (e : Desk S). ids_of e.files.items ≡ reverse (files_of workers v (at + 1) (x ∷ drop (at + 1) src))) desks j new d within dealt_here
+    let dealt : (w : ℕ) (d : Desk B S) → w < length changed → ids_of (slice_index_or changed w d).files.items ≡ reverse (files_of workers w (at + 1) (x ∷ drop (at + 1) src)) =
+    λ w d less. set-each (λ v (e : Desk B S). ids_of e.files.items ≡ reverse (files_of workers v (at + 1) (x ∷ drop (at + 1) src))) desks j new d within dealt_here
     (λ v below apart. dealt_old v d below ∙ ap reverse (sym (other-first workers v at x (drop (at + 1) src) (λ e. apart (sym e ∙ sym mine))))) w (omega (arith, less, long)) in
     record {
       long = long ∙ inv.long;
@@ -49,12 +51,13 @@ sources-preserved g c =
       dealt = subst (λ k. AreDealt (k + 1) (drop k src) changed) is_at
           (λ w d less. subst (λ rest. ids_of (slice_index_or changed w d).files.items ≡ reverse (files_of (length changed) w (at + 1) rest)) (sym parts.1)
           (subst (λ m. ids_of (slice_index_or changed w d).files.items ≡ reverse (files_of m w (at + 1) (x ∷ drop (at + 1) src))) (sym long) (dealt w d less)));
-      unread = λ w d less. set-each (λ v (e : Desk S). All IsNew e.files.items) desks j new d within
+      unread = λ w d less. set-each (λ v (e : Desk B S). All IsNew e.files.items) desks j new d within
           (subst (λ (fs : List (OwnFile S)). All IsNew fs) (sym c.lay.ensures.files)
           (All-push IsNew (get_or desks j desk).files.items c.new-file.result (inv.unread j desk within)
           (record { source = c.new-file.ensures.source ∙ sym c.new-file.ensures.was; given = c.new-file.ensures.given; end = c.new-file.ensures.end })))
           (λ v below apart. inv.unread v d below) w (omega (arith, less, long));
-      room = λ w d less. set-each (λ v (e : Desk S). vec_len e.files + vec_len left ≤ vec_capacity e.files) desks j new d within
+      same = set-unseen without_files desks j new desk within (same-without new (get_or desks j desk) c.lay.ensures.same) ∙ inv.same;
+      room = λ w d less. set-each (λ v (e : Desk B S). vec_len e.files + vec_len left ≤ vec_capacity e.files) desks j new d within
           (omega (arith, c.lay.ensures.len, c.lay.ensures.capacity, inv.room j desk within, is_at, next))
           (λ v below apart. omega (arith, inv.room v d below, is_at, next)) w (omega (arith, less, long));
     }

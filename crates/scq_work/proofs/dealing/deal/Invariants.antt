@@ -1,7 +1,8 @@
-use Rattle.std.proofs.Common.{◌≡◌, ◌+◌, ◌≤◌, length, take, drop}
+use Rattle.std.proofs.Common.{◌≡◌, ◌+◌, ◌≤◌, length, map, take, drop}
 use Rattle.std.specs.Prelude.{vec_len, vec_capacity}
 use Rattle.std.specs.List.{All}
-use Rattle.scq_work.specs.Desks.{AreDealt, IsNew}
+use Rattle.scq_work.specs.Dealings.{AreDealt, without_files}
+use Rattle.scq_work.specs.Desks.{IsNew}
 use Rattle.scq_work.proofs.dealing.deal.Given as goal
 
 -- the files behind those that are left are dealt
@@ -13,6 +14,7 @@ invariant-sources g l = record {
   capacity : vec_capacity l.sources ≡ vec_capacity l.fn.sources;
   dealt : AreDealt (vec_len l.sources + 1) (drop (vec_len l.sources) l.fn.sources.items) l.desks;
   unread : All (λ d. All IsNew d.files.items) l.desks;
+  same : map without_files l.desks ≡ map without_files l.fn.desks;
   room : All (λ d. vec_len d.files + vec_len l.sources ≤ vec_capacity d.files) l.desks;
 }
 

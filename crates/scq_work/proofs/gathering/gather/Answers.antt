@@ -1,14 +1,17 @@
 use Rattle.std.proofs.Common.{◌≡◌, ◌∙◌, sym, ap, subst, refl, arith, ℕ, ◌+◌, ◌%◌, ◌<◌, List, [], ◌∷◌, length, drop, reverse, get_or, set}
 use Rattle.std.specs.Prelude.{slice_index_or}
 use Rattle.std.specs.List.{All}
-use Rattle.std.proofs.lemmas.List.{length-set, length-drop, get_or_default, map-append}
+use Rattle.std.proofs.lemmas.List.{drop_all, length-set, length-drop, get_or_default, map-append}
 use Rattle.scq_work.specs.Files.{files_of}
+use Rattle.scq_work.specs.Dealings.{AreDealt, without_files}
 use Rattle.scq_work.specs.Desks.{ids_of}
+use Rattle.scq_work.specs.Given.{given_in}
 use Rattle.scq_work.specs.Reading.{IsRead}
 use Rattle.scq_work.specs.declared.desk.Desk.{Desk}
 use Rattle.scq_work.specs.declared.own_file.OwnFile.{OwnFile}
-use Rattle.scq_work.proofs.Lists.{all-front, all-last, set-each}
-use Rattle.scq_work.proofs.DeskLemmas.{desk-empty, drop-at, other-first, own-first}
+use Rattle.scq_work.proofs.Cleared.{whole-more, none-left}
+use Rattle.scq_work.proofs.Lists.{all-front, all-last, set-each, set-unseen}
+use Rattle.scq_work.proofs.DeskLemmas.{same-without, desk-empty, drop-at, other-first, own-first}
 use Rattle.scq_work.proofs.SoFar.{snoc-parts, so-far-more}
 use Rattle.scq_work.proofs.gathering.gather.Goals as goal
 use Rattle.scq_work.proofs.gathering.gather.Goals.{in-Some, in_default}
@@ -16,6 +19,7 @@ use Rattle.scq_work.proofs.gathering.gather.Goals.{in-Some, in_default}
 pub files-preserved : goal.files-preserved
 files-preserved g c =
     let S = g.row.S.Denot in
+    let B = g.row.B.Denot in
     let inv = c.files.invariant in
     let faults = g.S.Source.faults in
     let left = g.S.Source.left in
@@ -34,38 +38,51 @@ files-preserved g c =
     let changed = set desks j new in
     let long = length-set desks j new in
     let mine : j ≡ at % workers = ap (λ m. at % m) (sym inv.long) in
-    let IsOf : S → List (Desk S) → Type 0 = λ x ds. (w : ℕ) (d : Desk S) → w < length ds → ids_of (slice_index_or ds w d).files.items ≡ reverse (files_of (length ds) w (at + 1) (x ∷ drop (at + 1) was)) in
+    let IsOf : S → List (Desk B S) → Type 0 = λ x ds. (w : ℕ) (d : Desk B S) → w < length ds → ids_of (slice_index_or ds w d).files.items ≡ reverse (files_of (length ds) w (at + 1) (x ∷ drop (at + 1) was)) in
     let first : (x : S) → slice_index_or was at x ≡ slice_index_or was at x = λ x. refl in
     elim c.match-lift.branch [
       | in-Some w ↦
           let file = w.in-Some.file in
           let x = get_or was at file.was.value in
           let split = drop-at was at file.was.value inside in
-          let dealt : (v : ℕ) (d : Desk S) → v < length desks → ids_of (slice_index_or desks v d).files.items ≡ reverse (files_of workers v (at + 1) (x ∷ drop (at + 1) was)) =
-          subst (λ rest. (v : ℕ) (d : Desk S) → v < length desks → ids_of (slice_index_or desks v d).files.items ≡ reverse (files_of workers v (at + 1) rest)) split inv.dealt in
+          let dealt : (v : ℕ) (d : Desk B S) → v < length desks → ids_of (slice_index_or desks v d).files.items ≡ reverse (files_of workers v (at + 1) (x ∷ drop (at + 1) was)) =
+          subst (λ rest. (v : ℕ) (d : Desk B S) → v < length desks → ids_of (slice_index_or desks v d).files.items ≡ reverse (files_of workers v (at + 1) rest)) split inv.dealt in
           let there = dealt j desk within in
           let is = w.in-Some.ensures.some in
           let ends = sym (map-append (λ (f : OwnFile S). (f.number, f.was.value)) new.files.items (file ∷ [])) ∙ ap ids_of (sym is) ∙ there ∙ own-first workers j at x (drop (at + 1) was) (sym mine) in
           let parts = snoc-parts (ids_of new.files.items) (reverse (files_of workers j (at + 1 + 1) (drop (at + 1) was))) (file.number, file.was.value) (at + 1, x) ends in
           let number : file.number ≡ at + 1 = ap (λ (p : ℕ × S). p.0) parts.1 in
           let source : file.was.value ≡ x = ap (λ (p : ℕ × S). p.1) parts.1 in
-          let read_all = subst (λ (fs : List (OwnFile S)). All (λ f. IsRead topics size faults left f.number f.was.value f.source f.given.items f.end) fs) is (inv.read j desk within) in
-          let IsReadOf : OwnFile S → Type 0 = λ f. IsRead topics size faults left f.number f.was.value f.source f.given.items f.end in
+          let read_all = subst (λ (fs : List (OwnFile S)). All (λ f. IsRead topics size faults left f.number f.was.value f.source (given_in f.given.value) f.end) fs) is (inv.read j desk within) in
+          let IsReadOf : OwnFile S → Type 0 = λ f. IsRead topics size faults left f.number f.was.value f.source (given_in f.given.value) f.end in
           let fed = w.take_in.ensures in
           rw w.gathered-is (record {
             long = long ∙ inv.long;
             dealt = λ v d less. subst (λ m. ids_of (slice_index_or changed v d).files.items ≡ reverse (files_of m v (at + 1 + 1) (drop (at + 1) was))) (sym long)
-                (set-each (λ u (e : Desk S). ids_of e.files.items ≡ reverse (files_of workers u (at + 1 + 1) (drop (at + 1) was))) desks j new d within parts.0
+                (set-each (λ u (e : Desk B S). ids_of e.files.items ≡ reverse (files_of workers u (at + 1 + 1) (drop (at + 1) was))) desks j new d within parts.0
                 (λ u below apart. dealt u d below ∙ ap reverse (other-first workers u at x (drop (at + 1) was) (λ e. apart (sym e ∙ sym mine)))) v (omega (arith, less, long)));
-            read = λ v d less. set-each (λ u (e : Desk S). All IsReadOf e.files.items) desks j new d within (all-front IsReadOf new.files.items file read_all)
+            read = λ v d less. set-each (λ u (e : Desk B S). All IsReadOf e.files.items) desks j new d within (all-front IsReadOf new.files.items file read_all)
                 (λ u below apart. inv.read u d below) v (omega (arith, less, long));
             count = omega (arith, inv.count, fed.len);
             capacity = fed.capacity ∙ inv.capacity;
-            so_far = rw (fed.sources, fed.fault) (so-far-more topics size faults left was at c.files.gathered.sources.items c.files.gathered.fault c.files.gathered.starved w.take_in.new.self.starved
-                c.files.gathered.given.items w.take_in.new.self.given.items file.given.items file.was.value file.source file.number file.end inv.so_far inside number
-                (λ d. get_or_default was at d file.was.value inside ∙ sym source) (all-last IsReadOf new.files.items file read_all) fed.given);
+            so_far = rw (fed.sources, fed.fault) (so-far-more size faults left was at c.files.gathered.sources.items c.files.gathered.fault
+                file.was.value file.source file.number file.end inv.so_far inside number
+                (λ d. get_or_default was at d file.was.value inside ∙ sym source) (all-last IsReadOf new.files.items file read_all).ends);
+            whole = λ none each. whole-more desks j new desk file c.files.gathered.fault within is (sym fed.fault ∙ none) inv.whole each;
+            same = set-unseen without_files desks j new desk within (same-without new (get_or desks j desk) c.lift.ensures.same) ∙ inv.same;
           })
       | in_default w ↦
           let none = w.in_default.ensures.none in
           absurd (desk-empty workers j at (drop at was) (omega (arith, inside, length-drop at was)) (sym mine) (sym (ap ids_of none) ∙ inv.dealt j desk within))
     ]
+
+pub returns-clause-whole : goal.returns-clause-whole
+returns-clause-whole g c none =
+    let S = g.row.S.Denot in
+    let inv = c.files.invariant in
+    let was = c.args.was.now.value.items in
+    let past : drop c.files.at was ≡ [] = drop_all c.files.at was (omega (arith, c.files-test.false, c.requires.count.0, c.args.was.now.value.ok.0)) in
+    inv.whole none (none-left (c.files.at + 1) c.files.desks (subst (λ (rest : List S). AreDealt (c.files.at + 1) rest c.files.desks) past inv.dealt))
+
+pub returns-clause-cause : goal.returns-clause-cause
+returns-clause-cause g c file fault is other = (c.files.invariant.so_far.cause file fault is other).1

@@ -1,9 +1,11 @@
-use Rattle.std.proofs.Common.{◌≡◌, ◌+◌, length, drop}
+use Rattle.std.proofs.Common.{◌≡◌, ◌+◌, None, length, map, drop}
 use Rattle.std.specs.Prelude.{vec_len, vec_capacity}
 use Rattle.std.specs.List.{All}
-use Rattle.scq_work.specs.Desks.{AreDealt}
+use Rattle.scq_work.specs.Dealings.{AreDealt, without_files}
+use Rattle.scq_work.specs.Given.{given_in}
 use Rattle.scq_work.specs.Reading.{IsRead}
 use Rattle.scq_work.proofs.SoFar.{SoFar}
+use Rattle.scq_work.proofs.Cleared.{AllWhole}
 use Rattle.scq_work.proofs.gathering.gather.Given as goal
 
 -- the first files are gathered, and the desks have the others
@@ -14,8 +16,10 @@ invariant-files g l =
     record {
       long : length l.desks ≡ length l.fn.desks;
       dealt : AreDealt (l.at + 1) (drop l.at l.was.value.items) l.desks;
-      read : All (λ d. All (λ f. IsRead l.job.topics l.job.size faults left f.number f.was.value f.source f.given.items f.end) d.files.items) l.desks;
+      read : All (λ d. All (λ f. IsRead l.job.topics l.job.size faults left f.number f.was.value f.source (given_in f.given.value) f.end) d.files.items) l.desks;
       count : vec_len l.gathered.sources ≡ l.at;
       capacity : vec_capacity l.gathered.sources ≡ vec_capacity l.fn.gathered.sources;
-      so_far : SoFar l.job.topics l.job.size faults left l.was.value.items l.at l.gathered.sources.items l.gathered.fault l.gathered.starved l.gathered.given.items;
+      so_far : SoFar l.job.size faults left l.was.value.items l.at l.gathered.sources.items l.gathered.fault;
+      whole : l.gathered.fault ≡ None → AllWhole l.desks → AllWhole l.fn.desks;
+      same : map without_files l.desks ≡ map without_files l.fn.desks;
     }

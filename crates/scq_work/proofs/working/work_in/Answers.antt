@@ -1,105 +1,231 @@
-use Rattle.std.proofs.Common.{◌≡◌, ◌∙◌, inl, inr, sym, ap, subst, arith, false, ◌≤◌, List, length, map, None}
-use Rattle.std.specs.Prelude.{slice_index_or, IfSome}
+-- The work of all workers, once there are room and a queue. A slice of the desks is lent three times, and written back whole each time.
+use Rattle.std.proofs.Common.{◌≡◌, ◌∙◌, refl, sym, ap, subst, arith, false, ℕ, ◌^◌, ◌<◌, ◌≤◌, List, length, map}
+use Rattle.std.specs.Prelude.{slice_index_or, flat_map}
 use Rattle.std.specs.List.{All}
-use Rattle.scq_collect.specs.declared.answered.Answered.{Answered}
-use Rattle.scq_collect.specs.Collected.{answer_of}
-use Rattle.scq_collect.specs.Merging.{IsInOrder, place_of_answer}
-use Rattle.scq_collect.specs.Output.{answers_to}
-use Rattle.scq_work.specs.Desks.{AreDealt}
+use Rattle.std.specs.Option.{option_to_list}
+use Rattle.std.proofs.lemmas.List.Elements.{All-map}
+use Rattle.scq_frames.specs.declared.message.Message.{Message}
+use Rattle.scq_queue.specs.Closing.{AreTheHeld}
+use Rattle.scq_queue.specs.Lists.{counts_of}
+use Rattle.scq_queue.specs.Passes.{PassStanding, HeldStanding, lists_of}
+use Rattle.scq_queue.specs.declared.heap_buffer.HeapBuffer.{HeapBuffer}
+use Rattle.scq_collect.specs.Merging.{members_in}
+use Rattle.scq_work.specs.AllWorkers.{HaveAnswered, HasWorked, lengths_of}
+use Rattle.scq_work.specs.Dealings.{AreDealt, IsFresh, without_files}
+use Rattle.scq_work.specs.Desks.{IsNew}
 use Rattle.scq_work.specs.Ends.{AreGiven, HasCause, all_left}
+use Rattle.scq_work.specs.Given.{given_in}
 use Rattle.scq_work.specs.Reading.{IsRead, IsWhole}
 use Rattle.scq_work.specs.declared.desk.Desk.{Desk}
 use Rattle.scq_work.specs.declared.worked.WorkFault.{WorkFault}
+use Rattle.scq_work.specs.declared.worked.Worked.{Worked}
+use Rattle.scq_work.proofs.AllRun.{AllRan, HasClosed, given, is-given, have-answered, have-shared, passes_at, lists_at, held_at}
+use Rattle.scq_work.proofs.Cleared.{AllWhole}
 use Rattle.scq_work.proofs.DeskLemmas.{still-dealt}
-use Rattle.scq_work.proofs.Faults.{caused, err-then, no-fault, ok-then, on-ok}
-use Rattle.scq_work.proofs.Lists.{written-back}
-use Rattle.scq_work.proofs.Orders.{answers-in-order, answers-known, given-answers, given-in-order, given-known}
+use Rattle.scq_work.proofs.Faults.{caused, err-then}
+use Rattle.scq_work.proofs.Lists.{written-back, right-of}
+use Rattle.scq_work.proofs.Orders.{members-told, given-told}
+use Rattle.scq_work.proofs.Settled.{told-worked, ok-more, ok-on, same-passes, same-lists, same-held, same-fed, still-fresh, place-numbers, are-held, counts-exact}
 use Rattle.scq_work.proofs.working.work_in.Goals as goal
-use Rattle.scq_work.proofs.working.work_in.Goals.{After-fault_of_all, then-is_err, else-is_err}
+
+pub run_all-requires-clause-fresh : goal.run_all-requires-clause-fresh
+run_all-requires-clause-fresh g c lifetimes lives =
+    let S = g.row.S.Denot in
+    let first : c.as_mut_slice.result.now ≡ c.make_desks.new.desks.items = c.as_mut_slice.ensures.value in
+    let second : c.as_mut_slice-2.result.now ≡ c.deal.new.desks =
+    c.as_mut_slice-2.ensures.value ∙ written-back _ _ _ (omega (arith, c.deal.auto.desks, c.as_mut_slice.ensures.len)) in
+    let P : List (Desk HeapBuffer S) → Type 0 = λ ds. All (IsFresh c.args.queue) ds in
+    subst P (sym second) (still-fresh c.args.queue c.deal.new.desks c.make_desks.new.desks.items (c.deal.ensures.same ∙ ap (map without_files) first) c.make_desks.ensures.fresh)
+
+pub run_all-requires-clause-unread : goal.run_all-requires-clause-unread
+run_all-requires-clause-unread g c lifetimes lives =
+    let S = g.row.S.Denot in
+    let second : c.as_mut_slice-2.result.now ≡ c.deal.new.desks =
+    c.as_mut_slice-2.ensures.value ∙ written-back _ _ _ (omega (arith, c.deal.auto.desks, c.as_mut_slice.ensures.len)) in
+    let P : List (Desk HeapBuffer S) → Type 0 = λ ds. All (λ d. All IsNew d.files.items) ds in
+    subst P (sym second) c.deal.ensures.unread
 
 pub gather-requires-clause-dealt : goal.gather-requires-clause-dealt
 gather-requires-clause-dealt g c lifetimes lives =
     let S = g.row.S.Denot in
     let src = c.of-was.result.value.items in
-    let dealt : c.as_mut_slice-2.result.now ≡ c.deal.new.desks =
+    let second : c.as_mut_slice-2.result.now ≡ c.deal.new.desks =
     c.as_mut_slice-2.ensures.value ∙ written-back _ _ _ (omega (arith, c.deal.auto.desks, c.as_mut_slice.ensures.len)) in
-    let left : c.as_mut_slice-3.result.now ≡ c.run_all.new.desks =
+    let third : c.as_mut_slice-3.result.now ≡ c.run_all.new.desks =
     c.as_mut_slice-3.ensures.value ∙ written-back _ _ _ (omega (arith, c.run_all.auto.desks, c.as_mut_slice-2.ensures.len, c.deal.auto.desks, c.as_mut_slice.ensures.len)) in
-    let P : List (Desk S) → Type 0 = λ ds. AreDealt 1 src ds in
-    let before : AreDealt 1 src c.as_mut_slice-2.result.now = subst P (sym dealt) c.deal.ensures.dealt in
+    let P : List (Desk HeapBuffer S) → Type 0 = λ ds. AreDealt 1 src ds in
+    let before : AreDealt 1 src c.as_mut_slice-2.result.now = subst P (sym second) c.deal.ensures.dealt in
     let after : AreDealt 1 src c.run_all.new.desks = still-dealt 1 src c.as_mut_slice-2.result.now c.run_all.new.desks c.run_all.auto.desks c.run_all.ensures.same before in
-    subst P (sym left) after
+    subst P (sym third) after
 
 pub gather-requires-clause-read : goal.gather-requires-clause-read
 gather-requires-clause-read g c lifetimes lives =
     let S = g.row.S.Denot in
-    let left : c.as_mut_slice-3.result.now ≡ c.run_all.new.desks =
+    let third : c.as_mut_slice-3.result.now ≡ c.run_all.new.desks =
     c.as_mut_slice-3.ensures.value ∙ written-back _ _ _ (omega (arith, c.run_all.auto.desks, c.as_mut_slice-2.ensures.len, c.deal.auto.desks, c.as_mut_slice.ensures.len)) in
-    let P : List (Desk S) → Type 0 = λ ds. All (λ d. All (λ f. IsRead c.args.job.now.topics c.args.job.now.size g.S.Source.faults g.S.Source.left f.number f.was.value f.source f.given.items f.end) d.files.items) ds in
-    let after : P c.run_all.new.desks = λ w d less. c.run_all.ensures.read w d (omega (arith, less, c.run_all.auto.desks)) in
-    subst P (sym left) after
+    let P : List (Desk HeapBuffer S) → Type 0 =
+    λ ds. All (λ d. All (λ f. IsRead c.args.job.now.topics c.args.job.now.size g.S.Source.faults g.S.Source.left f.number f.was.value f.source (given_in f.given.value) f.end) d.files.items) ds in
+    subst P (sym third) (λ w d less. (c.run_all.ensures.run w d less).read)
 
--- where there is no fault all messages were given
-gave-all : (g : _) (c : After-fault_of_all g) → c.fault_of_all.result ≡ None
-    → (c.gather.new.gathered.fault ≡ None) × AreGiven c.args.job.now.topics g.S.Source.left 1 c.of-was.result.value.items c.gather.new.gathered.given.items
-gave-all g c none =
-    let sound = no-fault c.if-is_err.starved c.gather.new.gathered.fault (sym c.fault_of_all.ensures ∙ none) in
-    let sated : c.gather.new.gathered.starved ≡ false = elim c.if-is_err.branch [
-      | then-is_err w ↦ absurd (cc (w.starved-is, sound.0))
-      | else-is_err w ↦ sym w.starved-is ∙ sound.0
-    ] in
-    (sound.1, c.gather.ensures.given sound.1 sated)
+pub close-left-requires-clause-passes : goal.close-left-requires-clause-passes
+close-left-requires-clause-passes g c lifetimes =
+    let S = g.row.S.Denot in
+    let ran = c.run_all.new.desks in
+    let third : c.as_mut_slice-3.result.now ≡ ran =
+    c.as_mut_slice-3.ensures.value ∙ written-back _ _ _ (omega (arith, c.run_all.auto.desks, c.as_mut_slice-2.ensures.len, c.deal.auto.desks, c.as_mut_slice.ensures.len)) in
+    let same : map without_files c.gather.new.desks ≡ map without_files ran = c.gather.ensures.same ∙ ap (map without_files) third in
+    let passes : c.clear.new.left.passes.items ≡ passes_at ran =
+    c.clear.ensures.passes
+    ∙ ap (map (λ (d : Desk HeapBuffer S). d.worker.pass)) (written-back _ _ _ (omega (arith, c.gather.auto.desks, c.as_mut_slice-3.ensures.len, c.run_all.auto.desks, c.as_mut_slice-2.ensures.len, c.deal.auto.desks, c.as_mut_slice.ensures.len)))
+    ∙ same-passes c.gather.new.desks ran same in
+    let P : List (PassStanding HeapBuffer) → Type 0 = λ ps. All (λ p. p.queue ≡ c.args.queue) ps in
+    subst P (sym passes) (All-map (λ (p : PassStanding HeapBuffer). p.queue ≡ c.args.queue) (λ (d : Desk HeapBuffer S). d.worker.pass) ran (λ w d less. (c.run_all.ensures.run w d less).queue))
 
-pub conclude-result-requires : goal.conclude-result-requires
-conclude-result-requires g c none =
-    given-known c.args.job.now.topics g.S.Source.left 1 c.of-was.result.value.items c.gather.new.gathered.given.items
-    (gave-all g (goal.at.conclude-result-requires g c).After-fault_of_all none).1
+pub close-left-requires-clause-held : goal.close-left-requires-clause-held
+close-left-requires-clause-held g c lifetimes =
+    let S = g.row.S.Denot in
+    let ran = c.run_all.new.desks in
+    let third : c.as_mut_slice-3.result.now ≡ ran =
+    c.as_mut_slice-3.ensures.value ∙ written-back _ _ _ (omega (arith, c.run_all.auto.desks, c.as_mut_slice-2.ensures.len, c.deal.auto.desks, c.as_mut_slice.ensures.len)) in
+    let same : map without_files c.gather.new.desks ≡ map without_files ran = c.gather.ensures.same ∙ ap (map without_files) third in
+    let passes : c.clear.new.left.passes.items ≡ passes_at ran =
+    c.clear.ensures.passes
+    ∙ ap (map (λ (d : Desk HeapBuffer S). d.worker.pass)) (written-back _ _ _ (omega (arith, c.gather.auto.desks, c.as_mut_slice-3.ensures.len, c.run_all.auto.desks, c.as_mut_slice-2.ensures.len, c.deal.auto.desks, c.as_mut_slice.ensures.len)))
+    ∙ same-passes c.gather.new.desks ran same in
+    let held : c.clear.new.left.held.items ≡ held_at ran =
+    c.clear.ensures.held
+    ∙ ap (flat_map (λ (d : Desk HeapBuffer S). option_to_list d.kept)) (written-back _ c.gather.new.desks (right-of c.as_mut_slice-3.ensures.value) (c.gather.auto.desks ∙ c.as_mut_slice-3.ensures.len))
+    ∙ same-held c.gather.new.desks ran same in
+    let P : List (PassStanding HeapBuffer) → Type 0 = λ ps. AreTheHeld c.args.queue ps c.clear.new.left.held.items in
+    let Q : List (HeldStanding HeapBuffer) → Type 0 = λ hs. AreTheHeld c.args.queue (passes_at ran) hs in
+    subst P (sym passes) (subst Q (sym held)
+    (are-held c.args.queue ran (λ w d less. (c.run_all.ensures.run w d less).its) (λ w d less. (c.run_all.ensures.run w d less).held)))
+
+pub returns-clause-worked : goal.returns-clause-worked
+returns-clause-worked g c =
+    let S = g.row.S.Denot in
+    let topics = c.args.job.now.topics in
+    let size = c.args.job.now.size in
+    let faults = g.S.Source.faults in
+    let left = g.S.Source.left in
+    let queue = c.args.queue in
+    let ran = c.run_all.new.desks in
+    let sources = c.args.sources.items in
+    let src = c.of-was.result.value.items in
+    let is_src : src ≡ sources = ap (λ v. v.items) c.of-was.ensures in
+    let first : c.as_mut_slice.result.now ≡ c.make_desks.new.desks.items = c.as_mut_slice.ensures.value in
+    let second : c.as_mut_slice-2.result.now ≡ c.deal.new.desks =
+    c.as_mut_slice-2.ensures.value ∙ written-back _ _ _ (omega (arith, c.deal.auto.desks, c.as_mut_slice.ensures.len)) in
+    let third : c.as_mut_slice-3.result.now ≡ ran =
+    c.as_mut_slice-3.ensures.value ∙ written-back _ _ _ (omega (arith, c.run_all.auto.desks, c.as_mut_slice-2.ensures.len, c.deal.auto.desks, c.as_mut_slice.ensures.len)) in
+    let same : map without_files c.gather.new.desks ≡ map without_files ran = c.gather.ensures.same ∙ ap (map without_files) third in
+    let passes : c.clear.new.left.passes.items ≡ passes_at ran =
+    c.clear.ensures.passes
+    ∙ ap (map (λ (d : Desk HeapBuffer S). d.worker.pass)) (written-back _ _ _ (omega (arith, c.gather.auto.desks, c.as_mut_slice-3.ensures.len, c.run_all.auto.desks, c.as_mut_slice-2.ensures.len, c.deal.auto.desks, c.as_mut_slice.ensures.len)))
+    ∙ same-passes c.gather.new.desks ran same in
+    let lists : c.clear.new.left.lists.items ≡ lists_at ran =
+    c.clear.ensures.lists
+    ∙ ap (map (λ (d : Desk HeapBuffer S). d.worker.members)) (written-back _ _ _ (omega (arith, c.gather.auto.desks, c.as_mut_slice-3.ensures.len, c.run_all.auto.desks, c.as_mut_slice-2.ensures.len, c.deal.auto.desks, c.as_mut_slice.ensures.len)))
+    ∙ same-lists c.gather.new.desks ran same in
+    let held : c.clear.new.left.held.items ≡ held_at ran =
+    c.clear.ensures.held
+    ∙ ap (flat_map (λ (d : Desk HeapBuffer S). option_to_list d.kept)) (written-back _ c.gather.new.desks (right-of c.as_mut_slice-3.ensures.value) (c.gather.auto.desks ∙ c.as_mut_slice-3.ensures.len))
+    ∙ same-held c.gather.new.desks ran same in
+    let Dealt : List (Desk HeapBuffer S) → Type 0 = λ ds. AreDealt 1 src ds in
+    let before : AreDealt 1 src c.as_mut_slice-2.result.now = subst Dealt (sym second) c.deal.ensures.dealt in
+    let dealt : AreDealt 1 src ran = still-dealt 1 src c.as_mut_slice-2.result.now ran c.run_all.auto.desks c.run_all.ensures.same before in
+    let placed : passes_at c.as_mut_slice-2.result.now ≡ passes_at c.make_desks.new.desks.items =
+    ap (map (λ (d : Desk HeapBuffer S). d.worker.pass)) second
+    ∙ same-passes c.deal.new.desks c.make_desks.new.desks.items (c.deal.ensures.same ∙ ap (map without_files) first) in
+    let count : length ran ≡ queue.setup.seats =
+    omega (arith, c.run_all.auto.desks, c.as_mut_slice-2.ensures.len, c.deal.auto.desks, c.as_mut_slice.ensures.len, c.make_desks.ensures.count, c.make_desks.new.desks.ok.0, ap length second, ap length first) in
+    let numbers : (w : ℕ) (d : Desk HeapBuffer S) → w < length ran → (slice_index_or ran w d).worker.pass.number ≡ w =
+    λ w d less.
+    let within : w < length c.as_mut_slice-2.result.now = omega (arith, less, c.run_all.auto.desks) in
+    c.run_all.ensures.numbers w d within ∙ place-numbers queue queue.setup.seats c.as_mut_slice-2.result.now (placed ∙ c.make_desks.ensures.passes) w d within in
+    let valid = c.args.job.now.valid in
+    let setup = c.requires.setup in
+    let Of : Worked → Type 0 = λ w. (given : List (List Message)) × AreGiven topics size left 1 sources given
+    × HasWorked topics c.args.job.now.order size c.args.job.now.workers given w in
+    ok-more c.conclude.result _ Of c.conclude.ensures.ok (λ w is.
+    let fed : All (λ d. d.worker.starved ≡ false) ran =
+    same-fed c.gather.new.desks ran same
+    (subst (λ (ds : List (Desk HeapBuffer S)). All (λ d. d.worker.starved ≡ false) ds)
+    (written-back _ _ _ (omega (arith, c.gather.auto.desks, c.as_mut_slice-3.ensures.len, c.run_all.auto.desks, c.as_mut_slice-2.ensures.len, c.deal.auto.desks, c.as_mut_slice.ensures.len)))
+    (c.clear.ensures.starved is.1)) in
+    let whole : AllWhole ran = subst (λ (ds : List (Desk HeapBuffer S)). AllWhole ds) third (c.gather.ensures.whole is.2) in
+    let all : AllRan queue.setup queue topics size faults left sources ran = record {
+      some = omega (arith, count, setup.2, valid.some_workers);
+      few = omega (arith, c.requires.few, c.args.sources.ok.0);
+      dealt = subst (λ (xs : List S). AreDealt 1 xs ran) is_src dealt;
+      run = c.run_all.ensures.run;
+      whole = whole;
+      fed = fed;
+      setup = refl;
+      numbers = numbers;
+      order = omega (arith, setup.0, valid.order_fits);
+      rings = setup.1;
+      seats = sym count;
+      seats_fit = subst (λ n. queue.setup.seats ≤ 2 ^ n) (sym setup.0) (omega (arith, setup.2, valid.workers_fit));
+      limit = setup.3;
+    } in
+    let close = c.close-left.ensures in
+    let closed : HasClosed queue.setup (passes_at ran) (held_at ran) c.close-left.result.left.items =
+    subst (λ (hs : List (HeldStanding HeapBuffer)). HasClosed queue.setup (passes_at ran) hs c.close-left.result.left.items) held
+    (subst (λ (ps : List (PassStanding HeapBuffer)). HasClosed queue.setup ps c.clear.new.left.held.items c.close-left.result.left.items) passes (record {
+      takes = close.takes;
+      sent_once = close.sent_once;
+      taken_once = close.taken_once;
+      balance = close.balance;
+      passed = close.passed;
+      fulls = close.fulls;
+      kept = close.kept;
+      all_there = close.all_there;
+    })) in
+    let answered = have-answered queue.setup queue topics size faults left sources ran all c.close-left.result.left.items closed in
+    let shared = have-shared queue.setup queue topics size faults left sources ran all c.close-left.result.left.items closed in
+    let its_passes : c.close-left.result.passes.value.items ≡ passes_at ran = close.passes ∙ passes in
+    let its_left : c.of.result.value.items ≡ c.close-left.result.left.items = ap (λ v. v.items) c.of.ensures in
+    let workers : length ran ≡ c.args.job.now.workers = count ∙ setup.2 in
+    subst Of (sym is.0) (
+      given queue.setup queue topics size faults left sources ran all,
+      is-given queue.setup queue topics size faults left sources ran all,
+      record {
+        answered = rw (its_passes, lists) (subst (λ n. HaveAnswered topics size n (given queue.setup queue topics size faults left sources ran all) (passes_at ran) (lists_at ran)) workers answered);
+        setup = queue.setup;
+        of_job = record { buffers = setup.0; rings = omega (arith, setup.1); seats = setup.2; limit = setup.3 };
+        shared = rw (its_passes, its_left) shared;
+        counts = close.counts ∙ ap (map (λ (p : PassStanding HeapBuffer). counts_of (lists_of p))) passes ∙ counts-exact (passes_at ran) shared.bounded
+            ∙ ap (map lengths_of) (sym its_passes);
+      },
+    ))
+
+pub returns-clause-answers : goal.returns-clause-answers
+returns-clause-answers g c =
+    let topics = c.args.job.now.topics in
+    let size = c.args.job.now.size in
+    let left = g.S.Source.left in
+    ok-more c.conclude.result _ _ (returns-clause-worked g c) (λ w has. members-told topics size left c.args.sources.items has.0 (members_in w.answered.items) has.1 has.2.answered.once)
+
+pub returns-clause-told : goal.returns-clause-told
+returns-clause-told g c =
+    let topics = c.args.job.now.topics in
+    let size = c.args.job.now.size in
+    let left = g.S.Source.left in
+    ok-more c.conclude.result _ _ (returns-clause-worked g c) (λ w has.
+    told-worked topics c.args.job.now.order size c.args.job.now.workers has.0 w (all_left left c.args.sources.items)
+    (given-told topics size left 1 c.args.sources.items has.0 has.1) has.2)
 
 pub returns-clause-whole : goal.returns-clause-whole
 returns-clause-whole g c =
     let S = g.row.S.Denot in
     let is = ap (λ v. v.items) c.of-was.ensures in
-    on-ok c.conclude-result.result _ _
-    (λ none k d less. subst (λ (xs : List S). IsWhole c.args.job.now.size g.S.Source.faults g.S.Source.left (slice_index_or xs k d) (slice_index_or c.gather.new.gathered.sources.items k d)) is
-    (c.gather.ensures.sound (gave-all g (goal.at.returns-clause-whole g c).After-fault_of_all none).0 k d (omega (arith, less, ap length is, c.of-was.result.value.ok.0))))
-    c.conclude-result.ensures.sound
-
-pub returns-clause-answers : goal.returns-clause-answers
-returns-clause-answers g c =
-    let S = g.row.S.Denot in
-    let topics = c.args.job.now.topics in
+    let size = c.args.job.now.size in
+    let faults = g.S.Source.faults in
     let left = g.S.Source.left in
-    let src = c.of-was.result.value.items in
-    let given = c.gather.new.gathered.given.items in
-    let is = ap (λ v. v.items) c.of-was.ensures in
-    let answers : AreGiven topics left 1 src given → IfSome (all_left left c.args.sources.items) (λ contents. map (answer_of topics) given ≡ answers_to topics 1 contents) =
-    λ gave. subst (λ (xs : List S). IfSome (all_left left xs) (λ contents. map (answer_of topics) given ≡ answers_to topics 1 contents)) is (given-answers topics left 1 src given gave) in
-    ok-then c.conclude-result.result _ (AreGiven topics left 1 src given) (λ w. w.answered.items ≡ map (answer_of topics) given) _ c.conclude-result.ensures.sound
-    (λ none. (gave-all g (goal.at.returns-clause-answers g c).After-fault_of_all none).1)
-    (λ gave. c.conclude-result.ensures.in_order (given-in-order topics left src given gave))
-    (λ w gave e. subst (λ (all : List Answered). IfSome (all_left left c.args.sources.items) (λ contents. all ≡ answers_to topics 1 contents)) (sym e) (answers gave))
-
-pub returns-clause-in_order : goal.returns-clause-in_order
-returns-clause-in_order g c =
-    let topics = c.args.job.now.topics in
-    let left = g.S.Source.left in
-    let src = c.of-was.result.value.items in
-    let given = c.gather.new.gathered.given.items in
-    ok-then c.conclude-result.result _ (AreGiven topics left 1 src given) (λ w. w.answered.items ≡ map (answer_of topics) given) _ c.conclude-result.ensures.sound
-    (λ none. (gave-all g (goal.at.returns-clause-in_order g c).After-fault_of_all none).1)
-    (λ gave. c.conclude-result.ensures.in_order (given-in-order topics left src given gave))
-    (λ w gave e. subst (λ (all : List Answered). IsInOrder place_of_answer all) (sym e) (answers-in-order topics given (given-in-order topics left src given gave)))
-
-pub returns-clause-known : goal.returns-clause-known
-returns-clause-known g c =
-    let topics = c.args.job.now.topics in
-    let left = g.S.Source.left in
-    let src = c.of-was.result.value.items in
-    let given = c.gather.new.gathered.given.items in
-    ok-then c.conclude-result.result _ (AreGiven topics left 1 src given) (λ w. w.answered.items ≡ map (answer_of topics) given) _ c.conclude-result.ensures.sound
-    (λ none. (gave-all g (goal.at.returns-clause-known g c).After-fault_of_all none).1)
-    (λ gave. c.conclude-result.ensures.in_order (given-in-order topics left src given gave))
-    (λ w gave e. subst (λ (all : List Answered). All (λ a. a.topic ≤ length topics) all) (sym e) (answers-known topics given (given-known topics left 1 src given gave)))
+    ok-on c.conclude.result _ _ c.conclude.ensures.ok (λ w why k d less.
+    subst (λ (xs : List S). IsWhole size faults left (slice_index_or xs k d) (slice_index_or c.gather.new.gathered.sources.items k d)) is
+    (c.gather.ensures.sound why.2 k d (omega (arith, less, ap length is, c.of-was.result.value.ok.0))))
 
 pub returns-clause-cause : goal.returns-clause-cause
 returns-clause-cause g c =
@@ -109,9 +235,6 @@ returns-clause-cause g c =
     let left = g.S.Source.left in
     let news = c.gather.new.gathered.sources.items in
     let is = ap (λ v. v.items) c.of-was.ensures in
-    err-then c.conclude-result.result _ _
-    (λ (f : WorkFault) why. elim why [
-      | inl memory ↦ subst (HasCause size faults left c.args.sources.items news) (sym memory) tt
-      | inr some ↦ subst (λ (xs : List S). HasCause size faults left xs news f) is
-          (caused size faults left c.of-was.result.value.items news c.if-is_err.starved c.gather.new.gathered.fault f (sym c.fault_of_all.ensures ∙ some) c.gather.ensures.cause)
-    ]) c.conclude-result.ensures.cause
+    err-then c.conclude.result _ _
+    (λ (f : WorkFault) why. subst (λ (xs : List S). HasCause size faults left xs news f) is
+    (caused size faults left c.of-was.result.value.items news why.0 c.gather.new.gathered.fault f why.1 c.gather.ensures.cause)) c.conclude.ensures.err

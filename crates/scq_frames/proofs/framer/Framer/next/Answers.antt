@@ -1,11 +1,12 @@
 -- A line that was passed took its message off those ahead, and the last line was all of them.
-use Rattle.std.proofs.Common.{IsTrue, Ok, Err, ◌+◌, ◌≤◌, ◌≡◌, ◌∙◌, sym, ap, subst, ◌++◌, length, Option, true, false, arith, length-append}
+use Rattle.std.proofs.Common.{IsTrue, Ok, Err, ◌+◌, ◌≤◌, ◌≡◌, ◌∙◌, sym, ap, subst, ◌++◌, length, Option, Bool, true, false, arith, length-append}
 use Rattle.std.proofs.lemmas.Bool.{true≢false}
 use Rattle.scq_frames.specs.declared.message.Message.{Message}
 use Rattle.std.specs.Option.{option_map, option_to_list}
 use Rattle.scq_frames.specs.Lines.{EndsAt, HasNoLineFeed}
 use Rattle.scq_topics.specs.Topics.{topic_of}
-use Rattle.scq_frames.specs.Framing.{Framing, visible_ahead, work_left}
+use Rattle.scq_frames.proofs.EndLemmas.{ends-start, began-going, ends-read}
+use Rattle.scq_frames.specs.Framing.{EndsOnce, Framing, visible_ahead, work_left}
 use Rattle.scq_frames.specs.FramerState.{framing}
 use Rattle.scq_frames.specs.Coming.{Found}
 use Rattle.scq_frames.proofs.AheadLemmas.{Passed, PassedLast, gives-line, gives-last, gives-again, none-last}
@@ -21,10 +22,13 @@ use Rattle.scq_frames.proofs.framer.Framer.next.Goals.{in-Some+in_ok-message-in-
 
 pub loop-len-init : goal.loop-len-init
 loop-len-init g c =
-    let first = c.args.self.now in
-    Searches-start (topic_of c.args.topics.now) g.S.Source.left g.S.Source.faults first _ c.args.source.now
-    (ap (λ (f : Framing). record f { failed = true }) c.self.view_is) (subst (λ (f : Framing). f.read ≤ f.most) c.self.view_is (c.self.invariant.within (ap (λ (f : Framing). f.failed) c.self.view_is ∙ c.requires)))
-    (subst (λ (f : Framing). length f.held ≤ f.size + 4130) c.self.view_is c.self.invariant.short)
+    let first = c.args.self.now in (
+      Searches-start (topic_of c.args.topics.now) g.S.Source.left g.S.Source.faults first _ c.args.source.now
+          (ap (λ (f : Framing). record f { failed = true }) c.self.view_is) (subst (λ (f : Framing). f.read ≤ f.most) c.self.view_is (c.self.invariant.within (ap (λ (f : Framing). f.failed) c.self.view_is ∙ c.requires)))
+          (subst (λ (f : Framing). length f.held ≤ f.size + 4130) c.self.view_is c.self.invariant.short),
+      subst (λ (b : Bool). EndsOnce first.ended b (g.S.Source.ends c.args.source.now) (g.S.Source.ends c.args.source.now))
+          (sym (ap (λ (f : Framing). f.ended) c.self.view_is)) (ends-start first.ended (g.S.Source.ends c.args.source.now)),
+    )
 
 pub loop-len-preserved-in_default : goal.loop-len-preserved-in_default
 loop-len-preserved-in_default g c =
@@ -32,14 +36,17 @@ loop-len-preserved-in_default g c =
     let left = g.S.Source.left in
     let faults = g.S.Source.faults in
     let now = c.line_len.new.self in
-    let searches = subst (λ (f : Framing). Searches number left faults c.args.self.now f c.args.source.now c.loop-len.source) (sym c.line_len.ensures.same) c.loop-len.invariant in
+    let searches = subst (λ (f : Framing). Searches number left faults c.args.self.now f c.args.source.now c.loop-len.source) (sym c.line_len.ensures.same) c.loop-len.invariant.0 in
     let passed : Passed number now c.pass.new.self c.in-Some.len c.in_ok-message-in-Some.field-0 = record {
       ends = subst (λ (f : Framing). EndsAt f.held c.in-Some.len) (sym c.line_len.ensures.same) c.in-Some.ensures.found;
       fits = c.in_ok-message-in-Some.ensures.fits;
       gave = c.in_ok-message-in-Some.ensures.given;
       after = c.in_ok-message-in-Some.ensures.passed;
-    } in
-    Searches-line number left faults c.args.self.now now c.pass.new.self c.args.source.now c.loop-len.source c.in-Some.len c.in_ok-message-in-Some.field-0 searches passed c.in_default.is
+    } in (
+      Searches-line number left faults c.args.self.now now c.pass.new.self c.args.source.now c.loop-len.source c.in-Some.len c.in_ok-message-in-Some.field-0 searches passed c.in_default.is,
+      subst (λ (b : Bool). EndsOnce c.args.self.now.ended b (g.S.Source.ends c.args.source.now) (g.S.Source.ends c.loop-len.source))
+          (sym (ap (λ (f : Framing). f.ended) (passed.after) ∙ ap (λ (f : Framing). f.ended) c.line_len.ensures.same)) c.loop-len.invariant.1,
+    )
 
 pub returns-clause-gives : goal.returns-clause-gives
 returns-clause-gives g c =
@@ -48,7 +55,7 @@ returns-clause-gives g c =
     let first = c.args.self.now in
     let before = left c.args.source.now in
     let after = left c.loop-len.source in
-    let ahead = c.loop-len.invariant.ahead ∙ ap (λ (f : Framing). visible_ahead number f after) (sym c.line_len.ensures.same) in
+    let ahead = c.loop-len.invariant.0.ahead ∙ ap (λ (f : Framing). visible_ahead number f after) (sym c.line_len.ensures.same) in
     let now = c.line_len.new.self in
     let given = c.match-line_len.given in
     let done = ap (λ (f : Framing). visible_ahead number f after) c.self-2.view_is in
@@ -83,7 +90,7 @@ returns-clause-none g c =
     let first = c.args.self.now in
     let before = left c.args.source.now in
     let after = left c.loop-len.source in
-    let ahead = c.loop-len.invariant.ahead ∙ ap (λ (f : Framing). visible_ahead number f after) (sym c.line_len.ensures.same) in
+    let ahead = c.loop-len.invariant.0.ahead ∙ ap (λ (f : Framing). visible_ahead number f after) (sym c.line_len.ensures.same) in
     let now = c.line_len.new.self in
     elim c.match-line_len.branch [
       | in-Some+in_ok-message-in-Some+in-Some-2 w ↦ rw w.given-is tt
@@ -106,7 +113,7 @@ returns-in_err-message-in-Some-clause-found g c =
     let left = g.S.Source.left in
     let first = c.args.self.now in
     let now = c.line_len.new.self in
-    let s = subst (λ (f : Framing). Searches number left g.S.Source.faults first f c.args.source.now c.loop-len.source) (sym c.line_len.ensures.same) c.loop-len.invariant in
+    let s = subst (λ (f : Framing). Searches number left g.S.Source.faults first f c.args.source.now c.loop-len.source) (sym c.line_len.ensures.same) c.loop-len.invariant.0 in
     let before = left c.args.source.now in
     let after = left c.loop-len.source in
     let ends = subst (λ (f : Framing). EndsAt f.held c.in-Some.len) (sym c.line_len.ensures.same) c.in-Some.ensures.found in
@@ -124,7 +131,7 @@ returns-in_err-given-in-None-clause-found g c =
     let left = g.S.Source.left in
     let first = c.args.self.now in
     let now = c.line_len.new.self in
-    let s = subst (λ (f : Framing). Searches number left g.S.Source.faults first f c.args.source.now c.loop-len.source) (sym c.line_len.ensures.same) c.loop-len.invariant in
+    let s = subst (λ (f : Framing). Searches number left g.S.Source.faults first f c.args.source.now c.loop-len.source) (sym c.line_len.ensures.same) c.loop-len.invariant.0 in
     let before = left c.args.source.now in
     let after = left c.loop-len.source in
     let clear = subst (λ (f : Framing). HasNoLineFeed f.held 0 (length f.held)) (sym c.line_len.ensures.same) c.in-None.ensures.none in
@@ -140,16 +147,21 @@ loop-len-preserved g c =
     let left = g.S.Source.left in
     let faults = g.S.Source.faults in
     let now = c.line_len.new.self in
-    let searches = subst (λ (f : Framing). Searches number left faults c.args.self.now f c.args.source.now c.loop-len.source) (sym c.line_len.ensures.same) c.loop-len.invariant in
+    let searches = subst (λ (f : Framing). Searches number left faults c.args.self.now f c.args.source.now c.loop-len.source) (sym c.line_len.ensures.same) c.loop-len.invariant.0 in
     let clear = subst (λ (f : Framing). HasNoLineFeed f.held 0 (length f.held)) (sym c.line_len.ensures.same) c.in-None.ensures.none in
     let going = sym c.has_ended.ensures ∙ c.if-has_ended.false in
     let cut = c.trim.new.self in
     let trim = c.trim.ensures in
     let trimmed = Searches-trim number left faults c.args.self.now now cut c.args.source.now c.loop-len.source searches trim.trimmed clear going (names-overlook c.args.topics.now now.file trim.names) trim.same in
     let read = c.in_ok-read-in-None.ensures in
-    Searches-read number left faults c.args.self.now cut c.read.new.self c.args.source.now c.loop-len.source c.read.new.source trimmed
-    (ap (λ (f : Framing). f.ended) trim.same ∙ going) read.same (read.ahead number) read.size read.end read.within (read.kept (λ e. cc)) read.fetched
-    (clear-trimmed 33 now.held cut.held trim.trimmed clear) read.few read.held
+    let cut_going = ap (λ (f : Framing). f.ended) trim.same ∙ going in
+    let cut_ends = subst (λ (b : Bool). EndsOnce c.args.self.now.ended b (g.S.Source.ends c.args.source.now) (g.S.Source.ends c.loop-len.source))
+    (sym (ap (λ (f : Framing). f.ended) trim.same ∙ ap (λ (f : Framing). f.ended) c.line_len.ensures.same)) c.loop-len.invariant.1 in (
+      Searches-read number left faults c.args.self.now cut c.read.new.self c.args.source.now c.loop-len.source c.read.new.source trimmed
+          (ap (λ (f : Framing). f.ended) trim.same ∙ going) read.same (read.ahead number) read.size read.end read.within (read.kept (λ e. cc)) read.fetched
+          (clear-trimmed 33 now.held cut.held trim.trimmed clear) read.few read.held,
+      ends-read _ _ _ _ _ _ (began-going _ _ (λ h. (trimmed.ended h).1) cut_going) cut_going cut_ends read.ends,
+    )
 
 pub loop-len-smaller : goal.loop-len-smaller
 loop-len-smaller g c =
@@ -172,7 +184,7 @@ returns-then-trim-clause-found g c =
     let left = g.S.Source.left in
     let first = c.args.self.now in
     let now = c.line_len.new.self in
-    let searches = subst (λ (f : Framing). Searches number left g.S.Source.faults first f c.args.source.now c.loop-len.source) (sym c.line_len.ensures.same) c.loop-len.invariant in
+    let searches = subst (λ (f : Framing). Searches number left g.S.Source.faults first f c.args.source.now c.loop-len.source) (sym c.line_len.ensures.same) c.loop-len.invariant.0 in
     let clear = subst (λ (f : Framing). HasNoLineFeed f.held 0 (length f.held)) (sym c.line_len.ensures.same) c.in-None.ensures.none in
     let going = sym c.has_ended.ensures ∙ c.if-has_ended.false in
     let cut = c.trim.new.self in
@@ -190,7 +202,7 @@ returns-in_err-read-in-None-clause-found g c =
     let left = g.S.Source.left in
     let first = c.args.self.now in
     let now = c.line_len.new.self in
-    let searches = subst (λ (f : Framing). Searches number left g.S.Source.faults first f c.args.source.now c.loop-len.source) (sym c.line_len.ensures.same) c.loop-len.invariant in
+    let searches = subst (λ (f : Framing). Searches number left g.S.Source.faults first f c.args.source.now c.loop-len.source) (sym c.line_len.ensures.same) c.loop-len.invariant.0 in
     let clear = subst (λ (f : Framing). HasNoLineFeed f.held 0 (length f.held)) (sym c.line_len.ensures.same) c.in-None.ensures.none in
     let going = sym c.has_ended.ensures ∙ c.if-has_ended.false in
     let cut = c.trim.new.self in
@@ -218,7 +230,7 @@ returns-clause-found g c =
     let left = g.S.Source.left in
     let first = c.args.self.now in
     let now = c.line_len.new.self in
-    let s = subst (λ (f : Framing). Searches number left g.S.Source.faults first f c.args.source.now c.loop-len.source) (sym c.line_len.ensures.same) c.loop-len.invariant in
+    let s = subst (λ (f : Framing). Searches number left g.S.Source.faults first f c.args.source.now c.loop-len.source) (sym c.line_len.ensures.same) c.loop-len.invariant.0 in
     let before = left c.args.source.now in
     let after = left c.loop-len.source in
     let given = c.match-line_len.given in

@@ -1,5 +1,5 @@
-use Rattle.std.proofs.Common.{◌≡◌, ℕ, ◌≤◌, true, List, refl, sym, ◌∙◌, ap, subst}
-use Rattle.scq_core.specs.declared.ended.Ended.TheVariants.{Done, Spent}
+use Rattle.std.proofs.Common.{◌≤◌, true, refl, ◌∙◌, ap, subst}
+use Rattle.scq_core.specs.declared.ended.Ended.TheVariants.{Spent}
 use Rattle.scq_band.specs.Standing.{Identity}
 use Rattle.scq_queue.specs.Passes.{PassStanding, lists_of, after_spent_put}
 use Rattle.scq_queue.specs.Kept.{pass_over, heads_of}

@@ -1,4 +1,4 @@
-use Rattle.std.proofs.Common.{◌≡◌, ℕ, suc, ◌+◌, ◌≤◌, true, List, [], ◌∷◌, ◌++◌, refl, sym, ◌∙◌, ap, subst, add-one}
+use Rattle.std.proofs.Common.{ℕ, suc, ◌+◌, ◌≤◌, true, [], ◌∷◌, ◌++◌, refl, ◌∙◌, ap, subst, add-one}
 use Rattle.scq_core.specs.declared.ended.Ended.TheVariants.{Done, Spent}
 use Rattle.scq_band.specs.Standing.{Identity}
 use Rattle.scq_queue.specs.Lists.{with_send}

@@ -1,37 +1,76 @@
-use Rattle.std.proofs.Common.{◌≡◌, ◌∙◌, ap, arith, ℕ, ◌-◌, ◌<◌, length, set}
-use Rattle.std.specs.Prelude.{slice_index_or}
-use Rattle.std.proofs.lemmas.List.{length-set, get_or_default}
+use Rattle.std.proofs.Common.{rules, ◌≡◌, ◌<◌, ◌-◌, ◌∙◌, sym, subst, arith, refl, ◌++◌, [], List, length, set, Err, Result}
+use Rattle.std.specs.Prelude.{IfErr, All, slice_index_or}
+use Rattle.std.proofs.lemmas.List.{length-set}
+use Rattle.scq_work.specs.Desks.{IsNew, ids_of, all_given}
+use Rattle.scq_work.specs.Given.{given_in}
 use Rattle.scq_work.specs.Reading.{IsRead}
-use Rattle.scq_work.proofs.Lists.{set-each}
+use Rattle.scq_work.specs.Working.{IsAtWork, HasStopped}
+use Rattle.scq_work.proofs.FileLists.{set-all, given-set, ids-set, given-none}
+use Rattle.scq_work.proofs.ReadLemmas.{reading-unread}
 use Rattle.scq_work.proofs.worker.Worker.read_files.Goals as goal
 use Rattle.scq_work.proofs.worker.Worker.read_files.Goals.{After-read_file}
 
--- the file that was read is the one of its place, and the others are as they were
-pub same-after : (g : _) (c : After-read_file g) → (k : ℕ) (d : _) → k < length c.args.files.now
-    → ((slice_index_or (set c.files.files (c.files.at - 1) c.read_file.new.file) k d).number ≡ (slice_index_or c.args.files.now k d).number)
-    × ((slice_index_or (set c.files.files (c.files.at - 1) c.read_file.new.file) k d).was.value ≡ (slice_index_or c.args.files.now k d).was.value)
-same-after g c k d less =
+-- the file that was read is still the one of its place
+same-after : (g : _) (c : After-read_file g) → ids_of (set c.files.files (c.files.at - 1) c.read_file.new.file) ≡ ids_of c.args.files.now
+same-after g c =
     let at = c.files.at - 1 in
     let inv = c.files.invariant in
     let within : at < length c.files.files = omega (arith, c.files-test.true, inv.within) in
-    let old = c.args.files.now in
-    let was = get_or_default c.files.files at c.index-files-at.result d within in
-    let now = inv.same at d (omega (arith, within, inv.long)) in
-    set-each (λ j f. (f.number ≡ (slice_index_or old j d).number) × (f.was.value ≡ (slice_index_or old j d).was.value)) c.files.files at c.read_file.new.file d within
-    (c.read_file.ensures.same.0 ∙ ap (λ f. f.number) was ∙ now.0, c.read_file.ensures.same.1 ∙ ap (λ f. f.was.value) was ∙ now.1)
-    (λ j below apart. inv.same j d (omega (arith, below, inv.long))) k (omega (arith, less, inv.long))
+    ids-set c.files.files at c.read_file.new.file c.index-files-at.result within c.read_file.ensures.same.0 c.read_file.ensures.same.1 ∙ inv.same
 
 -- what is known of each file is what was read of it
-pub read-after : (g : _) (c : After-read_file g) → (k : ℕ) (d : _) → k < length (set c.files.files (c.files.at - 1) c.read_file.new.file)
-    → IsRead c.args.job.now.topics c.args.job.now.size g.S.Source.faults g.S.Source.left (slice_index_or (set c.files.files (c.files.at - 1) c.read_file.new.file) k d).number
-    (slice_index_or (set c.files.files (c.files.at - 1) c.read_file.new.file) k d).was.value (slice_index_or (set c.files.files (c.files.at - 1) c.read_file.new.file) k d).source
-    (slice_index_or (set c.files.files (c.files.at - 1) c.read_file.new.file) k d).given.items (slice_index_or (set c.files.files (c.files.at - 1) c.read_file.new.file) k d).end
+read-after : (g : _) (c : After-read_file g) → All (λ f. IsRead c.args.job.now.topics c.args.job.now.size g.S.Source.faults g.S.Source.left f.number f.was.value f.source
+    (given_in f.given.value) f.end) (set c.files.files (c.files.at - 1) c.read_file.new.file)
 read-after g c k d less =
     let at = c.files.at - 1 in
     let inv = c.files.invariant in
     let within : at < length c.files.files = omega (arith, c.files-test.true, inv.within) in
-    set-each (λ j f. IsRead c.args.job.now.topics c.args.job.now.size g.S.Source.faults g.S.Source.left f.number f.was.value f.source f.given.items f.end) c.files.files at c.read_file.new.file d within
-    c.read_file.ensures.read (λ j below apart. inv.read j d below) k (omega (arith, less, length-set c.files.files at c.read_file.new.file))
+    set-all (λ j f. IsRead c.args.job.now.topics c.args.job.now.size g.S.Source.faults g.S.Source.left f.number f.was.value f.source (given_in f.given.value) f.end) c.files.files at
+    c.read_file.new.file d within c.read_file.ensures.read (λ j below apart. inv.read j d below) k (omega (arith, less, length-set c.files.files at c.read_file.new.file))
+
+-- what all gave, with what this one gave
+given-after : (g : _) (c : After-read_file g) → all_given (set c.files.files (c.files.at - 1) c.read_file.new.file) ≡ all_given c.files.files ++ given_in c.read_file.new.file.given.value
+given-after g c =
+    let at = c.files.at - 1 in
+    let inv = c.files.invariant in
+    let within : at < length c.files.files = omega (arith, c.files-test.true, inv.within) in
+    let low : at < c.files.at = omega (arith, c.files-test.true) in
+    given-set c.files.files at c.read_file.new.file c.index-files-at.result within (λ k below. (inv.unread k c.index-files-at.result (omega (arith, below, low))).given)
+
+pub files-init : goal.files-init
+files-init g c = record {
+  within = omega arith;
+  unread = λ k d less. c.requires.unread k d less;
+  same = refl;
+  read = λ k d less. reading-unread c.args.job.now.topics c.args.job.now.size g.S.Source.faults g.S.Source.left (slice_index_or c.args.files.now k d) (c.requires.unread k d less);
+  suits = c.requires.suits;
+  stays = c.requires.stays;
+  work = λ was.
+      subst (λ (ms : List _). IsAtWork c.args.job.now.topics ms c.args.self.now.pass c.args.self.now.members.items c.args.self.now.starved)
+      (sym (given-none c.args.files.now (λ k d less. (c.requires.unread k d less).given))) was;
+  starved = λ fed. fed;
+  number = refl;
+  pass = refl;
+}
+
+pub returns-in_err-read_file-clause-same : goal.returns-in_err-read_file-clause-same
+returns-in_err-read_file-clause-same g c = same-after g (goal.at.returns-in_err-read_file-clause-same g c).After-read_file
+
+pub returns-in_err-read_file-clause-read : goal.returns-in_err-read_file-clause-read
+returns-in_err-read_file-clause-read g c = read-after g (goal.at.returns-in_err-read_file-clause-read g c).After-read_file
+
+pub returns-in_err-read_file-clause-left : goal.returns-in_err-read_file-clause-left
+returns-in_err-read_file-clause-left g c =
+    let start = c.args.self.now in
+    let now = c.read_file.new.self in
+    let files = set c.files.files (c.files.at - 1) c.read_file.new.file in
+    let is : c.from_residual.result ≡ Err c.in_err-read_file.field-0.0 = search rules in
+    subst (λ (r : Result _ _). IfErr r (λ l. IsAtWork c.args.job.now.topics [] start.pass start.members.items start.starved
+    → HasStopped c.args.queue.now (length (all_given files)) now.pass l.held)) (sym is)
+    (λ was.
+    let all = given-after g (goal.at.returns-in_err-read_file-clause-left g c).After-read_file in
+    subst (λ (ms : List _). HasStopped c.args.queue.now (length ms) now.pass c.in_err-read_file.field-0.0.held) (sym all)
+    (c.in_err-read_file.ensures.left (all_given c.files.files) (c.files.invariant.work was)))
 
 pub returns-in-Stopped-clause-same : goal.returns-in-Stopped-clause-same
 returns-in-Stopped-clause-same g c = same-after g (goal.at.returns-in-Stopped-clause-same g c).After-read_file
@@ -39,18 +78,34 @@ returns-in-Stopped-clause-same g c = same-after g (goal.at.returns-in-Stopped-cl
 pub returns-in-Stopped-clause-read : goal.returns-in-Stopped-clause-read
 returns-in-Stopped-clause-read g c = read-after g (goal.at.returns-in-Stopped-clause-read g c).After-read_file
 
+pub returns-in-Stopped-clause-work : goal.returns-in-Stopped-clause-work
+returns-in-Stopped-clause-work g c was =
+    let now = c.read_file.new.self in
+    let all = given-after g (goal.at.returns-in-Stopped-clause-work g c).After-read_file in
+    subst (λ (ms : List _). IsAtWork c.args.job.now.topics ms now.pass now.members.items now.starved) (sym all)
+    (c.in_ok-read_file.ensures.work (all_given c.files.files) (c.files.invariant.work was))
+
 pub files-preserved : goal.files-preserved
 files-preserved g c =
     let at = c.files.at - 1 in
     let inv = c.files.invariant in
     let within : at < length c.files.files = omega (arith, c.files-test.true, inv.within) in
+    let low : at < c.files.at = omega (arith, c.files-test.true) in
     let long = length-set c.files.files at c.read_file.new.file in
+    let now = c.read_file.new.self in
+    let its = c.in_ok-read_file.ensures in
     record {
-      number = c.read_file.ensures.number ∙ inv.number;
-      long = long ∙ inv.long;
       within = omega (arith, within, long);
-      ahead = λ k d less. set-each (λ j f. j < at → f ≡ slice_index_or c.args.files.now j d) c.files.files at c.read_file.new.file d within (λ h. absurd (omega arith))
-          (λ j below apart h. inv.ahead j d (omega arith)) k (omega arith) less;
+      unread = λ k d less. set-all (λ j f. j < at → IsNew f) c.files.files at c.read_file.new.file d within (λ h. absurd (omega arith))
+          (λ j below apart h. inv.unread j d (omega (arith, h, low))) k (omega (arith, less, within)) less;
       same = same-after g (goal.at.files-preserved g c).After-read_file;
       read = read-after g (goal.at.files-preserved g c).After-read_file;
+      suits = its.suits;
+      stays = its.stays;
+      work = λ was.
+          let all = given-after g (goal.at.files-preserved g c).After-read_file in
+          subst (λ (ms : List _). IsAtWork c.args.job.now.topics ms now.pass now.members.items now.starved) (sym all) (its.work (all_given c.files.files) (inv.work was));
+      starved = λ fed. inv.starved (c.read_file.ensures.starved fed);
+      number = c.read_file.ensures.number.0 ∙ inv.number;
+      pass = c.read_file.ensures.number.1 ∙ inv.pass;
     }

@@ -1,19 +1,25 @@
-use Rattle.std.proofs.Common.{◌≡◌, ℕ, ◌<◌, ◌≤◌, length}
-use Rattle.std.specs.Prelude.{slice_index_or}
-use Rattle.std.specs.List.{All}
+use Rattle.std.proofs.Common.{◌≡◌, ◌<◌, ◌≤◌, ℕ, [], false, length, None}
+use Rattle.std.specs.Prelude.{All, slice_index_or}
+use Rattle.scq_work.specs.Desks.{IsNew, ids_of, all_given}
+use Rattle.scq_work.specs.Given.{given_in}
 use Rattle.scq_work.specs.Reading.{IsRead}
+use Rattle.scq_work.specs.Working.{Suits, IsAtWork}
 use Rattle.scq_work.proofs.worker.Worker.read_files.Given as goal
 
--- the files in front of this place are as they were, and what is known of each is what was read of it
+-- the files in front of this place are unread, and what is known of each is what was read of it
 abbrev pub invariant-files : goal.invariant-files
 invariant-files g l = record {
-  number : l.self.number ≡ l.fn.self.number;
-  long : length l.files ≡ length l.fn.files;
   within : l.at ≤ length l.files;
-  ahead : (k : ℕ) (d : _) → k < l.at → slice_index_or l.files k d ≡ slice_index_or l.fn.files k d;
-  same : (k : ℕ) (d : _) → k < length l.fn.files → ((slice_index_or l.files k d).number ≡ (slice_index_or l.fn.files k d).number)
-      × ((slice_index_or l.files k d).was.value ≡ (slice_index_or l.fn.files k d).was.value);
-  read : All (λ f. IsRead l.job.topics l.job.size g.S.Source.faults g.S.Source.left f.number f.was.value f.source f.given.items f.end) l.files;
+  unread : (k : ℕ) (d : _) → k < l.at → IsNew (slice_index_or l.files k d);
+  same : ids_of l.files ≡ ids_of l.fn.files;
+  read : All (λ f. IsRead l.job.topics l.job.size g.S.Source.faults g.S.Source.left f.number f.was.value f.source (given_in f.given.value) f.end) l.files;
+  suits : Suits l.queue (length l.job.topics) l.self.pass;
+  stays : l.self.pass.retired ≡ None;
+  work : IsAtWork l.job.topics [] l.fn.self.pass l.fn.self.members.items l.fn.self.starved
+      → IsAtWork l.job.topics (all_given l.files) l.self.pass l.self.members.items l.self.starved;
+  starved : l.self.starved ≡ false → l.fn.self.starved ≡ false;
+  number : l.self.number ≡ l.fn.self.number;
+  pass : l.self.pass.number ≡ l.fn.self.pass.number;
 }
 
 abbrev pub decreases-files : goal.decreases-files

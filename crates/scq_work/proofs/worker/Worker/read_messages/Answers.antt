@@ -1,146 +1,137 @@
-use Rattle.std.proofs.Common.{rules, ◌≡◌, ◌≤◌, ◌∙◌, ap, sym, subst, arith, refl, ◌++◌, ◌∷◌, [], ◌^◌, List, length, Option, Some, None, IfSome, IfNone, Result, Ok, Err}
+use Rattle.std.proofs.Common.{rules, ◌≡◌, ◌≤◌, ◌∙◌, ap, sym, subst, ◌++◌, ◌∷◌, [], List, length, Some, None, Ok, Err, Result, Option}
+use Rattle.std.specs.Prelude.{IfErr, IfNone, IfSome, IsTrue}
 use Rattle.std.specs.Option.{option_map, option_to_list}
-use Rattle.std.specs.Result.{result_err}
 use Rattle.scq_topics.specs.Topics.{topic_of}
-use Rattle.scq_frames.specs.declared.message.Message.{Message}
-use Rattle.scq_frames.specs.declared.fault.FrameFault.{FrameFault}
-use Rattle.scq_frames.specs.declared.fault.FrameFault.TheVariants.{NoMemory}
-use Rattle.scq_frames.specs.Framing.{Framing, visible_ahead, IsNext, fresh}
 use Rattle.scq_frames.specs.Coming.{Found}
-use Rattle.scq_frames.proofs.FindingLemmas.{Gave-found, Found-gave}
-use Rattle.scq_collect.specs.Judged.{Judged}
-use Rattle.scq_collect.proofs.Judging.{judged-end, judged-fault, judged-long, judged-memory, sized}
-use Rattle.scq_work.specs.Reading.{AreOf}
-use Rattle.scq_work.proofs.Given.{AreOfUpTo, given-next, given-all, of-up_to, of-more, Fresh, fresh-framer}
+use Rattle.scq_frames.specs.Framing.{IsNext, visible_ahead}
+use Rattle.scq_frames.specs.declared.message.Message.{Message}
+use Rattle.scq_work.specs.Given.{given_in}
+use Rattle.scq_work.specs.Reading.{IsRead}
+use Rattle.scq_work.specs.Working.{IsAtWork, HasStopped}
+use Rattle.scq_work.specs.declared.own_file.FileEnd.{FileEnd}
+use Rattle.scq_work.proofs.ReadLemmas.{IsReading, Answers, reading-next, reading-whole, reading-fault, reading-left, behind-all}
 use Rattle.scq_work.proofs.worker.Worker.read_messages.Goals as goal
+use Rattle.scq_work.proofs.worker.Worker.read_messages.Goals.{After-next, After-pass_on}
 
-pub messages-init : goal.messages-init
-messages-init g c =
-    let first = fresh c.args.file c.args.job.now.size (2 ^ 30) in
-    let left = g.S.Source.left c.args.source.now in
-    let topics = c.args.job.now.topics in
-    let P : Framing → Type 0 = λ f. Fresh topics c.args.file c.args.job.now.size first f left in
-    let begun = subst P (sym c.in_ok-framer.ensures) (fresh-framer topics c.args.file c.args.job.now.size left) in
+-- what the framer's answer says, whichever it is
+said : (g : _) (c : After-next g) → Answers g.S.Source.faults g.S.Source.left c.messages.source c.next.new.source c.messages.framer c.next.new.self
+said g c =
+    let its = c.next.ensures in
     record {
-      number = refl;
-      given = rw c.requires begun.given;
-      all = rw c.requires begun.all;
-      file = begun.number;
-      gave = begun.gave;
-      going = begun.going;
-      payload = begun.payload;
-      most = begun.most;
-      bounded = begun.bounded;
-      end = λ h. absurd (begun.unended h);
-      size = begun.size_same;
-      kept = refl;
+      file = its.limits.0;
+      payload = its.limits.1;
+      most = its.limits.2;
+      bounded = its.bounded;
+      end = its.end;
+      stays = λ h. (its.ended h).1;
+      size_same = its.size;
     }
+
+-- with the message that it gave
+reading : (g : _) (c : After-pass_on g) → Answers g.S.Source.faults g.S.Source.left c.messages.source c.next.new.source c.messages.framer c.next.new.self → IsReading c.args.job.now.topics c.args.job.now.size g.S.Source.faults g.S.Source.left c.args.file c.args.source.now c.next.new.source
+    c.next.new.self (given_in c.give.new.given.value)
+reading g c answer =
+    let m = c.in-Ok-Some.message in
+    let its = c.in-Ok-Some.ensures in
+    let is = c.in-Ok-Some.field-0-is in
+    let start = c.args.source.now in
+    let left = g.S.Source.left in
+    let topics = c.args.job.now.topics in
+    let ahead = visible_ahead (topic_of topics) c.messages.framer (left c.messages.source) in
+    let after = visible_ahead (topic_of topics) c.next.new.self (left c.next.new.source) in
+    let G : Option Message → Type 0 = λ given. ahead ≡ option_map (λ rest. option_to_list given ++ rest) after in
+    let X : Option Message → Type 0 = λ given. IfSome given (IsNext c.messages.framer c.next.new.self) in
+    let T : Option Message → Type 0 = λ given. IfSome given (λ x. x.topic ≤ length topics) in
+    let F : Option Message → Type 0 = λ given. Found c.messages.framer c.next.new.self (left c.messages.source) (left c.next.new.source) (Ok given) in
+    let gives : ahead ≡ option_map (λ rest. (m ∷ []) ++ rest) after = subst G is its.gives in
+    let next : IsNext c.messages.framer c.next.new.self m = subst X is its.next in
+    let S : Option Message → Type 0 = λ given. IfSome given (λ x. length x.payload ≤ c.messages.framer.size) in
+    let fits : length m.payload ≤ c.messages.framer.size = subst S is its.fits in
+    let known : m.topic ≤ length topics = subst T is its.topic in
+    let found : Found c.messages.framer c.next.new.self (left c.messages.source) (left c.next.new.source) (Ok (Some m)) = subst F is its.found in
+    reading-next c.args.job.now.topics c.args.job.now.size g.S.Source.faults g.S.Source.left c.args.file start c.messages.source c.next.new.source c.messages.framer c.next.new.self
+    (given_in c.messages.given.value) (given_in c.give.new.given.value) m c.messages.invariant.reading answer gives next known fits found its.failed
+    (its.kept (λ e. absurd (cc))) c.give.ensures
+
+pub returns-in_err-pass_on-in-Ok-Some-clause-read : goal.returns-in_err-pass_on-in-Ok-Some-clause-read
+returns-in_err-pass_on-in-Ok-Some-clause-read g c =
+    let now = reading g (goal.at.returns-in_err-pass_on-in-Ok-Some-clause-read g c).After-pass_on (said g (goal.at.returns-in_err-pass_on-in-Ok-Some-clause-read g c).After-next) in
+    let P : FileEnd → Type 0 = λ end. IsRead c.args.job.now.topics c.args.job.now.size g.S.Source.faults g.S.Source.left c.args.file c.args.source.now c.next.new.source
+    (given_in c.give.new.given.value) end in
+    subst P (sym c.messages.invariant.end) (reading-left c.args.job.now.topics c.args.job.now.size g.S.Source.faults g.S.Source.left c.args.file c.args.source.now c.next.new.source
+    c.next.new.self (given_in c.give.new.given.value) now)
+
+pub returns-in_err-pass_on-in-Ok-Some-clause-left : goal.returns-in_err-pass_on-in-Ok-Some-clause-left
+returns-in_err-pass_on-in-Ok-Some-clause-left g c =
+    let start = c.args.self.now in
+    let is : c.from_residual.result ≡ Err c.in_err-pass_on-in-Ok-Some.field-0.0 = search rules in
+    subst (λ (r : Result _ _). IfErr r (λ l. (messages : List Message) → IsAtWork c.args.job.now.topics messages start.pass start.members.items start.starved
+    → HasStopped c.args.queue.now (length (messages ++ given_in c.give.new.given.value)) c.pass_on.new.self.pass l.held)) (sym is)
+    (λ messages was.
+    let old = given_in c.messages.given.value in
+    let at = c.messages.self in
+    let left = c.in_err-pass_on-in-Ok-Some.ensures.left (messages ++ old) (c.messages.invariant.work messages was) in
+    subst (λ (ms : List Message). HasStopped c.args.queue.now (length ms) c.pass_on.new.self.pass c.in_err-pass_on-in-Ok-Some.field-0.0.held)
+    (behind-all messages old (given_in c.give.new.given.value) c.in-Ok-Some.message c.give.ensures) left)
+
+pub returns-then-self-clause-read : goal.returns-then-self-clause-read
+returns-then-self-clause-read g c =
+    let now = reading g (goal.at.returns-then-self-clause-read g c).After-pass_on (said g (goal.at.returns-then-self-clause-read g c).After-next) in
+    let P : FileEnd → Type 0 = λ end. IsRead c.args.job.now.topics c.args.job.now.size g.S.Source.faults g.S.Source.left c.args.file c.args.source.now c.next.new.source
+    (given_in c.give.new.given.value) end in
+    subst P (sym c.messages.invariant.end) (reading-left c.args.job.now.topics c.args.job.now.size g.S.Source.faults g.S.Source.left c.args.file c.args.source.now c.next.new.source
+    c.next.new.self (given_in c.give.new.given.value) now)
+
+pub returns-then-self-clause-work : goal.returns-then-self-clause-work
+returns-then-self-clause-work g c messages was =
+    let old = given_in c.messages.given.value in
+    let now = c.pass_on.new.self in
+    subst (λ (ms : List Message). IsAtWork c.args.job.now.topics ms now.pass now.members.items now.starved)
+    (behind-all messages old (given_in c.give.new.given.value) c.in-Ok-Some.message c.give.ensures)
+    (c.in_ok-pass_on-in-Ok-Some.ensures.work (messages ++ old) (c.messages.invariant.work messages was))
 
 pub messages-preserved : goal.messages-preserved
 messages-preserved g c =
-    let m = c.in-Some.message in
-    let said = c.in_ok-message.ensures in
-    let left = g.S.Source.left in
-    let topics = c.args.job.now.topics in
-    let before = left c.messages.source in
-    let now = left c.next.new.source in
-    let first = fresh c.args.file c.args.job.now.size (2 ^ 30) in
-    let after = visible_ahead (topic_of topics) c.next.new.self now in
-    let P : Option Message → Type 0 = λ given. IfSome given (IsNext c.messages.framer c.next.new.self) in
-    let next : IsNext c.messages.framer c.next.new.self m = subst P c.in-Some.is said.next in
-    let K : Option Message → Type 0 = λ given. IfSome given (λ m. m.topic ≤ length topics) in
-    let known : m.topic ≤ length topics = subst K c.in-Some.is said.topic in
-    let ahead = said.gives ∙ ap (λ given. option_map (λ rest. option_to_list given ++ rest) after) c.in-Some.is in
-    let Q : Option Message → Type 0 = λ given. Found c.messages.framer c.next.new.self before now (Ok given) in
-    let found : Found c.messages.framer c.next.new.self before now (Ok (Some m)) = subst Q c.in-Some.is said.found in
-    let all = Gave-found first c.messages.framer c.next.new.self (left c.args.source.now) before now (Ok (Some m)) c.messages.invariant.gave found
-    (λ h. absurd (cc)) (λ h. (said.ended h).1) (λ e. absurd (cc)) in
-    let of = of-more (length topics) c.args.file 0 c.messages.framer.line c.messages.given.items m c.messages.invariant.all (next.file ∙ c.messages.invariant.file) next.above known in
-    let O : List Message → Type 0 = λ ms. AreOfUpTo (length topics) c.args.file 0 c.next.new.self.line ms in
+    let inv = c.messages.invariant in
+    let old = given_in c.messages.given.value in
+    let now = c.pass_on.new.self in
+    let its = c.in_ok-pass_on-in-Ok-Some.ensures in
     record {
-      number = c.pass_on.ensures ∙ c.messages.invariant.number;
-      given = given-next _ _ after _ _ m c.messages.invariant.given ahead c.in_ok-keep_copy.ensures.ok;
-      all = subst O (sym c.in_ok-keep_copy.ensures.ok) (subst (λ n. AreOfUpTo (length topics) c.args.file 0 n (c.messages.given.items ++ m ∷ [])) (sym next.line) of);
-      file = said.limits.0 ∙ c.messages.invariant.file;
-      gave = Found-gave first c.next.new.self (left c.args.source.now) now m all;
-      going = said.failed;
-      payload = said.limits.1 ∙ c.messages.invariant.payload;
-      most = said.limits.2 ∙ c.messages.invariant.most;
-      bounded = omega (arith, said.bounded, said.limits.2, c.messages.invariant.most);
-      end = said.end c.messages.invariant.end;
-      size = said.size ∙ c.messages.invariant.size;
-      kept = said.kept (λ e. cc) ∙ c.messages.invariant.kept;
+      reading = reading g (goal.at.messages-preserved g c).After-pass_on (said g (goal.at.messages-preserved g c).After-next);
+      end = inv.end;
+      suits = its.suits;
+      stays = its.stays;
+      work = λ messages was.
+          subst (λ (ms : List Message). IsAtWork c.args.job.now.topics ms now.pass now.members.items now.starved)
+          (behind-all messages old (given_in c.give.new.given.value) c.in-Ok-Some.message c.give.ensures)
+          (its.work (messages ++ old) (inv.work messages was));
+      starved = λ fed. inv.starved (c.pass_on.ensures.starved fed);
+      number = c.pass_on.ensures.number.0 ∙ inv.number;
+      pass = c.pass_on.ensures.number.1 ∙ inv.pass;
     }
 
-pub returns-clause-given : goal.returns-clause-given
-returns-clause-given g c =
-    let left = g.S.Source.left c.messages.source in
-    let topics = c.args.job.now.topics in
-    let P : Option Message → Type 0 = λ given. IfNone given (visible_ahead (topic_of topics) c.messages.framer left ≡ option_map (λ _. []) left) in
-    let none = subst P c.in_default.is c.in_ok-message.ensures.none in
-    given-all topics c.args.job.now.size c.args.file (g.S.Source.left c.args.source.now) left _ _ c.messages.invariant.given none
-
-pub returns-clause-all : goal.returns-clause-all
-returns-clause-all g c = of-up_to (length c.args.job.now.topics) c.args.file 0 c.messages.framer.line c.messages.given.items c.messages.invariant.all
-
-pub returns-in_err-message-clause-all : goal.returns-in_err-message-clause-all
-returns-in_err-message-clause-all g c = of-up_to (length c.args.job.now.topics) c.args.file 0 c.messages.framer.line c.messages.given.items c.messages.invariant.all
-
-pub returns-in_err-keep_copy-clause-all : goal.returns-in_err-keep_copy-clause-all
-returns-in_err-keep_copy-clause-all g c =
-    let known = length c.args.job.now.topics in
-    subst (λ (ms : List Message). AreOf known c.args.file 0 ms) (sym c.in_err-keep_copy.ensures.err)
-    (of-up_to known c.args.file 0 c.messages.framer.line c.messages.given.items c.messages.invariant.all)
-
-pub returns-in_err-message-clause-judged : goal.returns-in_err-message-clause-judged
-returns-in_err-message-clause-judged g c =
-    let fault = c.in_err-message.field-0.0 in
-    let said = c.next.ensures in
+pub returns-in-Ok-None-clause-read : goal.returns-in-Ok-None-clause-read
+returns-in-Ok-None-clause-read g c =
+    let its = c.in-Ok-None.ensures in
+    let is = c.in-Ok-None.field-0-is in
     let left = g.S.Source.left in
-    let size = c.args.job.now.size in
-    let start = left c.args.source.now in
-    let before = left c.messages.source in
-    let now = left c.next.new.source in
-    let first = fresh c.args.file size (2 ^ 30) in
-    let Q : Result (Option Message) FrameFault → Type 0 = λ r. Found c.messages.framer c.next.new.self before now r in
-    let found : Found c.messages.framer c.next.new.self before now (Err fault) = subst Q c.in_err-message.was said.found in
-    let all = Gave-found first c.messages.framer c.next.new.self start before now (Err fault) c.messages.invariant.gave found
-    (λ h. absurd (cc)) (λ h. (said.ended h).1) (λ e. said.going (c.in_err-message.was ∙ e)) in
-    let is : result_err c.from_residual-in_err-message.result ≡ Some fault = search rules in
-    subst (λ (o : Option FrameFault). Judged size start now o) (sym is)
-    (judged-fault size c.args.file c.next.new.self start now fault all
-    (λ n e. let large = said.too_large n (c.in_err-message.was ∙ ap Err e) in
-    (omega (arith, large.0, said.limits.2, c.messages.invariant.most), sized n c.next.new.self.read start now large.1 (said.size ∙ c.messages.invariant.size)))
-    (λ line len e.
-    let was = c.in_err-message.was ∙ ap Err e in
-    judged-long size c.args.file c.messages.framer c.next.new.self start before now line len c.messages.invariant.gave (subst Q was said.found)
-    (said.too_long line len was).1 (λ h. (said.ended h).1) (said.end c.messages.invariant.end)))
+    let ahead = visible_ahead (topic_of c.args.job.now.topics) c.messages.framer (left c.messages.source) in
+    let N : Option Message → Type 0 = λ given. IfNone given (ahead ≡ option_map (λ _. []) (left c.messages.source)) in
+    let O : Option Message → Type 0 = λ given. IfNone given (IsTrue c.next.new.self.ended × (c.next.new.self.held ≡ [])) in
+    let F : Option Message → Type 0 = λ given. Found c.messages.framer c.next.new.self (left c.messages.source) (left c.next.new.source) (Ok given) in
+    let none_ : ahead ≡ option_map (λ _. []) (left c.messages.source) = subst N is its.none in
+    let over : IsTrue c.next.new.self.ended × (c.next.new.self.held ≡ []) = subst O is its.over in
+    let found : Found c.messages.framer c.next.new.self (left c.messages.source) (left c.next.new.source) (Ok None) = subst F is its.found in
+    reading-whole c.args.job.now.topics c.args.job.now.size g.S.Source.faults g.S.Source.left c.args.file c.args.source.now c.messages.source c.next.new.source c.messages.framer
+    c.next.new.self (given_in c.messages.given.value) c.messages.invariant.reading (said g (goal.at.returns-in-Ok-None-clause-read g c).After-next) none_ found over.0
+    (its.kept (λ e. absurd (cc)))
 
-pub returns-in_err-keep_copy-clause-judged : goal.returns-in_err-keep_copy-clause-judged
-returns-in_err-keep_copy-clause-judged g c =
-    let said = c.next.ensures in
-    let left = g.S.Source.left in
-    let size = c.args.job.now.size in
-    let start = left c.args.source.now in
-    let before = left c.messages.source in
-    let now = left c.next.new.source in
-    let first = fresh c.args.file size (2 ^ 30) in
-    let all = Gave-found first c.messages.framer c.next.new.self start before now c.next.result c.messages.invariant.gave said.found
-    (λ h. absurd (cc)) (λ h. (said.ended h).1) (λ e. said.going e) in
-    let is : result_err c.from_residual-in_err-keep_copy.result ≡ Some NoMemory = search rules in
-    subst (λ (o : Option FrameFault). Judged size start now o) (sym is) (judged-memory size first c.next.new.self start now c.next.result all)
-
-pub returns-clause-judged : goal.returns-clause-judged
-returns-clause-judged g c =
-    let said = c.next.ensures in
-    let left = g.S.Source.left in
-    let size = c.args.job.now.size in
-    let start = left c.args.source.now in
-    let before = left c.messages.source in
-    let now = left c.next.new.source in
-    let first = fresh c.args.file size (2 ^ 30) in
-    let none : c.in_ok-message.field-0 ≡ None = cc in
-    let P : Result (Option Message) FrameFault → Type 0 = λ r. Found c.messages.framer c.next.new.self before now r in
-    let found : Found c.messages.framer c.next.new.self before now (Ok None) = subst P (c.in_ok-message.was ∙ ap Ok none) said.found in
-    judged-end size c.args.file c.next.new.self start now (Gave-found first c.messages.framer c.next.new.self start before now (Ok None) c.messages.invariant.gave found
-    (λ h. absurd (cc)) (λ h. (said.ended h).1) (λ e. absurd (cc)))
+pub returns-in-Err-clause-read : goal.returns-in-Err-clause-read
+returns-in-Err-clause-read g c =
+    let its = c.next.ensures in
+    let fault = c.in-Err.fault in
+    let is = c.in-Err.is in
+    reading-fault c.args.job.now.topics c.args.job.now.size g.S.Source.faults g.S.Source.left c.args.file c.args.source.now c.messages.source c.next.new.source c.messages.framer
+    c.next.new.self (given_in c.messages.given.value) fault c.messages.invariant.reading (said g (goal.at.returns-in-Err-clause-read g c).After-next) c.in-Err.ensures.found
+    (λ e. its.read_fault (is ∙ ap Err e)) (λ e. its.going (is ∙ ap Err e)) (λ other. its.kept (λ e. other (cc)))
+    (λ line len e. its.too_long line len (is ∙ ap Err e)) (λ n e. its.too_large n (is ∙ ap Err e))

@@ -1,29 +1,25 @@
-use Rattle.std.proofs.Common.{◌≡◌, ◌+◌, ◌-◌, ◌^◌, ◌≤◌, false, length, IsTrue}
-use Rattle.scq_topics.specs.Topics.{topic_of}
-use Rattle.scq_frames.specs.Framing.{NothingLeft, visible_ahead, visible_size, fresh}
-use Rattle.scq_frames.proofs.FindingLemmas.{Gave}
-use Rattle.scq_work.proofs.Given.{HasGiven, AreOfUpTo}
+use Rattle.std.proofs.Common.{◌≡◌, ◌+◌, ◌-◌, ◌^◌, ◌++◌, List, false, length, None}
+use Rattle.scq_frames.specs.declared.fault.FrameFault.TheVariants.{NoMemory}
+use Rattle.scq_frames.specs.declared.message.Message.{Message}
+use Rattle.scq_work.specs.Given.{given_in}
+use Rattle.scq_work.specs.Working.{Suits, IsAtWork}
+use Rattle.scq_work.specs.declared.own_file.FileEnd.TheVariants.{Stopped}
+use Rattle.scq_work.proofs.ReadLemmas.{IsReading}
 use Rattle.scq_work.proofs.worker.Worker.read_messages.Given as goal
 
--- what was given so far is kept, its trouble was none, and the framer goes on
+-- what the framer gave so far is passed on, and where the worker leaves now, the file counts as stopped for want of memory
 abbrev pub invariant-messages : goal.invariant-messages
-invariant-messages g l =
-    let left = g.S.Source.left in
-    let first = fresh l.fn.file l.fn.job.size (2 ^ 30) in
-    record {
-      number : l.self.number ≡ l.fn.self.number;
-      given : HasGiven (visible_ahead (topic_of l.job.topics) first (left l.fn.source)) (visible_ahead (topic_of l.job.topics) l.framer (left l.source)) l.given.items;
-      all : AreOfUpTo (length l.job.topics) l.fn.file 0 l.framer.line l.given.items;
-      file : l.framer.file ≡ l.fn.file;
-      gave : Gave first l.framer (left l.fn.source) (left l.source);
-      going : l.framer.failed ≡ false;
-      payload : l.framer.size ≡ l.fn.job.size;
-      most : l.framer.most ≡ 2 ^ 30;
-      bounded : l.framer.weight ≤ 2 ^ 30 + 1;
-      end : IsTrue l.framer.ended → NothingLeft (left l.source);
-      size : visible_size l.framer (left l.source) ≡ visible_size first (left l.fn.source);
-      kept : g.S.Source.faults l.source ≡ g.S.Source.faults l.fn.source;
-    }
+invariant-messages g l = record {
+  reading : IsReading l.job.topics l.job.size g.S.Source.faults g.S.Source.left l.fn.file l.fn.source l.source l.framer (given_in l.given.value);
+  end : l.end ≡ Stopped NoMemory;
+  suits : Suits l.queue (length l.job.topics) l.self.pass;
+  stays : l.self.pass.retired ≡ None;
+  work : (messages : List Message) → IsAtWork l.job.topics messages l.fn.self.pass l.fn.self.members.items l.fn.self.starved
+      → IsAtWork l.job.topics (messages ++ given_in l.given.value) l.self.pass l.self.members.items l.self.starved;
+  starved : l.self.starved ≡ false → l.fn.self.starved ≡ false;
+  number : l.self.number ≡ l.fn.self.number;
+  pass : l.self.pass.number ≡ l.fn.self.pass.number;
+}
 
 -- each message adds to the weight
 abbrev pub decreases-messages : goal.decreases-messages

@@ -1,6 +1,15 @@
-use Rattle.std.proofs.Common.{◌≡◌}
+use Rattle.std.proofs.Common.{◌≡◌, ◌<◌, ◌+◌, ℕ, true, false, length}
+use Rattle.scq_queue.specs.Passes.{known_on}
+use Rattle.scq_work.specs.Working.{HasTaken, HasAnswered, takes_left}
 use Rattle.scq_work.proofs.worker.Worker.sweep.Given as goal
 
--- it stays the worker of its number
-abbrev pub invariant-loop : goal.invariant-loop
-invariant-loop g l = l.self.number ≡ l.fn.self.number
+-- each topic so far was found empty, and once anything was taken there is less left to take
+abbrev pub invariant-swept : goal.invariant-swept
+invariant-swept g l = record {
+  taken : HasTaken l.fn.self.pass l.self.pass;
+  answered : l.self.starved ≡ false → HasAnswered l.job.topics l.fn.self.pass l.self.pass l.fn.self.members.items l.self.members.items;
+  starved : l.self.starved ≡ false → l.fn.self.starved ≡ false;
+  number : l.self.number ≡ l.fn.self.number;
+  empty : (t : ℕ) → t < l.topic → (known_on t l.self.pass).finished < (known_on t l.self.pass).head;
+  some : l.some ≡ true → takes_left l.queue.setup.limit (length l.job.topics + 1) l.self.pass < takes_left l.queue.setup.limit (length l.job.topics + 1) l.fn.self.pass;
+}

@@ -1,0 +1,6 @@
+use Rattle.std.proofs.Common.{[]}
+use Rattle.scq_queue.specs.Trials.{HoldsJust}
+use Rattle.example_queue.proofs.take_numbers.Given as goal
+
+abbrev pub invariant-looks : goal.invariant-looks
+invariant-looks l = HoldsJust l.queue l.pass []

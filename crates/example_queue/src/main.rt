@@ -1,0 +1,263 @@
+//! Two threads on one queue of two buffers. One sends the numbers from 1 to 100, and sums itself those for which no buffer is free; the
+//! other takes numbers and sums them; what is left when both are done is taken then. Who sums a number differs from run to run, and
+//! the sum doesn't.
+#![tactic(auto)]
+
+ghost use Rattle.std.specs.Prelude.{◌≡◌, ◌<◌, ◌≤◌, [], ◌∷◌, ◌++◌, IfOk, vec_len, vec_capacity};
+ghost use Rattle.std.specs.Option.{option_to_list};
+ghost use Rattle.scq_queue.specs.Passes.{first_passes};
+ghost use Rattle.scq_queue.specs.Trials.{HoldsJust};
+ghost use Rattle.example_queue.specs.Values.{values_in};
+
+use anyhow::{Result, anyhow};
+use scq_queue::{Closed, HeapBuffer, Held, Pass, Queue};
+use scq_word::Setup;
+use std::alloc::Global;
+use std::thread::{Threads, join};
+
+/// The last number.
+const LAST: u8 = 100;
+
+/// How many buffers the queue has.
+const BUFFERS: u32 = 2;
+
+/// How often the taking thread looks for a number.
+const LOOKS: u32 = 10_000;
+
+/// A pass after its work, with the sum of the numbers that its thread summed. Where tickets have run out it may still hold a value.
+struct Worked {
+    pass: Pass<HeapBuffer>,
+    sum: u64,
+    held: Option<Held<HeapBuffer>>,
+}
+
+/// Sends a number: whether a buffer was free for it. Where tickets have run out the buffer comes back.
+fn sent(
+    queue: &Queue<HeapBuffer>,
+    pass: &mut Pass<HeapBuffer>,
+    number: u8,
+) -> Result<bool, Held<HeapBuffer>>
+    requires rings { queue.now.setup.rings ≡ 2 }
+    requires pass { HoldsJust queue.now pass.old [] }
+    ensures pass { HoldsJust queue.now pass.new (values_in result) }
+{
+    match queue.lend(pass) {
+        Ok(mut held) => {
+            held.bytes_mut().fill(number);
+            match queue.send(pass, 0, held) {
+                Ok(_) => Ok(true),
+                Err((held, _)) => Err(held),
+            }
+        }
+        Err(_) => Ok(false),
+    }
+}
+
+/// Takes a number, if there is one, and gives its buffer back. Where tickets have run out the buffer comes back.
+fn taken(
+    queue: &Queue<HeapBuffer>,
+    pass: &mut Pass<HeapBuffer>,
+) -> Result<Option<u8>, Held<HeapBuffer>>
+    requires rings { queue.now.setup.rings ≡ 2 }
+    requires pass { HoldsJust queue.now pass.old [] }
+    ensures pass { HoldsJust queue.now pass.new (values_in result) }
+{
+    match queue.take(pass, 0) {
+        Ok((_, held)) => {
+            let number = held.bytes().first().copied();
+            match queue.give_back(pass, held) {
+                Ok(()) => Ok(number),
+                Err((held, _)) => Err(held),
+            }
+        }
+        Err(_) => Ok(None),
+    }
+}
+
+/// Sends the numbers, and sums those that aren't sent.
+fn send_numbers(queue: &Queue<HeapBuffer>, mut pass: Pass<HeapBuffer>) -> Worked
+    requires rings { queue.now.setup.rings ≡ 2 }
+    requires pass { HoldsJust queue.now pass [] }
+    ensures { HoldsJust queue.now result.pass (option_to_list result.held) }
+{
+    let mut sum = 0u64;
+    'numbers: for number in 1..=LAST {
+        match sent(queue, &mut pass, number) {
+            Ok(true) => {}
+            Ok(false) => sum = sum.wrapping_add(u64::from(number)),
+            Err(held) => {
+                return Worked {
+                    pass,
+                    sum: sum.wrapping_add(sum_from(number)),
+                    held: Some(held),
+                };
+            }
+        }
+    }
+    Worked {
+        pass,
+        sum,
+        held: None,
+    }
+}
+
+/// The sum of the numbers from this one on.
+fn sum_from(first: u8) -> u64 {
+    let mut sum = 0u64;
+    for number in first..=LAST {
+        sum = sum.wrapping_add(u64::from(number));
+    }
+    sum
+}
+
+/// Looks so often for a number, and sums those that it takes.
+fn take_numbers(queue: &Queue<HeapBuffer>, mut pass: Pass<HeapBuffer>, looks: u32) -> Worked
+    requires rings { queue.now.setup.rings ≡ 2 }
+    requires pass { HoldsJust queue.now pass [] }
+    ensures { HoldsJust queue.now result.pass (option_to_list result.held) }
+{
+    let mut sum = 0u64;
+    'looks: for _ in 0..looks {
+        match taken(queue, &mut pass) {
+            Ok(Some(number)) => sum = sum.wrapping_add(u64::from(number)),
+            Ok(None) => {}
+            Err(held) => {
+                return Worked {
+                    pass,
+                    sum,
+                    held: Some(held),
+                };
+            }
+        }
+    }
+    Worked {
+        pass,
+        sum,
+        held: None,
+    }
+}
+
+/// Takes what is left.
+fn take_rest(queue: &Queue<HeapBuffer>, before: Worked) -> Worked
+    requires rings { queue.now.setup.rings ≡ 2 }
+    requires pass { HoldsJust queue.now before.pass (option_to_list before.held) }
+    ensures { HoldsJust queue.now result.pass (option_to_list result.held) }
+{
+    let Worked { pass, sum, held } = before;
+    if let Some(held) = held {
+        return Worked {
+            pass,
+            sum,
+            held: Some(held),
+        };
+    }
+    let Worked {
+        pass,
+        sum: rest,
+        held,
+    } = take_numbers(queue, pass, BUFFERS + 1);
+    Worked {
+        pass,
+        sum: sum.wrapping_add(rest),
+        held,
+    }
+}
+
+/// Each pass in a thread of its own.
+fn work<R: Threads>(
+    rt: &R,
+    queue: &Queue<HeapBuffer>,
+    sender: Pass<HeapBuffer>,
+    taker: Pass<HeapBuffer>,
+) -> (Worked, Worked)
+    requires rings { queue.now.setup.rings ≡ 2 }
+    requires sender { HoldsJust queue.now sender [] }
+    requires taker { HoldsJust queue.now taker [] }
+    ensures sender { HoldsJust queue.now result.0.pass (option_to_list result.0.held) }
+    ensures taker { HoldsJust queue.now result.1.pass (option_to_list result.1.held) }
+{
+    join(
+        rt,
+        || -> Worked
+            requires { (queue.now.setup.rings ≡ 2) × HoldsJust queue.now sender [] }
+            ensures { HoldsJust queue.entry.now result.pass (option_to_list result.held) }
+        { send_numbers(queue, sender) },
+        || -> Worked
+            requires { (queue.now.setup.rings ≡ 2) × HoldsJust queue.now taker [] }
+            ensures { HoldsJust queue.entry.now result.pass (option_to_list result.held) }
+        { take_numbers(queue, taker, LOOKS) },
+    )
+}
+
+/// Runs both threads, takes what is left, and closes the queue.
+fn run<R: Threads>(
+    rt: &R,
+    queue: Queue<HeapBuffer>,
+    mut passes: Vec<Pass<HeapBuffer>>,
+    mut values: Vec<Held<HeapBuffer>>,
+) -> (u64, Closed<HeapBuffer>)
+    requires setup { (queue.setup.rings ≡ 2) × (queue.setup.seats ≡ 2) }
+    requires passes { passes.items ≡ first_passes queue 2 }
+    requires values { (values.items ≡ []) × (2 ≤ vec_capacity values) }
+{
+    let Some(taker) = passes.pop() else {
+        unreachable!()
+    };
+    let Some(sender) = passes.pop() else {
+        unreachable!()
+    };
+    let (sender, taker) = work(rt, &queue, sender, taker);
+    let taker = take_rest(&queue, taker);
+    let sum = sender.sum.wrapping_add(taker.sum);
+    give_in(sender, &mut passes, &mut values);
+    give_in(taker, &mut passes, &mut values);
+    (sum, queue.close(passes, values))
+}
+
+/// A pass and the value that it holds, if any, behind those that are there.
+fn give_in(worked: Worked, passes: &mut Vec<Pass<HeapBuffer>>, values: &mut Vec<Held<HeapBuffer>>)
+    requires passes { vec_len passes.old < vec_capacity passes.old }
+    requires values { vec_len values.old < vec_capacity values.old }
+    ensures passes { passes.new.items ≡ passes.old.items ++ worked.pass ∷ [] }
+    ensures values { values.new.items ≡ values.old.items ++ option_to_list worked.held }
+    ensures room { (vec_capacity passes.new ≡ vec_capacity passes.old) × (vec_capacity values.new ≡ vec_capacity values.old) }
+{
+    let Worked { pass, sum: _, held } = worked;
+    passes.push_reserved(pass);
+    if let Some(held) = held {
+        values.push_reserved(held);
+    }
+}
+
+/// A queue with one topic and two passes, over two buffers of one byte.
+fn made(alloc: Global) -> Result<(Queue<HeapBuffer>, Vec<Pass<HeapBuffer>>)>
+    ensures setup { IfOk result (λ made. (made.0.setup.rings ≡ 2) × (made.0.setup.seats ≡ 2)) }
+    ensures passes { IfOk result (λ made. made.1.items ≡ first_passes made.0 2) }
+{
+    let setup = Setup::new(1, 2, 2, 1 << 60)?;
+    let mut buffers = Vec::with_capacity(alloc, 2)?;
+    buffers.push(HeapBuffer::new(alloc, 1)?)?;
+    buffers.push(HeapBuffer::new(alloc, 1)?)?;
+    match Queue::make(alloc, setup, buffers) {
+        Ok(made) => Ok(made),
+        Err(_) => Err(anyhow!("no memory for the queue")),
+    }
+}
+
+fn main(rt: HostRuntime) -> Result<()> {
+    let alloc = rt.alloc();
+    let values = Vec::with_capacity(alloc, 2)?;
+    let (queue, passes) = match made(alloc) {
+        Ok(made) => made,
+        Err(fault) => {
+            values.destroy_empty();
+            return Err(fault);
+        }
+    };
+    let (sum, closed) = run(&rt, queue, passes, values);
+    println!(rt; "the numbers from 1 to {LAST} are {sum} together")?;
+    for (ring, left) in closed.left.iter().enumerate() {
+        println!(rt; "ring {ring}: {left} left")?;
+    }
+    Ok(())
+}

@@ -1,5 +1,0 @@
-use Rattle.scq_order.proofs.OrderLaw.{one_order}
-use Rattle.scq_order.proofs.orders.orders_are_plain_queues.Goals as goal
-
-pub returns : goal.returns
-returns c = λ run r order finished lin. one_order run finished r order lin

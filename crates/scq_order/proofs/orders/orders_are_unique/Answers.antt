@@ -1,9 +1,0 @@
-use Rattle.scq_order.proofs.OneList.{one_list}
-use Rattle.scq_order.proofs.OrderExists.{order_exists}
-use Rattle.scq_order.proofs.orders.orders_are_unique.Goals as goal
-
-pub returns : goal.returns
-returns c = record {
-  some = λ run r fin. order_exists run fin r;
-  one = λ run r order another first second. one_list run r order another first second;
-}

@@ -1,0 +1,116 @@
+ghost use Rattle.std.specs.Prelude.{◌≡◌, ◌⊎◌, ◌≤◌, ◌++◌, decimal, sum_by, OnOk, OnErr};
+ghost use Rattle.scq_outside.specs.Faults.{Rose};
+ghost use Rattle.scq_service.specs.Reports.{counts_line, report_lines, reported, worker_line};
+ghost use Rattle.scq_service.specs.Writing.{written_with, WrotePart};
+
+use crate::Fault;
+use crate::reporting::report;
+use crate::writing::write_all;
+use itoa::Buffer;
+use scq_outside::{Failed, Sink};
+use scq_queue::Counts;
+use scq_work::Worked;
+
+/// What all workers did together. A sum may pass 64 bits, since any numbers may stand in counts.
+#[derive(Clone, Copy)]
+struct Sums {
+    sent: u128,
+    taken: u128,
+    full: u128,
+}
+
+/// Writes what each worker sent, took and answered directly, and what all did together: a line for each
+/// worker, numbered from 1, and one for all. It takes no memory.
+pub fn report_workers<K: Sink>(sink: &mut K, counts: &[Counts]) -> Result<(), Failed>
+    ensures whole { OnOk result (K.written sink.new ≡ written_with (K.written sink.old) (report_lines counts.now)) }
+    ensures part { WrotePart (K.written sink.old) (K.written sink.new) (report_lines counts.now) }
+    ensures kept { OnOk result (K.faults sink.new ≡ K.faults sink.old) }
+    ensures rose { OnErr result (Rose (K.faults sink.old) (K.faults sink.new)) }
+{
+    'workers: for (at, worker) in counts.iter().enumerate() {
+        write_worker(sink, at as u64 + 1, worker)?;
+    }
+    write_all(sink, b"all")?;
+    let sums = sums_of(counts);
+    write_counts(sink, sums.sent, sums.taken, sums.full)
+}
+
+/// Reports how a run ended: its fault, where it has one, or else what the workers did, where that is asked for. Nothing depends on
+/// whether the sink takes it.
+pub fn report_run<K: Sink>(sink: &mut K, fault: &Option<Fault>, worked: &Option<Worked>, asks: bool)
+    ensures reported { Rose (K.faults sink.old) (K.faults sink.new) ⊎ (K.written sink.new ≡ written_with (K.written sink.old) (reported asks fault.now worked.now)) }
+    ensures front { WrotePart (K.written sink.old) (K.written sink.new) (reported asks fault.now worked.now) }
+{
+    if let Some(fault) = fault {
+        let _ = report(sink, fault);
+        return;
+    }
+    if let Some(worked) = worked
+        && asks
+    {
+        let _ = report_workers(sink, worked.counts.as_slice());
+    }
+}
+
+fn sums_of(counts: &[Counts]) -> Sums
+    ensures sent { result.sent ≡ sum_by (λ c. c.sent) counts.now }
+    ensures taken { result.taken ≡ sum_by (λ c. c.taken) counts.now }
+    ensures full { result.full ≡ sum_by (λ c. c.full) counts.now }
+{
+    let mut sums = Sums {
+        sent: 0,
+        taken: 0,
+        full: 0,
+    };
+    'workers: for worker in counts {
+        sums.sent += wide(worker.sent);
+        sums.taken += wide(worker.taken);
+        sums.full += wide(worker.full);
+    }
+    sums
+}
+
+fn wide(number: u64) -> u128
+    ensures same { result ≡ number }
+    ensures small { result ≤ 18446744073709551615 }
+{
+    u128::from(number)
+}
+
+fn write_worker<K: Sink>(sink: &mut K, number: u64, counts: &Counts) -> Result<(), Failed>
+    ensures whole { OnOk result (K.written sink.new ≡ written_with (K.written sink.old) (worker_line number counts.now)) }
+    ensures part { WrotePart (K.written sink.old) (K.written sink.new) (worker_line number counts.now) }
+    ensures kept { OnOk result (K.faults sink.new ≡ K.faults sink.old) }
+    ensures rose { OnErr result (Rose (K.faults sink.old) (K.faults sink.new)) }
+{
+    write_named(sink, b"worker ", wide(number))?;
+    write_counts(
+        sink,
+        wide(counts.sent),
+        wide(counts.taken),
+        wide(counts.full),
+    )
+}
+
+fn write_counts<K: Sink>(sink: &mut K, sent: u128, taken: u128, direct: u128) -> Result<(), Failed>
+    ensures whole { OnOk result (K.written sink.new ≡ written_with (K.written sink.old) (counts_line sent taken direct)) }
+    ensures part { WrotePart (K.written sink.old) (K.written sink.new) (counts_line sent taken direct) }
+    ensures kept { OnOk result (K.faults sink.new ≡ K.faults sink.old) }
+    ensures rose { OnErr result (Rose (K.faults sink.old) (K.faults sink.new)) }
+{
+    write_named(sink, b" sent ", sent)?;
+    write_named(sink, b" taken ", taken)?;
+    write_named(sink, b" direct ", direct)?;
+    write_all(sink, b"\n")
+}
+
+/// Writes a name and then a number.
+fn write_named<K: Sink>(sink: &mut K, name: &[u8], number: u128) -> Result<(), Failed>
+    ensures whole { OnOk result (K.written sink.new ≡ written_with (K.written sink.old) (name.now ++ decimal number)) }
+    ensures part { WrotePart (K.written sink.old) (K.written sink.new) (name.now ++ decimal number) }
+    ensures kept { OnOk result (K.faults sink.new ≡ K.faults sink.old) }
+    ensures rose { OnErr result (Rose (K.faults sink.old) (K.faults sink.new)) }
+{
+    write_all(sink, name)?;
+    write_all(sink, Buffer::new().format(number).as_bytes())
+}

@@ -1,0 +1,93 @@
+-- A worker that goes on after one message more, or stops at a ticket past the limit.
+use Rattle.std.proofs.Common.{◌≡◌, sym, ◌∙◌, ap, subst, suc, ℕ, ◌+◌, ◌<◌, List, [], ◌∷◌, ◌++◌, length, Option, Some, None, Bool, false, inl, inr, rules}
+use Rattle.std.specs.Prelude.{count_by, IfSome, IsSome, All, slice_get}
+use Rattle.std.proofs.lemmas.Option.{slice_get_cases}
+use Rattle.std.proofs.lemmas.List.{length-append}
+use Rattle.scq_topics.specs.declared.kind.Kind.{Kind}
+use Rattle.scq_frames.specs.declared.message.Message.{Message}
+use Rattle.scq_collect.specs.declared.answered.Answered.{Answered}
+use Rattle.scq_collect.specs.declared.answered.Way.TheVariants.{Direct}
+use Rattle.scq_band.specs.Standing.{Identity}
+use Rattle.scq_queue.specs.Passes.{PassStanding, HeldStanding, WasLent, after_spent_put}
+use Rattle.scq_work.specs.Records.{is_take}
+use Rattle.scq_work.specs.Members.{answered}
+use Rattle.scq_work.specs.Working.{Suits, HasTaken, HasSent, HasFoundFull, HasAnswered, HasListed, HasLeft, IsThrifty, IsAtWork, HasStopped, index_of}
+use Rattle.scq_work.proofs.LeftLemmas.{left-at-send}
+use Rattle.scq_work.proofs.WorkerSteps.{producing-sent, producing-helped, thrifty-sent, thrifty-full, thrifty-taken, listed-sent, listed-full, listed-taken}
+
+-- what holds of all holds of the one at an index
+pub one-of-all : {X : Type 0} (P : X → Type 0) (xs : List X) (i : ℕ) (x : X) → All P xs → slice_get xs i ≡ Some x → P x
+one-of-all P xs i x all is =
+    elim (slice_get_cases xs i).1 [
+      | inl at ↦
+          let same : at.0 ≡ x = let first = at.2 in cc in
+          subst P (at.3 ∙ same) (all i at.0 at.1)
+      | inr past ↦ let none = past.1 in absurd (cc)
+    ]
+
+module _ {B : Type 0} where
+  -- the pass still suits
+  pub suits-sent : (shared : Identity B) (topics : ℕ) (m : Message) (p q : PassStanding B) → Suits shared topics p → HasSent m p q → Suits shared topics q
+  suits-sent shared topics m p q suits h =
+      record {
+        queue = ap (λ (x : PassStanding B). x.queue) h.pass ∙ suits.queue;
+        rings = suits.rings;
+        numbers = h.knows.rings ∙ suits.numbers;
+        spent = ap (λ (x : PassStanding B). x.spent) h.pass ∙ suits.spent;
+      }
+
+  pub suits-full : (shared : Identity B) (topics head : ℕ) (p q : PassStanding B) → Suits shared topics p → HasFoundFull head p q → Suits shared topics q
+  suits-full shared topics head p q suits h =
+      record {
+        queue = ap (λ (x : PassStanding B). x.queue) h.pass ∙ suits.queue;
+        rings = suits.rings;
+        numbers = h.knows.rings ∙ suits.numbers;
+        spent = ap (λ (x : PassStanding B). x.spent) h.pass ∙ suits.spent;
+      }
+
+  -- it has sent a message more
+  pub work-sent : (topics : List (List ℕ × Kind)) (messages : List Message) (m : Message) (p q : PassStanding B) (members : List Answered) (starved : Bool)
+      → IsAtWork topics messages p members starved → suc m.topic < length p.numbers → HasSent m p q → IsAtWork topics (messages ++ m ∷ []) q members starved
+  work-sent topics messages m p q members starved was within h =
+      record {
+        producing = producing-sent (length topics + 1) m p q was.producing within h;
+        thrifty = subst (λ n. IsThrifty 0 n q) (sym (length-append messages (m ∷ []))) (thrifty-sent (length messages) m p q was.thrifty h);
+        listed = λ fed. listed-sent topics messages m p q members (was.listed fed) h;
+      }
+
+  -- it found no buffer free, has answered a message more itself, and has helped
+  pub work-helped : (topics : List (List ℕ × Kind)) (messages : List Message) (m : Message) (head : ℕ) (p q r : PassStanding B) (was mid is : List Answered) (before after : Bool)
+      → IsAtWork topics messages p was before → HasFoundFull head p q → HasTaken q r
+      → ((topic : ℕ) → topic < length topics + 1 → count_by (is_take topic) r.calls ≡ count_by (is_take topic) q.calls + 1)
+      → (after ≡ false → before ≡ false) → (after ≡ false → mid ≡ was ++ answered topics (Direct head) m ∷ []) → (after ≡ false → HasAnswered topics q r mid is)
+      → IsAtWork topics (messages ++ m ∷ []) r is after
+  work-helped topics messages m head p q r was mid is before after work full taken each fed_before grown more =
+      record {
+        producing = producing-helped (length topics + 1) head p q r work.producing full taken each;
+        thrifty = subst (λ n. IsThrifty 0 n r) (sym (length-append messages (m ∷ [])))
+            (thrifty-taken (length messages + 1) q r (thrifty-full (length messages) head p q work.thrifty full) taken);
+        listed = λ fed.
+            listed-taken topics (messages ++ m ∷ []) q r mid is
+            (subst (HasListed topics (messages ++ m ∷ []) q) (sym (grown fed)) (listed-full topics messages m head p q was (work.listed (fed_before fed)) full))
+            taken (more fed);
+      }
+
+  -- the send of a value that was lent met Spent: that value came back
+  pub left-sent : (contents : B → List ℕ) (messages topic ticket : ℕ) (p q r : PassStanding B) (h : HeldStanding B) (kept : Option (HeldStanding B)) → WasLent contents p q h
+      → r ≡ after_spent_put (suc topic) ticket q → IsSome kept → IfSome kept (λ k. (k.index ≡ h.index) × (k.queue ≡ h.queue)) → HasLeft messages (messages + 1) p r kept
+  left-sent contents messages topic ticket p q r h None lent is some_ back = absurd (search rules)
+  left-sent contents messages topic ticket p q r h (Some k) lent is some_ back = left-at-send contents messages topic ticket p q r h k lent is back.0 back.1
+
+  -- it met Spent at this message
+  pub work-stopped : (shared : Identity B) (topics : List (List ℕ × Kind)) (messages : List Message) (m : Message) (p q : PassStanding B) (members : List Answered) (starved : Bool)
+      (kept : Option (HeldStanding B)) → IsAtWork topics messages p members starved → p.queue ≡ shared → p.retired ≡ None
+      → HasLeft (length messages) (length messages + 1) p q kept → HasStopped shared (length (messages ++ m ∷ [])) q kept
+  work-stopped shared topics messages m p q members starved kept was queue stays left =
+      record {
+        spent = left.spent;
+        thrifty = subst (λ n. IsThrifty 1 n q) (sym (length-append messages (m ∷ []))) (left.thrifty was.thrifty);
+        queue = left.own.0 ∙ queue;
+        stays = left.own.2 ∙ stays;
+        held = left.held ∙ ap (λ l. l ++ index_of kept) was.producing.none;
+        its = subst (λ (x : Identity B). IfSome kept (λ h. h.queue ≡ x)) queue left.its;
+      }

@@ -1,0 +1,196 @@
+-- How the Full replies stand in a record that grows by the calls for one message, or by takes.
+use Rattle.std.proofs.Common.{◌≡◌, refl, sym, ◌∙◌, ap, subst, arith, suc, ℕ, ◌+◌, ◌<◌, ◌≤◌, List, [], ◌∷◌, ◌++◌, ⊎_elim, Bool, true, false, rules}
+use Rattle.std.specs.Prelude.{count_by}
+use Rattle.std.specs.List.{list_any, before_first}
+use Rattle.std.proofs.lemmas.List.{append_assoc, append-nil}
+use Rattle.std.specs.List.{Contains}
+use Rattle.std.proofs.lemmas.List.Elements.{Contains-append_cases, Contains-push_cases}
+use Rattle.std.proofs.lemmas.List.Folds.{list_any-append}
+use Rattle.std.proofs.lemmas.List.Sums.{sum_by-append}
+use Rattle.scq_core.specs.declared.ended.Ended.{Ended}
+use Rattle.scq_core.specs.declared.ended.Ended.TheVariants.{Done, Got, Nothing, Spent}
+use Rattle.scq_law.specs.Bounds.{tally}
+use Rattle.scq_law.proofs.Base.SeatSums.{tally-append}
+use Rattle.scq_queue.specs.Lists.{was_full}
+use Rattle.scq_work.specs.Records.{is_got, is_put, is_lend, is_take, HoldsNothingAtEachFull, HelpsAfterEachFull, HelpsOnceAfterEachFull, AreTakes, none, and_got, and_found_none, MeetsNoSpent}
+use Rattle.scq_frames.specs.declared.message.Message.{Message}
+use Rattle.scq_work.specs.Passing.{Sends, FollowsCalls, by_send, by_other}
+use Rattle.scq_work.proofs.Splits.{split-append, before-led, before-none, before-some, before-all}
+use Rattle.scq_work.proofs.Blocks.{takes-no_lend, takes-even}
+
+-- where no call is a Full, none stands there
+pub no-full : (calls front after : List Ended) → tally was_full calls ≡ 0 → calls ≡ front ++ Nothing 0 ∷ after → ⊥
+no-full calls front after zero_ is =
+    let all : tally was_full calls ≡ tally was_full front + tally was_full (Nothing 0 ∷ after) = ap (tally was_full) is ∙ tally-append was_full front (Nothing 0 ∷ after) in
+    omega arith
+
+pub takes-no_full : (calls : List Ended) → AreTakes calls → tally was_full calls ≡ 0
+takes-no_full calls none = refl
+takes-no_full calls (and_got {calls = before} topic place back bytes more) =
+    tally-append was_full (before ++ Got (suc topic) place bytes ∷ []) (Done 0 back bytes ∷ [])
+    ∙ rw (tally-append was_full before (Got (suc topic) place bytes ∷ []), takes-no_full before more) (omega arith)
+takes-no_full calls (and_found_none {calls = before} topic more) =
+    tally-append was_full before (Nothing (suc topic) ∷ []) ∙ rw (takes-no_full before more) (omega arith)
+
+-- what the calls behind must say of a Full among them
+pub helps-more : (topics : ℕ) (xs rest : List Ended) (c : Ended) → HelpsOnceAfterEachFull topics xs → is_lend c ≡ true
+    → ((front after : List Ended) (topic : ℕ) → c ∷ rest ≡ front ++ Nothing 0 ∷ after → topic < topics → count_by (is_take topic) (before_first is_lend after) ≡ 1)
+    → HelpsOnceAfterEachFull topics (xs ++ c ∷ rest)
+helps-more topics xs rest c once led inside before after topic is low =
+    ⊎_elim (λ (h : (mid : List Ended) × (xs ≡ before ++ Nothing 0 ∷ mid) × (after ≡ mid ++ c ∷ rest)).
+    ap (λ l. count_by (is_take topic) (before_first is_lend l)) h.2 ∙ ap (count_by (is_take topic)) (before-led is_lend h.0 rest c led) ∙ once before h.0 topic h.1 low)
+    (λ (h : (front : List Ended) × (before ≡ xs ++ front) × (c ∷ rest ≡ front ++ Nothing 0 ∷ after)). inside h.0 after topic h.2 low)
+    (split-append xs (c ∷ rest) before after (Nothing 0) is)
+
+pub alone-more : (xs ys : List Ended) → HoldsNothingAtEachFull xs
+    → ((front after : List Ended) → ys ≡ front ++ Nothing 0 ∷ after → count_by is_got (xs ++ front) ≡ count_by is_put (xs ++ front))
+    → HoldsNothingAtEachFull (xs ++ ys)
+alone-more xs ys alone inside before after is =
+    ⊎_elim (λ (h : (mid : List Ended) × (xs ≡ before ++ Nothing 0 ∷ mid) × (after ≡ mid ++ ys)). alone before h.0 h.1)
+    (λ (h : (front : List Ended) × (before ≡ xs ++ front) × (ys ≡ front ++ Nothing 0 ∷ after)).
+    let P : List Ended → Type 0 = λ l. count_by is_got l ≡ count_by is_put l in
+    subst P (sym h.1) (inside h.0 after h.2))
+    (split-append xs ys before after (Nothing 0) is)
+
+-- a lend and a send: no Full
+pub helps-sent : (topics : ℕ) (xs : List Ended) (from ring place : ℕ) (over bytes : List ℕ) → HelpsOnceAfterEachFull topics xs
+    → HelpsOnceAfterEachFull topics ((xs ++ Got 0 from over ∷ []) ++ Done ring place bytes ∷ [])
+helps-sent topics xs from ring place over bytes once =
+    subst (HelpsOnceAfterEachFull topics) (sym (append_assoc xs (Got 0 from over ∷ []) (Done ring place bytes ∷ [])))
+    (helps-more topics xs (Done ring place bytes ∷ []) (Got 0 from over) once refl
+    (λ front after topic is low. absurd (no-full (Got 0 from over ∷ Done ring place bytes ∷ []) front after refl is)))
+
+pub alone-sent : (xs : List Ended) (from ring place : ℕ) (over bytes : List ℕ) → HoldsNothingAtEachFull xs
+    → HoldsNothingAtEachFull ((xs ++ Got 0 from over ∷ []) ++ Done ring place bytes ∷ [])
+alone-sent xs from ring place over bytes alone =
+    subst HoldsNothingAtEachFull (sym (append_assoc xs (Got 0 from over ∷ []) (Done ring place bytes ∷ [])))
+    (alone-more xs (Got 0 from over ∷ Done ring place bytes ∷ []) alone
+    (λ front after is. absurd (no-full (Got 0 from over ∷ Done ring place bytes ∷ []) front after refl is)))
+
+pub even-sent : (xs : List Ended) (from ring place : ℕ) (over bytes : List ℕ) → count_by is_got xs ≡ count_by is_put xs
+    → count_by is_got ((xs ++ Got 0 from over ∷ []) ++ Done ring place bytes ∷ []) ≡ count_by is_put ((xs ++ Got 0 from over ∷ []) ++ Done ring place bytes ∷ [])
+even-sent xs from ring place over bytes even =
+    let block : List Ended = Got 0 from over ∷ Done ring place bytes ∷ [] in
+    let P : List Ended → Type 0 = λ l. count_by is_got l ≡ count_by is_put l in
+    subst P (sym (append_assoc xs (Got 0 from over ∷ []) (Done ring place bytes ∷ [])))
+    (sum_by-append _ xs block ∙ ap (λ n. n + 1) even ∙ sym (sum_by-append _ xs block))
+
+pub even-taken : (xs block : List Ended) → AreTakes block → count_by is_got xs ≡ count_by is_put xs → count_by is_got (xs ++ block) ≡ count_by is_put (xs ++ block)
+even-taken xs block are even =
+    sum_by-append _ xs block ∙ ap (λ n. n + count_by is_got block) even ∙ ap (λ n. count_by is_put xs + n) (takes-even block are) ∙ sym (sum_by-append _ xs block)
+
+-- a Full, and then the help: a take of each topic
+where-full : (block front after : List Ended) → AreTakes block → Nothing 0 ∷ block ≡ front ++ Nothing 0 ∷ after → (front ≡ []) × (block ≡ after)
+where-full block [] after are is = let same : block ≡ after = cc in (refl, same)
+where-full block (x ∷ front) after are is =
+    let rest : block ≡ front ++ Nothing 0 ∷ after = cc in
+    absurd (no-full block front after (takes-no_full block are) rest)
+
+pub helps-helped : (topics : ℕ) (xs block : List Ended) → AreTakes block → ((topic : ℕ) → topic < topics → count_by (is_take topic) block ≡ 1)
+    → HelpsOnceAfterEachFull topics xs → HelpsOnceAfterEachFull topics ((xs ++ Nothing 0 ∷ []) ++ block)
+helps-helped topics xs block are each once =
+    subst (HelpsOnceAfterEachFull topics) (sym (append_assoc xs (Nothing 0 ∷ []) block))
+    (helps-more topics xs block (Nothing 0) once refl
+    (λ front after topic is low.
+    let at = where-full block front after are is in
+    let P : List Ended → Type 0 = λ l. count_by (is_take topic) (before_first is_lend l) ≡ 1 in
+    subst P at.1 (ap (count_by (is_take topic)) (before-none is_lend block (takes-no_lend block are)) ∙ each topic low)))
+
+pub alone-helped : (xs block : List Ended) → AreTakes block → count_by is_got xs ≡ count_by is_put xs → HoldsNothingAtEachFull xs
+    → HoldsNothingAtEachFull ((xs ++ Nothing 0 ∷ []) ++ block)
+alone-helped xs block are even alone =
+    subst HoldsNothingAtEachFull (sym (append_assoc xs (Nothing 0 ∷ []) block))
+    (alone-more xs (Nothing 0 ∷ block) alone
+    (λ front after is.
+    let at = where-full block front after are is in
+    let P : List Ended → Type 0 = λ l. count_by is_got (xs ++ l) ≡ count_by is_put (xs ++ l) in
+    let Q : List Ended → Type 0 = λ l. count_by is_got l ≡ count_by is_put l in
+    subst P (sym at.0) (subst Q (sym (append-nil xs)) even)))
+
+pub even-helped : (xs block : List Ended) → AreTakes block → count_by is_got xs ≡ count_by is_put xs
+    → count_by is_got ((xs ++ Nothing 0 ∷ []) ++ block) ≡ count_by is_put ((xs ++ Nothing 0 ∷ []) ++ block)
+even-helped xs block are even =
+    even-taken (xs ++ Nothing 0 ∷ []) block are (sum_by-append _ xs (Nothing 0 ∷ []) ∙ ap (λ n. n + 0) even ∙ sym (sum_by-append _ xs (Nothing 0 ∷ [])))
+
+-- takes alone
+pub alone-taken : (xs block : List Ended) → AreTakes block → HoldsNothingAtEachFull xs → HoldsNothingAtEachFull (xs ++ block)
+alone-taken xs block are alone = alone-more xs block alone (λ front after is. absurd (no-full block front after (takes-no_full block are) is))
+
+pub helps-taken : (topics : ℕ) (xs block : List Ended) → AreTakes block → HelpsAfterEachFull topics xs → HelpsAfterEachFull topics (xs ++ block)
+helps-taken topics xs block are helps before after topic is low =
+    ⊎_elim (λ (h : (mid : List Ended) × (xs ≡ before ++ Nothing 0 ∷ mid) × (after ≡ mid ++ block)).
+    let P : List Ended → Type 0 = λ l. (1 ≤ count_by (is_take topic) (before_first is_lend l)) × (list_any is_lend l ≡ true → count_by (is_take topic) (before_first is_lend l) ≡ 1) in
+    subst P (sym h.2) (more h.0 (helps before h.0 topic h.1 low) (list_any is_lend h.0) refl))
+    (λ (h : (front : List Ended) × (before ≡ xs ++ front) × (block ≡ front ++ Nothing 0 ∷ after)). absurd (no-full block h.0 after (takes-no_full block are) h.2))
+    (split-append xs block before after (Nothing 0) is) where
+      more : (mid : List Ended) → (1 ≤ count_by (is_take topic) (before_first is_lend mid)) × (list_any is_lend mid ≡ true → count_by (is_take topic) (before_first is_lend mid) ≡ 1)
+          → (b : Bool) → list_any is_lend mid ≡ b
+          → (1 ≤ count_by (is_take topic) (before_first is_lend (mid ++ block)))
+          × (list_any is_lend (mid ++ block) ≡ true → count_by (is_take topic) (before_first is_lend (mid ++ block)) ≡ 1)
+      more mid had true some_ =
+          let same = before-some is_lend mid block some_ in
+          let P : List Ended → Type 0 = λ l. 1 ≤ count_by (is_take topic) l in
+          (subst P (sym same) had.0, λ h. ap (count_by (is_take topic)) same ∙ had.1 some_)
+      more mid had false none_ =
+          let whole = before-all is_lend mid block none_ in
+          let first : before_first is_lend mid ≡ mid = before-none is_lend mid none_ in
+          let P : List Ended → Type 0 = λ l. 1 ≤ count_by (is_take topic) l in
+          let low_ : 1 ≤ count_by (is_take topic) mid = subst P first had.0 in
+          let rest = before_first is_lend block in
+          let sum : count_by (is_take topic) (mid ++ rest) ≡ count_by (is_take topic) mid + count_by (is_take topic) rest = sum_by-append _ mid rest in
+          let never : list_any is_lend (mid ++ block) ≡ false = list_any-append is_lend mid block ∙ rw (none_, takes-no_lend block are) refl in
+          (subst P (sym whole) (omega arith), λ h. absurd (cc))
+
+pub helps-once : (topics : ℕ) (xs : List Ended) → HelpsOnceAfterEachFull topics xs → HelpsAfterEachFull topics xs
+helps-once topics xs once before after topic is low = (let one = once before after topic is low in omega arith, λ h. once before after topic is low)
+
+-- no call of these met Spent
+pub unspent-more : (xs ys : List Ended) → MeetsNoSpent xs → MeetsNoSpent ys → MeetsNoSpent (xs ++ ys)
+unspent-more xs ys one more ring ticket put has =
+    ⊎_elim (one ring ticket put) (more ring ticket put) (Contains-append_cases xs ys (Spent ring ticket put) has)
+
+-- a call that is none, alone
+unspent-one : (call : Ended) → ((ring ticket : ℕ) (put : Bool) → call ≡ Spent ring ticket put → ⊥) → MeetsNoSpent (call ∷ [])
+unspent-one call other ring ticket put has =
+    ⊎_elim (λ (h : Contains [] (Spent ring ticket put)). absurd (search rules)) (other ring ticket put) (Contains-push_cases [] call (Spent ring ticket put) has)
+
+unspent-got : (ring place : ℕ) (bytes : List ℕ) → MeetsNoSpent (Got ring place bytes ∷ [])
+unspent-got ring place bytes = unspent-one (Got ring place bytes) (λ r t p is. absurd (cc))
+
+unspent-done : (ring place : ℕ) (bytes : List ℕ) → MeetsNoSpent (Done ring place bytes ∷ [])
+unspent-done ring place bytes = unspent-one (Done ring place bytes) (λ r t p is. absurd (cc))
+
+unspent-nothing : (ring : ℕ) → MeetsNoSpent (Nothing ring ∷ [])
+unspent-nothing ring = unspent-one (Nothing ring) (λ r t p is. absurd (cc))
+
+pub unspent-sent : (xs : List Ended) (from ring place : ℕ) (over bytes : List ℕ) → MeetsNoSpent xs → MeetsNoSpent ((xs ++ Got 0 from over ∷ []) ++ Done ring place bytes ∷ [])
+unspent-sent xs from ring place over bytes was =
+    unspent-more (xs ++ Got 0 from over ∷ []) (Done ring place bytes ∷ []) (unspent-more xs (Got 0 from over ∷ []) was (unspent-got 0 from over)) (unspent-done ring place bytes)
+
+pub unspent-full : (xs : List Ended) → MeetsNoSpent xs → MeetsNoSpent (xs ++ Nothing 0 ∷ [])
+unspent-full xs was = unspent-more xs (Nothing 0 ∷ []) was (unspent-nothing 0)
+
+pub unspent-taken : (xs block : List Ended) → AreTakes block → MeetsNoSpent xs → MeetsNoSpent (xs ++ block)
+unspent-taken xs block are was = unspent-more xs block was (all block are) where
+  all : (calls : List Ended) → AreTakes calls → MeetsNoSpent calls
+  all calls none = λ ring ticket put has. absurd (search rules)
+  all calls (and_got {calls = before} topic place back bytes more) =
+      unspent-more (before ++ Got (suc topic) place bytes ∷ []) (Done 0 back bytes ∷ [])
+      (unspent-more before (Got (suc topic) place bytes ∷ []) (all before more) (unspent-got (suc topic) place bytes)) (unspent-done 0 back bytes)
+  all calls (and_found_none {calls = before} topic more) = unspent-more before (Nothing (suc topic) ∷ []) (all before more) (unspent-nothing (suc topic))
+
+-- messages go on following a record that grows
+pub follows-sent : (ms : List Message) (m : Message) (xs : List Ended) (from place : ℕ) (over bytes : List ℕ) → FollowsCalls ms xs
+    → Sends m (record { topic = m.topic; place = place; bytes = bytes }) → FollowsCalls (ms ++ m ∷ []) ((xs ++ Got 0 from over ∷ []) ++ Done (suc m.topic) place bytes ∷ [])
+follows-sent ms m xs from place over bytes was sends = by_send m place bytes (by_other (Got 0 from over) was refl refl) sends
+
+pub follows-taken : (ms : List Message) (xs block : List Ended) → AreTakes block → FollowsCalls ms xs → FollowsCalls ms (xs ++ block)
+follows-taken ms xs block none was = subst (FollowsCalls ms) (sym (append-nil xs)) was
+follows-taken ms xs block (and_got {calls} topic place back bytes more) was =
+    let got : List Ended = Got (suc topic) place bytes ∷ [] in
+    let put : List Ended = Done 0 back bytes ∷ [] in
+    subst (FollowsCalls ms) (ap (λ l. l ++ put) (append_assoc xs calls got) ∙ append_assoc xs (calls ++ got) put)
+    (by_other (Done 0 back bytes) (by_other (Got (suc topic) place bytes) (follows-taken ms xs calls more was) refl refl) refl refl)
+follows-taken ms xs block (and_found_none {calls} topic more) was =
+    subst (FollowsCalls ms) (append_assoc xs calls (Nothing (suc topic) ∷ []))
+    (by_other (Nothing (suc topic)) (follows-taken ms xs calls more was) refl refl)

@@ -1,0 +1,172 @@
+-- A worker's whole work: how it begins, and what its end is, by how it left.
+use Rattle.std.proofs.Common.{◌≡◌, refl, sym, ◌∙◌, ap, subst, arith, zero, suc, ℕ, ◌+◌, ◌<◌, List, [], ◌∷◌, ◌++◌, length, take, drop, Option, Some, None, Bool, false, rules}
+use Rattle.std.specs.Prelude.{IfSome}
+use Rattle.std.specs.List.{All, list_any}
+use Rattle.std.proofs.lemmas.List.{length-append}
+use Rattle.std.proofs.Math.Seq.{take-append_seam, drop-append_seam}
+use Rattle.scq_word.specs.declared.setup.Setup.{Setup}
+use Rattle.scq_core.specs.declared.ended.Ended.{Ended}
+use Rattle.scq_core.specs.declared.ended.Ended.TheVariants.{Nothing}
+use Rattle.scq_topics.specs.declared.kind.Kind.{Kind}
+use Rattle.scq_collect.specs.declared.answered.Answered.{Answered}
+use Rattle.scq_band.specs.Numbers.{first_numbers, first_numbers_of}
+use Rattle.scq_band.specs.Standing.{Identity}
+use Rattle.scq_queue.specs.Passes.{PassStanding, HeldStanding, first_pass, known_on}
+use Rattle.scq_work.specs.Desks.{all_given, HasRun}
+use Rattle.scq_work.specs.Given.{given_in}
+use Rattle.scq_work.specs.Members.{none}
+use Rattle.scq_work.specs.Passing as passing
+use Rattle.scq_work.specs.Passing.{no_call}
+use Rattle.scq_work.specs.Records.{is_lend, HelpsOnceAfterEachFull}
+use Rattle.scq_work.specs.Together.{HasRetired}
+use Rattle.scq_queue.specs.Lists.{sends_of}
+use Rattle.scq_work.proofs.Blocks.{takes-no_lend, takes-no_send}
+use Rattle.scq_work.specs.Reading.{IsRead}
+use Rattle.scq_work.specs.Working.{Suits, HasTaken, HasAnswered, HasLeft, IsSweeping, IsThrifty, IsAtWork, HasStopped, index_of, after_retire}
+use Rattle.scq_work.specs.declared.own_file.OwnFile.{OwnFile}
+use Rattle.scq_work.proofs.WorkerSteps.{taken-calls, sweeping-first, sweeping-taken, swept, thrifty-taken, listed-taken}
+
+first-length : (c : Setup) (n : ℕ) → length (first_numbers c n) ≡ n
+first-length c zero = refl
+first-length c (suc n) = length-append (first_numbers c n) (first_numbers_of c n ∷ []) ∙ (let rest = first-length c n in omega arith)
+
+-- of no calls each is nowhere
+no-call : (before after : List Ended) (call : Ended) → [] ≡ before ++ call ∷ after → ⊥
+no-call [] after call is = absurd (cc)
+no-call (x ∷ before) after call is = absurd (cc)
+
+-- what of files is read
+abbrev pub AllRead : {S : Type 0} → List (List ℕ × Kind) → ℕ → (S → ℕ) → (S → Option (List ℕ)) → List (OwnFile S) → Type 0
+AllRead topics size faults left files = All (λ f. IsRead topics size faults left f.number f.was.value f.source (given_in f.given.value) f.end) files
+
+module _ {B : Type 0} where
+  -- a new pass suits, and nothing is passed on yet
+  pub suits-first : (shared : Identity B) (topics number : ℕ) (p : PassStanding B) → shared.setup.rings ≡ topics + 2 → p ≡ first_pass shared number → Suits shared topics p
+  suits-first shared topics number p rings is =
+      subst (Suits shared topics) (sym is)
+      (record { queue = refl; rings = rings; numbers = first-length shared.setup shared.setup.rings ∙ rings; spent = refl })
+
+  pub work-first : (topics : List (List ℕ × Kind)) (shared : Identity B) (number : ℕ) (p : PassStanding B) (members : List Answered) (starved : Bool) → p ≡ first_pass shared number
+      → members ≡ [] → IsAtWork topics [] p members starved
+  work-first topics shared number p members starved is new =
+      subst (λ (q : PassStanding B). IsAtWork topics [] q members starved) (sym is)
+      (subst (λ (l : List Answered). IsAtWork topics [] (first_pass shared number) l starved) (sym new)
+      (record {
+        producing = record {
+          helps = λ before after topic at low. absurd (no-call before after (Nothing 0) at);
+          alone = λ before after at. absurd (no-call before after (Nothing 0) at);
+          even = refl;
+          none = refl;
+          unspent = λ ring ticket put has. absurd (search rules);
+          knows = record { sends = λ m has. absurd (search rules) };
+        };
+        thrifty = record { sends = omega arith; fulls = omega arith; puts = λ topic. omega arith; returns = omega arith };
+        listed = λ fed. record { passed = passing.none; follows = no_call; takes = none; fulls = tt };
+      }))
+
+  -- retiring changes none of these
+  sweeping-retired : (topics : ℕ) (p : PassStanding B) → IsSweeping topics p → IsSweeping topics (after_retire p)
+  sweeping-retired topics p was = record { helps = was.helps; alone = was.alone; even = was.even; none = was.none; unspent = was.unspent; knows = record { sends = was.knows.sends } }
+
+  thrifty-retired : (late messages : ℕ) (p : PassStanding B) → IsThrifty late messages p → IsThrifty late messages (after_retire p)
+  thrifty-retired late messages p was = record { sends = was.sends; fulls = was.fulls; puts = was.puts; returns = was.returns }
+
+  -- it met no Spent
+  thrifty-on_time : (messages : ℕ) (p : PassStanding B) → IsThrifty 0 messages p → IsThrifty 1 messages p
+  thrifty-on_time messages p was =
+      record {
+        sends = was.sends;
+        fulls = was.fulls;
+        puts = λ topic. let low = was.puts topic in omega arith;
+        returns = let low = was.returns in omega arith;
+      }
+
+  -- it retired, and then only took
+  retired-taken : (topics : List (List ℕ × Kind)) (p q : PassStanding B) → HelpsOnceAfterEachFull (length topics + 1) p.calls → HasTaken (after_retire p) q
+      → HasRetired (length topics + 1) q
+  retired-taken topics p q helps taken =
+      let calls : q.calls ≡ p.calls ++ taken.block = taken-calls (after_retire p) q taken in
+      let front : take (length p.calls) q.calls ≡ p.calls = ap (take (length p.calls)) calls ∙ take-append_seam p.calls taken.block in
+      let rest : drop (length p.calls) q.calls ≡ taken.block = ap (drop (length p.calls)) calls ∙ drop-append_seam p.calls taken.block in
+      record {
+        calls = length p.calls;
+        retired = ap (λ (x : PassStanding B). x.retired) taken.pass;
+        within = omega (arith, ap length calls, length-append p.calls taken.block);
+        helps = subst (HelpsOnceAfterEachFull (length topics + 1)) (sym front) helps;
+        lends = ap (list_any is_lend) rest ∙ takes-no_lend taken.block taken.are;
+        sends = ap sends_of rest ∙ takes-no_send taken.block taken.are;
+      }
+
+  -- it has read its files, swept and left
+  pub run-left : {S : Type 0} (shared : Identity B) (topics : List (List ℕ × Kind)) (size : ℕ) (faults : S → ℕ) (left : S → Option (List ℕ)) (files : List (OwnFile S))
+      (p q : PassStanding B) (was is : List Answered) (before after : Bool) (kept : Option (HeldStanding B))
+      → AllRead topics size faults left files → Suits shared (length topics) p → IsAtWork topics (all_given files) p was before
+      → HasTaken (after_retire p) q → ((t : ℕ) → t < length topics + 1 → (known_on t q).finished < (known_on t q).head)
+      → (after ≡ false → before ≡ false) → (after ≡ false → HasAnswered topics p q was is) → kept ≡ None
+      → HasRun shared topics size faults left files q is after kept
+  run-left shared topics size faults left files p q was is before after kept read suits work taken empty fed_before more nothing =
+      let sweeping = sweeping-taken (length topics + 1) (after_retire p) q (sweeping-retired (length topics + 1) p (sweeping-first (length topics + 1) p work.producing)) taken in
+      let long : length q.numbers ≡ length topics + 2 = taken.knows.rings ∙ suits.numbers in
+      record {
+        read = read;
+        thrifty = thrifty-on_time (length (all_given files)) q
+            (thrifty-taken (length (all_given files)) (after_retire p) q (thrifty-retired 0 (length (all_given files)) p work.thrifty) taken);
+        queue = ap (λ (x : PassStanding B). x.queue) taken.pass ∙ suits.queue;
+        retired = (length p.calls, ap (λ (x : PassStanding B). x.retired) taken.pass);
+        held = sweeping.none ∙ ap index_of (sym nothing);
+        its = subst (λ (k : Option (HeldStanding B)). IfSome k (λ h. h.queue ≡ shared)) (sym nothing) tt;
+        sweeping = λ awake. sweeping;
+        ended = λ awake. retired-taken topics p q work.producing.helps taken;
+        swept = λ awake. swept q sweeping.knows (λ t low. empty t (omega arith));
+        listed = λ awake fed.
+            let old = work.listed (fed_before fed) in
+            let answered = more fed in
+            listed-taken topics (all_given files) (after_retire p) q was is (record { passed = old.passed; follows = old.follows; takes = old.takes; fulls = old.fulls }) taken
+            (record { takes = answered.takes; directs = answered.directs });
+      }
+
+  -- of a pass that keeps a ticket none of what is said of others need be shown
+  some-none : (p : PassStanding B) (ticket : ℕ) → p.spent ≡ Some ticket → p.spent ≡ None → ⊥
+  some-none p ticket is none_ = absurd (cc)
+
+  -- it met Spent in a sweep
+  pub run-late : {S : Type 0} (shared : Identity B) (topics : List (List ℕ × Kind)) (size : ℕ) (faults : S → ℕ) (left : S → Option (List ℕ)) (files : List (OwnFile S))
+      (p q : PassStanding B) (was is : List Answered) (before after : Bool) (kept held : Option (HeldStanding B))
+      → AllRead topics size faults left files → Suits shared (length topics) p → IsAtWork topics (all_given files) p was before
+      → HasLeft (length (all_given files)) (length (all_given files)) (after_retire p) q held → kept ≡ held
+      → HasRun shared topics size faults left files q is after kept
+  run-late shared topics size faults left files p q was is before after kept held read suits work end same =
+      subst (λ k. HasRun shared topics size faults left files q is after k) (sym same)
+      (record {
+        read = read;
+        thrifty = end.thrifty (thrifty-retired 0 (length (all_given files)) p work.thrifty);
+        queue = end.own.0 ∙ suits.queue;
+        retired = (length p.calls, end.own.2);
+        held = end.held ∙ ap (λ l. l ++ index_of held) work.producing.none;
+        its = subst (λ (x : Identity B). IfSome held (λ h. h.queue ≡ x)) suits.queue end.its;
+        sweeping = λ awake. absurd (some-none q end.spent.0 end.spent.1 awake);
+        ended = λ awake. absurd (some-none q end.spent.0 end.spent.1 awake);
+        swept = λ awake. absurd (some-none q end.spent.0 end.spent.1 awake);
+        listed = λ awake fed. absurd (some-none q end.spent.0 end.spent.1 awake);
+      })
+
+  -- it met Spent while it read its files, and then retired
+  pub run-stopped : {S : Type 0} (shared : Identity B) (topics : List (List ℕ × Kind)) (size : ℕ) (faults : S → ℕ) (left : S → Option (List ℕ)) (files : List (OwnFile S))
+      (p q : PassStanding B) (is : List Answered) (after : Bool) (kept held : Option (HeldStanding B))
+      → AllRead topics size faults left files → HasStopped shared (length (all_given files)) p held → q ≡ after_retire p → kept ≡ held
+      → HasRun shared topics size faults left files q is after kept
+  run-stopped shared topics size faults left files p q is after kept held read end retired same =
+      subst (λ k. HasRun shared topics size faults left files q is after k) (sym same)
+      (subst (λ (x : PassStanding B). HasRun shared topics size faults left files x is after held) (sym retired)
+      (record {
+        read = read;
+        thrifty = thrifty-retired 1 (length (all_given files)) p end.thrifty;
+        queue = end.queue;
+        retired = (length p.calls, refl);
+        held = end.held;
+        its = end.its;
+        sweeping = λ awake. absurd (some-none p end.spent.0 end.spent.1 awake);
+        ended = λ awake. absurd (some-none p end.spent.0 end.spent.1 awake);
+        swept = λ awake. absurd (some-none p end.spent.0 end.spent.1 awake);
+        listed = λ awake fed. absurd (some-none p end.spent.0 end.spent.1 awake);
+      }))

@@ -1,0 +1,52 @@
+use Rattle.std.proofs.Common.{rules, ◌≡◌, ◌+◌, ◌∙◌, ap, sym, subst, arith, refl, ℕ, true, length, Ok}
+use Rattle.std.specs.Prelude.{IfErr, Result, Err}
+use Rattle.scq_work.specs.Working.{HasLeft}
+use Rattle.scq_work.proofs.PassLemmas.{taken-nothing, taken-along, left-falls, left-falls-at, empty-more}
+use Rattle.scq_work.proofs.LeftLemmas.{left-taken}
+use Rattle.scq_work.proofs.WorkerSteps.{answered-along, answered-nothing}
+use Rattle.scq_work.proofs.worker.Worker.sweep.Goals as goal
+use Rattle.scq_work.proofs.worker.Worker.sweep.Goals.{then-some, else-some}
+
+pub swept-init : goal.swept-init
+swept-init g c = record {
+  taken = taken-nothing c.args.self.now.pass;
+  answered = λ fed. answered-nothing c.args.job.now.topics c.args.self.now.pass c.args.self.now.members.items;
+  starved = λ fed. fed;
+  number = refl;
+  empty = λ t low. absurd (omega arith);
+  some = λ h. absurd (cc);
+}
+
+pub swept-preserved : goal.swept-preserved
+swept-preserved g c =
+    let inv = c.swept.invariant in
+    let limit = c.args.queue.now.setup.limit in
+    let all = length c.args.job.now.topics + 1 in
+    let more = c.in_ok-more.ensures.taken in
+    record {
+      taken = taken-along c.args.self.now.pass c.swept.self.pass c.sweep_topic.new.self.pass inv.taken more;
+      answered = λ fed. answered-along c.args.job.now.topics c.args.self.now.pass c.swept.self.pass c.sweep_topic.new.self.pass c.args.self.now.members.items
+          c.swept.self.members.items c.sweep_topic.new.self.members.items (inv.answered (c.sweep_topic.ensures.starved fed)) (c.in_ok-more.ensures.answered fed);
+      starved = λ fed. inv.starved (c.sweep_topic.ensures.starved fed);
+      number = c.sweep_topic.ensures.number ∙ inv.number;
+      empty = empty-more c.swept.topic c.swept.self.pass c.sweep_topic.new.self.pass more inv.empty c.in_ok-more.ensures.empty;
+      some = λ h.
+          elim c.if-some.branch [
+            | then-some w ↦
+                let was = inv.some w.if-some.true in
+                let rest = left-falls limit all c.swept.self.pass c.sweep_topic.new.self.pass more.knows in
+                omega arith
+            | else-some w ↦
+                let full : c.in_ok-more.more ≡ true = cc in
+                let said = c.in_ok-more.ensures.some (ap Ok full) in
+                let rest = left-falls limit all c.args.self.now.pass c.swept.self.pass inv.taken.knows in
+                let falls = left-falls-at limit all c.swept.topic c.swept.self.pass c.sweep_topic.new.self.pass more.knows (omega arith) said.0 said.1 in
+                omega arith
+          ];
+    }
+
+pub returns-in_err-more-clause-left : goal.returns-in_err-more-clause-left
+returns-in_err-more-clause-left g c =
+    let is : c.from_residual.result ≡ Err c.in_err-more.field-0.0 = search rules in
+    subst (λ (r : Result _ _). IfErr r (λ l. (messages : ℕ) → HasLeft messages messages c.args.self.now.pass c.sweep_topic.new.self.pass l.held)) (sym is)
+    (λ messages. left-taken messages messages c.args.self.now.pass c.swept.self.pass c.sweep_topic.new.self.pass _ c.swept.invariant.taken (c.in_err-more.ensures.left messages))

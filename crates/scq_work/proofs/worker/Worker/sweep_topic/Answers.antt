@@ -1,0 +1,47 @@
+use Rattle.std.proofs.Common.{rules, ◌≡◌, ◌∙◌, sym, subst, arith, refl, ℕ}
+use Rattle.std.specs.Prelude.{IfErr, Result, Err}
+use Rattle.scq_work.specs.Working.{HasLeft}
+use Rattle.scq_work.proofs.PassLemmas.{taken-nothing, taken-along}
+use Rattle.scq_work.proofs.LeftLemmas.{left-taken}
+use Rattle.scq_work.proofs.WorkerSteps.{answered-along, answered-nothing}
+use Rattle.scq_work.proofs.worker.Worker.sweep_topic.Goals as goal
+
+pub takes-init : goal.takes-init
+takes-init g c = record {
+  taken = taken-nothing c.args.self.now.pass;
+  answered = λ fed. answered-nothing c.args.job.now.topics c.args.self.now.pass c.args.self.now.members.items;
+  starved = λ fed. fed;
+  number = refl;
+  some = λ h. absurd (cc);
+}
+
+pub takes-preserved : goal.takes-preserved
+takes-preserved g c =
+    let inv = c.takes.invariant in
+    let more = inv.taken.knows.head c.args.topic in
+    let said = c.take_one.ensures.some (cc) in
+    record {
+      taken = taken-along c.args.self.now.pass c.takes.self.pass c.take_one.new.self.pass inv.taken c.in_ok-more.ensures.taken;
+      answered = λ fed. answered-along c.args.job.now.topics c.args.self.now.pass c.takes.self.pass c.take_one.new.self.pass c.args.self.now.members.items
+          c.takes.self.members.items c.take_one.new.self.members.items (inv.answered (c.take_one.ensures.starved fed)) (c.in_ok-more.ensures.answered fed);
+      starved = λ fed. inv.starved (c.take_one.ensures.starved fed);
+      number = c.take_one.ensures.number ∙ inv.number;
+      some = λ h. (let rises = said.0 in omega arith, let low = said.1 in omega arith);
+    }
+
+pub takes-smaller : goal.takes-smaller
+takes-smaller g c =
+    let said = c.take_one.ensures.some (cc) in
+    let rises = said.0 in
+    let low = said.1 in
+    omega arith
+
+pub returns-else-more-clause-taken : goal.returns-else-more-clause-taken
+returns-else-more-clause-taken g c =
+    taken-along c.args.self.now.pass c.takes.self.pass c.take_one.new.self.pass c.takes.invariant.taken c.in_ok-more.ensures.taken
+
+pub returns-in_err-more-clause-left : goal.returns-in_err-more-clause-left
+returns-in_err-more-clause-left g c =
+    let is : c.from_residual.result ≡ Err c.in_err-more.field-0.0 = search rules in
+    subst (λ (r : Result _ _). IfErr r (λ l. (messages : ℕ) → HasLeft messages messages c.args.self.now.pass c.take_one.new.self.pass l.held)) (sym is)
+    (λ messages. left-taken messages messages c.args.self.now.pass c.takes.self.pass c.take_one.new.self.pass _ c.takes.invariant.taken (c.in_err-more.ensures.left messages))

@@ -1,0 +1,18 @@
+use Rattle.std.proofs.Common.{◌≡◌, ◌<◌, ◌-◌, true, false}
+use Rattle.scq_queue.specs.Passes.{known_on}
+use Rattle.scq_work.specs.Working.{HasTaken, HasAnswered}
+use Rattle.scq_work.proofs.worker.Worker.sweep_topic.Given as goal
+
+-- once anything was taken, it is known that more was passed
+abbrev pub invariant-takes : goal.invariant-takes
+invariant-takes g l = record {
+  taken : HasTaken l.fn.self.pass l.self.pass;
+  answered : l.self.starved ≡ false → HasAnswered l.job.topics l.fn.self.pass l.self.pass l.fn.self.members.items l.self.members.items;
+  starved : l.self.starved ≡ false → l.fn.self.starved ≡ false;
+  number : l.self.number ≡ l.fn.self.number;
+  some : l.some ≡ true → ((known_on l.topic l.fn.self.pass).head < (known_on l.topic l.self.pass).head) × ((known_on l.topic l.fn.self.pass).head < l.queue.setup.limit);
+}
+
+-- each take that gets something has a place that is not below the head known, and below the limit
+abbrev pub decreases-takes : goal.decreases-takes
+decreases-takes g l = l.queue.setup.limit - (known_on l.topic l.self.pass).head

@@ -1,0 +1,44 @@
+use Rattle.std.proofs.Common.{◌≡◌, ◌<◌, ◌++◌, ◌∷◌, ◌∙◌, ap, subst, arith, suc, [], length, None}
+use Rattle.std.specs.Prelude.{count_by}
+use Rattle.std.proofs.lemmas.List.Sums.{sum_by-append}
+use Rattle.scq_core.specs.declared.ended.Ended.TheVariants.{Nothing}
+use Rattle.scq_queue.specs.Passes.{PassStanding, WasGivenBack, after_spent_put}
+use Rattle.scq_work.specs.Records.{is_take}
+use Rattle.scq_work.proofs.PassLemmas.{took-one, found-none}
+use Rattle.scq_work.proofs.LeftLemmas.{left-at-get, left-at-return}
+use Rattle.scq_work.proofs.worker.Worker.take_one.Goals as goal
+
+pub returns-in-Ok-give_back-clause-taken : goal.returns-in-Ok-give_back-clause-taken
+returns-in-Ok-give_back-clause-taken g c =
+    let low : suc c.args.topic < length c.args.self.now.pass.numbers = let n = c.requires.suits.numbers in omega arith in
+    took-one g.B.Buffer.contents c.args.topic c.in-Ok.place c.args.self.now.pass c.take.new.pass c.give_back.new.pass c.in-Ok.held low c.in-Ok.ensures.took
+    (subst (λ (p : PassStanding _). WasGivenBack (g.B.Buffer.contents c.in-Ok.held.buffer) c.in-Ok.held.index p c.give_back.new.pass) c.answer_taken.ensures.same.0 c.in-Ok-give_back.ensures.given)
+
+pub returns-in-Err-clause-left : goal.returns-in-Err-clause-left
+returns-in-Err-clause-left g c messages =
+    let fresh : c.answer_taken.new.self.pass.spent ≡ None =
+    ap (λ (x : PassStanding _). x.spent) (c.answer_taken.ensures.same.0 ∙ c.in-Ok.ensures.took.pass) ∙ c.requires.suits.spent in
+    let said = c.in-Err.ensures.spent fresh in
+    left-at-return g.B.Buffer.contents messages c.args.topic c.in-Ok.place c.in-Err.field-0-1.ticket c.args.self.now.pass c.take.new.pass c.give_back.new.pass c.in-Ok.held c.in-Err.held
+    c.in-Ok.ensures.took (said.0 ∙ ap (after_spent_put 0 c.in-Err.field-0-1.ticket) c.answer_taken.ensures.same.0) c.in-Err.ensures.back
+
+pub returns-in-Err-Empty-clause-taken : goal.returns-in-Err-Empty-clause-taken
+returns-in-Err-Empty-clause-taken g c =
+    let low : suc c.args.topic < length c.args.self.now.pass.numbers = let n = c.requires.suits.numbers in omega arith in
+    (found-none c.args.topic c.in-Err-Empty.field-0-0 c.args.self.now.pass c.take.new.pass low (c.in-Err-Empty.ensures.empty c.in-Err-Empty.field-0-0 (cc))).0
+
+pub returns-in-Err-Empty-clause-one : goal.returns-in-Err-Empty-clause-one
+returns-in-Err-Empty-clause-one g c t =
+    let found = c.in-Err-Empty.ensures.empty c.in-Err-Empty.field-0-0 (cc) in
+    let calls : c.take.new.pass.calls ≡ c.args.self.now.pass.calls ++ Nothing (suc c.args.topic) ∷ [] = ap (λ (x : PassStanding _). x.calls) found.pass in
+    ap (count_by (is_take t)) calls ∙ sum_by-append _ c.args.self.now.pass.calls (Nothing (suc c.args.topic) ∷ []) ∙ omega arith
+
+pub returns-in-Err-Empty-clause-empty : goal.returns-in-Err-Empty-clause-empty
+returns-in-Err-Empty-clause-empty g c is =
+    let low : suc c.args.topic < length c.args.self.now.pass.numbers = let n = c.requires.suits.numbers in omega arith in
+    (found-none c.args.topic c.in-Err-Empty.field-0-0 c.args.self.now.pass c.take.new.pass low (c.in-Err-Empty.ensures.empty c.in-Err-Empty.field-0-0 (cc))).1
+
+pub returns-in-Err-Spent-clause-left : goal.returns-in-Err-Spent-clause-left
+returns-in-Err-Spent-clause-left g c messages =
+    left-at-get messages (suc c.args.topic) c.in-Err-Spent.field-0-0 c.args.self.now.pass c.take.new.pass
+    (c.in-Err-Spent.ensures.spent c.in-Err-Spent.field-0-0 (cc) c.requires.suits.spent).0

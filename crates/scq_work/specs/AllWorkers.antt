@@ -1,0 +1,92 @@
+-- What all workers did with the messages of files. `given` has the messages of each file, in the order of the files. A worker is told by
+-- its number, from 0: by it stand its pass among the passes, and its list among the lists.
+use Rattle.std.specs.Prelude.{◌≡◌, ℕ, ◌+◌, ◌^◌, ◌≤◌, List, length, map, flat_map, sum, Some, slice_get, All, Vec}
+use Rattle.std.specs.Global.{Global}
+use Rattle.std.specs.List.Sorted.{IsPermutation}
+use Rattle.scq_topics.specs.declared.kind.Kind.{Kind}
+use Rattle.scq_frames.specs.declared.message.Message.{Message}
+use Rattle.scq_collect.specs.Collected.{answer_of}
+use Rattle.scq_collect.specs.Merging.{AreApart, members_in, place_of_answered}
+use Rattle.scq_collect.specs.Output.{without_way}
+use Rattle.scq_collect.specs.declared.answered.Answered.{Answered}
+use Rattle.scq_word.specs.declared.setup.Setup.{Setup}
+use Rattle.scq_word.specs.Sizes.{n_of}
+use Rattle.scq_band.specs.Standing.{Identity}
+use Rattle.scq_queue.specs.Closing.{AllFullsStand, IsBalance}
+use Rattle.scq_queue.specs.Lists.{sends_of, takes_of}
+use Rattle.scq_queue.specs.Passes.{PassStanding}
+use Rattle.scq_queue.specs.declared.counts.Counts.{Counts}
+use Rattle.scq_work.specs.Files.{own_of}
+use Rattle.scq_work.specs.declared.worked.Worked.{Worked}
+use Rattle.scq_work.specs.Members.{AnswersItsTakes, AnswersItsFulls}
+use Rattle.scq_work.specs.Passing.{HasPassedOn, FollowsCalls}
+use Rattle.scq_work.specs.Records.{HoldsNothingAtEachFull, HelpsAfterEachFull, MeetsNoSpent}
+use Rattle.scq_work.specs.Together.{SendsAreTakes, NoPlaceStandsTwice, NothingIsLeft, HasRetired, NoneSpent, IsBounded}
+
+-- the setup of a queue for a job: a ring for each of so many topics, one for the buffers that nobody holds, and a seat for each worker
+pub record IsSetup (order topics workers : ℕ) (c : Setup) : Type 0 where
+  pub buffers : c.order ≡ order
+  pub rings : c.rings ≡ topics + 1
+  pub seats : c.seats ≡ workers
+  pub limit : c.limit ≡ 2 ^ 60
+
+module _ {B : Type 0} where
+  -- P holds of each worker's number, pass and list
+  abbrev pub OfEachWorker : (ℕ → PassStanding B → List Answered → Type 0) → List (PassStanding B) → List (Vec Answered Global) → Type 0
+  OfEachWorker P passes lists =
+      (w : ℕ) (p : PassStanding B) (list : Vec Answered Global) → slice_get passes w ≡ Some p → slice_get lists w ≡ Some list → P w p list.items
+
+  -- the workers' lists, against the messages of files and the workers' passes
+  pub record HaveAnswered (topics : List (List ℕ × Kind)) (size workers : ℕ) (given : List (List Message)) (passes : List (PassStanding B)) (lists : List (Vec Answered Global))
+      : Type 0 where
+    pub each_pass : length passes ≡ workers
+    pub each_list : length lists ≡ workers
+    -- the answers in all lists are those to all messages, each once
+    pub once : IsPermutation (map without_way (members_in lists)) (map (answer_of topics) (flat_map (λ own. own) given))
+    -- no two have one file and line; each is on a known topic, with a payload of at most `size` bytes
+    pub apart : AreApart place_of_answered (members_in lists)
+    pub known : All (λ a. a.topic ≤ length topics) (members_in lists)
+    pub short : All (λ a. a.bytes ≤ size) (members_in lists)
+    -- one by one and in order, the Taken members of a worker's list are its takes, and the Direct ones its Full replies
+    pub takes : OfEachWorker (λ w p list. AnswersItsTakes topics (takes_of p.calls) list) passes lists
+    pub fulls : OfEachWorker (λ w p list. AnswersItsFulls p.fulls list) passes lists
+    -- the messages of a worker's files, in order, are each its next send or its next Direct member, and there are no others
+    pub passed : OfEachWorker (λ w p list. HasPassedOn topics (own_of workers w 1 given) (sends_of p.calls) list) passes lists
+    -- and they stand so in its record: each is its next send or its next Full
+    pub follows : OfEachWorker (λ w p list. FollowsCalls (own_of workers w 1 given) p.calls) passes lists
+
+  -- what the passes of a queue of this setup did, each and together, and what was left in its rings. It has so many topics.
+  pub record HaveShared (topics : ℕ) (c : Setup) (passes : List (PassStanding B)) (left : List ℕ) : Type 0 where
+    -- they are the passes of one queue, in the order of their numbers
+    pub one : (queue : Identity B) × (queue.setup ≡ c) × All (λ p. p.queue ≡ queue) passes
+    pub numbers : (w : ℕ) (p : PassStanding B) → slice_get passes w ≡ Some p → p.number ≡ w
+    -- each Full stands where the pass held nothing. After it, before the next lend, comes one take of each topic. The record has as many
+    -- Fulls as the list.
+    pub alone : All (λ p. HoldsNothingAtEachFull p.calls) passes
+    pub helps : All (λ p. HelpsAfterEachFull topics p.calls) passes
+    pub fulls : AllFullsStand passes
+    -- each has retired, and no call met a ticket past the limit
+    pub retired : All (HasRetired topics) passes
+    pub unspent : NoneSpent passes
+    pub no_spent : All (λ p. MeetsNoSpent p.calls) passes
+    -- the takes are the sends, and no place of a topic stands twice
+    pub same : SendsAreTakes passes
+    pub places : NoPlaceStandsTwice passes
+    -- on each topic the sends less the takes are what is left: nothing. All buffers are back in the first ring.
+    pub balance : IsBalance c passes left
+    pub none_left : NothingIsLeft topics left
+    pub whole : sum left ≡ n_of c.order
+    pub bounded : All IsBounded passes
+
+  -- how many sends, takes and Full replies a pass has. A queue's count of them stands still at the last value of 64 bits; these are few.
+  abbrev pub lengths_of : PassStanding B → Counts
+  lengths_of p = record { sent = length (sends_of p.calls); taken = length (takes_of p.calls); full = length p.fulls }
+
+-- the work for a job is done on files that gave these messages: what the workers answered, what their passes did, and the lengths of the
+-- passes' lists
+pub record HasWorked (topics : List (List ℕ × Kind)) (order size workers : ℕ) (given : List (List Message)) (w : Worked) : Type 0 where
+  pub answered : HaveAnswered topics size workers given w.passes.value.items w.answered.items
+  pub setup : Setup
+  pub of_job : IsSetup order (length topics + 1) workers setup
+  pub shared : HaveShared (length topics + 1) setup w.passes.value.items w.left.value.items
+  pub counts : w.counts.items ≡ map lengths_of w.passes.value.items

@@ -1,0 +1,66 @@
+-- A worker's list of answers, against what its pass did. `topics` has the names and kinds of the declared topics.
+use Rattle.std.specs.Prelude.{◌≡◌, ℕ, ◌≤◌, Bool, true, false, not, List, [], ◌∷◌, ◌++◌, length, filter}
+use Rattle.std.specs.List.{AllZip}
+use Rattle.scq_topics.specs.declared.kind.Kind.{Kind}
+use Rattle.scq_topics.specs.Reply.{reply_of}
+use Rattle.scq_topics.specs.Topics.{kind_of}
+use Rattle.scq_frames.specs.declared.message.Message.{Message}
+use Rattle.scq_frames.specs.Encoded.{IsEncodable, BeginsWith}
+use Rattle.scq_collect.specs.declared.answered.Answered.{Answered}
+use Rattle.scq_collect.specs.declared.answered.Way.{Way}
+use Rattle.scq_collect.specs.declared.answered.Way.TheVariants.{Taken, Direct}
+use Rattle.scq_queue.specs.Lists.{Placed}
+
+-- the answer to a message, come by in this way
+abbrev pub answered : List (List ℕ × Kind) → Way → Message → Answered
+answered topics way m = record {
+  file = m.file;
+  line = m.line;
+  topic = m.topic;
+  bytes = length m.payload;
+  reply = reply_of (kind_of topics m.topic) m.payload;
+  way = way;
+}
+
+-- whether a member was taken, or answered directly
+abbrev pub is_way_taken : Way → Bool
+is_way_taken (Taken place) = true
+is_way_taken (Direct head) = false
+
+abbrev pub is_taken : Answered → Bool
+is_taken a = is_way_taken a.way
+
+abbrev pub is_direct : Answered → Bool
+is_direct a = not (is_way_taken a.way)
+
+-- this is the one message that these bytes begin with
+pub record Decodes (bytes : List ℕ) (m : Message) : Type 0 where
+  pub begins : BeginsWith bytes m
+  pub only : (other : Message) → IsEncodable other → BeginsWith bytes other → m ≡ other
+
+-- a member answers the message that the bytes of a take decode to, at the take's place
+pub record AnswersTake (topics : List (List ℕ × Kind)) (take : Placed) (a : Answered) : Type 0 where
+  pub message : Message
+  pub decodes : Decodes take.bytes message
+  pub known : message.topic ≤ length topics
+  pub answer : a ≡ answered topics (Taken take.place) message
+
+-- a member answers a message directly, where no buffer was free: with this head of the ring of free buffers
+abbrev pub AnswersFull : ℕ → Answered → Type 0
+AnswersFull head a = a.way ≡ Direct head
+
+-- one by one and in order, the Taken members of a list are the takes of a pass, and the Direct ones its Full replies
+abbrev pub AnswersItsTakes : List (List ℕ × Kind) → List Placed → List Answered → Type 0
+AnswersItsTakes topics takes members = AllZip (AnswersTake topics) takes (filter is_taken members)
+
+abbrev pub AnswersItsFulls : List ℕ → List Answered → Type 0
+AnswersItsFulls fulls members = AllZip AnswersFull fulls (filter is_direct members)
+
+-- what was taken so far is answered: each take whose bytes decode to a message on a known topic has its member, and there are no others
+pub data AnswersSoFar (topics : List (List ℕ × Kind)) : List Placed → List Answered → Type 0 where
+  none : AnswersSoFar topics [] []
+  and_answered : {takes : List Placed} {members : List Answered} (take : Placed) (a : Answered)
+      → AnswersSoFar topics takes members → AnswersTake topics take a → AnswersSoFar topics (takes ++ take ∷ []) (members ++ a ∷ [])
+  and_passed_over : {takes : List Placed} {members : List Answered} (take : Placed)
+      → AnswersSoFar topics takes members → ((m : Message) → IsEncodable m → BeginsWith take.bytes m → m.topic ≤ length topics → ⊥)
+      → AnswersSoFar topics (takes ++ take ∷ []) members
