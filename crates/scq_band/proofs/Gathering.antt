@@ -1,5 +1,5 @@
 -- The seats are gathered into one view, one by one, the last one first.
-use Rattle.std.proofs.Common.{◌≡◌, ℕ, ◌+◌, ◌≤◌, List, [], ◌∷◌, ◌++◌, length, refl, sym, ◌∙◌, ap, arith, append_assoc, eq-eqb}
+use Rattle.std.proofs.Common.{◌≡◌, ℕ, ◌+◌, ◌≤◌, List, [], ◌∷◌, ◌++◌, map, length, refl, sym, ◌∙◌, ap, arith, append_assoc, eq-eqb}
 use Rattle.std.specs.Prelude.{sum_by}
 use Rattle.std.proofs.lemmas.List.Sums.{sum_by_push}
 use Rattle.scq_law.specs.Hands.{times}
@@ -48,11 +48,12 @@ module _ {B : Type 0} where
       let push : sum_by f seats ≡ sum_by f left + f s = ap (sum_by f) last ∙ sum_by_push f left s in
       omega (arith, push, is, less)
 
-  pub none_out : (out : List (ℕ × B)) → ((i : ℕ) → times i (indices_of out) ≡ 0) → length out ≡ 0
-  none_out [] none = refl
-  none_out (x ∷ xs) none =
-      let here : times x.0 (indices_of (x ∷ xs)) ≡ 1 + times x.0 (indices_of xs) = rw (eq-eqb x.0 x.0 refl) refl in
-      let no = none x.0 in
+  pub none_out : {T : Type 0} (pair : T → ℕ × B) (out : List T) → ((i : ℕ) → times i (indices_of (map pair out)) ≡ 0) → length out ≡ 0
+  none_out {T} pair [] none = refl
+  none_out {T} pair (x ∷ xs) none =
+      let i = (pair x).0 in
+      let here : times i (indices_of (map pair (x ∷ xs))) ≡ 1 + times i (indices_of (map pair xs)) = rw (eq-eqb i i refl) refl in
+      let no = none i in
       absurd (omega (arith, here, no))
 
   -- no seat is left

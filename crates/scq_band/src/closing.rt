@@ -12,6 +12,7 @@ ghost use Rattle.scq_band.specs.Homes.{at_home, MayBring, IsLaidBack, times_lift
 
 use crate::band::Band;
 use crate::closed::{count_left, unload};
+use crate::lifted::Lifted;
 use crate::notes::Gathers;
 use crate::rule::{Token, Words};
 use crate::seat::Seat;
@@ -31,15 +32,14 @@ fn bring<B: Buffer>(words: &Words<B>, token: &mut Token<B>)
 }
 
 /// The buffer of an index, taken from those that are out.
-fn taken_out<B>(out: &mut Vec<(u32, B)>, index: u32) -> B
-    requires { 0 < times index (indices_of out.old.items) }
-    ensures { IsPermutation out.old.items ((index, result) ∷ out.new.items) }
+fn taken_out<B, T: Lifted<B>>(out: &mut Vec<T>, index: u32) -> B
+    requires { 0 < times index (indices_of (map T.pair out.old.items)) }
+    ensures { IsPermutation (map T.pair out.old.items) ((index, result) ∷ map T.pair out.new.items) }
 {
     let mut at = 0;
     while at < out.len() {
-        if out[at].0 == index {
-            let (_, buffer) = out.swap_remove(at);
-            return buffer;
+        if out[at].index() == index {
+            return out.swap_remove(at).into_buffer();
         }
         at += 1;
     }
@@ -47,13 +47,18 @@ fn taken_out<B>(out: &mut Vec<(u32, B)>, index: u32) -> B
 }
 
 /// The slot that stands first, of this index, has its buffer again where it is lifted.
-fn lay_back<B: Buffer>(words: &Words<B>, token: &mut Token<B>, index: u32, out: &mut Vec<(u32, B)>)
+fn lay_back<B: Buffer, T: Lifted<B>>(
+    words: &Words<B>,
+    token: &mut Token<B>,
+    index: u32,
+    out: &mut Vec<T>,
+)
     requires own { token.old.table_id ≡ words.now.table_id }
     requires first { (slot : Slot B) × (token.old.me.1 ≡ (index, slot) ∷ rest token.old.me.1)
-        × (IsTrue (is_none slot.buffer) → 0 < times index (indices_of out.old.items)) }
+        × (IsTrue (is_none slot.buffer) → 0 < times index (indices_of (map T.pair out.old.items))) }
     ensures own { (token.new.table_id ≡ token.old.table_id) × (token.new.id ≡ token.old.id) }
     ensures view { token.new.me.0 ≡ token.old.me.0 }
-    ensures laid { IsLaidBack index token.old.me.1 out.old.items token.new.me.1 out.new.items }
+    ensures laid { IsLaidBack index token.old.me.1 (map T.pair out.old.items) token.new.me.1 (map T.pair out.new.items) }
 {
     let Slot { buffer } = words.exchange(token, index as usize, Slot { buffer: None });
     let buffer = match buffer {
@@ -71,19 +76,19 @@ fn lay_back<B: Buffer>(words: &Words<B>, token: &mut Token<B>, index: u32, out: 
 }
 
 /// All slots of a seat go home, each with its buffer.
-fn bring_all<B: Buffer>(
+fn bring_all<B: Buffer, T: Lifted<B>>(
     words: &Words<B>,
     token: &mut Token<B>,
     mut hand: Vec<u32>,
-    out: &mut Vec<(u32, B)>,
+    out: &mut Vec<T>,
 )
     requires own { token.old.table_id ≡ words.now.table_id }
     requires room { 0 < words.now.table_id.words }
-    requires may { MayLeave B.IsSameBuffer words.now.key.given.value.items token.old.me hand.items out.old.items }
+    requires may { MayLeave B.IsSameBuffer words.now.key.given.value.items token.old.me hand.items (map T.pair out.old.items) }
     ensures own { (token.new.table_id ≡ token.old.table_id) × (token.new.id ≡ token.old.id) }
     ensures home { token.new.me ≡ (at_home (indices_of token.old.me.1) token.old.me.0, []) }
-    ensures less { (i : ℕ) → times i (indices_of out.new.items) + times_lifted i token.old.me.1 ≡ times i (indices_of out.old.items) }
-    ensures given { AllOutGiven B.IsSameBuffer words.now.key.given.value.items out.new.items }
+    ensures less { (i : ℕ) → times i (indices_of (map T.pair out.new.items)) + times_lifted i token.old.me.1 ≡ times i (indices_of (map T.pair out.old.items)) }
+    ensures given { AllOutGiven B.IsSameBuffer words.now.key.given.value.items (map T.pair out.new.items) }
 {
     while let Some(index) = hand.pop() {
         lay_back(words, token, index, out);
@@ -92,19 +97,19 @@ fn bring_all<B: Buffer>(
 }
 
 /// The token of a seat, with all its slots at home.
-fn one_home<B: Buffer>(words: &Words<B>, seat: Seat<B>, out: &mut Vec<(u32, B)>) -> Token<B>
+fn one_home<B: Buffer, T: Lifted<B>>(words: &Words<B>, seat: Seat<B>, out: &mut Vec<T>) -> Token<B>
     requires band { seat.band ≡ identity_of words.now.table_id words.now.key }
     requires room { 0 < words.now.table_id.words }
-    requires lifted { (i : ℕ) → times i (lifted_of seat.hand) ≤ times i (indices_of out.old.items) }
-    requires given { AllOutGiven B.IsSameBuffer words.now.key.given.value.items out.old.items }
+    requires lifted { (i : ℕ) → times i (lifted_of seat.hand) ≤ times i (indices_of (map T.pair out.old.items)) }
+    requires given { AllOutGiven B.IsSameBuffer words.now.key.given.value.items (map T.pair out.old.items) }
     ensures own { result.table_id ≡ words.now.table_id }
     ensures alone { result.me.0.seats ≡ my result.me.0 ∷ [] }
     ensures member { IsMemberOf seat (my result.me.0) }
     ensures numbers { (result.me.0.numbers ≡ seat.numbers) × (length seat.numbers ≡ words.now.key.setup.rings) }
     ensures gate { result.me.0.gate ≡ seat.gate }
     ensures none { result.me.1 ≡ [] }
-    ensures less { (i : ℕ) → times i (indices_of out.new.items) + times i (lifted_of seat.hand) ≡ times i (indices_of out.old.items) }
-    ensures given { AllOutGiven B.IsSameBuffer words.now.key.given.value.items out.new.items }
+    ensures less { (i : ℕ) → times i (indices_of (map T.pair out.new.items)) + times i (lifted_of seat.hand) ≡ times i (indices_of (map T.pair out.old.items)) }
+    ensures given { AllOutGiven B.IsSameBuffer words.now.key.given.value.items (map T.pair out.new.items) }
 {
     let Seat {
         mut token,
@@ -118,16 +123,16 @@ fn one_home<B: Buffer>(words: &Words<B>, seat: Seat<B>, out: &mut Vec<(u32, B)>)
 }
 
 /// The tokens of all seats as one: the view of each stands in its view. What was lifted is laid back.
-pub fn gather<B: Buffer>(
+pub fn gather<B: Buffer, T: Lifted<B>>(
     words: &Words<B>,
     mut seats: Vec<Seat<B>>,
-    mut out: Vec<(u32, B)>,
+    mut out: Vec<T>,
 ) -> Token<B>
     requires bands { All (λ s. s.band ≡ identity_of words.now.table_id words.now.key) seats.items }
     requires some { 0 < vec_len seats }
     requires room { 0 < words.now.table_id.words }
-    requires lifted { (i : ℕ) → times i (indices_of out.items) ≡ sum_by (λ s. times i (lifted_of s.hand)) seats.items }
-    requires given { AllOutGiven B.IsSameBuffer words.now.key.given.value.items out.items }
+    requires lifted { (i : ℕ) → times i (indices_of (map T.pair out.items)) ≡ sum_by (λ s. times i (lifted_of s.hand)) seats.items }
+    requires given { AllOutGiven B.IsSameBuffer words.now.key.given.value.items (map T.pair out.items) }
     ensures own { result.table_id ≡ words.now.table_id }
     ensures all { HasAll words.now.key.setup.rings seats.items result.me.0 }
 {
@@ -152,14 +157,14 @@ pub struct BandClosed<B> {
 }
 
 impl<B: Buffer> Band<B> {
-    /// Closes a band whose seats all come back. The buffers that are lifted come in `out`, each with its index; they are laid
-    /// back, and all buffers are handed out. Takes no memory.
+    /// Closes a band whose seats all come back. The buffers that are lifted come in `out`, each with its index, as pairs or in a
+    /// type that has more beside them; they are laid back, and all buffers are handed out. Takes no memory.
     ///
     /// The clauses read the seats' records, hands and numbers together, in the order in which the seats are given.
-    pub fn close(self, seats: Vec<Seat<B>>, out: Vec<(u32, B)>) -> BandClosed<B>
+    pub fn close<T: Lifted<B>>(self, seats: Vec<Seat<B>>, out: Vec<T>) -> BandClosed<B>
         requires seats { All (λ s. s.band ≡ self) seats.items }
         requires all { vec_len seats ≡ self.setup.seats }
-        requires out { AreTheLifted B.IsSameBuffer self seats.items out.items }
+        requires out { AreTheLifted B.IsSameBuffer self seats.items (map T.pair out.items) }
         ensures buffers { AreTheSame B.IsSameBuffer self.given result.buffers.items }
         ensures gets { EachGetHasItsPut self.setup (opening_of B.contents self.given) (all_calls seats.items) }
         ensures put_once { NoneIsPutTwice self.setup (opening_of B.contents self.given) (all_calls seats.items) }

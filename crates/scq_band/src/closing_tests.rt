@@ -21,7 +21,8 @@ fn a_new_band_closes_full(rt: HostRuntime) -> Result<(), Fail> {
         let Ok((band, seats)) = Band::make(alloc, setup, buffers) else {
             return Err(Fail::new("no memory"));
         };
-        let closed = band.close(seats, Vec::new(alloc));
+        let none: Vec<(u32, Heap)> = Vec::new(alloc);
+        let closed = band.close(seats, none);
         assert_eq!(rt; closed.left.len(), rings as usize);
         for (ring, left) in closed.left.iter().enumerate() {
             assert_eq!(rt; *left, if ring == 0 { n as u64 } else { 0 }, "ring {ring}");

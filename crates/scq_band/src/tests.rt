@@ -271,7 +271,8 @@ fn the_gate_closes_once_all_have_retired(rt: HostRuntime) -> Result<(), Fail> {
     let mut seats = Vec::with_capacity(alloc, 2)?;
     seats.push_reserved(first);
     seats.push_reserved(second);
-    let closed = band.close(seats, Vec::new(alloc));
+    let none: Vec<(u32, Tagged)> = Vec::new(alloc);
+    let closed = band.close(seats, none);
     assert_eq!(rt; closed.left.as_slice(), [2, 0].as_slice());
     assert_eq!(rt; closed.buffers.len(), 2);
     assert_eq!(rt; closed.buffers[1].tag, 11);

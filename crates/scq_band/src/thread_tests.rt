@@ -84,7 +84,8 @@ fn two_threads_lose_no_index(rt: HostRuntime) -> Result<(), Fail> {
         return Err(Fail::new("no memory"));
     };
     let seats = circulate_all(&rt, &band, seats, 20_000)?;
-    let closed = band.close(seats, Vec::new(alloc));
+    let none: Vec<(u32, Heap)> = Vec::new(alloc);
+    let closed = band.close(seats, none);
     assert_eq!(rt; closed.left.len(), 2);
     assert_eq!(rt; closed.left[0].wrapping_add(closed.left[1]), 2);
     assert_eq!(rt; closed.buffers.len(), 2);

@@ -4,7 +4,7 @@ use Rattle.std.specs.List.{Contains}
 use Rattle.std.specs.Prelude.{All, Option, Some, None, slice_get, slice_index, sum, sum_by}
 use Rattle.std.proofs.lemmas.Bool.{cases_eq}
 use Rattle.std.proofs.lemmas.List.{length-append, length-map}
-use Rattle.std.proofs.lemmas.List.Elements.{All-map}
+use Rattle.std.proofs.lemmas.List.Elements.{All-head, All-tail, All-map}
 use Rattle.std.proofs.lemmas.List.Sums.{sum_by-cons}
 use Rattle.std.proofs.Math.Dec.{eqb-suc-zero}
 use Rattle.scq_core.specs.declared.ended.Ended.{Ended}
@@ -18,10 +18,10 @@ use Rattle.scq_band.specs.Standing.{Identity, Standing, IsAsGiven}
 use Rattle.scq_band.specs.Closing as band
 use Rattle.scq_band.proofs.ClosedRecords.{map_back, map_on}
 use Rattle.scq_band.proofs.Slots.{times-append}
-use Rattle.scq_queue.specs.Lists.{Placed, sent_by, taken_by, sends_of, takes_of, on_topic, fulls_in}
+use Rattle.scq_queue.specs.Lists.{Placed, sent_by, taken_by, sends_of, takes_of, on_topic}
 use Rattle.scq_queue.specs.Passes.{PassStanding, HeldStanding}
-use Rattle.scq_queue.specs.Closing.{records_of, all_held, WasSent, WasTaken, IsTake, EachTakeIsASend, NoPlaceIsSentTwice, NoPlaceIsTakenTwice, sends_on, takes_on, IsBalance, EachSendPassedIsTaken, IsAllThere, AllFullsStand, AllRetiredWhereTold, AreTheHeld}
-use Rattle.scq_queue.specs.Kept.{seat_of, value_of, AllGiven, FullsStand}
+use Rattle.scq_queue.specs.Closing.{records_of, all_held, WasSent, WasTaken, IsTake, EachTakeIsASend, NoPlaceIsSentTwice, NoPlaceIsTakenTwice, sends_on, takes_on, IsBalance, EachSendPassedIsTaken, IsAllThere, AllRetiredWhereTold, AreTheHeld}
+use Rattle.scq_queue.specs.Kept.{seat_of, value_of, IsGiven}
 use Rattle.scq_queue.proofs.Hands.{indices-all_lifted, lifted-all_lifted}
 use Rattle.scq_queue.proofs.Records.{came_by, gives_one, sent_call, taken_call, done_sent, got_taken}
 
@@ -233,30 +233,24 @@ module _ {B : Type 0} where
   pub indices_out : (held : List (HeldStanding B)) → band.indices_of (map value_of held) ≡ map (λ (h : HeldStanding B). h.index) held
   indices_out held = images value_of (λ (x : ℕ × B). x.0) held
 
-  -- the Full replies of each pass
-  pub fulls_stand : (passes : List (PassStanding B)) → FullsStand passes → AllFullsStand passes
-  fulls_stand [] each pass p its = absurd (cc)
-  fulls_stand (q ∷ passes) each zero p its = let same : q ≡ p = cc in subst (λ (u : PassStanding B). length u.fulls ≡ fulls_in u.calls) same each.0
-  fulls_stand (q ∷ passes) each (suc pass) p its = fulls_stand passes each.1 pass p its
-
   -- the seats of a queue's passes are its band's
   pub seats_own : (queue : Identity B) (passes : List (PassStanding B)) → All (λ (p : PassStanding B). p.queue ≡ queue) passes
       → All (λ (s : Standing B). s.band ≡ queue) (map seat_of passes)
   seats_own queue passes all = All-map (λ (s : Standing B). s.band ≡ queue) seat_of passes all
 
   -- the buffers of held values, with their indices, are those that are lifted
-  same_given : (IsSame : B → B → Type 0) (queue : Identity B) (held : List (HeldStanding B)) → AllGiven IsSame held
+  same_given : (IsSame : B → B → Type 0) (queue : Identity B) (held : List (HeldStanding B)) → All (IsGiven IsSame) held
       → ((k : ℕ) (h : HeldStanding B) → slice_get held k ≡ Some h → h.queue ≡ queue) → (o : ℕ × B) → Contains (map value_of held) o
       → IsAsGiven IsSame queue.given o.0 o.1
   same_given IsSame queue [] given own o there = absurd (let low = there.1 in omega (arith, low))
   same_given IsSame queue (h ∷ held) given own o (zero, low, is) =
       subst (λ (u : ℕ × B). IsAsGiven IsSame queue.given u.0 u.1) is
-      (subst (λ (q : Identity B). IsAsGiven IsSame q.given h.index h.buffer) (own 0 h refl) given.0)
+      (subst (λ (q : Identity B). IsAsGiven IsSame q.given h.index h.buffer) (own 0 h refl) (All-head (IsGiven IsSame) h held given))
   same_given IsSame queue (h ∷ held) given own o (suc k, low, is) =
-      same_given IsSame queue held given.1 (λ j v e. own (suc j) v e) o (k, omega arith, is)
+      same_given IsSame queue held (All-tail (IsGiven IsSame) h held given) (λ j v e. own (suc j) v e) o (k, omega arith, is)
 
   pub are_lifted : (IsSame : B → B → Type 0) (queue : Identity B) (passes : List (PassStanding B)) (held : List (HeldStanding B)) → AreTheHeld queue passes held
-      → AllGiven IsSame held → band.AreTheLifted IsSame queue (map seat_of passes) (map value_of held)
+      → All (IsGiven IsSame) held → band.AreTheLifted IsSame queue (map seat_of passes) (map value_of held)
   are_lifted IsSame queue passes held are given =
       record {
         lifted = λ i. ap (times i) (indices_out held) ∙ are.all i ∙ sym (held_sum passes i);

@@ -195,12 +195,10 @@ module _ {B : Type 0} where
   all_at queue number (v ∷ values) all (suc k) h e = all_at queue number values all.2 k h e
 
   -- the values of the one pass of a queue
-  pub held_alone : (queue : Identity B) (p : PassStanding B) (values : List (HeldStanding B)) → HoldsJust queue p values → length values ≤ n_of queue.setup.order
-      → AreTheHeld queue (p ∷ []) values
-  held_alone queue p values before few =
+  pub held_alone : (queue : Identity B) (p : PassStanding B) (values : List (HeldStanding B)) → HoldsJust queue p values → AreTheHeld queue (p ∷ []) values
+  held_alone queue p values before =
       record {
         queue_of = all_at queue p.number values before.all;
-        few = few;
         all = λ i. ap (times i) before.same ∙ (omega arith);
       }
 
@@ -222,4 +220,23 @@ module _ {B : Type 0} where
             ∙ sym (map-append (λ (u : HeldStanding B). u.index) values (h ∷ [])) ∙ before.same;
         all = all-append queue p.number values v last.0 (same_queue ∙ last.1) (same_pass ∙ last.2);
         once = before.once;
+      }
+
+  -- a pass without values holds nothing
+  pub none_held : (queue : Identity B) (p : PassStanding B) (values : List (HeldStanding B)) → HoldsJust queue p values → length values ≡ 0 → p.held ≡ []
+  none_held queue p [] before none = sym before.same
+  none_held queue p (v ∷ values) before none = absurd (omega (arith, none))
+
+  -- the values of two passes, of which the first holds none
+  pub held_two : (queue : Identity B) (first second old : PassStanding B) (values : List (HeldStanding B)) → HoldsJust queue old values → first.held ≡ []
+      → second.held ≡ old.held → AreTheHeld queue (first ∷ second ∷ []) values
+  held_two queue first second old values before none same =
+      record {
+        queue_of = all_at queue old.number values before.all;
+        all =
+            λ i.
+            let mine = ap (times i) before.same in
+            let empty = ap (times i) none in
+            let its = ap (times i) same in
+            omega arith;
       }

@@ -4,7 +4,6 @@ use Rattle.std.specs.Prelude.{All}
 use Rattle.std.proofs.lemmas.List.{map-append, length_push}
 use Rattle.std.proofs.lemmas.List.Elements.{All-nil, All-push}
 use Rattle.scq_word.specs.declared.setup.Setup.{Setup}
-use Rattle.scq_word.specs.Sizes.{n_of}
 use Rattle.scq_band.specs.Standing.{Identity, Standing, first_standing, first_standings}
 use Rattle.scq_queue.specs.Passes.{PassStanding, first_pass, first_passes}
 use Rattle.scq_queue.specs.declared.counts.Counts.{Counts}
@@ -31,15 +30,12 @@ module _ {B : Type 0} where
   all_own queue (suc k) = All-push (λ (p : PassStanding B). p.queue ≡ queue) (first_passes queue k) (first_pass queue k) (all_own queue k) refl
 
   -- what a queue is made with is what it keeps
-  pub keeps_room : (queue : Identity B) (c : Setup) (seats : List (Standing B)) (out : List (ℕ × B)) (counts : List Counts) (seat_room out_room count_room : ℕ)
-      → queue.setup ≡ c → seats ≡ [] → c.seats ≤ seat_room → out ≡ [] → n_of c.order ≤ out_room → counts ≡ [] → c.seats ≤ count_room
-      → IsQueue queue seats seat_room out out_room counts count_room
-  keeps_room queue c seats out counts seat_room out_room count_room same no_seat all_seats none_out all_out no_count all_counts =
+  pub keeps_room : (queue : Identity B) (c : Setup) (seats : List (Standing B)) (counts : List Counts) (seat_room count_room : ℕ)
+      → queue.setup ≡ c → seats ≡ [] → c.seats ≤ seat_room → counts ≡ [] → c.seats ≤ count_room → IsQueue queue seats seat_room counts count_room
+  keeps_room queue c seats counts seat_room count_room same no_seat all_seats no_count all_counts =
       record {
         no_seat = no_seat;
         all_seats = subst (λ (k : Setup). k.seats ≤ seat_room) (sym same) all_seats;
-        none_out = none_out;
-        all_out = subst (λ (k : Setup). n_of k.order ≤ out_room) (sym same) all_out;
         no_count = no_count;
         all_counts = subst (λ (k : Setup). k.seats ≤ count_room) (sym same) all_counts;
       }

@@ -1,6 +1,6 @@
 -- What all passes say together once a queue is closed. A pass is told by its position among those that were given, a send or a take by
 -- its position among those of its pass.
-use Rattle.std.specs.Prelude.{◌≡◌, ℕ, suc, ◌+◌, ◌<◌, ◌≤◌, List, map, length, Option, Some, slice_get, slice_index, sum, sum_by}
+use Rattle.std.specs.Prelude.{◌≡◌, ℕ, suc, ◌+◌, ◌<◌, ◌≤◌, List, map, length, Option, Some, slice_get, slice_index, All, sum, sum_by}
 use Rattle.scq_core.specs.declared.ended.Ended.{Ended}
 use Rattle.scq_word.specs.declared.setup.Setup.{Setup}
 use Rattle.scq_word.specs.Sizes.{n_of}
@@ -74,7 +74,7 @@ module _ {B : Type 0} where
 
   -- the Full replies of each pass are those in its record
   abbrev pub AllFullsStand : List (PassStanding B) → Type 0
-  AllFullsStand passes = (pass : ℕ) (p : PassStanding B) → slice_get passes pass ≡ Some p → length p.fulls ≡ fulls_in p.calls
+  AllFullsStand passes = All (λ p. length p.fulls ≡ fulls_in p.calls) passes
 
   -- where a pass keeps a spent ticket, the ticket bound of the ticket's ring is past the limit
   abbrev pub EachKeptIsPastTheBound : Setup → List (PassStanding B) → Type 0
@@ -86,8 +86,7 @@ module _ {B : Type 0} where
       (a b : ℕ) (told other : PassStanding B) → slice_get passes a ≡ Some told → told.gate ≡ Some 0 → slice_get passes b ≡ Some other
       → (calls : ℕ) × (other.retired ≡ Some calls)
 
-  -- these are the values that the passes of the queue hold, and no others; there are never more than buffers
+  -- these are the values that the passes of the queue hold, and no others
   pub record AreTheHeld (queue : Identity B) (passes : List (PassStanding B)) (held : List (HeldStanding B)) : Type 0 where
     pub queue_of : (k : ℕ) (h : HeldStanding B) → slice_get held k ≡ Some h → h.queue ≡ queue
-    pub few : length held ≤ n_of queue.setup.order
     pub all : (i : ℕ) → times i (map (λ h. h.index) held) ≡ sum_by (λ (p : PassStanding B). times i p.held) passes

@@ -1,6 +1,5 @@
 -- For private calls: what a queue, a pass and a held value keep.
 use Rattle.std.specs.Prelude.{◌≡◌, ℕ, ◌≤◌, List, [], ◌∷◌, ◌++◌, map, length, Option, None}
-use Rattle.scq_word.specs.Sizes.{n_of}
 use Rattle.scq_band.specs.Standing.{Identity, Standing, IsAsGiven}
 use Rattle.scq_band.specs.Closing.{indices_of}
 use Rattle.scq_queue.specs.declared.counts.Counts.{Counts}
@@ -68,22 +67,13 @@ module _ {B : Type 0} where
   abbrev pub value_of : HeldStanding B → ℕ × B
   value_of h = (h.index, h.buffer)
 
-  -- each of these buffers is the same as the one that its queue was given for its index
-  abbrev pub AllGiven : (B → B → Type 0) → List (HeldStanding B) → Type 0
-  AllGiven IsSame [] = Unit {0}
-  AllGiven IsSame (h ∷ hs) = IsAsGiven IsSame h.queue.given h.index h.buffer × AllGiven IsSame hs
+  -- a value's buffer is the same as the one that its queue was given for its index
+  abbrev pub IsGiven : (B → B → Type 0) → HeldStanding B → Type 0
+  IsGiven IsSame h = IsAsGiven IsSame h.queue.given h.index h.buffer
 
-  -- the Full replies of each of these passes are those in its record
-  abbrev pub FullsStand : List (PassStanding B) → Type 0
-  FullsStand [] = Unit {0}
-  FullsStand (p ∷ ps) = (length p.fulls ≡ fulls_in p.calls) × FullsStand ps
-
-  -- what a queue keeps: empty lists with room for all seats and their counts, and for all values
-  pub record IsQueue (queue : Identity B) (seats : List (Standing B)) (seat_room : ℕ) (out : List (ℕ × B)) (out_room : ℕ) (counts : List Counts) (count_room : ℕ)
-      : Type 0 where
+  -- what a queue keeps: empty lists with room for all seats and their counts
+  pub record IsQueue (queue : Identity B) (seats : List (Standing B)) (seat_room : ℕ) (counts : List Counts) (count_room : ℕ) : Type 0 where
     pub no_seat : seats ≡ []
     pub all_seats : queue.setup.seats ≤ seat_room
-    pub none_out : out ≡ []
-    pub all_out : n_of queue.setup.order ≤ out_room
     pub no_count : counts ≡ []
     pub all_counts : queue.setup.seats ≤ count_room

@@ -1,12 +1,11 @@
 //! The end of a queue: its passes and the values that are still held come back, and its buffers are handed out.
 ghost use Rattle.std.specs.Prelude.{◌≡◌, ◌≤◌, [], map, All, vec_len, vec_capacity};
-ghost use Rattle.scq_band.specs.Standing.{IsAsGiven};
 ghost use Rattle.scq_band.specs.Closing.{AreTheSame, EachIsInOneHand, EachLeftIsItsPut};
 ghost use Rattle.scq_band.specs.Buffers.{opening_of};
 ghost use Rattle.scq_queue.specs.Lists.{counts_of};
 ghost use Rattle.scq_queue.specs.Passes.{lists_of};
 ghost use Rattle.scq_queue.specs.Closing.{EachTakeIsASend, NoPlaceIsSentTwice, NoPlaceIsTakenTwice, IsBalance, EachSendPassedIsTaken, IsAllThere, AllFullsStand, EachKeptIsPastTheBound, AllRetiredWhereTold, AreTheHeld, records_of, all_held};
-ghost use Rattle.scq_queue.specs.Kept.{seat_of, value_of, AllGiven, FullsStand};
+ghost use Rattle.scq_queue.specs.Kept.{seat_of, IsGiven};
 
 use crate::counts::Counts;
 use crate::held::Held;
@@ -32,7 +31,7 @@ fn unpack<B: Buffer>(mut passes: Vec<Pass<B>>, seats: &mut Vec<Seat<B>>, counts:
     requires room { (vec_len passes ≤ vec_capacity seats.old) × (vec_len passes ≤ vec_capacity counts.old) }
     ensures seats { seats.new.items ≡ map seat_of passes.items }
     ensures counts { counts.new.items ≡ map (λ p. counts_of (lists_of p)) passes.items }
-    ensures fulls { FullsStand passes.items }
+    ensures fulls { AllFullsStand passes.items }
 {
     passes.reverse();
     while let Some(pass) = passes.pop() {
@@ -47,23 +46,13 @@ fn unpack<B: Buffer>(mut passes: Vec<Pass<B>>, seats: &mut Vec<Seat<B>>, counts:
     passes.destroy_empty();
 }
 
-/// The buffers of these values, each with its index, in their order, put into an empty list with room.
-fn unwrap<B: Buffer>(mut held: Vec<Held<B>>, out: &mut Vec<(u32, B)>)
-    requires empty { out.old.items ≡ [] }
-    requires room { vec_len held ≤ vec_capacity out.old }
-    ensures out { out.new.items ≡ map value_of held.items }
-    ensures given { AllGiven B.IsSameBuffer held.items }
+/// For contracts alone: each value's buffer is the same as the one given for its index.
+fn all_given<B: Buffer>(held: &[Held<B>])
+    ensures { All (IsGiven B.IsSameBuffer) held.now }
 {
-    held.reverse();
-    while let Some(value) = held.pop() {
-        let Held {
-            index,
-            buffer,
-            owner: _owner,
-        } = value;
-        out.push_reserved((index, buffer));
+    for value in held {
+        value.is_given();
     }
-    held.destroy_empty();
 }
 
 impl<B: Buffer> Queue<B> {
@@ -93,13 +82,12 @@ impl<B: Buffer> Queue<B> {
         let Queue {
             band,
             mut seats,
-            mut out,
             mut counts,
         } = self;
         let given = Snapshot::of(&passes);
+        all_given(&held);
         unpack(passes, &mut seats, &mut counts);
-        unwrap(held, &mut out);
-        let BandClosed { buffers, left } = band.close(seats, out);
+        let BandClosed { buffers, left } = band.close(seats, held);
         Closed {
             buffers,
             left,

@@ -1,8 +1,9 @@
 //! A value that a pass holds: a buffer that it was lent, or took.
 ghost use Rattle.std.specs.Prelude.{◌≡◌};
+ghost use Rattle.scq_queue.specs.Kept.{value_of, IsGiven};
 ghost use Rattle.std.specs.Borrow.{sem, Lends, Array, u8 as byte};
 
-use scq_band::Seat;
+use scq_band::{Lifted, Seat};
 use scq_word::Buffer;
 use std::marker::Model;
 use std::snapshot::Snapshot;
@@ -52,5 +53,29 @@ impl<B: Buffer> Held<B> {
         ensures { result ≡ self.now.index }
     {
         self.index
+    }
+
+    // For contracts alone.
+    pub(crate) fn is_given(&self)
+        ensures { IsGiven B.IsSameBuffer self.now }
+    {
+        let _ = &self.index;
+    }
+}
+
+impl<B: Buffer> Lifted<B> for Held<B> {
+    ghost pair = { value_of };
+
+    fn index(&self) -> u32 {
+        self.index
+    }
+
+    fn into_buffer(self) -> B {
+        let Held {
+            index: _,
+            buffer,
+            owner: _owner,
+        } = self;
+        buffer
     }
 }

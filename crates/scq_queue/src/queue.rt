@@ -15,11 +15,10 @@ use std::marker::Model;
 
 /// A queue of fixed buffers. Threads share it and make calls on it, each with a pass of its own. It must be spent: it ends in `close`.
 ///
-/// `seats`, `out` and `counts` are empty lists, with room for what `close` needs.
+/// `seats` and `counts` are empty lists, with room for what `close` needs.
 pub struct Queue<B: Buffer> {
     pub(crate) band: Band<B>,
     pub(crate) seats: Vec<Seat<B>>,
-    pub(crate) out: Vec<(u32, B)>,
     pub(crate) counts: Vec<Counts>,
 }
 
@@ -33,7 +32,7 @@ impl<B: Buffer> Model for Queue<B> {
 
     ghost view = { λ q. q.band };
 
-    ghost invariant = { λ q. IsQueue q.band q.seats.items (vec_capacity q.seats) q.out.items (vec_capacity q.out) q.counts.items (vec_capacity q.counts) };
+    ghost invariant = { λ q. IsQueue q.band q.seats.items (vec_capacity q.seats) q.counts.items (vec_capacity q.counts) };
 }
 
 /// A pass over a seat that has made no call.
@@ -91,24 +90,18 @@ impl<B: Buffer> Queue<B> {
             passes.destroy_empty();
             return Err((buffers, NoMemory));
         };
-        let Ok(out) = Vec::with_capacity(alloc, buffers.len()) else {
-            passes.destroy_empty();
-            return Err((buffers, NoMemory));
-        };
         match Band::make(alloc, setup, buffers) {
             Ok((band, mut seats)) => {
                 let passes = passes_of(&mut seats, passes);
                 let queue = Queue {
                     band,
                     seats,
-                    out,
                     counts,
                 };
                 Ok((queue, passes))
             }
             Err(refused) => {
                 passes.destroy_empty();
-                out.destroy_empty();
                 Err(refused)
             }
         }

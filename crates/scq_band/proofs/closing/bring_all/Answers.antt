@@ -1,4 +1,4 @@
-use Rattle.std.proofs.Common.{◌≡◌, ◌∙◌, sym, ap, subst, ℕ, List, [], length, arith}
+use Rattle.std.proofs.Common.{◌≡◌, ◌∙◌, sym, ap, subst, ℕ, List, [], map, length, arith}
 use Rattle.atomic_table.specs.Table.{Me}
 use Rattle.scq_band.specs.declared.slot.Slot.{Slot}
 use Rattle.scq_band.specs.Buffers.{LiesIn}
@@ -14,7 +14,7 @@ lay_back-requires-clause-first g c κs within =
     let me = c.loop-index.token.me in
     let others = c.pop.new.self.items in
     let i = c.in-Some.index in
-    let out = c.loop-index.out.items in
+    let out = map g.T.Lifted.pair c.loop-index.out.items in
     let may = subst (λ (l : List ℕ). MayLeave Same buffers me l out) c.in-Some.ensures.items c.loop-index.invariant.2 in
     let first = first_slot me.1 others i may.order in
     (first.0, first.1, λ lifted. is_out Same buffers me others i out first.0 may first.1 lifted)
@@ -26,9 +26,9 @@ bring-requires-clause-may g c κs within =
     let me = c.loop-index.token.me in
     let others = c.pop.new.self.items in
     let i = c.in-Some.index in
-    let out = c.loop-index.out.items in
+    let out = map g.T.Lifted.pair c.loop-index.out.items in
     let may = subst (λ (l : List ℕ). MayLeave Same buffers me l out) c.in-Some.ensures.items c.loop-index.invariant.2 in
-    let l = leaves g.B.Buffer.contents Same buffers me others i out c.lay_back.new.token.me.1 c.lay_back.new.out.items may c.lay_back.ensures.laid in
+    let l = leaves g.B.Buffer.contents Same buffers me others i out c.lay_back.new.token.me.1 (map g.T.Lifted.pair c.lay_back.new.out.items) may c.lay_back.ensures.laid in
     subst (λ (v : Known). MayBring (LiesIn g.B.Buffer.contents Same buffers) (v, c.lay_back.new.token.me.1)) (sym c.lay_back.ensures.view) l.bring
 
 pub loop-index-preserved : goal.loop-index-preserved
@@ -38,10 +38,10 @@ loop-index-preserved g c =
     let me = c.loop-index.token.me in
     let others = c.pop.new.self.items in
     let i = c.in-Some.index in
-    let out = c.loop-index.out.items in
+    let out = map g.T.Lifted.pair c.loop-index.out.items in
     let may = subst (λ (l : List ℕ). MayLeave Same buffers me l out) c.in-Some.ensures.items c.loop-index.invariant.2 in
-    let l = leaves g.B.Buffer.contents Same buffers me others i out c.lay_back.new.token.me.1 c.lay_back.new.out.items may c.lay_back.ensures.laid in
-    let n = goes_on g.B.Buffer.contents Same buffers me c.lay_back.new.token.me c.bring.new.token.me others i out c.lay_back.new.out.items l
+    let l = leaves g.B.Buffer.contents Same buffers me others i out c.lay_back.new.token.me.1 (map g.T.Lifted.pair c.lay_back.new.out.items) may c.lay_back.ensures.laid in
+    let n = goes_on g.B.Buffer.contents Same buffers me c.lay_back.new.token.me c.bring.new.token.me others i out (map g.T.Lifted.pair c.lay_back.new.out.items) l
     c.lay_back.ensures.view c.bring.ensures.home in (
       c.bring.ensures.own.0 ∙ c.lay_back.ensures.own.0 ∙ c.loop-index.invariant.0,
       c.bring.ensures.own.1 ∙ c.lay_back.ensures.own.1 ∙ c.loop-index.invariant.1,
@@ -55,7 +55,7 @@ returns-clause-home g c =
     let Same = g.B.Buffer.IsSameBuffer in
     let buffers = c.args.words.now.key.given.value.items in
     let me = c.loop-index.token.me in
-    let out = c.loop-index.out.items in
+    let out = map g.T.Lifted.pair c.loop-index.out.items in
     let empty : length c.loop-index.hand.items ≡ 0 = omega (arith, c.in_default.ensures.cases.0, c.loop-index.hand.ok) in
     none_left Same buffers me c.loop-index.hand.items out c.loop-index.invariant.2 empty
     ∙ ap (λ (v : Known). (v, [])) c.loop-index.invariant.3
@@ -65,7 +65,7 @@ returns-clause-less g c i =
     let Same = g.B.Buffer.IsSameBuffer in
     let buffers = c.args.words.now.key.given.value.items in
     let me = c.loop-index.token.me in
-    let out = c.loop-index.out.items in
+    let out = map g.T.Lifted.pair c.loop-index.out.items in
     let empty : length c.loop-index.hand.items ≡ 0 = omega (arith, c.in_default.ensures.cases.0, c.loop-index.hand.ok) in
     let none = none_left Same buffers me c.loop-index.hand.items out c.loop-index.invariant.2 empty in
     let lifted : times_lifted i me.1 ≡ 0 = ap (λ (m : Me (Slot g.row.B.Denot) Known). times_lifted i m.1) none in

@@ -1,4 +1,4 @@
-use Rattle.std.proofs.Common.{◌≡◌, ◌∙◌, sym, subst, length, arith}
+use Rattle.std.proofs.Common.{◌≡◌, ◌∙◌, sym, subst, map, length, arith}
 use Rattle.std.specs.Prelude.{Some}
 use Rattle.std.proofs.lemmas.List.Elements.{All-pop}
 use Rattle.atomic_table.specs.Table.{Me}
@@ -25,8 +25,8 @@ loop-seat-init g c =
       e.own,
       bands.0,
       λ i.
-          out_less (λ (s : Standing g.row.B.Denot). times i (lifted_of s.hand)) c.args.seats.items left c.in-Some.last (times i (indices_of c.args.out.items))
-          (times i (indices_of c.one_home-first.new.out.items)) (c.requires.lifted i) c.in-Some.ensures.items (e.less i),
+          out_less (λ (s : Standing g.row.B.Denot). times i (lifted_of s.hand)) c.args.seats.items left c.in-Some.last (times i (indices_of (map g.T.Lifted.pair c.args.out.items)))
+          (times i (indices_of (map g.T.Lifted.pair c.one_home-first.new.out.items))) (c.requires.lifted i) c.in-Some.ensures.items (e.less i),
       e.given,
       gathered_first c.args.words.now.key.setup.rings c.args.seats.items left c.in-Some.last w c.in-Some.ensures.items e.alone e.member e.numbers.0 e.numbers.1
           e.gate,
@@ -41,7 +41,7 @@ one_home-token-requires-clause-band g c κs within =
 pub one_home-token-requires-clause-lifted : goal.one_home-token-requires-clause-lifted
 one_home-token-requires-clause-lifted g c κs within i =
     out_some (λ (s : Standing g.row.B.Denot). times i (lifted_of s.hand)) c.loop-seat.seats.items c.pop-in-loop-seat.new.self.items c.in-Some-pop.seat
-    (times i (indices_of c.loop-seat.out.items)) (c.loop-seat.invariant.2 i) c.in-Some-pop.ensures.items
+    (times i (indices_of (map g.T.Lifted.pair c.loop-seat.out.items))) (c.loop-seat.invariant.2 i) c.in-Some-pop.ensures.items
 
 pub join_seat-requires : goal.join_seat-requires
 join_seat-requires g c =
@@ -71,15 +71,15 @@ loop-seat-preserved g c =
       c.join_seat.ensures.0 ∙ c.loop-seat.invariant.0,
       bands.0,
       λ i.
-          out_less (λ (s : Standing g.row.B.Denot). times i (lifted_of s.hand)) before left c.in-Some-pop.seat (times i (indices_of c.loop-seat.out.items))
-          (times i (indices_of c.one_home-token.new.out.items)) (c.loop-seat.invariant.2 i) c.in-Some-pop.ensures.items (e.less i),
+          out_less (λ (s : Standing g.row.B.Denot). times i (lifted_of s.hand)) before left c.in-Some-pop.seat (times i (indices_of (map g.T.Lifted.pair c.loop-seat.out.items)))
+          (times i (indices_of (map g.T.Lifted.pair c.one_home-token.new.out.items))) (c.loop-seat.invariant.2 i) c.in-Some-pop.ensures.items (e.less i),
       e.given,
       subst (λ (m : Me (Slot g.row.B.Denot) Known). AreGathered rings c.args.seats.items left m.0) (sym c.join_seat.ensures.2) more,
     )
 
 pub destroy_empty-requires-2 : goal.destroy_empty-requires-2
 destroy_empty-requires-2 g c =
-    let none = none_out c.loop-seat.out.items
+    let none = none_out g.T.Lifted.pair c.loop-seat.out.items
     (λ i.
     let sums = c.loop-seat.invariant.2 i in
     let items : length c.loop-seat.seats.items ≡ 0 = omega (arith, c.in_default-pop.ensures.cases.0, c.loop-seat.seats.ok) in

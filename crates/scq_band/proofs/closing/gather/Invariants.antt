@@ -1,4 +1,4 @@
-use Rattle.std.proofs.Common.{◌≡◌, ℕ, vec_len, sum_by, All}
+use Rattle.std.proofs.Common.{◌≡◌, ℕ, map, vec_len, sum_by, All}
 use Rattle.scq_law.specs.Hands.{times}
 use Rattle.scq_band.specs.Standing.{Standing}
 use Rattle.scq_band.specs.Kept.{identity_of}
@@ -10,8 +10,8 @@ abbrev pub invariant-loop-seat : goal.invariant-loop-seat
 invariant-loop-seat g l =
     (l.first.table_id ≡ l.words.table_id)
     × All (λ (s : Standing g.row.B.Denot). s.band ≡ identity_of l.words.table_id l.words.key) l.seats.items
-    × ((i : ℕ) → times i (indices_of l.out.items) ≡ sum_by (λ (s : Standing g.row.B.Denot). times i (lifted_of s.hand)) l.seats.items)
-    × AllOutGiven g.B.Buffer.IsSameBuffer l.words.key.given.value.items l.out.items
+    × ((i : ℕ) → times i (indices_of (map g.T.Lifted.pair l.out.items)) ≡ sum_by (λ (s : Standing g.row.B.Denot). times i (lifted_of s.hand)) l.seats.items)
+    × AllOutGiven g.B.Buffer.IsSameBuffer l.words.key.given.value.items (map g.T.Lifted.pair l.out.items)
     × AreGathered l.words.key.setup.rings l.fn.seats.items l.seats.items l.first.me.0
 
 abbrev pub decreases-loop-seat : goal.decreases-loop-seat

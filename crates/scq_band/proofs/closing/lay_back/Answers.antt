@@ -1,4 +1,4 @@
-use Rattle.std.proofs.Common.{◌≡◌, ◌∙◌, sym, ap, ℕ, List, ◌∷◌, inl, inr}
+use Rattle.std.proofs.Common.{◌≡◌, ◌∙◌, sym, ap, ℕ, List, ◌∷◌, map, inl, inr}
 use Rattle.std.specs.Prelude.{None}
 use Rattle.atomic_table.specs.Table.{rest}
 use Rattle.scq_band.specs.declared.slot.Slot.{Slot}
@@ -20,5 +20,5 @@ returns-clause-laid g c =
     let e = c.exchange-buffer.ensures in
     let h = c.exchange-hole.ensures in
     laid_back c.args.index c.args.token.now.me.1 c.exchange-buffer.new.seat.me.1 c.exchange-hole.new.seat.me.1 c.exchange-buffer.result c.match-buffer.buffer
-    c.args.out.now.items c.match-buffer.out.items e.2 (ap (λ q. q.1) e.3) (ap (λ q. q.1) h.3)
+    (map g.T.Lifted.pair c.args.out.now.items) (map g.T.Lifted.pair c.match-buffer.out.items) e.2 (ap (λ q. q.1) e.3) (ap (λ q. q.1) h.3)
     (elim c.match-buffer.branch [ in-Some w ↦ inl (cc, cc) | in-None w ↦ inr (cc, rw (w.out-is, w.buffer-is) w.taken_out-buffer.ensures) ])

@@ -1,4 +1,4 @@
-use Rattle.std.proofs.Common.{◌≡◌, ℕ, List, [], ◌∷◌, ◌++◌, length, sym, ◌∙◌, ap, subst}
+use Rattle.std.proofs.Common.{◌≡◌, ℕ, List, [], ◌∷◌, ◌++◌, length, map, sym, ◌∙◌, ap, subst}
 use Rattle.scq_band.specs.declared.heap.Heap.{Heap}
 use Rattle.scq_band.specs.Standing.{Identity, Standing, in_hand, first_standings}
 use Rattle.scq_band.specs.Closing.{AreTheLifted}
@@ -42,5 +42,6 @@ close-closed-requires-clause-out g c κs =
     ∙ ap (λ (l : List (Standing Heap)). l ++ c.lift-lifted.new.seat ∷ []) (c.remove-seat.ensures.items ∙ none_behind Contents Same band c.in-Ok.seats.items one) in
     let out : c.push_reserved.new.self.items ≡ (c.in-Ok-deq.first, c.lift-lifted.result) ∷ [] = c.push_reserved.ensures.items
     ∙ ap (λ (l : List (ℕ × Heap)). l ++ (c.in-Ok-deq.first, c.lift-lifted.result) ∷ []) c.in_ok-out.ensures.items in
-    subst (λ (l : List (Standing Heap)). AreTheLifted Same band l c.push_reserved.new.self.items) (sym seats)
-    (subst (λ (l : List (ℕ × Heap)). AreTheLifted Same band (c.lift-lifted.new.seat ∷ []) l) (sym out) now)
+    let pair : ℕ × Heap → ℕ × Heap = λ o. o in
+    subst (λ (l : List (Standing Heap)). AreTheLifted Same band l (map pair c.push_reserved.new.self.items)) (sym seats)
+    (subst (λ (l : List (ℕ × Heap)). AreTheLifted Same band (c.lift-lifted.new.seat ∷ []) (map pair l)) (sym out) now)

@@ -1,4 +1,4 @@
-use Rattle.std.proofs.Common.{◌≡◌, ℕ, List, length, subst, sym}
+use Rattle.std.proofs.Common.{◌≡◌, ℕ, List, length, map, subst, sym}
 use Rattle.scq_band.specs.declared.heap.Heap.{Heap}
 use Rattle.scq_band.specs.Closing.{AreTheLifted}
 use Rattle.scq_band.proofs.NoneLent.{none_out}
@@ -7,5 +7,6 @@ use Rattle.scq_band.proofs.thread_tests.two_threads_lose_no_index.Goals as goal
 pub close-closed-requires-clause-out : goal.close-closed-requires-clause-out
 close-closed-requires-clause-out g c κs =
     let Same : Heap → Heap → Type 0 = λ a b. length a.bytes.items ≡ length b.bytes.items in
-    subst (λ (out : List (ℕ × Heap)). AreTheLifted Same c.in-Ok.band c.in_ok-seats.seats.items out) (sym c.new-2.ensures.items)
+    let pair : ℕ × Heap → ℕ × Heap = λ o. o in
+    subst (λ (out : List (ℕ × Heap)). AreTheLifted Same c.in-Ok.band c.in_ok-seats.seats.items (map pair out)) (sym c.new-none.ensures.items)
     (none_out Same c.in-Ok.band c.in_ok-seats.seats.items c.in_ok-seats.ensures.laid)

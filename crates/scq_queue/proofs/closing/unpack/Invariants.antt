@@ -2,7 +2,8 @@ use Rattle.std.proofs.Common.{◌≡◌, [], ◌+◌, ◌≤◌, ◌++◌, map}
 use Rattle.std.specs.Prelude.{vec_len, vec_capacity, reverse}
 use Rattle.scq_queue.specs.Lists.{counts_of}
 use Rattle.scq_queue.specs.Passes.{PassStanding, lists_of}
-use Rattle.scq_queue.specs.Kept.{seat_of, FullsStand}
+use Rattle.scq_queue.specs.Closing.{AllFullsStand}
+use Rattle.scq_queue.specs.Kept.{seat_of}
 use Rattle.scq_queue.proofs.closing.unpack.Given as goal
 
 abbrev pub invariant-loop-pass : goal.invariant-loop-pass
@@ -12,7 +13,7 @@ invariant-loop-pass g l =
     ≡ map (λ (p : PassStanding g.row.B.Denot). counts_of (lists_of p)) l.fn.passes.items)
     × (vec_len l.seats + vec_len l.passes ≤ vec_capacity l.seats)
     × (vec_len l.counts + vec_len l.passes ≤ vec_capacity l.counts)
-    × (FullsStand (reverse l.passes.items) → FullsStand l.fn.passes.items)
+    × (AllFullsStand (reverse l.passes.items) → AllFullsStand l.fn.passes.items)
 
 abbrev pub decreases-loop-pass : goal.decreases-loop-pass
 decreases-loop-pass g l = vec_len l.passes

@@ -5,10 +5,10 @@ use Rattle.scq_band.specs.declared.numbers.Numbers.{Numbers}
 use Rattle.scq_band.specs.Buffers.{opening_of}
 use Rattle.scq_band.specs.Standing.{Identity, Standing}
 use Rattle.scq_band.specs.Closing as band
-use Rattle.scq_queue.specs.Passes.{PassStanding}
+use Rattle.scq_queue.specs.Passes.{PassStanding, HeldStanding}
 use Rattle.scq_queue.specs.Closing.{IsBalance, IsAllThere, records_of, all_held}
-use Rattle.scq_queue.specs.Kept.{seat_of, value_of}
-use Rattle.scq_queue.proofs.Ends.{calls_are, known_are, spent_are, hands_are, takes_are_sends, none_sent_twice, none_taken_twice, sends_passed, balance_of, retired_where_told, fulls_stand, seats_own, are_lifted, all_is_there}
+use Rattle.scq_queue.specs.Kept.{seat_of, value_of, IsGiven}
+use Rattle.scq_queue.proofs.Ends.{calls_are, known_are, spent_are, hands_are, takes_are_sends, none_sent_twice, none_taken_twice, sends_passed, balance_of, retired_where_told, seats_own, are_lifted, all_is_there}
 use Rattle.scq_queue.proofs.queue.Queue.close.Goals as goal
 
 pub close-buffers-requires-clause-seats : goal.close-buffers-requires-clause-seats
@@ -20,8 +20,8 @@ close-buffers-requires-clause-seats g c κs within =
 pub close-buffers-requires-clause-out : goal.close-buffers-requires-clause-out
 close-buffers-requires-clause-out g c κs within =
     let Same = g.B.Buffer.IsSameBuffer in
-    let lifted = are_lifted Same c.args.self c.args.passes.items c.args.held.items c.requires.held c.unwrap.ensures.given in
-    subst (λ (out : List (ℕ × g.row.B.Denot)). band.AreTheLifted Same c.self.inside.band c.unpack.new.seats.items out) (sym c.unwrap.ensures.out)
+    let given = subst (λ (hs : List (HeldStanding g.row.B.Denot)). All (IsGiven Same) hs) c.deref.ensures.value c.all_given.ensures in
+    let lifted = are_lifted Same c.args.self c.args.passes.items c.args.held.items c.requires.held given in
     (subst (λ (ss : List (Standing g.row.B.Denot)). band.AreTheLifted Same c.self.inside.band ss (map value_of c.args.held.items)) (sym c.unpack.ensures.seats)
     (subst (λ (q : Identity g.row.B.Denot). band.AreTheLifted Same q (map seat_of c.args.passes.items) (map value_of c.args.held.items)) (sym c.self.view_is)
     lifted))
@@ -78,9 +78,6 @@ returns-clause-all_there g c =
     subst (λ (q : Identity g.row.B.Denot). IsAllThere q.setup c.args.held.items left) c.self.view_is
     (all_is_there k.setup c.args.self c.args.passes.items c.args.held.items left c.requires.held
     (subst (λ (hs : List (List ℕ)). band.IsAllThere k.setup hs left) hands c.close-buffers.ensures.all_there))
-
-pub returns-clause-fulls : goal.returns-clause-fulls
-returns-clause-fulls g c = fulls_stand c.args.passes.items c.unpack.ensures.fulls
 
 pub returns-clause-hands : goal.returns-clause-hands
 returns-clause-hands g c =

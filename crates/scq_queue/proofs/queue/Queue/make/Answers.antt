@@ -1,6 +1,5 @@
 use Rattle.std.proofs.Common.{◌≡◌, ℕ, ◌≤◌, [], List, length, map, sym, ◌∙◌, ap, subst, arith, vec_len}
 use Rattle.std.specs.Prelude.{All, vec_capacity}
-use Rattle.scq_word.specs.Sizes.{n_of}
 use Rattle.scq_band.specs.Standing.{Identity, Standing, first_standings}
 use Rattle.scq_queue.specs.Passes.{PassStanding, first_passes}
 use Rattle.scq_queue.specs.Kept.{pass_over}
@@ -26,14 +25,10 @@ invariant_of-queue g c =
     let whole = c.in-Ok-make.seats.ok in
     let kept = c.passes_of-passes.ensures.kept in
     let counts = c.in-Ok-with_capacity.ensures.capacity in
-    let out = c.in-Ok-with_capacity-2.ensures.capacity in
     let seats = c.seats-2.ensures in
-    let len = c.len.ensures in
-    let all = c.requires.count in
-    keeps_room c.in-Ok-make.band c.args.setup c.passes_of-passes.new.seats.items c.in-Ok-with_capacity-2.out.items c.in-Ok-with_capacity.counts.items
-    (vec_capacity c.passes_of-passes.new.seats) (vec_capacity c.in-Ok-with_capacity-2.out) (vec_capacity c.in-Ok-with_capacity.counts)
-    c.in-Ok-make.ensures.band.0 c.passes_of-passes.ensures.emptied (omega (arith, many, whole, kept)) c.in-Ok-with_capacity-2.ensures.items
-    (omega (arith, out, len, all)) c.in-Ok-with_capacity.ensures.items (omega (arith, counts, seats))
+    keeps_room c.in-Ok-make.band c.args.setup c.passes_of-passes.new.seats.items c.in-Ok-with_capacity.counts.items
+    (vec_capacity c.passes_of-passes.new.seats) (vec_capacity c.in-Ok-with_capacity.counts) c.in-Ok-make.ensures.band.0 c.passes_of-passes.ensures.emptied
+    (omega (arith, many, whole, kept)) c.in-Ok-with_capacity.ensures.items (omega (arith, counts, seats))
 
 pub returns-in-Ok-make-clause-passes : goal.returns-in-Ok-make-clause-passes
 returns-in-Ok-make-clause-passes g c =
