@@ -54,6 +54,10 @@ pub record LastStep (c : Setup) (opening : List (List ℕ)) (seat : ℕ) (before
   pub was : (state.part seat).calls ≡ before
   pub is : (next.part seat).calls ≡ later
 
+-- Head of ring r was at or past a number after the step that ended the call
+abbrev pub HeadWasPast : Setup → List (List ℕ) → ℕ → List Ended → List Ended → ℕ → ℕ → Type 0
+HeadWasPast c opening seat before later r head = (last : LastStep c opening seat before later) × (head ≤ last.next.cells.head r)
+
 -- what contracts see of a note
 pub record NoteStanding : Type 0 where
   pub table : TableId

@@ -3,7 +3,7 @@ ghost use Rattle.std.specs.Prelude.{◌≡◌, ℕ, ◌<◌, ◌≤◌, Some, No
 ghost use Rattle.scq_word.specs.Sizes.{n_of};
 ghost use Rattle.scq_band.specs.Buffers.{opening_of};
 ghost use Rattle.scq_band.specs.Numbers.{known_of};
-ghost use Rattle.scq_band.specs.Standing.{LastStep, in_hand, bytes_in_hand, after_put, after_spent_put, after_spent_get, HasTaken, FoundEmpty};
+ghost use Rattle.scq_band.specs.Standing.{HeadWasPast, in_hand, bytes_in_hand, after_put, after_spent_put, after_spent_get, HasTaken, FoundEmpty};
 
 use crate::band::Band;
 use crate::dequeue::{Without, dequeue};
@@ -72,8 +72,7 @@ impl<B: Buffer> Band<B> {
         ensures index { IfOk result (λ r. r.1 < n_of self.now.setup.order) }
         ensures empty { (head : ℕ) → result ≡ Err (DeqRefusal.Empty head) → FoundEmpty ring head seat.old seat.new }
         ensures head { (head : ℕ) → result ≡ Err (DeqRefusal.Empty head)
-            → (last : LastStep self.now.setup (opening_of B.contents self.now.given) seat.new.number seat.old.calls seat.new.calls)
-            × (head ≤ last.next.cells.head ring) }
+            → HeadWasPast self.now.setup (opening_of B.contents self.now.given) seat.new.number seat.old.calls seat.new.calls ring head }
         ensures spent { (ticket : ℕ) → result ≡ Err (DeqRefusal.Spent ticket) → seat.old.spent ≡ None
             → (seat.new ≡ after_spent_get ring ticket seat.old) × (self.now.setup.limit ≤ ticket) }
         ensures kept { (ticket : ℕ) → seat.old.spent ≡ Some ticket → (result ≡ Err (DeqRefusal.Spent ticket)) × (seat.new ≡ seat.old) }

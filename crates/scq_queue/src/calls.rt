@@ -1,7 +1,8 @@
 //! The calls that pass buffers on.
 ghost use Rattle.std.specs.Prelude.{◌≡◌, ℕ, suc, ◌+◌, ◌<◌, ◌≤◌, Some, None, Err, Ok, IfOk, IfErr};
 ghost use Rattle.scq_word.specs.Sizes.{n_of};
-ghost use Rattle.scq_band.specs.Standing.{IsAsGiven};
+ghost use Rattle.scq_band.specs.Buffers.{opening_of};
+ghost use Rattle.scq_band.specs.Standing.{HeadWasPast, IsAsGiven};
 ghost use Rattle.scq_queue.specs.Lists.{with_send, with_take, with_full};
 ghost use Rattle.scq_queue.specs.Passes.{lists_of, known_on, IsHeldBy, HasGot, WasLent, WasGivenBack, FoundFull, FoundEmpty, after_put, after_spent_put, after_spent_get};
 
@@ -33,7 +34,8 @@ pub enum TakeRefusal {
 impl<B: Buffer> Queue<B> {
     /// Lends the pass a buffer that nobody holds, with whatever bytes stand in it.
     ///
-    /// Full where there was none: the free ring's Head is past each place at which the pass knew a buffer to be given back. Spent where
+    /// Full where there was none: the free ring's Head is past each place at which the pass knew a buffer to be given back, and was at
+    /// or past the number answered after the step of the machine that ended the call (the clause `head`). Spent where
     /// the ticket that was drawn is at or past the limit; the pass keeps it, and answers it from then on, with no step made.
     #[inline(always)]
     pub fn lend(&self, pass: &mut Pass<B>) -> Result<Held<B>, LendRefusal>
@@ -44,6 +46,8 @@ impl<B: Buffer> Queue<B> {
         ensures index { IfOk result (λ held. held.index < n_of self.now.setup.order) }
         ensures lists { IfOk result (λ _. lists_of pass.new ≡ lists_of pass.old) }
         ensures full { (head : ℕ) → result ≡ Err (LendRefusal.Full head) → FoundFull head pass.old pass.new }
+        ensures head { (head : ℕ) → result ≡ Err (LendRefusal.Full head)
+            → HeadWasPast self.now.setup (opening_of B.contents self.now.given) pass.new.number pass.old.calls pass.new.calls 0 head }
         ensures full_lists { (head : ℕ) → result ≡ Err (LendRefusal.Full head) → lists_of pass.new ≡ with_full head (lists_of pass.old) }
         ensures spent { (ticket : ℕ) → result ≡ Err (LendRefusal.Spent ticket) → pass.old.spent ≡ None
             → (pass.new ≡ after_spent_get 0 ticket pass.old) × (self.now.setup.limit ≤ ticket) }
@@ -100,7 +104,8 @@ impl<B: Buffer> Queue<B> {
     /// Takes a value from a topic: answers its place, which is below the limit and not below the head of this topic that the pass
     /// knew, and the value. That its bytes are those that were sent there is told of all passes together by `close`.
     ///
-    /// Empty where there was none: the topic's Head is past each place of a send that the pass knew to be finished. Spent as with `lend`.
+    /// Empty where there was none: the topic's Head is past each place of a send that the pass knew to be finished, and was at or past
+    /// the number answered after the step of the machine that ended the call (the clause `head`). Spent as with `lend`.
     #[inline(always)]
     pub fn take(&self, pass: &mut Pass<B>, topic: u32) -> Result<(u64, Held<B>), TakeRefusal>
         requires pass { pass.old.queue ≡ self.now }
@@ -112,6 +117,8 @@ impl<B: Buffer> Queue<B> {
         ensures index { IfOk result (λ r. r.1.index < n_of self.now.setup.order) }
         ensures lists { IfOk result (λ r. lists_of pass.new ≡ with_take topic r.0 (B.contents r.1.buffer) (lists_of pass.old)) }
         ensures empty { (head : ℕ) → result ≡ Err (TakeRefusal.Empty head) → FoundEmpty topic head pass.old pass.new }
+        ensures head { (head : ℕ) → result ≡ Err (TakeRefusal.Empty head)
+            → HeadWasPast self.now.setup (opening_of B.contents self.now.given) pass.new.number pass.old.calls pass.new.calls (suc topic) head }
         ensures spent { (ticket : ℕ) → result ≡ Err (TakeRefusal.Spent ticket) → pass.old.spent ≡ None
             → (pass.new ≡ after_spent_get (suc topic) ticket pass.old) × (self.now.setup.limit ≤ ticket) }
         ensures refused_lists { IfErr result (λ _. lists_of pass.new ≡ lists_of pass.old) }

@@ -1,8 +1,9 @@
 //! Values that a seat gets off a ring and puts on one. Their buffers are lifted while they are held.
 ghost use Rattle.std.specs.Prelude.{◌≡◌, ℕ, List, ◌<◌, ◌≤◌, Some, None, Err, IfOk, IfErr};
 ghost use Rattle.scq_word.specs.Sizes.{n_of};
+ghost use Rattle.scq_band.specs.Buffers.{opening_of};
 ghost use Rattle.scq_band.specs.Numbers.{known_of};
-ghost use Rattle.scq_band.specs.Standing.{IsAsGiven};
+ghost use Rattle.scq_band.specs.Standing.{HeadWasPast, IsAsGiven};
 ghost use Rattle.scq_queue.specs.Passes.{HasGot, IsHeldBy, FoundNothing, after_put, after_spent_put, after_spent_get};
 ghost use Rattle.scq_queue.specs.Kept.{pass_over, AreLifted};
 
@@ -29,6 +30,8 @@ pub fn get<B: Buffer>(
     ensures index { IfOk result (λ r. r.1.index < n_of band.now.setup.order) }
     ensures empty { (head : ℕ) → result ≡ Err (DeqRefusal.Empty head) → (fulls : List ℕ)
         → FoundNothing ring head (pass_over seat.old fulls) (pass_over seat.new fulls) }
+    ensures head { (head : ℕ) → result ≡ Err (DeqRefusal.Empty head)
+        → HeadWasPast band.now.setup (opening_of B.contents band.now.given) seat.new.number seat.old.calls seat.new.calls ring head }
     ensures spent { (ticket : ℕ) → result ≡ Err (DeqRefusal.Spent ticket) → seat.old.spent ≡ None
         → ((fulls : List ℕ) → pass_over seat.new fulls ≡ after_spent_get ring ticket (pass_over seat.old fulls)) × (band.now.setup.limit ≤ ticket) }
     ensures kept { (ticket : ℕ) → seat.old.spent ≡ Some ticket → (result ≡ Err (DeqRefusal.Spent ticket)) × (seat.new ≡ seat.old) }

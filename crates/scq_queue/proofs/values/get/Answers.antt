@@ -50,3 +50,8 @@ returns-in-Err-clause-spent g c ticket is none =
     let same : c.in-Err.refusal ≡ Spent ticket = cc in
     let drew = c.in-Err.ensures.spent ticket (ap (λ (r : DeqRefusal). Err r) same) none in
     ((get_spent c.args.seat.now c.deq.new.seat c.args.ring ticket c.requires.lifted drew.0).1, drew.1)
+
+pub returns-in-Err-clause-head : goal.returns-in-Err-clause-head
+returns-in-Err-clause-head g c head is =
+    let same : c.in-Err.refusal ≡ Empty head = cc in
+    c.in-Err.ensures.head head (ap (λ (r : DeqRefusal). Err r) same)

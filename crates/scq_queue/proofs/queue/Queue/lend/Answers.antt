@@ -2,7 +2,8 @@ use Rattle.std.proofs.Common.{◌≡◌, ℕ, ◌≤◌, false, List, refl, sym,
 use Rattle.std.specs.Prelude.{Err}
 use Rattle.scq_core.specs.declared.ended.Ended.TheVariants.{Got, Nothing, Spent}
 use Rattle.scq_band.specs.declared.calls.DeqRefusal.{DeqRefusal}
-use Rattle.scq_band.specs.Standing.{Identity}
+use Rattle.scq_band.specs.Buffers.{opening_of}
+use Rattle.scq_band.specs.Standing.{Identity, HeadWasPast}
 use Rattle.scq_queue.specs.Lists.{with_full}
 use Rattle.scq_queue.specs.Passes.{PassStanding, lists_of, after_spent_get}
 use Rattle.scq_queue.specs.Kept.{pass_over, heads_of}
@@ -44,6 +45,18 @@ returns-in-Empty-clause-full_lists g c head is =
     (ap (λ (p : PassStanding g.row.B.Denot). p.calls) found.pass) c.once_more.ensures
     ∙ ap (λ (n : ℕ). with_full n (lists_of (pass_over c.pass.inside.seat heads))) same
     ∙ ap (λ (p : PassStanding g.row.B.Denot). with_full head (lists_of p)) c.pass.view_is
+
+pub returns-in-Empty-clause-head : goal.returns-in-Empty-clause-head
+returns-in-Empty-clause-head g c head is =
+    let opening = λ (given : List g.row.B.Denot). opening_of g.B.Buffer.contents given in
+    let band = c.self.inside.band in
+    let before = c.pass.inside.seat in
+    let later = c.get.new.seat in
+    let same : c.in-Empty.head ≡ head = cc in
+    let was = c.in-Err.ensures.head c.in-Empty.head (ap (λ (r : DeqRefusal). Err r) c.in-Empty.is) in
+    subst (λ (q : Identity g.row.B.Denot). HeadWasPast q.setup (opening q.given) later.number c.args.pass.now.calls later.calls 0 head) c.self.view_is
+    (subst (λ (p : PassStanding g.row.B.Denot). HeadWasPast band.setup (opening band.given) later.number p.calls later.calls 0 head) c.pass.view_is
+    (subst (λ (n : ℕ). HeadWasPast band.setup (opening band.given) later.number before.calls later.calls 0 n) same was))
 
 pub invariant_of-pass-in-Spent : goal.invariant_of-pass-in-Spent
 invariant_of-pass-in-Spent g c =

@@ -3,7 +3,8 @@ use Rattle.std.specs.Prelude.{Err}
 use Rattle.scq_core.specs.declared.ended.Ended.TheVariants.{Got, Nothing, Spent}
 use Rattle.scq_band.specs.declared.calls.DeqRefusal.{DeqRefusal}
 use Rattle.scq_band.specs.declared.calls.DeqRefusal.TheVariants.{Empty, Spent as DrewSpent}
-use Rattle.scq_band.specs.Standing.{Identity}
+use Rattle.scq_band.specs.Buffers.{opening_of}
+use Rattle.scq_band.specs.Standing.{Identity, HeadWasPast}
 use Rattle.scq_queue.specs.Lists.{with_take}
 use Rattle.scq_queue.specs.Passes.{PassStanding, HasGot, FoundNothing, lists_of, after_spent_get}
 use Rattle.scq_queue.specs.Kept.{pass_over, heads_of}
@@ -37,6 +38,21 @@ returns-in-Err-Empty-clause-empty g c head is =
     subst (λ (n : ℕ). FoundNothing (suc c.args.topic) n c.args.pass.now later) same
     (subst (λ (p : PassStanding g.row.B.Denot). FoundNothing (suc c.args.topic) c.in-Err-Empty.head p later) c.pass.view_is
     (subst (λ (r : ℕ). FoundNothing r c.in-Err-Empty.head (pass_over c.pass.inside.seat heads) later) (add-one c.args.topic) found))
+
+pub returns-in-Err-Empty-clause-head : goal.returns-in-Err-Empty-clause-head
+returns-in-Err-Empty-clause-head g c head is =
+    let is_empty : c.in-Err-Empty.field-0 ≡ Empty c.in-Err-Empty.head = cc in
+    let opening = λ (given : List g.row.B.Denot). opening_of g.B.Buffer.contents given in
+    let band = c.self.inside.band in
+    let before = c.pass.inside.seat in
+    let later = c.get.new.seat in
+    let ring = suc c.args.topic in
+    let same : c.in-Err-Empty.head ≡ head = cc in
+    let was = c.in-Err-Empty.ensures.head c.in-Err-Empty.head (ap (λ (r : DeqRefusal). Err r) is_empty) in
+    subst (λ (q : Identity g.row.B.Denot). HeadWasPast q.setup (opening q.given) later.number c.args.pass.now.calls later.calls ring head) c.self.view_is
+    (subst (λ (p : PassStanding g.row.B.Denot). HeadWasPast band.setup (opening band.given) later.number p.calls later.calls ring head) c.pass.view_is
+    (subst (λ (n : ℕ). HeadWasPast band.setup (opening band.given) later.number before.calls later.calls ring n) same
+    (subst (λ (r : ℕ). HeadWasPast band.setup (opening band.given) later.number before.calls later.calls r c.in-Err-Empty.head) (add-one c.args.topic) was)))
 
 pub invariant_of-pass-in-Err-Spent : goal.invariant_of-pass-in-Err-Spent
 invariant_of-pass-in-Err-Spent g c =
