@@ -42,3 +42,4 @@ pub mod Starting
 pub mod Exchanging
 pub mod Keeping
 pub mod Joining
+pub mod SeatsShared

@@ -5,3 +5,4 @@ pub mod PassSteps
 mod NewPasses
 mod Ends
 mod HeldOnce
+pub mod QueuesShared

@@ -1,0 +1,25 @@
+-- A queue may be shared by threads where its buffers may be sent and shared.
+use denote.RattleType.{RattleType}
+use denote.Builtin.{u64}
+use denote.Param.Send.{IsSend, IsSync, sendable, view_sync}
+use denote.Param.SendFields.{declared_sync}
+use Rattle.scq_word.specs.declared.buffer.Buffer.{Ghosts}
+use Rattle.scq_band.specs.contracts.seat.Seat as seat
+use Rattle.scq_band.proofs.SeatsShared.{vec_sync, seat_sync, band_sync}
+use Rattle.scq_queue.specs.contracts.counts.Counts as counts
+use Rattle.scq_queue.specs.contracts.queue.Queue as queue
+use Rattle.scq_queue.specs.contracts.queue.Queue.TheInside as queue_inside
+
+u64_sync : IsSync u64
+u64_sync = search sendable
+
+counts_sync : IsSync counts.the_row
+counts_sync = declared_sync counts.the_type (u64_sync, (u64_sync, (u64_sync, tt)))
+
+pub queue_sync : (B : RattleType) (buffer : Ghosts B.Denot) → IsSend B → IsSync B → IsSync (queue.the_row B buffer)
+queue_sync B buffer sends shares =
+    view_sync (queue_inside.the_row B buffer) _ _ _ _
+    (declared_sync (queue_inside.the_type B buffer) (
+      band_sync B buffer sends shares,
+      (vec_sync (seat.the_row B buffer) (seat_sync B buffer sends), (vec_sync counts.the_row counts_sync, tt)),
+    ))
