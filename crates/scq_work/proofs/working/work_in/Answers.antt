@@ -15,7 +15,7 @@ use Rattle.scq_collect.specs.Merging.{members_in}
 use Rattle.scq_work.specs.AllWorkers.{HaveAnswered, HasWorked, lengths_of}
 use Rattle.scq_work.specs.Dealings.{AreDealt, IsFresh, without_files}
 use Rattle.scq_work.specs.Desks.{IsNew}
-use Rattle.scq_work.specs.Ends.{AreGiven, HasCause, all_left}
+use Rattle.scq_work.specs.Ends.{AreGiven, HasCause, HasMoved, all_left}
 use Rattle.scq_work.specs.Given.{given_in}
 use Rattle.scq_work.specs.Reading.{IsRead, IsWhole}
 use Rattle.scq_work.specs.declared.desk.Desk.{Desk}
@@ -69,8 +69,8 @@ gather-requires-clause-read g c lifetimes lives =
     λ ds. All (λ d. All (λ f. IsRead c.args.job.now.topics c.args.job.now.size g.S.Source.faults g.S.Source.left f.number f.was.value f.source (given_in f.given.value) f.end) d.files.items) ds in
     subst P (sym third) (λ w d less. (c.run_all.ensures.run w d less).read)
 
-pub close-left-requires-clause-passes : goal.close-left-requires-clause-passes
-close-left-requires-clause-passes g c lifetimes =
+pub close-buffers-requires-clause-passes : goal.close-buffers-requires-clause-passes
+close-buffers-requires-clause-passes g c lifetimes =
     let S = g.row.S.Denot in
     let ran = c.run_all.new.desks in
     let third : c.as_mut_slice-3.result.now ≡ ran =
@@ -83,8 +83,8 @@ close-left-requires-clause-passes g c lifetimes =
     let P : List (PassStanding Frame) → Type 0 = λ ps. All (λ p. p.queue ≡ c.args.queue) ps in
     subst P (sym passes) (All-map (λ (p : PassStanding Frame). p.queue ≡ c.args.queue) (λ (d : Desk Frame S). d.worker.pass) ran (λ w d less. (c.run_all.ensures.run w d less).queue))
 
-pub close-left-requires-clause-held : goal.close-left-requires-clause-held
-close-left-requires-clause-held g c lifetimes =
+pub close-buffers-requires-clause-held : goal.close-buffers-requires-clause-held
+close-buffers-requires-clause-held g c lifetimes =
     let S = g.row.S.Denot in
     let ran = c.run_all.new.desks in
     let third : c.as_mut_slice-3.result.now ≡ ran =
@@ -105,10 +105,10 @@ close-left-requires-clause-held g c lifetimes =
 
 -- each buffer that comes back is the frame that went in at its place
 pub merge-requires : goal.merge-requires
-merge-requires g c lifetimes =
+merge-requires g c =
     let given = c.args.queue.given in
-    let back = c.close-left.result.buffers.items in
-    let same = c.close-left.ensures.buffers in
+    let back = c.close-buffers.result.buffers.items in
+    let same = c.close-buffers.ensures.buffers in
     all_from_same c.args.block given back c.requires.all same.0
     (λ k d less. same.1 k (slice_index_or given k d) (slice_index_or back k d) (slice_get-get_or given k d less) (slice_get-get_or back k d (omega (arith, less, same.0))))
 
@@ -180,10 +180,10 @@ returns-clause-worked g c =
       seats_fit = subst (λ n. queue.setup.seats ≤ 2 ^ n) (sym setup.0) (omega (arith, setup.2, valid.workers_fit));
       limit = setup.3;
     } in
-    let close = c.close-left.ensures in
-    let closed : HasClosed queue.setup (passes_at ran) (held_at ran) c.close-left.result.left.items =
-    subst (λ (hs : List (HeldStanding Frame)). HasClosed queue.setup (passes_at ran) hs c.close-left.result.left.items) held
-    (subst (λ (ps : List (PassStanding Frame)). HasClosed queue.setup ps c.clear.new.left.held.items c.close-left.result.left.items) passes (record {
+    let close = c.close-buffers.ensures in
+    let closed : HasClosed queue.setup (passes_at ran) (held_at ran) c.close-buffers.result.left.items =
+    subst (λ (hs : List (HeldStanding Frame)). HasClosed queue.setup (passes_at ran) hs c.close-buffers.result.left.items) held
+    (subst (λ (ps : List (PassStanding Frame)). HasClosed queue.setup ps c.clear.new.left.held.items c.close-buffers.result.left.items) passes (record {
       takes = close.takes;
       sent_once = close.sent_once;
       taken_once = close.taken_once;
@@ -193,10 +193,10 @@ returns-clause-worked g c =
       kept = close.kept;
       all_there = close.all_there;
     })) in
-    let answered = have-answered queue.setup queue topics size faults left sources ran all c.close-left.result.left.items closed in
-    let shared = have-shared queue.setup queue topics size faults left sources ran all c.close-left.result.left.items closed in
-    let its_passes : c.close-left.result.passes.value.items ≡ passes_at ran = close.passes ∙ passes in
-    let its_left : c.of.result.value.items ≡ c.close-left.result.left.items = ap (λ v. v.items) c.of.ensures in
+    let answered = have-answered queue.setup queue topics size faults left sources ran all c.close-buffers.result.left.items closed in
+    let shared = have-shared queue.setup queue topics size faults left sources ran all c.close-buffers.result.left.items closed in
+    let its_passes : c.close-buffers.result.passes.value.items ≡ passes_at ran = close.passes ∙ passes in
+    let its_left : c.of.result.value.items ≡ c.close-buffers.result.left.items = ap (λ v. v.items) c.of.ensures in
     let workers : length ran ≡ c.args.job.now.workers = count ∙ setup.2 in
     subst Of (sym is.0) (
       given queue.setup queue topics size faults left sources ran all,
@@ -226,6 +226,15 @@ returns-clause-told g c =
     ok-more c.conclude.result _ _ (returns-clause-worked g c) (λ w has.
     told-worked topics c.args.job.now.order size c.args.job.now.workers has.0 w (all_left left c.args.sources.items)
     (given-told topics size left 1 c.args.sources.items has.0 has.1) has.2)
+
+pub returns-clause-moved : goal.returns-clause-moved
+returns-clause-moved g c =
+    let S = g.row.S.Denot in
+    let is = ap (λ v. v.items) c.of-was.ensures in
+    let left = g.S.Source.left in
+    λ k d less.
+    subst (λ (xs : List S). HasMoved left (slice_index_or xs k d) (slice_index_or c.gather.new.gathered.sources.items k d)) is
+    (c.gather.ensures.moved k d (omega (arith, less, ap length is, c.of-was.result.value.ok.0)))
 
 pub returns-clause-whole : goal.returns-clause-whole
 returns-clause-whole g c =
