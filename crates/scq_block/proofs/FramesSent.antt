@@ -1,5 +1,5 @@
 -- A frame may be sent to another thread, and shared: it owns its bytes, or lends them, and the vector in which it has them frees none.
-use denote.Builtin.{u8, u32}
+use denote.Builtin.{u8}
 use denote.Param.Send.{IsSend, IsSync, sendable}
 use denote.Param.SendFields.{declared_send, declared_sync}
 use Rattle.std_alloc.proofs.SendSync.{FreesAnywhere, Vec-send, Vec-sync}

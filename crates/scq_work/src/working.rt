@@ -117,10 +117,7 @@ fn make_frames(alloc: Global, job: &Job) -> Result<(Block, Vec<Frame>), NoMemory
 }
 
 /// The queue of a job, over the frames of one block, with a pass for each worker: a topic for each declared one, and one for all others.
-fn make_queue(
-    alloc: Global,
-    job: &Job,
-) -> Result<(Block, Queue<Frame>, Vec<Pass<Frame>>), NoMemory>
+fn make_queue(alloc: Global, job: &Job) -> Result<(Block, Queue<Frame>, Vec<Pass<Frame>>), NoMemory>
     ensures setup { IfOk result (λ made. (made.1.setup.order ≡ job.now.order) × (made.1.setup.rings ≡ length job.now.topics + 2)
         × (made.1.setup.seats ≡ job.now.workers) × (made.1.setup.limit ≡ 2 ^ 60)) }
     ensures passes { IfOk result (λ made. made.2.items ≡ first_passes made.1 made.1.setup.seats) }
