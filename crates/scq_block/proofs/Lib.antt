@@ -3,3 +3,4 @@ pub mod VecOfBytes
 pub mod FrameLists
 pub mod Sorting
 pub mod BlockFrames
+pub mod FramesSent

@@ -1,4 +1,4 @@
-//! Workers: the messages of files, answered by several threads that share a queue of buffers.
+//! Workers: the messages of files, answered by several threads that share a queue over the frames of one block.
 #![tactic(auto)]
 
 mod dealing;

@@ -1,5 +1,5 @@
 //! Work over sources in memory: for each number of workers the answers of one thread, the faults of
-//! several files, and two workers at one time.
+//! several files, two workers at one time, and a frame that goes from one to the other.
 ghost use Rattle.std.specs.Prelude.{◌<◌};
 
 use crate::{FreeGate, Gate, Job, Point, WorkFault, work};
@@ -248,5 +248,59 @@ fn two_workers_meet_at_each_point(rt: HostRuntime) -> Result<(), Fail> {
         }
     );
     assert_eq!(rt; gate.saw.load(Ordering::SeqCst), 6);
+    Ok(())
+}
+
+/// A gate at which worker 0 stays behind its send until worker 1 has taken, and worker 1 in front of its first take until
+/// worker 0 has sent.
+#[derive(Drop)]
+struct Handing {
+    sent: AtomicU64,
+    came: AtomicU64,
+    took: AtomicU64,
+}
+
+impl Gate for Handing {
+    fn at(&self, worker: u32, point: Point) {
+        match point {
+            Point::AfterSend => {
+                self.sent.store(1, Ordering::SeqCst);
+                is_seen(&self.took);
+            }
+            Point::BeforeTake => {
+                if worker == 1 && self.came.swap(1, Ordering::SeqCst) == 1 {
+                    self.took.store(1, Ordering::SeqCst);
+                } else if worker == 1 {
+                    is_seen(&self.sent);
+                }
+            }
+            Point::BeforeLeave => {}
+        }
+    }
+}
+
+// Worker 0 is lent a frame, writes the message into it and sends it; worker 1, which has an empty file, takes it.
+#[test]
+fn what_one_worker_sent_another_takes(rt: HostRuntime) -> Result<(), Fail> {
+    let alloc = rt.alloc();
+    let gate = Handing {
+        sent: AtomicU64::new(0),
+        came: AtomicU64::new(0),
+        took: AtomicU64::new(0),
+    };
+    let topics = Topics::read("a=echo").ok().ok_or("topics")?;
+    let job = Job::new(1, 14, 2, topics).ok_or("job")?;
+    let mut sources = Vec::new(alloc);
+    sources.push(PlainSource::new(b"a sender's bytes\n".to_vec(alloc)?))?;
+    sources.push(PlainSource::new(Vec::new(alloc)))?;
+    let end = work(&rt, alloc, &job, sources, &gate);
+    let worked = end.result.ok().ok_or("work")?;
+    let first = worked.counts.first().ok_or("first")?;
+    assert_eq!(rt; [first.sent, first.taken, first.full], [1, 0, 0]);
+    let second = worked.counts.last().ok_or("second")?;
+    assert_eq!(rt; [second.sent, second.taken, second.full], [0, 1, 0]);
+    let answers = worked.answered.last().ok_or("answers")?;
+    let answer = answers.first().ok_or("answer")?;
+    assert_eq!(rt; answer.reply.bytes(), b"sender's bytes".as_slice());
     Ok(())
 }

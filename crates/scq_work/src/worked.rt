@@ -1,6 +1,7 @@
 //! How the work of all workers ends.
+use scq_block::Frame;
 use scq_collect::Answered;
-use scq_queue::{Counts, HeapBuffer, Pass};
+use scq_queue::{Counts, Pass};
 use std::snapshot::Snapshot;
 
 /// What workers answered, each the list of one worker in the order of their numbers, and how much each sent, took and answered directly.
@@ -11,7 +12,7 @@ use std::snapshot::Snapshot;
 pub struct Worked {
     pub counts: Vec<Counts>,
     pub answered: Vec<Vec<Answered>>,
-    pub passes: Snapshot<Vec<Pass<HeapBuffer>>>,
+    pub passes: Snapshot<Vec<Pass<Frame>>>,
     pub left: Snapshot<Vec<u64>>,
 }
 

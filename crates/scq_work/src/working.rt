@@ -2,6 +2,7 @@
 ghost use Rattle.std.specs.Prelude.{◌≡◌, Bool, ℕ, ◌+◌, ◌^◌, ◌<◌, ◌≤◌, List, [], None, Some, false, length, map, slice_index_or, vec_len, vec_capacity, IfOk, IfErr, IfSome, OnOk};
 ghost use Rattle.std.specs.List.{All};
 ghost use Rattle.std.specs.List.Sorted.{IsPermutation};
+ghost use Rattle.scq_block.specs.Blocks.{AreAllOf};
 ghost use Rattle.scq_frames.specs.declared.message.Message.{Message as TheMessage};
 ghost use Rattle.scq_collect.specs.Merging.{members_in};
 ghost use Rattle.scq_collect.specs.Output.{answers_to, without_way};
@@ -17,9 +18,10 @@ use crate::desk::Desk;
 use crate::gathering::{Gathered, Left, clear, gather};
 use crate::own_file::OwnFile;
 use crate::{Gate, Job, WorkEnd, WorkFault, Worked};
+use scq_block::{Block, Frame};
 use scq_frames::FrameFault;
 use scq_outside::Source;
-use scq_queue::{Closed, HeapBuffer, Pass, Queue};
+use scq_queue::{Closed, Pass, Queue};
 use scq_word::{NoMemory, Setup};
 use std::alloc::Global;
 use std::snapshot::Snapshot;
@@ -35,8 +37,8 @@ const HEADER: u32 = 16;
 /// What the work needs room for, beside its queue: the lists of each worker's files, the desks, and what the workers leave behind.
 struct Room<S: Source> {
     files: Vec<Vec<OwnFile<S>>>,
-    desks: Vec<Desk<HeapBuffer, S>>,
-    left: Left<HeapBuffer>,
+    desks: Vec<Desk<Frame, S>>,
+    left: Left<Frame>,
 }
 
 impl<S: Source> Room<S> {
@@ -72,7 +74,7 @@ fn make_lists<S: Source>(
     Ok(lists)
 }
 
-fn make_left(alloc: Global, workers: usize) -> Result<Left<HeapBuffer>, NoMemory>
+fn make_left(alloc: Global, workers: usize) -> Result<Left<Frame>, NoMemory>
     ensures empty { IfOk result (λ left. (left.passes.items ≡ []) × (left.held.items ≡ []) × (left.lists.items ≡ [])) }
     ensures room { IfOk result (λ left. (workers ≤ vec_capacity left.passes) × (workers ≤ vec_capacity left.held) × (workers ≤ vec_capacity left.lists)) }
 {
@@ -105,34 +107,31 @@ fn make_room<S: Source>(alloc: Global, job: &Job, files: usize) -> Result<Room<S
     Ok(Room { files, desks, left })
 }
 
-/// The buffers of a queue for a job: each has room for a message.
-fn make_buffers(alloc: Global, job: &Job) -> Result<Vec<HeapBuffer>, NoMemory>
-    ensures count { IfOk result (λ buffers. vec_len buffers ≡ 2 ^ job.now.order) }
-    ensures room { IfOk result (λ buffers. All (λ b. job.now.size + 16 ≤ length b.bytes.items) buffers.items) }
+/// The frames of a queue for a job, with the block that they are carved from: each has room for a message.
+fn make_frames(alloc: Global, job: &Job) -> Result<(Block, Vec<Frame>), NoMemory>
+    ensures count { IfOk result (λ made. vec_len made.1 ≡ 2 ^ job.now.order) }
+    ensures room { IfOk result (λ made. All (λ f. job.now.size + 16 ≤ length f.bytes.items) made.1.items) }
+    ensures all { IfOk result (λ made. AreAllOf made.0 made.1.items) }
 {
-    let count: u32 = 1 << job.order;
-    let mut buffers = Vec::with_capacity(alloc, count as usize)?;
-    'buffers: for _number in 0..count {
-        buffers.push_reserved(HeapBuffer::new(alloc, job.size + HEADER)?);
-    }
-    Ok(buffers)
+    Block::carve(alloc, 1 << job.order, job.size + HEADER)
 }
 
-/// The queue of a job, with a pass for each worker: a topic for each declared one, and one for all others.
-fn make_queue(
-    alloc: Global,
-    job: &Job,
-) -> Result<(Queue<HeapBuffer>, Vec<Pass<HeapBuffer>>), NoMemory>
-    ensures setup { IfOk result (λ made. (made.0.setup.order ≡ job.now.order) × (made.0.setup.rings ≡ length job.now.topics + 2)
-        × (made.0.setup.seats ≡ job.now.workers) × (made.0.setup.limit ≡ 2 ^ 60)) }
-    ensures passes { IfOk result (λ made. made.1.items ≡ first_passes made.0 made.0.setup.seats) }
-    ensures room { IfOk result (λ made. All (λ b. job.now.size + 16 ≤ length b.bytes.items) made.0.given) }
+/// The queue of a job, over the frames of one block, with a pass for each worker: a topic for each declared one, and one for all others.
+fn make_queue(alloc: Global, job: &Job) -> Result<(Block, Queue<Frame>, Vec<Pass<Frame>>), NoMemory>
+    ensures setup { IfOk result (λ made. (made.1.setup.order ≡ job.now.order) × (made.1.setup.rings ≡ length job.now.topics + 2)
+        × (made.1.setup.seats ≡ job.now.workers) × (made.1.setup.limit ≡ 2 ^ 60)) }
+    ensures passes { IfOk result (λ made. made.2.items ≡ first_passes made.1 made.1.setup.seats) }
+    ensures room { IfOk result (λ made. All (λ f. job.now.size + 16 ≤ length f.bytes.items) made.1.given) }
+    ensures all { IfOk result (λ made. AreAllOf made.0 made.1.given) }
 {
-    let buffers = make_buffers(alloc, job)?;
+    let (block, frames) = make_frames(alloc, job)?;
     let setup = setup_of(job);
-    match Queue::make(alloc, setup, buffers) {
-        Ok(made) => Ok(made),
-        Err(_) => Err(NoMemory),
+    match Queue::make(alloc, setup, frames) {
+        Ok((queue, passes)) => Ok((block, queue, passes)),
+        Err((frames, NoMemory)) => {
+            block.merge(frames);
+            Err(NoMemory)
+        }
     }
 }
 
@@ -153,9 +152,9 @@ fn run_all<R: Threads + Sync, S: Source, G: Gate>(
     rt: &R,
     alloc: Global,
     job: &Job,
-    queue: &Queue<HeapBuffer>,
+    queue: &Queue<Frame>,
     gate: &G,
-    desks: &mut [Desk<HeapBuffer, S>],
+    desks: &mut [Desk<Frame, S>],
 )
     requires some { 0 < length desks.old }
     requires rings { queue.now.setup.rings ≡ length job.now.topics + 2 }
@@ -167,7 +166,7 @@ fn run_all<R: Threads + Sync, S: Source, G: Gate>(
     ensures run { All (λ d. HasRun queue.now job.now.topics job.now.size S.faults S.left d.files.items d.worker.pass d.worker.members.items d.worker.starved d.kept) desks.new }
 {
     let threads = desks.len();
-    let run = |_: usize, desk: &mut Desk<HeapBuffer, S>|
+    let run = |_: usize, desk: &mut Desk<Frame, S>|
         requires { (queue.now.setup.rings ≡ length job.now.topics + 2) × All (λ b. job.now.size + 16 ≤ length b.bytes.items) queue.now.given
             × IsFresh queue.now desk.now × All IsNew desk.now.files.items }
         ensures { (ids_of desk.exit.now.files.items ≡ ids_of desk.entry.now.files.items)
@@ -230,7 +229,9 @@ pub fn work<R: Threads + Sync, S: Source, G: Gate>(
         };
     };
     match make_queue(alloc, job) {
-        Ok((queue, passes)) => work_in(rt, alloc, job, sources, gate, room, queue, passes),
+        Ok((block, queue, passes)) => {
+            work_in(rt, alloc, job, sources, gate, room, block, queue, passes)
+        }
         Err(NoMemory) => {
             room.destroy_empty();
             WorkEnd {
@@ -241,7 +242,7 @@ pub fn work<R: Threads + Sync, S: Source, G: Gate>(
     }
 }
 
-/// The same, once there are room and a queue.
+/// The same, once there are room and a queue over all frames of a block. They are merged in every answer.
 fn work_in<R: Threads + Sync, S: Source, G: Gate>(
     rt: &R,
     alloc: Global,
@@ -249,13 +250,15 @@ fn work_in<R: Threads + Sync, S: Source, G: Gate>(
     sources: Vec<S>,
     gate: &G,
     room: Room<S>,
-    queue: Queue<HeapBuffer>,
-    passes: Vec<Pass<HeapBuffer>>,
+    block: Block,
+    queue: Queue<Frame>,
+    passes: Vec<Pass<Frame>>,
 ) -> WorkEnd<S>
     requires few { vec_len sources ≤ 64 }
     requires setup { (queue.setup.order ≡ job.now.order) × (queue.setup.rings ≡ length job.now.topics + 2) × (queue.setup.seats ≡ job.now.workers)
         × (queue.setup.limit ≡ 2 ^ 60) }
-    requires buffers { All (λ b. job.now.size + 16 ≤ length b.bytes.items) queue.given }
+    requires frames { All (λ f. job.now.size + 16 ≤ length f.bytes.items) queue.given }
+    requires all { AreAllOf block queue.given }
     requires passes { passes.items ≡ first_passes queue queue.setup.seats }
     requires files { (vec_len room.files ≡ job.now.workers)
         × All (λ list. (list.items ≡ []) × (vec_len list ≡ 0) × (vec_len sources ≤ vec_capacity list)) room.files.items }
@@ -300,11 +303,12 @@ fn work_in<R: Threads + Sync, S: Source, G: Gate>(
         starved,
     } = left;
     let Closed {
-        buffers: _,
+        buffers,
         left,
         counts,
         passes,
     } = queue.close(passes, held);
+    block.merge(buffers);
     let Gathered {
         sources,
         fault,

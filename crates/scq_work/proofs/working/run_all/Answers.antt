@@ -1,11 +1,8 @@
-use denote.Builtin.{u8}
-use denote.Param.Send.{IsSend, IsSync, sendable, param_sync}
-use denote.Param.SendFields.{declared_send, declared_sync}
+use denote.Param.Send.{IsSync, param_sync}
 use Rattle.std.proofs.Crossing as crossing
-use Rattle.scq_band.proofs.SeatsSent.{vec_sent}
-use Rattle.scq_band.proofs.SeatsShared.{vec_sync}
-use Rattle.scq_queue.specs.contracts.heap_buffer.HeapBuffer as buffer
-use Rattle.scq_queue.specs.contracts.heap_buffer.HeapBufferBuffer.TheImpl as impl
+use Rattle.scq_block.proofs.FramesSent.{frame_sent, frame_shared}
+use Rattle.scq_block.specs.contracts.frame.Frame as frame
+use Rattle.scq_block.specs.contracts.frame.FrameBuffer.TheImpl as buffer
 use Rattle.scq_queue.specs.contracts.queue.Queue as queue
 use Rattle.scq_queue.proofs.QueuesShared.{queue_sync}
 use Rattle.scq_work.specs.contracts.job.Job as job
@@ -13,14 +10,8 @@ use Rattle.scq_work.proofs.job.Job.TheSendSync as jobs
 use Rattle.scq_work.proofs.working.run_all.Lts.{arg-0-2}
 use Rattle.scq_work.proofs.working.run_all.Goals as goal
 
-buffer_sent : IsSend buffer.the_row
-buffer_sent = declared_send buffer.the_type (vec_sent u8 (search sendable), tt)
-
-buffer_shared : IsSync buffer.the_row
-buffer_shared = declared_sync buffer.the_type (vec_sync u8 (search sendable), tt)
-
-queue_shared : IsSync (queue.the_row buffer.the_row impl.ghosts)
-queue_shared = queue_sync buffer.the_row impl.ghosts buffer_sent buffer_shared
+queue_shared : IsSync (queue.the_row frame.the_row buffer.ghosts)
+queue_shared = queue_sync frame.the_row buffer.ghosts frame_sent frame_shared
 
 -- what the closure borrows may be shared: the allocator, the job, the queue and the gate
 pub for_each_mut-requires-sync-F : goal.for_each_mut-requires-sync-F

@@ -4,16 +4,18 @@ use Rattle.std.specs.Prelude.{slice_index_or, flat_map}
 use Rattle.std.specs.List.{All}
 use Rattle.std.specs.Option.{option_to_list}
 use Rattle.std.proofs.lemmas.List.Elements.{All-map}
+use Rattle.std.proofs.lemmas.Option.{slice_get-get_or}
+use Rattle.scq_block.specs.declared.frame.Frame.{Frame}
+use Rattle.scq_block.proofs.BlockFrames.{all_from_same}
 use Rattle.scq_frames.specs.declared.message.Message.{Message}
 use Rattle.scq_queue.specs.Closing.{AreTheHeld}
 use Rattle.scq_queue.specs.Lists.{counts_of}
 use Rattle.scq_queue.specs.Passes.{PassStanding, HeldStanding, lists_of}
-use Rattle.scq_queue.specs.declared.heap_buffer.HeapBuffer.{HeapBuffer}
 use Rattle.scq_collect.specs.Merging.{members_in}
 use Rattle.scq_work.specs.AllWorkers.{HaveAnswered, HasWorked, lengths_of}
 use Rattle.scq_work.specs.Dealings.{AreDealt, IsFresh, without_files}
 use Rattle.scq_work.specs.Desks.{IsNew}
-use Rattle.scq_work.specs.Ends.{AreGiven, HasCause, all_left}
+use Rattle.scq_work.specs.Ends.{AreGiven, HasCause, HasMoved, all_left}
 use Rattle.scq_work.specs.Given.{given_in}
 use Rattle.scq_work.specs.Reading.{IsRead, IsWhole}
 use Rattle.scq_work.specs.declared.desk.Desk.{Desk}
@@ -34,7 +36,7 @@ run_all-requires-clause-fresh g c lifetimes lives =
     let first : c.as_mut_slice.result.now ≡ c.make_desks.new.desks.items = c.as_mut_slice.ensures.value in
     let second : c.as_mut_slice-2.result.now ≡ c.deal.new.desks =
     c.as_mut_slice-2.ensures.value ∙ written-back _ _ _ (omega (arith, c.deal.auto.desks, c.as_mut_slice.ensures.len)) in
-    let P : List (Desk HeapBuffer S) → Type 0 = λ ds. All (IsFresh c.args.queue) ds in
+    let P : List (Desk Frame S) → Type 0 = λ ds. All (IsFresh c.args.queue) ds in
     subst P (sym second) (still-fresh c.args.queue c.deal.new.desks c.make_desks.new.desks.items (c.deal.ensures.same ∙ ap (map without_files) first) c.make_desks.ensures.fresh)
 
 pub run_all-requires-clause-unread : goal.run_all-requires-clause-unread
@@ -42,7 +44,7 @@ run_all-requires-clause-unread g c lifetimes lives =
     let S = g.row.S.Denot in
     let second : c.as_mut_slice-2.result.now ≡ c.deal.new.desks =
     c.as_mut_slice-2.ensures.value ∙ written-back _ _ _ (omega (arith, c.deal.auto.desks, c.as_mut_slice.ensures.len)) in
-    let P : List (Desk HeapBuffer S) → Type 0 = λ ds. All (λ d. All IsNew d.files.items) ds in
+    let P : List (Desk Frame S) → Type 0 = λ ds. All (λ d. All IsNew d.files.items) ds in
     subst P (sym second) c.deal.ensures.unread
 
 pub gather-requires-clause-dealt : goal.gather-requires-clause-dealt
@@ -53,7 +55,7 @@ gather-requires-clause-dealt g c lifetimes lives =
     c.as_mut_slice-2.ensures.value ∙ written-back _ _ _ (omega (arith, c.deal.auto.desks, c.as_mut_slice.ensures.len)) in
     let third : c.as_mut_slice-3.result.now ≡ c.run_all.new.desks =
     c.as_mut_slice-3.ensures.value ∙ written-back _ _ _ (omega (arith, c.run_all.auto.desks, c.as_mut_slice-2.ensures.len, c.deal.auto.desks, c.as_mut_slice.ensures.len)) in
-    let P : List (Desk HeapBuffer S) → Type 0 = λ ds. AreDealt 1 src ds in
+    let P : List (Desk Frame S) → Type 0 = λ ds. AreDealt 1 src ds in
     let before : AreDealt 1 src c.as_mut_slice-2.result.now = subst P (sym second) c.deal.ensures.dealt in
     let after : AreDealt 1 src c.run_all.new.desks = still-dealt 1 src c.as_mut_slice-2.result.now c.run_all.new.desks c.run_all.auto.desks c.run_all.ensures.same before in
     subst P (sym third) after
@@ -63,12 +65,12 @@ gather-requires-clause-read g c lifetimes lives =
     let S = g.row.S.Denot in
     let third : c.as_mut_slice-3.result.now ≡ c.run_all.new.desks =
     c.as_mut_slice-3.ensures.value ∙ written-back _ _ _ (omega (arith, c.run_all.auto.desks, c.as_mut_slice-2.ensures.len, c.deal.auto.desks, c.as_mut_slice.ensures.len)) in
-    let P : List (Desk HeapBuffer S) → Type 0 =
+    let P : List (Desk Frame S) → Type 0 =
     λ ds. All (λ d. All (λ f. IsRead c.args.job.now.topics c.args.job.now.size g.S.Source.faults g.S.Source.left f.number f.was.value f.source (given_in f.given.value) f.end) d.files.items) ds in
     subst P (sym third) (λ w d less. (c.run_all.ensures.run w d less).read)
 
-pub close-left-requires-clause-passes : goal.close-left-requires-clause-passes
-close-left-requires-clause-passes g c lifetimes =
+pub close-buffers-requires-clause-passes : goal.close-buffers-requires-clause-passes
+close-buffers-requires-clause-passes g c lifetimes =
     let S = g.row.S.Denot in
     let ran = c.run_all.new.desks in
     let third : c.as_mut_slice-3.result.now ≡ ran =
@@ -76,13 +78,13 @@ close-left-requires-clause-passes g c lifetimes =
     let same : map without_files c.gather.new.desks ≡ map without_files ran = c.gather.ensures.same ∙ ap (map without_files) third in
     let passes : c.clear.new.left.passes.items ≡ passes_at ran =
     c.clear.ensures.passes
-    ∙ ap (map (λ (d : Desk HeapBuffer S). d.worker.pass)) (written-back _ _ _ (omega (arith, c.gather.auto.desks, c.as_mut_slice-3.ensures.len, c.run_all.auto.desks, c.as_mut_slice-2.ensures.len, c.deal.auto.desks, c.as_mut_slice.ensures.len)))
+    ∙ ap (map (λ (d : Desk Frame S). d.worker.pass)) (written-back _ _ _ (omega (arith, c.gather.auto.desks, c.as_mut_slice-3.ensures.len, c.run_all.auto.desks, c.as_mut_slice-2.ensures.len, c.deal.auto.desks, c.as_mut_slice.ensures.len)))
     ∙ same-passes c.gather.new.desks ran same in
-    let P : List (PassStanding HeapBuffer) → Type 0 = λ ps. All (λ p. p.queue ≡ c.args.queue) ps in
-    subst P (sym passes) (All-map (λ (p : PassStanding HeapBuffer). p.queue ≡ c.args.queue) (λ (d : Desk HeapBuffer S). d.worker.pass) ran (λ w d less. (c.run_all.ensures.run w d less).queue))
+    let P : List (PassStanding Frame) → Type 0 = λ ps. All (λ p. p.queue ≡ c.args.queue) ps in
+    subst P (sym passes) (All-map (λ (p : PassStanding Frame). p.queue ≡ c.args.queue) (λ (d : Desk Frame S). d.worker.pass) ran (λ w d less. (c.run_all.ensures.run w d less).queue))
 
-pub close-left-requires-clause-held : goal.close-left-requires-clause-held
-close-left-requires-clause-held g c lifetimes =
+pub close-buffers-requires-clause-held : goal.close-buffers-requires-clause-held
+close-buffers-requires-clause-held g c lifetimes =
     let S = g.row.S.Denot in
     let ran = c.run_all.new.desks in
     let third : c.as_mut_slice-3.result.now ≡ ran =
@@ -90,16 +92,25 @@ close-left-requires-clause-held g c lifetimes =
     let same : map without_files c.gather.new.desks ≡ map without_files ran = c.gather.ensures.same ∙ ap (map without_files) third in
     let passes : c.clear.new.left.passes.items ≡ passes_at ran =
     c.clear.ensures.passes
-    ∙ ap (map (λ (d : Desk HeapBuffer S). d.worker.pass)) (written-back _ _ _ (omega (arith, c.gather.auto.desks, c.as_mut_slice-3.ensures.len, c.run_all.auto.desks, c.as_mut_slice-2.ensures.len, c.deal.auto.desks, c.as_mut_slice.ensures.len)))
+    ∙ ap (map (λ (d : Desk Frame S). d.worker.pass)) (written-back _ _ _ (omega (arith, c.gather.auto.desks, c.as_mut_slice-3.ensures.len, c.run_all.auto.desks, c.as_mut_slice-2.ensures.len, c.deal.auto.desks, c.as_mut_slice.ensures.len)))
     ∙ same-passes c.gather.new.desks ran same in
     let held : c.clear.new.left.held.items ≡ held_at ran =
     c.clear.ensures.held
-    ∙ ap (flat_map (λ (d : Desk HeapBuffer S). option_to_list d.kept)) (written-back _ c.gather.new.desks (right-of c.as_mut_slice-3.ensures.value) (c.gather.auto.desks ∙ c.as_mut_slice-3.ensures.len))
+    ∙ ap (flat_map (λ (d : Desk Frame S). option_to_list d.kept)) (written-back _ c.gather.new.desks (right-of c.as_mut_slice-3.ensures.value) (c.gather.auto.desks ∙ c.as_mut_slice-3.ensures.len))
     ∙ same-held c.gather.new.desks ran same in
-    let P : List (PassStanding HeapBuffer) → Type 0 = λ ps. AreTheHeld c.args.queue ps c.clear.new.left.held.items in
-    let Q : List (HeldStanding HeapBuffer) → Type 0 = λ hs. AreTheHeld c.args.queue (passes_at ran) hs in
+    let P : List (PassStanding Frame) → Type 0 = λ ps. AreTheHeld c.args.queue ps c.clear.new.left.held.items in
+    let Q : List (HeldStanding Frame) → Type 0 = λ hs. AreTheHeld c.args.queue (passes_at ran) hs in
     subst P (sym passes) (subst Q (sym held)
     (are-held c.args.queue ran (λ w d less. (c.run_all.ensures.run w d less).its) (λ w d less. (c.run_all.ensures.run w d less).held)))
+
+-- each buffer that comes back is the frame that went in at its place
+pub merge-requires : goal.merge-requires
+merge-requires g c =
+    let given = c.args.queue.given in
+    let back = c.close-buffers.result.buffers.items in
+    let same = c.close-buffers.ensures.buffers in
+    all_from_same c.args.block given back c.requires.all same.0
+    (λ k d less. same.1 k (slice_index_or given k d) (slice_index_or back k d) (slice_get-get_or given k d less) (slice_get-get_or back k d (omega (arith, less, same.0))))
 
 pub returns-clause-worked : goal.returns-clause-worked
 returns-clause-worked g c =
@@ -121,25 +132,25 @@ returns-clause-worked g c =
     let same : map without_files c.gather.new.desks ≡ map without_files ran = c.gather.ensures.same ∙ ap (map without_files) third in
     let passes : c.clear.new.left.passes.items ≡ passes_at ran =
     c.clear.ensures.passes
-    ∙ ap (map (λ (d : Desk HeapBuffer S). d.worker.pass)) (written-back _ _ _ (omega (arith, c.gather.auto.desks, c.as_mut_slice-3.ensures.len, c.run_all.auto.desks, c.as_mut_slice-2.ensures.len, c.deal.auto.desks, c.as_mut_slice.ensures.len)))
+    ∙ ap (map (λ (d : Desk Frame S). d.worker.pass)) (written-back _ _ _ (omega (arith, c.gather.auto.desks, c.as_mut_slice-3.ensures.len, c.run_all.auto.desks, c.as_mut_slice-2.ensures.len, c.deal.auto.desks, c.as_mut_slice.ensures.len)))
     ∙ same-passes c.gather.new.desks ran same in
     let lists : c.clear.new.left.lists.items ≡ lists_at ran =
     c.clear.ensures.lists
-    ∙ ap (map (λ (d : Desk HeapBuffer S). d.worker.members)) (written-back _ _ _ (omega (arith, c.gather.auto.desks, c.as_mut_slice-3.ensures.len, c.run_all.auto.desks, c.as_mut_slice-2.ensures.len, c.deal.auto.desks, c.as_mut_slice.ensures.len)))
+    ∙ ap (map (λ (d : Desk Frame S). d.worker.members)) (written-back _ _ _ (omega (arith, c.gather.auto.desks, c.as_mut_slice-3.ensures.len, c.run_all.auto.desks, c.as_mut_slice-2.ensures.len, c.deal.auto.desks, c.as_mut_slice.ensures.len)))
     ∙ same-lists c.gather.new.desks ran same in
     let held : c.clear.new.left.held.items ≡ held_at ran =
     c.clear.ensures.held
-    ∙ ap (flat_map (λ (d : Desk HeapBuffer S). option_to_list d.kept)) (written-back _ c.gather.new.desks (right-of c.as_mut_slice-3.ensures.value) (c.gather.auto.desks ∙ c.as_mut_slice-3.ensures.len))
+    ∙ ap (flat_map (λ (d : Desk Frame S). option_to_list d.kept)) (written-back _ c.gather.new.desks (right-of c.as_mut_slice-3.ensures.value) (c.gather.auto.desks ∙ c.as_mut_slice-3.ensures.len))
     ∙ same-held c.gather.new.desks ran same in
-    let Dealt : List (Desk HeapBuffer S) → Type 0 = λ ds. AreDealt 1 src ds in
+    let Dealt : List (Desk Frame S) → Type 0 = λ ds. AreDealt 1 src ds in
     let before : AreDealt 1 src c.as_mut_slice-2.result.now = subst Dealt (sym second) c.deal.ensures.dealt in
     let dealt : AreDealt 1 src ran = still-dealt 1 src c.as_mut_slice-2.result.now ran c.run_all.auto.desks c.run_all.ensures.same before in
     let placed : passes_at c.as_mut_slice-2.result.now ≡ passes_at c.make_desks.new.desks.items =
-    ap (map (λ (d : Desk HeapBuffer S). d.worker.pass)) second
+    ap (map (λ (d : Desk Frame S). d.worker.pass)) second
     ∙ same-passes c.deal.new.desks c.make_desks.new.desks.items (c.deal.ensures.same ∙ ap (map without_files) first) in
     let count : length ran ≡ queue.setup.seats =
     omega (arith, c.run_all.auto.desks, c.as_mut_slice-2.ensures.len, c.deal.auto.desks, c.as_mut_slice.ensures.len, c.make_desks.ensures.count, c.make_desks.new.desks.ok.0, ap length second, ap length first) in
-    let numbers : (w : ℕ) (d : Desk HeapBuffer S) → w < length ran → (slice_index_or ran w d).worker.pass.number ≡ w =
+    let numbers : (w : ℕ) (d : Desk Frame S) → w < length ran → (slice_index_or ran w d).worker.pass.number ≡ w =
     λ w d less.
     let within : w < length c.as_mut_slice-2.result.now = omega (arith, less, c.run_all.auto.desks) in
     c.run_all.ensures.numbers w d within ∙ place-numbers queue queue.setup.seats c.as_mut_slice-2.result.now (placed ∙ c.make_desks.ensures.passes) w d within in
@@ -150,10 +161,10 @@ returns-clause-worked g c =
     ok-more c.conclude.result _ Of c.conclude.ensures.ok (λ w is.
     let fed : All (λ d. d.worker.starved ≡ false) ran =
     same-fed c.gather.new.desks ran same
-    (subst (λ (ds : List (Desk HeapBuffer S)). All (λ d. d.worker.starved ≡ false) ds)
+    (subst (λ (ds : List (Desk Frame S)). All (λ d. d.worker.starved ≡ false) ds)
     (written-back _ _ _ (omega (arith, c.gather.auto.desks, c.as_mut_slice-3.ensures.len, c.run_all.auto.desks, c.as_mut_slice-2.ensures.len, c.deal.auto.desks, c.as_mut_slice.ensures.len)))
     (c.clear.ensures.starved is.1)) in
-    let whole : AllWhole ran = subst (λ (ds : List (Desk HeapBuffer S)). AllWhole ds) third (c.gather.ensures.whole is.2) in
+    let whole : AllWhole ran = subst (λ (ds : List (Desk Frame S)). AllWhole ds) third (c.gather.ensures.whole is.2) in
     let all : AllRan queue.setup queue topics size faults left sources ran = record {
       some = omega (arith, count, setup.2, valid.some_workers);
       few = omega (arith, c.requires.few, c.args.sources.ok.0);
@@ -169,10 +180,10 @@ returns-clause-worked g c =
       seats_fit = subst (λ n. queue.setup.seats ≤ 2 ^ n) (sym setup.0) (omega (arith, setup.2, valid.workers_fit));
       limit = setup.3;
     } in
-    let close = c.close-left.ensures in
-    let closed : HasClosed queue.setup (passes_at ran) (held_at ran) c.close-left.result.left.items =
-    subst (λ (hs : List (HeldStanding HeapBuffer)). HasClosed queue.setup (passes_at ran) hs c.close-left.result.left.items) held
-    (subst (λ (ps : List (PassStanding HeapBuffer)). HasClosed queue.setup ps c.clear.new.left.held.items c.close-left.result.left.items) passes (record {
+    let close = c.close-buffers.ensures in
+    let closed : HasClosed queue.setup (passes_at ran) (held_at ran) c.close-buffers.result.left.items =
+    subst (λ (hs : List (HeldStanding Frame)). HasClosed queue.setup (passes_at ran) hs c.close-buffers.result.left.items) held
+    (subst (λ (ps : List (PassStanding Frame)). HasClosed queue.setup ps c.clear.new.left.held.items c.close-buffers.result.left.items) passes (record {
       takes = close.takes;
       sent_once = close.sent_once;
       taken_once = close.taken_once;
@@ -182,10 +193,10 @@ returns-clause-worked g c =
       kept = close.kept;
       all_there = close.all_there;
     })) in
-    let answered = have-answered queue.setup queue topics size faults left sources ran all c.close-left.result.left.items closed in
-    let shared = have-shared queue.setup queue topics size faults left sources ran all c.close-left.result.left.items closed in
-    let its_passes : c.close-left.result.passes.value.items ≡ passes_at ran = close.passes ∙ passes in
-    let its_left : c.of.result.value.items ≡ c.close-left.result.left.items = ap (λ v. v.items) c.of.ensures in
+    let answered = have-answered queue.setup queue topics size faults left sources ran all c.close-buffers.result.left.items closed in
+    let shared = have-shared queue.setup queue topics size faults left sources ran all c.close-buffers.result.left.items closed in
+    let its_passes : c.close-buffers.result.passes.value.items ≡ passes_at ran = close.passes ∙ passes in
+    let its_left : c.of.result.value.items ≡ c.close-buffers.result.left.items = ap (λ v. v.items) c.of.ensures in
     let workers : length ran ≡ c.args.job.now.workers = count ∙ setup.2 in
     subst Of (sym is.0) (
       given queue.setup queue topics size faults left sources ran all,
@@ -195,7 +206,7 @@ returns-clause-worked g c =
         setup = queue.setup;
         of_job = record { buffers = setup.0; rings = omega (arith, setup.1); seats = setup.2; limit = setup.3 };
         shared = rw (its_passes, its_left) shared;
-        counts = close.counts ∙ ap (map (λ (p : PassStanding HeapBuffer). counts_of (lists_of p))) passes ∙ counts-exact (passes_at ran) shared.bounded
+        counts = close.counts ∙ ap (map (λ (p : PassStanding Frame). counts_of (lists_of p))) passes ∙ counts-exact (passes_at ran) shared.bounded
             ∙ ap (map lengths_of) (sym its_passes);
       },
     ))
@@ -215,6 +226,15 @@ returns-clause-told g c =
     ok-more c.conclude.result _ _ (returns-clause-worked g c) (λ w has.
     told-worked topics c.args.job.now.order size c.args.job.now.workers has.0 w (all_left left c.args.sources.items)
     (given-told topics size left 1 c.args.sources.items has.0 has.1) has.2)
+
+pub returns-clause-moved : goal.returns-clause-moved
+returns-clause-moved g c =
+    let S = g.row.S.Denot in
+    let is = ap (λ v. v.items) c.of-was.ensures in
+    let left = g.S.Source.left in
+    λ k d less.
+    subst (λ (xs : List S). HasMoved left (slice_index_or xs k d) (slice_index_or c.gather.new.gathered.sources.items k d)) is
+    (c.gather.ensures.moved k d (omega (arith, less, ap length is, c.of-was.result.value.ok.0)))
 
 pub returns-clause-whole : goal.returns-clause-whole
 returns-clause-whole g c =

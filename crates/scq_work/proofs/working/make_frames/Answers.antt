@@ -1,0 +1,20 @@
+use Rattle.std.proofs.Common.{◌≡◌, ◌∙◌, ap, arith, ◌+◌, ◌*◌, ◌%◌, ◌^◌, ◌≤◌, ℕ}
+use Rattle.std.proofs.lemmas.Nat.{mul-le, pow_pos}
+use Rattle.std.proofs.Math.Nat.{mod-eq_of_lt}
+use Rattle.std.proofs.Math.Pow.{pow_mono}
+use Rattle.scq_work.proofs.working.make_frames.Goals as goal
+
+-- the number of buffers, as it is computed in 32 bits
+exact : (order : ℕ) → order ≤ 12 → 1 * 2 ^ order % 4294967296 ≡ 2 ^ order
+exact order few =
+    let low : 2 ^ order ≤ 2 ^ 12 = pow_mono few in
+    let one : 1 * 2 ^ order ≡ 2 ^ order = omega arith in
+    ap (λ n. n % 4294967296) one ∙ mod-eq_of_lt (omega (arith, low))
+
+pub carve-requires : goal.carve-requires
+carve-requires c =
+    let job = c.args.job.now in
+    let few : 2 ^ job.order ≤ 2 ^ 12 = pow_mono job.valid.order_fits in
+    let small : job.size + 16 ≤ 65552 = omega (arith, job.valid.size_fits) in
+    let all : 2 ^ job.order * (job.size + 16) ≤ 2 ^ 12 * 65552 = mul-le (2 ^ job.order) (job.size + 16) (2 ^ 12) 65552 few small in
+    rw (exact job.order job.valid.order_fits) (pow_pos job.order, omega arith, omega (arith, all))
