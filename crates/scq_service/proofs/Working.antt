@@ -37,7 +37,7 @@ some-and {X = X} o x P e p = let Q : Option X → Type 0 = λ o. IsSomeAnd o P i
 module _ {S : Type 0} (size : ℕ) (faults : S → ℕ) (left : S → Option (List ℕ)) where
   -- each source has left what follows the bytes that it gave
   have-rest : (olds news : List S) (contents : List (List ℕ)) → length news ≡ length olds → all_left left olds ≡ Some contents
-      → ((k : ℕ) (d : S) → k < length olds → HasMoved left (slice_index_or olds k d) (slice_index_or news k d)) → HaveRest left contents news
+      → ((k : ℕ) (d : S) → k < length olds → HasMoved faults left (slice_index_or olds k d) (slice_index_or news k d)) → HaveRest left contents news
   have-rest [] [] contents long all moved = let H : List (List ℕ) → Type 0 = λ cs. HaveRest left cs [] in subst H (none all) tt where
     none : {cs : List (List ℕ)} → Some [] ≡ Some cs → [] ≡ cs
     none e = cc
@@ -136,7 +136,7 @@ module _ {S : Type 0} (size : ℕ) (faults : S → ℕ) (left : S → Option (Li
     missed-of true came less = absurd (omega (arith, came.0, less))
     missed-of false came less = came.1
 
-    pub has-got : (read : ℕ) → ((k : ℕ) (d : S) → k < length olds → HasMoved left (slice_index_or olds k d) (slice_index_or news k d))
+    pub has-got : (read : ℕ) → ((k : ℕ) (d : S) → k < length olds → HasMoved faults left (slice_index_or olds k d) (slice_index_or news k d))
         → (length olds ≡ length names → IsUnchanged opens) → HasGot left names (record { table = table; opens = opens; sources = news; read = read })
     has-got read moved kept =
         let T : ℕ → Type 0 = λ n. table.new ≡ option_map (without_names (take n names)) table.old in

@@ -1,11 +1,12 @@
 -- What is gathered of files in their order, one file after the other.
-use Rattle.std.proofs.Common.{◌≡◌, ◌≢◌, ◌∙◌, refl, sym, ap, subst, inl, inr, arith, ℕ, ◌+◌, ◌-◌, ◌<◌, ◌≤◌, List, [], ◌∷◌, ◌++◌, length, get_or, Option, Some, None}
+use Rattle.std.proofs.Common.{◌≡◌, ◌≢◌, ◌∙◌, ◌⊎◌, refl, sym, ap, subst, inl, inr, arith, ℕ, ◌+◌, ◌-◌, ◌<◌, ◌≤◌, List, [], ◌∷◌, ◌++◌, length, get_or, Option, Some, None}
 use Rattle.std.specs.Prelude.{slice_index_or}
 use Rattle.std.specs.Option.{option_map, option_or}
 use Rattle.std.proofs.lemmas.Bool.{cases_eq}
 use Rattle.std.proofs.lemmas.List.{length-append, get_or_append_left, get_or_push}
+use Rattle.scq_outside.specs.Faults.{Rose}
 use Rattle.scq_frames.specs.declared.fault.FrameFault.{FrameFault}
-use Rattle.scq_frames.specs.declared.fault.FrameFault.TheVariants.{NoMemory}
+use Rattle.scq_frames.specs.declared.fault.FrameFault.TheVariants.{ReadFault, TooLong, TooLarge, NoMemory}
 use Rattle.scq_work.specs.Reading.{EndsSo, IsWhole, IsStopped}
 use Rattle.scq_work.specs.Ends.{HasMoved, StopsAt, end_fault}
 use Rattle.scq_work.specs.declared.own_file.FileEnd.{FileEnd}
@@ -23,19 +24,24 @@ snoc-parts (x ∷ xs) (y ∷ ys) a b e =
     (ap (λ (z : _). z ∷ xs) head ∙ ap (λ zs. y ∷ zs) parts.0, parts.1)
 
 -- a source gave what was said of it
-moved-by : {S : Type 0} (size : ℕ) (faults : S → ℕ) (left : S → Option (List ℕ)) (old new : S) (end : FileEnd) → EndsSo size faults left old new end → HasMoved left old new
-moved-by size faults left old new Unread same = record { bytes = []; moved = ap left (sym same) ∙ none (left new) } where
+moved-by : {S : Type 0} (size : ℕ) (faults : S → ℕ) (left : S → Option (List ℕ)) (old new : S) (end : FileEnd) → EndsSo size faults left old new end → HasMoved faults left old new
+moved-by size faults left old new Unread same = record { bytes = []; moved = ap left (sym same) ∙ none (left new); counted = inl (ap faults same) } where
   none : (o : Option (List ℕ)) → o ≡ option_map (λ rest. [] ++ rest) o
   none None = refl
   none (Some bytes) = refl
-moved-by size faults left old new Whole whole = record { bytes = whole.judged.bytes; moved = whole.judged.moved }
-moved-by size faults left old new (Stopped fault) stopped = record { bytes = stopped.judged.bytes; moved = stopped.judged.moved }
+moved-by size faults left old new Whole whole = record { bytes = whole.judged.bytes; moved = whole.judged.moved; counted = inl whole.kept }
+moved-by size faults left old new (Stopped fault) stopped = record { bytes = stopped.judged.bytes; moved = stopped.judged.moved; counted = counted fault stopped } where
+  counted : (f : FrameFault) → IsStopped size faults left old new f → (faults new ≡ faults old) ⊎ Rose (faults old) (faults new)
+  counted ReadFault s = inr (s.rose refl)
+  counted (TooLong line len) s = inl (s.kept (λ e. absurd (cc)))
+  counted (TooLarge bytes) s = inl (s.kept (λ e. absurd (cc)))
+  counted NoMemory s = inl (s.kept (λ e. absurd (cc)))
 
 -- what is gathered of the first files, so many of those with these sources
 pub record SoFar {S : Type 0} (size : ℕ) (faults : S → ℕ) (left : S → Option (List ℕ)) (was : List S) (at : ℕ) (sources : List S)
     (fault : Option (ℕ × FrameFault)) : Type 0 where
   pub count : length sources ≡ at
-  pub moved : (k : ℕ) (d : S) → k < at → HasMoved left (slice_index_or was k d) (slice_index_or sources k d)
+  pub moved : (k : ℕ) (d : S) → k < at → HasMoved faults left (slice_index_or was k d) (slice_index_or sources k d)
   pub sound : fault ≡ None → (k : ℕ) (d : S) → k < at → IsWhole size faults left (slice_index_or was k d) (slice_index_or sources k d)
   pub cause : (file : ℕ) (f : FrameFault) → fault ≡ Some (file, f) → f ≢ NoMemory → (file ≤ at) × StopsAt size faults left was sources file f
 
@@ -56,8 +62,8 @@ pub so-far-more : {S : Type 0} (size : ℕ) (faults : S → ℕ) (left : S → O
     → EndsSo size faults left old new end → SoFar size faults left was (at + 1) (sources ++ new ∷ []) (option_or fault (end_fault number end))
 so-far-more {S} size faults left was at sources fault old new number end s within is_next is_old ends = record {
   count = length-append sources (new ∷ []) ∙ ap (λ n. n + 1) s.count;
-  moved = λ k d less. index-push (λ j y. HasMoved left (slice_index_or was j d) y) sources new d at s.count (λ j below. s.moved j d below)
-      (subst (λ x. HasMoved left x new) (sym (is_old d)) (moved-by size faults left old new end ends)) k less;
+  moved = λ k d less. index-push (λ j y. HasMoved faults left (slice_index_or was j d) y) sources new d at s.count (λ j below. s.moved j d below)
+      (subst (λ x. HasMoved faults left x new) (sym (is_old d)) (moved-by size faults left old new end ends)) k less;
   sound = sound fault end ends s.sound;
   cause = cause fault end ends s.sound s.cause;
 } where

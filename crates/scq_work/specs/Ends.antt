@@ -1,6 +1,7 @@
 -- How the work on all files ended: the fault, its cause, and the messages that they gave. Files are numbered from 1.
-use Rattle.std.specs.Prelude.{◌≡◌, ℕ, ◌+◌, ◌-◌, ◌<◌, ◌≤◌, Bool, true, false, List, [], ◌∷◌, ◌++◌, Option, Some, None, IfSome, option_and_then, length, map, slice_index_or, All}
+use Rattle.std.specs.Prelude.{◌≡◌, ◌⊎◌, ℕ, ◌+◌, ◌-◌, ◌<◌, ◌≤◌, Bool, true, false, List, [], ◌∷◌, ◌++◌, Option, Some, None, IfSome, option_and_then, length, map, slice_index_or, All}
 use Rattle.std.specs.Option.{option_map}
+use Rattle.scq_outside.specs.Faults.{Rose}
 use Rattle.scq_topics.specs.declared.kind.Kind.{Kind}
 use Rattle.scq_topics.specs.Topics.{topic_of}
 use Rattle.scq_frames.specs.declared.fault.FrameFault.{FrameFault}
@@ -31,10 +32,11 @@ fault_of_workers false (Some (file, frame.TooLong line len)) = Some (TooLong fil
 fault_of_workers false (Some (file, frame.TooLarge bytes)) = Some (TooLarge file bytes)
 fault_of_workers false (Some (file, frame.NoMemory)) = Some NoMemory
 
--- a source gave some bytes, and has the others left
-pub record HasMoved {S : Type 0} (left : S → Option (List ℕ)) (old new : S) : Type 0 where
+-- a source gave some bytes, and has the others left. At most one of its reads failed, and its count of faults says so
+pub record HasMoved {S : Type 0} (faults : S → ℕ) (left : S → Option (List ℕ)) (old new : S) : Type 0 where
   pub bytes : List ℕ
   pub moved : left old ≡ option_map (λ rest. bytes ++ rest) (left new)
+  pub counted : (faults new ≡ faults old) ⊎ Rose (faults old) (faults new)
 
 -- the files before this one were read to their ends, and the reading of this one stopped at the fault
 pub record StopsAt {S : Type 0} (size : ℕ) (faults : S → ℕ) (left : S → Option (List ℕ)) (olds news : List S) (file : ℕ) (fault : FrameFault) : Type 0 where

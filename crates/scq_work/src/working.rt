@@ -204,7 +204,7 @@ pub fn work<R: Threads + Sync, S: Source, G: Gate>(
 ) -> WorkEnd<S>
     requires { vec_len sources ≤ 64 }
     ensures count { length result.sources.items ≡ length sources.items }
-    ensures moved { (k : ℕ) (d : S) → k < length sources.items → HasMoved S.left (slice_index_or sources.items k d) (slice_index_or result.sources.items k d) }
+    ensures moved { (k : ℕ) (d : S) → k < length sources.items → HasMoved S.faults S.left (slice_index_or sources.items k d) (slice_index_or result.sources.items k d) }
 
     // Each source was read to its end, and where the bytes of all are visible the answers are those of one thread.
     ensures whole { OnOk result.result ((k : ℕ) (d : S) → k < length sources.items
@@ -267,7 +267,7 @@ fn work_in<R: Threads + Sync, S: Source, G: Gate>(
     requires room { (job.now.workers ≤ vec_capacity room.left.passes) × (job.now.workers ≤ vec_capacity room.left.held)
         × (job.now.workers ≤ vec_capacity room.left.lists) }
     ensures count { length result.sources.items ≡ length sources.items }
-    ensures moved { (k : ℕ) (d : S) → k < length sources.items → HasMoved S.left (slice_index_or sources.items k d) (slice_index_or result.sources.items k d) }
+    ensures moved { (k : ℕ) (d : S) → k < length sources.items → HasMoved S.faults S.left (slice_index_or sources.items k d) (slice_index_or result.sources.items k d) }
     ensures whole { OnOk result.result ((k : ℕ) (d : S) → k < length sources.items
         → IsWhole job.now.size S.faults S.left (slice_index_or sources.items k d) (slice_index_or result.sources.items k d)) }
     ensures answers { IfOk result.result (λ w. IfSome (all_left S.left sources.items) (λ contents.
