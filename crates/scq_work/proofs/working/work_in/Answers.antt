@@ -231,9 +231,10 @@ pub returns-clause-moved : goal.returns-clause-moved
 returns-clause-moved g c =
     let S = g.row.S.Denot in
     let is = ap (λ v. v.items) c.of-was.ensures in
+    let faults = g.S.Source.faults in
     let left = g.S.Source.left in
     λ k d less.
-    subst (λ (xs : List S). HasMoved left (slice_index_or xs k d) (slice_index_or c.gather.new.gathered.sources.items k d)) is
+    subst (λ (xs : List S). HasMoved faults left (slice_index_or xs k d) (slice_index_or c.gather.new.gathered.sources.items k d)) is
     (c.gather.ensures.moved k d (omega (arith, less, ap length is, c.of-was.result.value.ok.0)))
 
 pub returns-clause-whole : goal.returns-clause-whole
