@@ -8,12 +8,12 @@
 # `ours` is what `rt run` makes: a throw-away repository has the crates as they stand and a driver, all of it is proved, and then compiled
 # as `scq` is, by the toolchain's clang at -O3. The same clang compiles the C++, with g++'s headers, at -O3 for the same processor.
 #
-# From the environment: ROUNDS, how often each is run (5); PAIRS, how many times an index or a buffer goes out and back in a run of one thread
+# From the environment: ROUNDS, how often each is run (9); PAIRS, how many times an index or a buffer goes out and back in a run of one thread
 # (4000000; other runs in proportion); JOBS, for the proofs (1).
 set -eu
 export LC_ALL=C
 top=$(dirname "$(dirname "$(readlink -f "${BASH_SOURCE[0]}")")")
-rounds=${ROUNDS:-5}
+rounds=${ROUNDS:-9}
 pairs=${PAIRS:-4000000}
 case ${1-} in
     '') folder=$(mktemp -d) && trap 'rm -rf "$folder"' EXIT ;;
@@ -70,7 +70,10 @@ steps_hpp() {
 #pragma once
 #include <atomic>
 #include <cstdint>
+#include <cstdlib>
 #include <vector>
+
+#define INLINE __attribute__((always_inline)) static inline
 
 using Word = std::atomic<uint64_t>;
 
@@ -125,7 +128,7 @@ struct Rings {
 };
 
 // Whether the index was put, at the place.
-static inline bool enq(const Ring r, uint32_t index, uint64_t &place) {
+INLINE bool enq(const Ring r, uint32_t index, uint64_t &place) {
     for (;;) {
         const uint64_t ticket = r.tail->fetch_add(1);
         if (ticket >= r.limit) return false;
@@ -146,7 +149,7 @@ static inline bool enq(const Ring r, uint32_t index, uint64_t &place) {
 enum class Got { Index, Nothing, Spent };
 
 // An index, and its place.
-static inline Got deq(const Ring r, uint64_t &place, uint32_t &index) {
+INLINE Got deq(const Ring r, uint64_t &place, uint32_t &index) {
     if (r.threshold->load() < ZERO_LEVEL) return Got::Nothing;
     for (;;) {
         const uint64_t ticket = r.head->fetch_add(1);
@@ -302,7 +305,7 @@ END
 pairs_of() {
     case $1 in
         one) echo "$pairs" ;;
-        empty) echo $((pairs * 25)) ;;
+        empty) echo $((pairs * 12)) ;;
         *) echo $((pairs / 4 * 2)) ;;
     esac
 }
