@@ -306,7 +306,7 @@ pairs_of() {
     case $1 in
         one) echo "$pairs" ;;
         empty) echo $((pairs * 12)) ;;
-        *) echo $((pairs / 4 * 2)) ;;
+        *) echo $((pairs / 16 * 4)) ;;
     esac
 }
 
