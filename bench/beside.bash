@@ -312,7 +312,7 @@ pairs_of() {
 
 # Runs a program once in a mode, at an order, on as many processors as it has threads, and notes what it says.
 once() {
-    local program=$1 mode=$2 order=$3 last=$(($(nproc) - 1)) threads total each
+    local program=$1 mode=$2 order=$3 last=$(($(nproc) - 1)) threads total each answer
     total=$(pairs_of "$mode")
     case $mode in
         one | empty) threads=1 each=$total ;;
@@ -321,7 +321,8 @@ once() {
         four) threads=4 each=$((total / 4)) ;;
     esac
     [ "$threads" -le $((last + 1)) ] || threads=$((last + 1))
-    echo "$program $total $(taskset -c "$((last + 1 - threads))-$last" "./$program" "$mode" "$order" "$each")" >>said
+    answer=$(taskset -c "$((last + 1 - threads))-$last" "./$program" "$mode" "$order" "$each")
+    echo "$program $total $answer" >>said
 }
 
 # Runs programs in turn, each mode at each order, and prints the medians; the first program is set beside each of the others.
