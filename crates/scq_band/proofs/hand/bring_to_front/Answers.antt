@@ -56,14 +56,14 @@ rotate_right-requires g c =
     let low = h.low in
     omega (arith, low)
 
-pub returns-clause-order : goal.returns-clause-order
-returns-clause-order g c =
+pub returns-then-turns-gt0-clause-order : goal.returns-then-turns-gt0-clause-order
+returns-then-turns-gt0-clause-order g c =
     let hand = c.args.hand.now in
     let h = sought_hand c.args.index (vec_len hand) c.deeper.turns c.args.token.now.me.1 c.deeper.token.me.1 hand.items c.requires.order hand.ok.0 c.deeper.invariant.1 in
     c.rotate_right.ensures.items ∙ h.rotated
 
-pub returns-clause-first : goal.returns-clause-first
-returns-clause-first g c =
+pub returns-then-turns-gt0-clause-first : goal.returns-then-turns-gt0-clause-first
+returns-then-turns-gt0-clause-first g c =
     let hand = c.args.hand.now in
     let h = sought_hand c.args.index (vec_len hand) c.deeper.turns c.args.token.now.me.1 c.deeper.token.me.1 hand.items c.requires.order hand.ok.0 c.deeper.invariant.1 in
     sym (h.top c.index.result.now)
