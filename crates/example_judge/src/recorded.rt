@@ -9,6 +9,10 @@
 //! `open.NUMBER`, the tokens being counted from 0. So a queue that is to be judged carries this name
 //! beside each value: equal contents would not tell one put from another.
 
+ghost use Rattle.std.specs.Prelude.{◌≡◌, IfOk};
+ghost use Rattle.std.specs.List.{All};
+ghost use Rattle.example_judge.specs.Events.{IsOn, seat_of};
+
 use anyhow::{Context, Result, anyhow};
 use scq_hist::{Call, Event, PutName, Reply};
 use scq_word::Bytes;
@@ -26,7 +30,9 @@ pub struct Recorded {
 
 impl Recorded {
     /// Fails at the first line that isn't of the format, and where memory is wanted.
-    pub fn read(alloc: Global, text: &str) -> Result<Recorded> {
+    pub fn read(alloc: Global, text: &str) -> Result<Recorded>
+        ensures queue { IfOk result (λ recorded. All (IsOn 0) recorded.events.items) }
+    {
         let mut opening = Vec::new(alloc);
         let mut events = Vec::new(alloc);
         for line in text.lines() {
@@ -44,7 +50,10 @@ impl Recorded {
     }
 }
 
-fn event_of(alloc: Global, seat: u32, words: &str) -> Result<Event> {
+fn event_of(alloc: Global, seat: u32, words: &str) -> Result<Event>
+    ensures seat { IfOk result (λ event. seat_of event ≡ seat) }
+    ensures queue { IfOk result (IsOn 0) }
+{
     let (word, rest) = words.split_once(' ').unwrap_or((words, ""));
     Ok(match word {
         "put" => {
@@ -94,6 +103,8 @@ fn name_of(text: &str) -> Result<PutName> {
     })
 }
 
-fn content_of(alloc: Global, text: &str) -> Result<Bytes> {
+fn content_of(alloc: Global, text: &str) -> Result<Bytes>
+    ensures { IfOk result (λ content. content ≡ text.now) }
+{
     Ok(Bytes::from(Vec::from_slice(alloc, text.as_bytes())?))
 }

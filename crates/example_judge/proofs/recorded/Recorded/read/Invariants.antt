@@ -1,0 +1,7 @@
+use Rattle.std.specs.List.{All}
+use Rattle.example_judge.specs.Events.{IsOn}
+use Rattle.example_judge.proofs.recorded.Recorded.read.Given as goal
+
+-- the events so far are on queue 0
+abbrev pub invariant-loop-line : goal.invariant-loop-line
+invariant-loop-line l = All (IsOn 0) l.events.items
