@@ -227,20 +227,12 @@ modes_hpp() {
 
 #define LOOP __attribute__((noinline)) static uint64_t
 
-LOOP send_many(Queue &q, Pass &p, uint64_t many) {
+// Until `one` has said so many times that there was one.
+template <bool one(Queue &, Pass &, uint32_t &)> LOOP many_of(Queue &q, Pass &p, uint64_t many) {
     uint64_t seen = 0;
-    for (uint64_t sent = 0; sent < many;) {
+    for (uint64_t done = 0; done < many;) {
         uint32_t index;
-        if (send_one(q, p, index)) sent++, seen += index;
-    }
-    return seen;
-}
-
-LOOP take_many(Queue &q, Pass &p, uint64_t many) {
-    uint64_t seen = 0;
-    for (uint64_t taken = 0; taken < many;) {
-        uint32_t index;
-        if (take_one(q, p, index)) taken++, seen += index;
+        if (one(q, p, index)) done++, seen += index;
     }
     return seen;
 }
@@ -285,7 +277,7 @@ int main(int argc, char **argv) {
     const auto start = std::chrono::steady_clock::now();
     const auto work = [&](size_t i) {
         Pass p(order);
-        const auto loop = roles[i] == 's' ? send_many : roles[i] == 't' ? take_many : roles[i] == 'b' ? both_many : take_nothing;
+        const auto loop = roles[i] == 's' ? many_of<send_one> : roles[i] == 't' ? many_of<take_one> : roles[i] == 'b' ? both_many : take_nothing;
         sums[i] = loop(q, p, many);
     };
     std::vector<std::thread> others;
