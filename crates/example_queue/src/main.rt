@@ -6,7 +6,7 @@
 ghost use Rattle.std.specs.Prelude.{◌≡◌, ◌<◌, ◌≤◌, [], ◌∷◌, ◌++◌, IfOk, vec_len, vec_capacity};
 ghost use Rattle.std.specs.Option.{option_to_list};
 ghost use Rattle.scq_queue.specs.Passes.{first_passes};
-ghost use Rattle.scq_queue.specs.Trials.{HoldsJust};
+ghost use Rattle.scq_queue.specs.HoldsJust.{HoldsJust};
 ghost use Rattle.example_queue.specs.Values.{values_in};
 
 use anyhow::{Result, anyhow};

@@ -16,8 +16,8 @@ use Rattle.scq_band.proofs.Slots.{fronted, held_times, times-rotated, length-rot
 
 module _ {B : Type 0} (IsSame : B → B → Type 0) where
   -- after a turn
-  pub kept_turned : (key : Key B) (me : Me (Slot B) Known) (v : Known) (ms : List (ℕ × Slot B)) (indices later : List ℕ) (room room' : ℕ) (numbers : List Numbers)
-      (spent : Option ℕ)
+  pub kept_turned : (key : Key B) (me : Me (Slot B) Known) (v : Known) (ms : List (ℕ × Slot B)) (indices later : List ℕ) (room room' : ℕ)
+      (numbers : List Numbers) (spent : Option ℕ)
       → IsKept IsSame key me indices room numbers spent → v ≡ me.0 → IsRotation me.1 ms → later ≡ in_order ms → room' ≡ room
       → IsKept IsSame key (v, ms) later room' numbers spent
   kept_turned key me v ms indices later room room' numbers spent kept same is order space =
@@ -41,8 +41,8 @@ module _ {B : Type 0} (IsSame : B → B → Type 0) where
       })
 
   -- after an exchange of the buffer in the first slot
-  pub kept_exchanged : (key : Key B) (v : Known) (i : ℕ) (x y : Slot B) (others : List (ℕ × Slot B)) (indices : List ℕ) (room : ℕ) (numbers : List Numbers)
-      (spent : Option ℕ)
+  pub kept_exchanged : (key : Key B) (v : Known) (i : ℕ) (x y : Slot B) (others : List (ℕ × Slot B)) (indices : List ℕ)
+      (room : ℕ) (numbers : List Numbers) (spent : Option ℕ)
       → IsKept IsSame key (v, (i, x) ∷ others) indices room numbers spent → ((b : B) → y.buffer ≡ Some b → IsAsGiven IsSame key.given.value.items i b)
       → IsKept IsSame key (v, (i, y) ∷ others) indices room numbers spent
   kept_exchanged key v i x y others indices room numbers spent kept new =
@@ -79,7 +79,8 @@ module _ {B : Type 0} (IsSame : B → B → Type 0) where
     pub same : (j : ℕ) → buffer_in ms j ≡ buffer_in me.1 j
     pub given_so : (b : B) → slot.buffer ≡ Some b → IsAsGiven IsSame given i b
 
-  pub brought : (key : Key B) (me : Me (Slot B) Known) (ms : List (ℕ × Slot B)) (indices : List ℕ) (room : ℕ) (numbers : List Numbers) (spent : Option ℕ) (i : ℕ)
+  pub brought : (key : Key B) (me : Me (Slot B) Known) (ms : List (ℕ × Slot B)) (indices : List ℕ) (room : ℕ) (numbers : List Numbers)
+      (spent : Option ℕ) (i : ℕ)
       (o : Option B)
       → IsKept IsSame key me indices room numbers spent → IsRotation me.1 ms → front_index ms ≡ i → in_hand (hand_of me.1 (my me.0).part.hand) i ≡ Some o
       → Brought me key.given.value.items ms i o

@@ -83,7 +83,8 @@ module _ {S : Type 0} (Lies : ℕ → S → List ℕ → Type 0) where
 
   -- the gate may be read
   pub looks : {opening : List (List ℕ)} (c : Setup) (slots id : ℕ) (me : Me S Known)
-      → Allows (Shown Lies opening c) slots id me 0 (λ n. n) (λ n later. (later.0 ≡ looked n me.0) × (later.1 ≡ me.1) × IsReading c.seats me.0.gate (my me.0).retired n)
+      → Allows (Shown Lies opening c) slots id me 0 (λ n. n)
+      (λ n later. (later.0 ≡ looked n me.0) × (later.1 ≡ me.1) × IsReading c.seats me.0.gate (my me.0).retired n)
   looks {opening} c slots id me s sh many here small =
       let same : slice_set s.words 0 (slice_index s.words 0) ≡ s.words = set-get_or s.words 0 0 in
       let shown : Shown Lies opening c (stepped s 0 (slice_index s.words 0) id me.1 (looked (slice_index s.words 0) me.0) keeps) =

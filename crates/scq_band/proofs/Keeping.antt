@@ -118,7 +118,8 @@ module _ {B : Type 0} (IsSame : B → B → Type 0) where
       })
 
   -- after a call that left the hand as it was
-  pub kept_still : (key : Key B) (me' : Me (Slot B) Known) (v u : Known) (ms : List (ℕ × Slot B)) (later : List ℕ) (room room' : ℕ) (numbers numbers' : List Numbers)
+  pub kept_still : (key : Key B) (me' : Me (Slot B) Known) (v u : Known) (ms : List (ℕ × Slot B)) (later : List ℕ) (room room' : ℕ)
+      (numbers numbers' : List Numbers)
       (spent spent' : Option ℕ)
       → IsKept IsSame key (v, ms) later room numbers spent → room' ≡ room → IsAlone u → (my u).part.phase ≡ Idle → (my u).part.hand ≡ (my v).part.hand
       → numbers' ≡ u.numbers → length numbers' ≡ length numbers → AreSmall numbers' → spent' ≡ (my u).part.spent → me' ≡ (u, ms)
@@ -216,7 +217,10 @@ module _ {B : Type 0} (contents : B → List ℕ) (IsSame : B → B → Type 0) 
       let known : numbers' ≡ me'.0.numbers = new ∙ sym (changed_twice (sees h) (passes (h + 1)) r numbers there)
       ∙ ap (λ (ns : List Numbers). changed (sees h) r (changed (passes (h + 1)) r ns)) kept.numbers ∙ ap (λ (u : Known). u.numbers) (sym view) in
       record {
-        alone = record { seats = ap (λ (u : Known). u.seats) view ∙ ap (λ (x : Member). x ∷ []) (ap my (sym view)); out = ap (λ (u : Known). (my u).brought) view ∙ kept.alone.out };
+        alone = record {
+          seats = ap (λ (u : Known). u.seats) view ∙ ap (λ (x : Member). x ∷ []) (ap my (sym view));
+          out = ap (λ (u : Known). (my u).brought) view ∙ kept.alone.out;
+        };
         idle = ap (λ (u : Known). (my u).part.phase) view;
         order = more ∙ ap (λ (l : List ℕ). l ++ i ∷ []) kept.order ∙ ap in_order (sym come);
         same = size;
@@ -296,7 +300,8 @@ module _ {B : Type 0} (contents : B → List ℕ) (IsSame : B → B → Type 0) 
         buffer = b;
         given = record { first = lies.first; was = lies.was; same = lies.same };
         seat =
-            ap (standing_of later key) (ap (λ (u : Known). (u, me'.1)) got.view ∙ ap (λ (l : List (ℕ × Slot B)). (got_at r h i w (drew_head r h me.0), l)) got.slots.come)
+            ap (standing_of later key) (ap (λ (u : Known). (u, me'.1)) got.view
+            ∙ ap (λ (l : List (ℕ × Slot B)). (got_at r h i w (drew_head r h me.0), l)) got.slots.come)
             ∙ ap (λ t. standing_of t key (got_at r h i w (drew_head r h me.0), (i, x) ∷ me.1)) same
             ∙ ap (λ (l : List (ℕ × Option B)). record (standing_of table key (got_at r h i w (drew_head r h me.0), (i, x) ∷ me.1)) { hand = l })
             (come_hand me.1 i x hand none ∙ ap (λ (o : Option B). hand_of me.1 hand ++ (i, o) ∷ []) lies.laid)

@@ -143,7 +143,7 @@ module _ (c : Setup) (m : Machine) (k : ℕ) where
       ]
 
 -- a turn tells of no ring more than there are
-changed_length : (f : Numbers → Numbers) (r : ℕ) (numbers : List Numbers) → length (changed f r numbers) ≡ length numbers
+pub changed_length : (f : Numbers → Numbers) (r : ℕ) (numbers : List Numbers) → length (changed f r numbers) ≡ length numbers
 changed_length f r numbers = length-set numbers r _
 
 pub learned_length : (c : Setup) (t : Phase) (x : ℕ) (numbers : List Numbers) → length (learned c t x numbers) ≡ length numbers

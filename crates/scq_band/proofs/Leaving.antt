@@ -1,5 +1,5 @@
 -- A get that has given its ticket up: it catches Tail up and leaves, or counts a failed attempt and goes on or ends.
-use Rattle.std.proofs.Common.{◌≡◌, ◌≢◌, ℕ, ◌+◌, ◌<◌, ◌≤◌, true, false, List, refl, ◌∙◌, ap, inl, inr, arith, eq-eqb, ne_eqb, le-leb, leb-true}
+use Rattle.std.proofs.Common.{◌≡◌, ◌≢◌, ℕ, ◌+◌, ◌<◌, ◌≤◌, true, false, List, refl, ◌∙◌, ap, inl, inr, arith, ne_eqb, le-leb, leb-true}
 use Rattle.std.specs.Prelude.{nat_le}
 use Rattle.std.proofs.lemmas.Bool.{cases_Bool}
 use Rattle.atomic_table.specs.Table.{Me}
@@ -32,10 +32,6 @@ module _ {S : Type 0} (Lies : ℕ → S → List ℕ → Type 0) (c : Setup) (me
       goes_as Lies c turn (AtD6 r h) me later x (goes_on (AtD10 r h false) (my me.0).part) is alone (λ y. rw (not_at_most high) refl) turned
       ∙ ap (λ (ns : List Numbers). seated (with_part (goes_on (AtD10 r h false) (my me.0).part) (my me.0)) ns me.0) (rw (not_at_most high) refl)
 
-  pub lifted : (from to : ℕ) → turn ≡ AtD7 r h from to → IsAlone me.0 → x ≡ from → Turned Lies c turn me x later → later.0 ≡ goes_to (AtD10 r h true) me.0
-  lifted from to is alone hit turned =
-      goes_as Lies c turn (AtD7 r h from to) me later x (goes_on (AtD10 r h true) (my me.0).part) is alone (λ y. rw (eq-eqb x from hit) refl) turned
-
   pub lift_missed : (from to : ℕ) → turn ≡ AtD7 r h from to → IsAlone me.0 → x ≢ from → Turned Lies c turn me x later → later.0 ≡ goes_to (AtD8 r h from) me.0
   lift_missed from to is alone miss turned =
       goes_as Lies c turn (AtD7 r h from to) me later x (goes_on (AtD8 r h from) (my me.0).part) is alone (λ y. rw (ne_eqb x from miss) refl) turned
@@ -43,10 +39,6 @@ module _ {S : Type 0} (Lies : ℕ → S → List ℕ → Type 0) (c : Setup) (me
   pub saw_head_again : (from : ℕ) → turn ≡ AtD8 r h from → IsAlone me.0 → Turned Lies c turn me x later → later.0 ≡ goes_to (AtD9 r h from x) me.0
   saw_head_again from is alone turned =
       goes_as Lies c turn (AtD8 r h from) me later x (goes_on (AtD9 r h from x) (my me.0).part) is alone (λ y. refl) turned
-
-  pub caught_up : (from to : ℕ) → turn ≡ AtD9 r h from to → IsAlone me.0 → to ≤ x → Turned Lies c turn me x later → later.0 ≡ goes_to (AtD10 r h true) me.0
-  caught_up from to is alone high turned =
-      goes_as Lies c turn (AtD9 r h from to) me later x (goes_on (AtD10 r h true) (my me.0).part) is alone (λ y. rw (le-leb to x high) refl) turned
 
   pub ran_out : (v : Known) → turn ≡ AtD10 r h false → IsAlone me.0 → me.0 ≡ goes_to (AtD10 r h false) v → x ≤ zero_level → Turned Lies c turn me x later
       → later.0 ≡ nothing_at r v

@@ -40,4 +40,5 @@ module _ {B T : Type 0} (pair : T → ℕ × B) where
       → times i (indices_of (map pair xs)) ≡ 0
   none_of [] i none = refl
   none_of (x ∷ xs) i none =
-      rw (ne_eqb (pair x).0 i (λ e. none 0 x (omega arith) refl e)) (let rest = none_of xs i (λ k q low at same. none (suc k) q (omega arith) at same) in omega arith)
+      rw (ne_eqb (pair x).0 i (λ e. none 0 x (omega arith) refl e))
+      (let rest = none_of xs i (λ k q low at same. none (suc k) q (omega arith) at same) in omega arith)

@@ -1,5 +1,5 @@
 -- The loop of D3 to D5: an index is taken, the ticket is given up, or the entry has a higher rank than any that was found.
-use Rattle.std.proofs.Common.{◌≡◌, ◌≢◌, ◌⊎◌, ℕ, ◌<◌, ◌≤◌, List, refl, ◌∙◌, ap, subst, inl, inr, arith, eq-eqb, ne_eqb, lt-ltb}
+use Rattle.std.proofs.Common.{◌≡◌, ◌≢◌, ◌⊎◌, ℕ, ◌<◌, ◌≤◌, List, refl, ap, subst, inl, inr, arith, eq-eqb, ne_eqb, lt-ltb}
 use Rattle.std.proofs.lemmas.Bool.{cases_eq}
 use Rattle.scq_word.specs.declared.entry.Entry.{Entry}
 use Rattle.scq_word.specs.Sizes.{slots_of}
@@ -7,21 +7,18 @@ use Rattle.scq_word.specs.Tickets.{cycle_of}
 use Rattle.scq_word.specs.Entries.{entry_in}
 use Rattle.atomic_table.specs.Table.{Me}
 use Rattle.scq_word.specs.declared.setup.Setup.{Setup}
-use Rattle.scq_word.specs.Words.{index_in, cycle_in, rank_in}
+use Rattle.scq_word.specs.Words.{cycle_in, rank_in}
 use Rattle.scq_core.specs.declared.phase.Phase.{Phase}
 use Rattle.scq_core.specs.declared.phase.Phase.TheVariants.{AtD3, AtD4, AtD5}
 use Rattle.scq_core.specs.Table.{ring_slots, cycle, goes_on}
 use Rattle.scq_band.specs.Known.{Known}
-use Rattle.scq_band.specs.Turns.{Turned, Takes, made}
+use Rattle.scq_band.specs.Turns.{Turned}
 use Rattle.scq_band.specs.Steps.{my}
-use Rattle.scq_band.specs.Seats.{IsAlone, goes_to, HasGot}
+use Rattle.scq_band.specs.Seats.{IsAlone, goes_to}
 use Rattle.scq_band.proofs.Outcomes.{goes_as, turned_as}
 
 apart_low : {a b : ℕ} → a < b → a ≢ b
 apart_low less e = absurd (omega arith)
-
-apart_high : {a b : ℕ} → b < a → a ≢ b
-apart_high less e = absurd (omega arith)
 
 module _ {S : Type 0} (Lies : ℕ → S → List ℕ → Type 0) (c : Setup) (me later : Me S Known) (turn : Phase) (x r h : ℕ) where
   pub saw_own_cycle : (l : ℕ) → turn ≡ AtD3 r h l → IsAlone me.0 → cycle_in (ring_slots c) x ≡ cycle c h → Turned Lies c turn me x later
@@ -49,20 +46,6 @@ module _ {S : Type 0} (Lies : ℕ → S → List ℕ → Type 0) (c : Setup) (me
       higher : (x ≡ e) ⊎ (rank_in (ring_slots c) e < rank_in (ring_slots c) x) → rank_in (ring_slots c) e < rank_in (ring_slots c) x
       higher (inl same) = absurd (miss same)
       higher (inr up) = up
-
-  -- what a get that takes has
-  pub took : (v : Known) (slots : List (ℕ × S)) → turn ≡ AtD4 r h → IsAlone v → me.0 ≡ goes_to (AtD4 r h) v → me.1 ≡ slots → Turned Lies c turn me x later
-      → HasGot Lies r h (index_in (ring_slots c) x) (v, slots) later
-  took v slots is alone went same turned =
-      let u = turned_as Lies c turn (AtD4 r h) me later x is turned in
-      record {
-        content = u.beside;
-        view = u.view ∙ ap (λ (z : Known). made_of z u.beside) went;
-        slots = subst (λ (ss : List (ℕ × S)). Takes Lies (index_in (ring_slots c) x) u.beside ss later.1) same u.slots;
-      }
-    where
-      made_of : Known → List ℕ → Known
-      made_of z y = made c (AtD4 r h) x y z
 
 -- an entry that is neither of the ticket's cycle nor of a later one
 pub earlier_cycle_of : (c : Setup) (order t x cyc : ℕ) (entry : Entry) → order ≡ c.order → entry ≡ entry_in order x → cyc ≡ cycle_of (slots_of order) t

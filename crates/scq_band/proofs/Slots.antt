@@ -161,9 +161,6 @@ module _ {S : Type 0} where
             ∙ sym (in_order-append (s.first ∷ s.behind) s.passed) ∙ ap in_order (sym s.now);
       }
 
-  pub sought_rotated : (i turns : ℕ) (slots ms : List (ℕ × S)) → Sought i slots ms turns → IsRotation slots ms
-  sought_rotated i turns slots ms s = record { front = s.passed; behind = s.first ∷ s.behind; was = s.was; turned = s.now }
-
   pub times-rotated : (i : ℕ) (slots ms : List (ℕ × S)) → IsRotation slots ms → times i (in_order ms) ≡ times i (in_order slots)
   times-rotated i slots ms is =
       ap (λ (l : List (ℕ × S)). times i (in_order l)) is.turned ∙ times-turned i is.front is.behind

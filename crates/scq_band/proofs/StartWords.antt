@@ -58,6 +58,7 @@ module _ {B : Type 0} where
       one None b is = absurd (cc)
   lifted-snoc (y ∷ ys) x b is = more y.buffer (lifted-snoc ys x b is)
     where
-      more : (o : Option B) → lifted (ys ++ x ∷ []) ≡ lifted ys ++ b ∷ [] → lifted (record { buffer = o } ∷ ys ++ x ∷ []) ≡ lifted (record { buffer = o } ∷ ys) ++ b ∷ []
+      more : (o : Option B) → lifted (ys ++ x ∷ []) ≡ lifted ys ++ b ∷ []
+          → lifted (record { buffer = o } ∷ ys ++ x ∷ []) ≡ lifted (record { buffer = o } ∷ ys) ++ b ∷ []
       more (Some z) rest = ap (λ (zs : List B). z ∷ zs) rest
       more None rest = rest

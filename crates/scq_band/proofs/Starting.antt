@@ -130,7 +130,8 @@ first_own {B} band (suc n) =
     let xs = first_standings band n in
     let x = first_standing band n in
     elim (cases_lt k (length xs)) [
-      | inl before ↦ subst (λ (s : Standing B). s.band ≡ band) (sym (at_prefix (λ (s : Standing B). s.band ≡ band) xs (x ∷ []) k d before)) (first_own band n k d before)
+      | inl before ↦
+          subst (λ (s : Standing B). s.band ≡ band) (sym (at_prefix (λ (s : Standing B). s.band ≡ band) xs (x ∷ []) k d before)) (first_own band n k d before)
       | inr after ↦
           let last : k ≡ length xs = omega (arith, after, low, length-append xs (x ∷ [])) in
           subst (λ (s : Standing B). s.band ≡ band)

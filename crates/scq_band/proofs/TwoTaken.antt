@@ -10,7 +10,8 @@ use Rattle.scq_band.specs.Closing.{lifted_of, AreTheLifted}
 
 module _ {B : Type 0} (contents : B → List ℕ) (IsSame : B → B → Type 0) where
   -- the one seat of a new band, taken out of the list
-  pub first_hand : (band : Identity B) (seats : List (Standing B)) (s : Standing B) → seats ≡ first_standings band 1 → s ≡ slice_index_or seats 0 s → s.hand ≡ []
+  pub first_hand : (band : Identity B) (seats : List (Standing B)) (s : Standing B) → seats ≡ first_standings band 1 → s ≡ slice_index_or seats 0 s
+      → s.hand ≡ []
   first_hand band seats s new is = ap (λ (z : Standing B). z.hand) (is ∙ ap (λ (l : List (Standing B)). slice_index_or l 0 s) new)
 
   pub none_behind : (band : Identity B) (seats : List (Standing B)) → seats ≡ first_standings band 1 → remove seats 0 ≡ []
@@ -53,7 +54,8 @@ module _ {B : Type 0} (contents : B → List ℕ) (IsSame : B → B → Type 0) 
   the_lifted band a buffer out s u hand lifted given =
       let lifted_hand : u.hand ≡ (a, None) ∷ [] = ap (λ (z : Standing B). z.hand) lifted ∙ ap (with_buffer a None) hand ∙ rw (eq-eqb a a refl) refl in
       record {
-        lifted = λ i. let same : times i (lifted_of u.hand) ≡ times i (a ∷ []) = ap (λ (l : List (ℕ × Option B)). times i (lifted_of l)) lifted_hand in omega (arith, same);
+        lifted = λ i. let same : times i (lifted_of u.hand) ≡ times i (a ∷ []) = ap (λ (l : List (ℕ × Option B)). times i (lifted_of l)) lifted_hand in
+            omega (arith, same);
         same =
             λ o has.
             elim (Contains-push_cases [] (a, out) o has) [

@@ -58,8 +58,8 @@ abbrev pub AreSmall : List Numbers → Type 0
 AreSmall numbers = (r : ℕ) → (known_of numbers r).finished < 2 ^ 60
 
 -- what a seat keeps: its indices in the order of its slots, with room for all; its numbers; its spent ticket
-pub record IsKept {B : Type 0} (IsSame : B → B → Type 0) (key : Key B) (me : Me (Slot B) Known) (indices : List ℕ) (room : ℕ) (known : List Numbers) (kept : Option ℕ)
-    : Type 0 where
+pub record IsKept {B : Type 0} (IsSame : B → B → Type 0) (key : Key B) (me : Me (Slot B) Known) (indices : List ℕ) (room : ℕ) (known : List Numbers)
+    (kept : Option ℕ) : Type 0 where
   pub alone : IsAlone me.0
   pub idle : (my me.0).part.phase ≡ Idle
   pub order : indices ≡ in_order me.1

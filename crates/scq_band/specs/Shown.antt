@@ -1,5 +1,5 @@
--- For the law of views (`each_view_knows_the_truth`) alone; no public call's contract cites it. The rule of the table: the running
--- words and views show a state of the machine that steps reach. Slot i of the table is the place of the buffer of index i: it is at
+-- For the rule of the table and the law of views (`each_view_knows_the_truth`): that the running words and views show a state of the
+-- machine that steps reach. No public call's contract cites it. Slot i of the table is the place of the buffer of index i: it is at
 -- home while the index stands in an entry, and from when a seat has brought it home before the table closes. No line says with which
 -- seat a slot is that is out.
 use Rattle.std.specs.Prelude.{◌≡◌, ◌⊎◌, ℕ, zero, suc, ◌+◌, ◌<◌, ◌≤◌, false, if◌then◌else◌, is_none, List, [], ◌∷◌, length, Option, Some, None, slice_index, slice_get}

@@ -40,7 +40,8 @@ impl<B: Buffer> Model for Band<B> {
 
     ghost view = { λ b. identity_of b.table.shared.table_id b.table.shared.key };
 
-    ghost invariant = { λ b. IsBand b.table.shared.table_id b.table.shared.key b.setup b.buffers.items (vec_capacity b.buffers) b.left.items (vec_capacity b.left) };
+    ghost invariant = { λ b.
+        IsBand b.table.shared.table_id b.table.shared.key b.setup b.buffers.items (vec_capacity b.buffers) b.left.items (vec_capacity b.left) };
 }
 
 impl<B: Buffer> Band<B> {

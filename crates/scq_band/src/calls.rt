@@ -38,7 +38,8 @@ impl<B: Buffer> Band<B> {
         ensures band { seat.new.band ≡ seat.old.band }
         ensures put { IfOk result (λ place. seat.new ≡ after_put ring index place (bytes_in_hand B.contents seat.old.hand index) seat.old) }
         ensures place { IfOk result (λ place. (place < self.now.setup.limit) × ((known_of seat.old.numbers ring).seen < place)) }
-        ensures spent { IfErr result (λ spent. seat.old.spent ≡ None → (seat.new ≡ after_spent_put ring spent.ticket seat.old) × (self.now.setup.limit ≤ spent.ticket)) }
+        ensures spent { IfErr result (λ spent. seat.old.spent ≡ None
+            → (seat.new ≡ after_spent_put ring spent.ticket seat.old) × (self.now.setup.limit ≤ spent.ticket)) }
         ensures kept { (ticket : ℕ) → seat.old.spent ≡ Some ticket → (result ≡ Err (record { ticket = ticket })) × (seat.new ≡ seat.old) }
     {
         if let Some(ticket) = seat.spent {

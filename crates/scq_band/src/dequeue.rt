@@ -165,7 +165,8 @@ pub fn dequeue<B: Buffer>(
     ensures once { IfOk result (λ r. (i : ℕ) → times i (my token.new.me.0).part.hand ≤ 1) }
     ensures above { IfOk result (λ r. (known : Numbers) → slice_get token.old.me.0.numbers ring.number ≡ Some known → known.head ≤ r.0) }
     ensures nothing { result ≡ Err (Without.Nothing None) → token.new.me.0 ≡ nothing_at ring.number token.old.me.0 }
-    ensures nothing_left { (ticket : ℕ) → result ≡ Err (Without.Nothing (Some ticket)) → (token.new.me.0 ≡ nothing_at ring.number (drew_head ring.number ticket token.old.me.0))
+    ensures nothing_left { (ticket : ℕ) → result ≡ Err (Without.Nothing (Some ticket))
+        → (token.new.me.0 ≡ nothing_at ring.number (drew_head ring.number ticket token.old.me.0))
         × (ticket < words.now.key.setup.limit)
         × ((known : Numbers) → slice_get token.old.me.0.numbers ring.number ≡ Some known → known.head ≤ ticket) }
     ensures last { (drawn : Option ℕ) → result ≡ Err (Without.Nothing drawn)

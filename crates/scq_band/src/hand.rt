@@ -23,5 +23,7 @@ pub fn bring_to_front<B: Buffer>(token: &mut Token<B>, hand: &mut Vec<u32>, inde
         token.turn();
         turns += 1;
     }
-    hand.rotate_right(turns);
+    if turns > 0 {
+        hand.rotate_right(turns);
+    }
 }

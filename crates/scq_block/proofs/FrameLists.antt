@@ -63,12 +63,12 @@ pub record IsDealing (start : Ptr) (n cap number capacity : ℕ) (fs : List Fram
   pub zero : rest.bytes ≡ replicate ((n - number) * cap) 0
 
 -- the next frame is cut off what is left, which has one more behind it
-pub IsDealing-next : (start : Ptr) (n cap number capacity capacity' : ℕ) (fs : List Frame) (rest front back : Span) (f : Frame)
-    → IsDealing start n cap number capacity fs rest → number + 1 < n → capacity ≤ capacity'
+pub IsDealing-next : (start : Ptr) (n cap number capacity : ℕ) (fs : List Frame) (rest front back : Span) (f : Frame)
+    → IsDealing start n cap number capacity fs rest → number + 1 < n
     → (front.start ≡ rest.start) × (front.bytes ≡ take cap rest.bytes) × (back.start ≡ rest.start +ₚ cap) × (back.bytes ≡ drop cap rest.bytes)
     → (f.number ≡ number) × (bytes_of f ≡ front.bytes) × (start_of f ≡ front.start)
-    → IsDealing start n cap (number + 1) capacity' (fs ++ f ∷ []) back
-IsDealing-next start n cap number capacity capacity' fs rest front back f was below room cut is =
+    → IsDealing start n cap (number + 1) capacity (fs ++ f ∷ []) back
+IsDealing-next start n cap number capacity fs rest front back f was below cut is =
     let left = n - (number + 1) in
     let one_more : n - number ≡ left + 1 = omega arith in
     let more : (left + 1) * cap ≡ left * cap + cap = grind arith in
@@ -80,7 +80,7 @@ IsDealing-next start n cap number capacity capacity' fs rest front back f was be
       dealt = AreDealt-push start number cap fs f was.dealt is.0
           (record { at = is.2 ∙ cut.0 ∙ was.from ∙ ap (λ k. start +ₚ k * cap) (sym is.0); size = ap length clear ∙ length-replicate cap 0 }) clear;
       below = below;
-      room = omega (arith, was.room, room);
+      room = was.room;
       from = cut.2 ∙ ap (λ p. p +ₚ cap) was.from ∙ past_both start (number * cap) cap ∙ ap (λ k. start +ₚ k) (sym after);
       zero = cut.3 ∙ ap (drop cap) was.zero ∙ drop-replicate cap ((n - number) * cap) 0 ∙ ap (λ k. replicate k 0) fewer;
     }

@@ -1,5 +1,5 @@
 //! Blocks: one allocation that is carved into frames, and freed once all of them are back.
-ghost use Rattle.std.specs.Prelude.{◌≡◌, ◌*◌, ◌^◌, ◌<◌, ◌≤◌, ◌++◌, ◌∷◌, [], length, replicate, IfOk, vec_len, vec_capacity};
+ghost use Rattle.std.specs.Prelude.{◌≡◌, ◌*◌, ◌^◌, ◌<◌, ◌≤◌, [], length, replicate, IfOk, vec_capacity};
 ghost use Rattle.std.specs.List.{All};
 ghost use denote.RawPtr.{InBlock, null_ptr};
 ghost use Rattle.scq_block.specs.Frames.{IsPlaced, AreInOrder, AreDealt};
@@ -84,22 +84,10 @@ fn deal(mut frames: Vec<Frame>, span: Span, start: *mut u8, n: u32, cap: u32) ->
     let mut number = 0;
     while number + 1 < n {
         let (front, back) = rest.cut(cap as usize);
-        add(&mut frames, Frame::over(front, start, number, cap));
+        frames.push_reserved(Frame::over(front, start, number, cap));
         rest = back;
         number += 1;
     }
-    add(&mut frames, Frame::over(rest, start, number, cap));
+    frames.push_reserved(Frame::over(rest, start, number, cap));
     frames
-}
-
-// Adds a frame to a list that has room for it.
-fn add(frames: &mut Vec<Frame>, frame: Frame)
-    requires { vec_len frames.old < vec_capacity frames.old }
-    ensures items { frames.new.items ≡ frames.old.items ++ frame ∷ [] }
-    ensures room { vec_capacity frames.old ≤ vec_capacity frames.new }
-{
-    match frames.push(frame) {
-        Ok(()) => {}
-        Err(_) => unreachable!(),
-    }
 }

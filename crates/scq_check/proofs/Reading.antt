@@ -1,14 +1,13 @@
 -- The lines of a text that have been read so far, and what follows them.
-use Rattle.std.proofs.Common.{◌≡◌, ℕ, ◌+◌, ◌≤◌, true, false, List, [], ◌∷◌, ◌++◌, length, length-append, append_assoc, Option, Some, None, refl, sym, ◌∙◌, ap, subst, arith}
+use Rattle.std.proofs.Common.{◌≡◌, ℕ, ◌+◌, ◌≤◌, true, List, [], ◌∷◌, ◌++◌, length, length-append, append_assoc, Option, Some, None, refl, sym, ◌∙◌, ap, subst, arith}
 use Rattle.std.proofs.lemmas.Bool.Decides.{nat_tests}
-use Rattle.std.proofs.lemmas.List.{append-nil}
 use Rattle.std.proofs.lemmas.List.Elements.{filter_map-append}
 use Rattle.scq_hist.specs.Aspects.{IsLawful}
 use Rattle.scq_hist.specs.declared.events.Event.{Event}
 use Rattle.scq_check.specs.Line.{line_of}
 use Rattle.scq_check.specs.declared.line.Line.{Line}
 use Rattle.scq_check.specs.declared.line.Line.TheVariants.{Opening, Happens}
-use Rattle.scq_check.specs.HistoryText.{token_of, event_of, tokens_in, events_in, may_follow, is_next, IsHistory, empty, one_more, IsBadLine, IsUnlawfulLine}
+use Rattle.scq_check.specs.HistoryText.{token_of, event_of, tokens_in, events_in, may_follow, is_next, IsHistory, empty, one_more, IsUnlawfulLine}
 
 -- so many lines were read, which say these tokens and events, and the rest follows
 pub record IsRead (lines rest : List (List ℕ)) (tokens : List (List ℕ)) (events : List Event) (number : ℕ) : Type 0 where
@@ -102,10 +101,3 @@ module _ (lines : List (List ℕ)) (line : List ℕ) (rest : List (List ℕ)) (t
         next = same_next ∙ may;
         unlawful = λ lawful. unlawful (subst IsLawful events_up_to lawful);
       }
-
--- all lines are read
-pub read_all : (lines rest : List (List ℕ)) (tokens : List (List ℕ)) (events : List Event) (number : ℕ) → IsRead lines rest tokens events number → rest ≡ []
-    → IsHistory lines × (tokens ≡ tokens_in lines) × (events ≡ events_in lines)
-read_all lines rest tokens events number is none =
-    let all : is.before ≡ lines = sym (append-nil is.before) ∙ ap (λ l. is.before ++ l) (sym none) ∙ sym is.stands in
-    (subst IsHistory all is.history, is.tokens_are ∙ ap tokens_in all, is.events_are ∙ ap events_in all)

@@ -20,15 +20,19 @@ counted-more : (most : ℕ) (failed : Bool) (text more : List ℕ) → most < le
 unfolding counted
 counted-more most true text more many = ap whole_lines (take-append-le most text more (omega arith))
 counted-more most false text more many =
-    ap (λ (b : Bool). if b then whole_lines (take most (text ++ more)) else (text ++ more)) (lt-ltb most (length (text ++ more)) (omega (arith, length-append text more)))
+    ap (λ (b : Bool). if b then whole_lines (take most (text ++ more)) else (text ++ more))
+    (lt-ltb most (length (text ++ more)) (omega (arith, length-append text more)))
     ∙ ap whole_lines (take-append-le most text more (omega arith))
 
 pub trouble-more : (size most : ℕ) (failed : Bool) (passed : ℕ) (text more : List ℕ) → most < length text
-    → trouble_after size most failed passed (text ++ more) ≡ option_or (first_too_long size (messages_after passed (whole_lines (take most text)))) (Some ManyBytes)
+    → trouble_after size most failed passed (text ++ more)
+    ≡ option_or (first_too_long size (messages_after passed (whole_lines (take most text)))) (Some ManyBytes)
 unfolding trouble_after
 trouble-more size most failed passed text more many =
-    ap (λ (c : List ℕ). option_or (first_too_long size (messages_after passed c)) (if nat_lt most (length (text ++ more)) then Some ManyBytes else None)) (counted-more most failed text more many)
-    ∙ ap (λ (b : Bool). option_or (first_too_long size (messages_after passed (whole_lines (take most text)))) (if b then Some ManyBytes else None)) (lt-ltb most (length (text ++ more)) (omega (arith, length-append text more)))
+    ap (λ (c : List ℕ). option_or (first_too_long size (messages_after passed c)) (if nat_lt most (length (text ++ more)) then Some ManyBytes else None))
+    (counted-more most failed text more many)
+    ∙ ap (λ (b : Bool). option_or (first_too_long size (messages_after passed (whole_lines (take most text)))) (if b then Some ManyBytes else None))
+    (lt-ltb most (length (text ++ more)) (omega (arith, length-append text more)))
 
 -- where something is visible, what holds of it
 pub if-visible : {A : Type 0} (o : Option A) (P : A → Type 0) → ((x : A) → o ≡ Some x → P x) → IfSome o P
@@ -36,7 +40,8 @@ if-visible None P here = tt
 if-visible (Some x) P here = here x refl
 
 -- whatever came, want of memory says nothing of it
-pub judged-memory : (size : ℕ) (first new : Framing) (before after : Option (List ℕ)) (result : Result (Option Message) FrameFault) → FoundSince first new before after result → Judged size before after (Some NoMemory)
+pub judged-memory : (size : ℕ) (first new : Framing) (before after : Option (List ℕ)) (result : Result (Option Message) FrameFault)
+    → FoundSince first new before after result → Judged size before after (Some NoMemory)
 judged-memory size first new before after result found = record {
   bytes = found.bytes;
   moved = found.moved;
@@ -44,7 +49,8 @@ judged-memory size first new before after result found = record {
 }
 
 -- all was read, and nothing is wrong with it
-pub judged-end : (size file : ℕ) (new : Framing) (before after : Option (List ℕ)) → FoundSince (fresh file size (2 ^ 30)) new before after (Ok None) → Judged size before after None
+pub judged-end : (size file : ℕ) (new : Framing) (before after : Option (List ℕ)) → FoundSince (fresh file size (2 ^ 30)) new before after (Ok None)
+    → Judged size before after None
 judged-end size file new before after found = record {
   bytes = found.bytes;
   moved = found.moved;
@@ -61,23 +67,27 @@ sized n read (Some b) None is e = absurd (cc)
 sized n read (Some b) (Some a) is e = let same : read + length a ≡ 0 + length b = cc in ap Some (omega arith)
 
 -- more bytes were read than a file may have
-large : (size : ℕ) (bytes rest : List ℕ) (n : ℕ) → 2 ^ 30 < n → length (bytes ++ rest) ≡ n + length rest → file_trouble size false bytes ≡ Some ManyBytes → file_trouble size false (bytes ++ rest) ≡ Some ManyBytes
+large : (size : ℕ) (bytes rest : List ℕ) (n : ℕ) → 2 ^ 30 < n → length (bytes ++ rest) ≡ n + length rest → file_trouble size false bytes ≡ Some ManyBytes
+    → file_trouble size false (bytes ++ rest) ≡ Some ManyBytes
 large size bytes rest n many count trouble =
     let past : 2 ^ 30 < length bytes = omega (arith, length-append bytes rest) in
-    trouble-more size (2 ^ 30) false 0 bytes rest past ∙ sym (trouble-more size (2 ^ 30) false 0 bytes [] past) ∙ ap (file_trouble size false) (append-nil bytes) ∙ trouble
+    trouble-more size (2 ^ 30) false 0 bytes rest past ∙ sym (trouble-more size (2 ^ 30) false 0 bytes [] past)
+    ∙ ap (file_trouble size false) (append-nil bytes) ∙ trouble
 
 -- where the first message that counts is too long, it is the trouble
 long-first : (size line len : ℕ) (ms : List Framed) → BeginsWithLong line len ms → size < len → first_too_long size ms ≡ Some (LongPayload line len)
 long-first size line len [] begins above = absurd begins
 long-first size line len (m ∷ ms) begins above =
-    cond-true (nat_lt size (length m.payload)) (Some (LongPayload m.line (length m.payload))) (first_too_long size ms) (lt-ltb size (length m.payload) (omega (arith, begins.1)))
+    cond-true (nat_lt size (length m.payload)) (Some (LongPayload m.line (length m.payload))) (first_too_long size ms)
+    (lt-ltb size (length m.payload) (omega (arith, begins.1)))
     ∙ ap (λ n. Some (LongPayload n (length m.payload))) begins.0 ∙ ap (λ n. Some (LongPayload line n)) begins.1
 
 trouble-long : (f : Framing) (failed : Bool) (bytes : List ℕ) (line len : ℕ) → BeginsWithLong line len (counted_ahead f failed bytes) → f.size < len
     → trouble_ahead f failed bytes ≡ Some (LongPayload line len)
 unfolding trouble_after
 trouble-long f failed bytes line len begins above =
-    ap (λ o. option_or o (if nat_lt (limit_left f) (length (f.held ++ bytes)) then Some ManyBytes else None)) (long-first f.size line len (counted_ahead f failed bytes) begins above)
+    ap (λ o. option_or o (if nat_lt (limit_left f) (length (f.held ++ bytes)) then Some ManyBytes else None))
+    (long-first f.size line len (counted_ahead f failed bytes) begins above)
 
 -- a payload is too long, whatever follows its line
 pub judged-long : (size file : ℕ) (old new : Framing) (before mid after : Option (List ℕ)) (line len : ℕ) → Gave (fresh file size (2 ^ 30)) old before mid
@@ -86,7 +96,8 @@ pub judged-long : (size file : ℕ) (old new : Framing) (before mid after : Opti
 judged-long size file old new before mid after line len gave found above stays end = record {
   bytes = gave.bytes ++ found.bytes;
   moved = moved-moved gave.bytes found.bytes before mid after gave.moved found.moved;
-  judges = if-visible after _ (λ rest e. (ap (file_trouble size false) (sym (append-nil (gave.bytes ++ found.bytes))) ∙ trouble [] (λ h. refl), trouble rest (λ h. nothing rest e h)));
+  judges = if-visible after _
+      (λ rest e. (ap (file_trouble size false) (sym (append-nil (gave.bytes ++ found.bytes))) ∙ trouble [] (λ h. refl), trouble rest (λ h. nothing rest e h)));
 } where
   nothing : (rest : List ℕ) → after ≡ Some rest → IsTrue new.ended → rest ≡ []
   nothing rest e h = let P : Option (List ℕ) → Type 0 = NothingLeft in subst P e (end h)
@@ -98,7 +109,8 @@ judged-long size file old new before mid after line len gave found above stays e
       ∙ trouble-long old false (found.bytes ++ more) line len (found.comes false more (λ h. (none h, refl))) above
 
 -- a fault says what is wrong
-pub judged-fault : (size file : ℕ) (new : Framing) (before after : Option (List ℕ)) (fault : FrameFault) → FoundSince (fresh file size (2 ^ 30)) new before after (Err fault)
+pub judged-fault : (size file : ℕ) (new : Framing) (before after : Option (List ℕ)) (fault : FrameFault)
+    → FoundSince (fresh file size (2 ^ 30)) new before after (Err fault)
     → ((n : ℕ) → fault ≡ TooLarge n → (2 ^ 30 < n) × (option_map length before ≡ option_map (λ left. n + length left) after))
     → ((line len : ℕ) → fault ≡ TooLong line len → Judged size before after (Some (TooLong line len)))
     → Judged size before after (Some fault)

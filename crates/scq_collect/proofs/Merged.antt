@@ -26,14 +26,16 @@ before-less : (p q : ℕ × ℕ) → IsBefore p q → is_lt (ordering_then (nat_
 before-less p q (inl less) = rw (lt-ltb p.0 q.0 less) refl
 before-less p q (inr same) = grind (arith, lt-ltb)
 
-sorted-from : {A : Type 0} (place : A → ℕ × ℕ) (xs : List A) → IsSortedByKey place (λ p q. ordering_then (nat_cmp p.0 q.0) (nat_cmp p.1 q.1)) xs → IsSorted place xs
+sorted-from : {A : Type 0} (place : A → ℕ × ℕ) (xs : List A) → IsSortedByKey place (λ p q. ordering_then (nat_cmp p.0 q.0) (nat_cmp p.1 q.1)) xs
+    → IsSorted place xs
 sorted-from place xs sorted k d within before =
     let less = before-less (place (slice_index_or xs (k + 1) d)) (place (slice_index_or xs k d)) before in
     let not_less = sorted k d (omega arith) within in
     absurd (cc)
 
 -- what is made of sorted members, and keeps their places, is sorted
-sorted-map : {A B : Type 0} (f : A → B) (place : A → ℕ × ℕ) (other : B → ℕ × ℕ) (xs : List A) → All (λ x. place x ≡ other (f x)) xs → IsSorted place xs → IsSorted other (map f xs)
+sorted-map : {A B : Type 0} (f : A → B) (place : A → ℕ × ℕ) (other : B → ℕ × ℕ) (xs : List A) → All (λ x. place x ≡ other (f x)) xs → IsSorted place xs
+    → IsSorted other (map f xs)
 sorted-map f place other [] same sorted k d within before = absurd (omega arith)
 sorted-map {A} {B} f place other (x ∷ xs) same sorted k d within before =
     let long : k + 1 < length (x ∷ xs) = omega (arith, length-map (x ∷ xs) f) in
@@ -43,7 +45,8 @@ sorted-map {A} {B} f place other (x ∷ xs) same sorted k d within before =
     (subst (λ p. IsBefore (other (slice_index_or (map f (x ∷ xs)) (k + 1) d)) p) (sym (read k (omega arith))) before))
 
 -- members are merged by a sort of them with their places beside them
-pub merged-by : (given all : List Answered) (members sorted : List Placed) → map (λ m. m.2.now) members ≡ given → All (λ m. (m.0, m.1) ≡ place_of_answered m.2.now) members
+pub merged-by : (given all : List Answered) (members sorted : List Placed) → map (λ m. m.2.now) members ≡ given
+    → All (λ m. (m.0, m.1) ≡ place_of_answered m.2.now) members
     → IsPermutation members sorted → IsSortedByKey key (λ p q. ordering_then (nat_cmp p.0 q.0) (nat_cmp p.1 q.1)) sorted
     → all ≡ map (λ m. m.2.now) sorted → IsMerged place_of_answered given all
 merged-by given all members sorted are placed same order copies =
@@ -61,7 +64,8 @@ pub merged-in-order : (given all : List Answered) → IsMerged place_of_answered
 merged-in-order given all m apart = sorted-in-order place_of_answered given all (apart-distinct place_of_answered given apart) m.same m.sorted
 
 -- where they are these in some order, and these are in order, they are these
-pub merged-exactly : (given all these : List Answered) → IsMerged place_of_answered given all → IsInOrder place_of_answered these → IsPermutation given these → all ≡ these
+pub merged-exactly : (given all these : List Answered) → IsMerged place_of_answered given all → IsInOrder place_of_answered these
+    → IsPermutation given these → all ≡ these
 merged-exactly given all these m order same = exactly place_of_answered given all these m.same m.sorted (ascends place_of_answered these order) same
 
 -- where they are the answers to all messages of files, in some order, they are those of one thread

@@ -10,7 +10,7 @@ use Rattle.std.proofs.lemmas.Map.Keys.{IsDistinct-cons, IsDistinct-from_apart, I
 use Rattle.scq_collect.specs.Merging.{AreApart, IsBefore, IsInOrder, IsSorted}
 
 -- the same place, as a test
-abbrev is_place : ℕ × ℕ → ℕ × ℕ → Bool
+abbrev pub is_place : ℕ × ℕ → ℕ × ℕ → Bool
 is_place p q = (p.0 == q.0) && (p.1 == q.1)
 
 pub before-before : (p q r : ℕ × ℕ) → IsBefore p q → IsBefore q r → IsBefore p r
@@ -25,7 +25,7 @@ before-other p q before = grind (arith, nat_tests)
 other-before : (p q : ℕ × ℕ) → ¬ IsBefore q p → is_place p q ≡ false → IsBefore p q
 other-before p q not_before other = grind (arith, nat_tests)
 
-is_place-flip : (p q : ℕ × ℕ) → is_place p q ≡ is_place q p
+pub is_place-flip : (p q : ℕ × ℕ) → is_place p q ≡ is_place q p
 is_place-flip p q = grind (arith, nat_tests)
 
 apart-other : (p q : ℕ × ℕ) → p ≢ q → is_place p q ≡ false
@@ -49,7 +49,8 @@ ascends {A} place (x ∷ y ∷ xs) order =
     let rest : Ascends place (y ∷ xs) = ascends place (y ∷ xs) (λ k d within. next k d (order (suc k) d (omega arith))) in
     let first : IsBefore (place x) (place y) = order 0 x (omega arith) in (
       All-cons (λ (z : A). IsBefore (place x) (place z)) y xs first
-          (All-weaker (λ (z : A). IsBefore (place y) (place z)) (λ (z : A). IsBefore (place x) (place z)) (λ z after. before-before (place x) (place y) (place z) first after) xs rest.0),
+          (All-weaker (λ (z : A). IsBefore (place y) (place z)) (λ (z : A). IsBefore (place x) (place z))
+          (λ z after. before-before (place x) (place y) (place z) first after) xs rest.0),
       rest,
     )
   where
@@ -75,7 +76,8 @@ ascends-distinct place [] up = tt
 ascends-distinct {A} place (x ∷ xs) up =
     IsDistinct-cons (λ (x y : A). is_place (place x) (place y)) x xs
     (recursion_from_All (λ (y : A). is_place (place x) (place y) ≡ false) xs
-    (All-weaker (λ (z : A). IsBefore (place x) (place z)) (λ (y : A). is_place (place x) (place y) ≡ false) (λ z before. before-other (place x) (place z) before) xs up.0))
+    (All-weaker (λ (z : A). IsBefore (place x) (place z)) (λ (y : A). is_place (place x) (place y) ≡ false)
+    (λ z before. before-other (place x) (place z) before) xs up.0))
     (ascends-distinct place xs up.1)
 
 pub apart-distinct : {A : Type 0} (place : A → ℕ × ℕ) (xs : List A) → AreApart place xs → IsDistinct (λ (x y : A). is_place (place x) (place y)) xs
@@ -93,14 +95,14 @@ sorted-in-order {A} place members merged distinct same sorted k d within =
     (apart_from_distinct test merged k (k + 1) d all (omega arith) within)
 
 -- a member is the first or one of the others
-contains-cases : {A : Type 0} (y z : A) (ys : List A) → Contains (y ∷ ys) z → (y ≡ z) ⊎ Contains ys z
+pub contains-cases : {A : Type 0} (y z : A) (ys : List A) → Contains (y ∷ ys) z → (y ≡ z) ⊎ Contains ys z
 contains-cases y z ys (zero, within, is) = inl is
 contains-cases y z ys (suc k, within, is) = inr (k, omega arith, is)
 
-contains-first : {A : Type 0} (y : A) (ys : List A) → Contains (y ∷ ys) y
+pub contains-first : {A : Type 0} (y : A) (ys : List A) → Contains (y ∷ ys) y
 contains-first y ys = (0, omega arith, refl)
 
-contains-more : {A : Type 0} (y z : A) (ys : List A) → Contains ys z → Contains (y ∷ ys) z
+pub contains-more : {A : Type 0} (y z : A) (ys : List A) → Contains ys z → Contains (y ∷ ys) z
 contains-more y z ys (k, within, is) = (suc k, omega arith, is)
 
 -- what stands among those behind x stands behind x
@@ -116,7 +118,8 @@ first-same place x y xs ys up up' (inr c) (inr d) =
     absurd (not-before-itself (place x) (before-before (place x) (place y) (place x) (behind place x y xs up d) (behind place y x ys up' c)))
 
 -- what stands behind one first is among those behind the same first
-others-same : {A : Type 0} (place : A → ℕ × ℕ) (z x y : A) (xs ys : List A) → x ≡ y → Ascends place (x ∷ xs) → Contains xs z → (y ≡ z) ⊎ Contains ys z → Contains ys z
+others-same : {A : Type 0} (place : A → ℕ × ℕ) (z x y : A) (xs ys : List A) → x ≡ y → Ascends place (x ∷ xs) → Contains xs z → (y ≡ z) ⊎ Contains ys z
+    → Contains ys z
 others-same {A} place z x y xs ys same up c (inl e) =
     absurd (not-before-itself (place x) (subst (λ (m : A). IsBefore (place x) (place m)) (sym e ∙ sym same) (behind place x z xs up c)))
 others-same place z x y xs ys same up c (inr d) = d
@@ -131,7 +134,8 @@ same-members place [] [] up up' there back = refl
 same-members place [] (y ∷ ys) up up' there back = absurd (contains-none y (back y (contains-first y ys)))
 same-members place (x ∷ xs) [] up up' there back = absurd (contains-none x (there x (contains-first x xs)))
 same-members {A} place (x ∷ xs) (y ∷ ys) up up' there back =
-    let head : x ≡ y = first-same place x y xs ys up up' (contains-cases y x ys (there x (contains-first x xs))) (contains-cases x y xs (back y (contains-first y ys))) in
+    let head : x ≡ y =
+    first-same place x y xs ys up up' (contains-cases y x ys (there x (contains-first x xs))) (contains-cases x y xs (back y (contains-first y ys))) in
     let tails : xs ≡ ys =
     same-members place xs ys up.1 up'.1
     (λ z c. others-same place z x y xs ys head up c (contains-cases y z ys (there z (contains-more x z xs c))))
@@ -144,7 +148,8 @@ pub exactly : {A : Type 0} (place : A → ℕ × ℕ) (members merged given : Li
 exactly {A} place members merged given same sorted up all =
     let test : A → A → Bool = λ x y. is_place (place x) (place y) in
     let distinct : IsDistinct test members =
-    IsDistinct-IsPermutation test (λ x y. is_place-flip (place x) (place y)) given members (IsPermutation-sym members given all) (ascends-distinct place given up) in
+    IsDistinct-IsPermutation test (λ x y. is_place-flip (place x) (place y)) given members (IsPermutation-sym members given all)
+    (ascends-distinct place given up) in
     let order : IsInOrder place merged = sorted-in-order place members merged distinct same sorted in
     same-members place merged given (ascends place merged order) up
     (λ z c. Contains-permutation members given z all (Contains-permutation merged members z (IsPermutation-sym members merged same) c))

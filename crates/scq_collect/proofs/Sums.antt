@@ -1,10 +1,8 @@
 -- The totals of a front of some answers, and of the front with one answer more.
 use Rattle.std.proofs.Common.{◌≡◌, ◌≢◌, ◌∙◌, refl, sym, ap, inl, inr, arith, true, false, ℕ, ◌+◌, ◌*◌, ◌<◌, ◌≤◌, Bool, List, length, take, set, get_or, cond, eqb, get_or-set_same, get_or-set_other}
-use Rattle.std.specs.Prelude.{◌==◌, count_by, sum_by, map}
+use Rattle.std.specs.Prelude.{◌==◌, count_by, sum_by}
 use Rattle.std.proofs.lemmas.Bool.Decides.{eqb_tells}
 use Rattle.std.proofs.lemmas.List.Sums.{count_by_more_yes, count_by_more_no, sum_by_more}
-use Rattle.std.proofs.lemmas.List.Folds.{fold-map}
-use Rattle.scq_collect.specs.Output.{count_on, bytes_on, without_way}
 use Rattle.scq_collect.specs.declared.answered.Answered.{Answered}
 
 -- how many members are on the topic
@@ -14,13 +12,6 @@ count_in topic members = count_by (λ a. a.topic == topic) members
 -- how many bytes their payloads have
 abbrev pub bytes_in : ℕ → List Answered → ℕ
 bytes_in topic members = sum_by (λ a. cond (a.topic == topic) a.bytes 0) members
-
--- the way in which an answer came counts for nothing
-pub count_on-map : (topic : ℕ) (members : List Answered) → count_on topic (map without_way members) ≡ count_in topic members
-count_on-map topic members = fold-map (λ n a. n + cond (a.topic == topic) 1 0) without_way 0 members
-
-pub bytes_on-map : (topic : ℕ) (members : List Answered) → bytes_on topic (map without_way members) ≡ bytes_in topic members
-bytes_on-map topic members = fold-map (λ n a. n + cond (a.topic == topic) a.bytes 0) without_way 0 members
 
 -- how many answers are on the topic, with one more
 pub count-more : (answers : List Answered) (i topic : ℕ) (a : Answered) → i < length answers → a ≡ get_or answers i a
@@ -60,7 +51,8 @@ bytes-small answers i topic a within is few small = at (eqb a.topic topic) refl 
   at : (b : Bool) → eqb a.topic topic ≡ b → bytes_in topic (take (i + 1) answers) ≤ (i + 1) * 18446744073709551615
   at b e =
       let more = bytes-more answers i topic a within is ∙ ap (λ b. bytes_in topic (take i answers) + cond b a.bytes 0) e in
-      elim b as (λ b. bytes_in topic (take (i + 1) answers) ≡ bytes_in topic (take i answers) + cond b a.bytes 0 → bytes_in topic (take (i + 1) answers) ≤ (i + 1) * 18446744073709551615) [
+      elim b as (λ b. bytes_in topic (take (i + 1) answers) ≡ bytes_in topic (take i answers) + cond b a.bytes 0
+      → bytes_in topic (take (i + 1) answers) ≤ (i + 1) * 18446744073709551615) [
         | true ↦ λ grown. omega (arith, grown, few, small)
         | false ↦ λ grown. omega (arith, grown, small)
       ] more

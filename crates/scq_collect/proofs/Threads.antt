@@ -13,13 +13,15 @@ record AreOf (file line : ℕ) (answers : List Answer) : Type 0 where
   up : Ascends place_of_answer answers
   past : All (λ a. (a.file ≡ file) × (line ≤ a.line)) answers
 
-lines-ascend : (topics : List (List ℕ × Kind)) (file number : ℕ) (lines : List (List ℕ)) → AreOf file number (map (answer_to topics file) (messages_from number lines))
+lines-ascend : (topics : List (List ℕ × Kind)) (file number : ℕ) (lines : List (List ℕ))
+    → AreOf file number (map (answer_to topics file) (messages_from number lines))
 lines-ascend topics file number [] = record { up = tt; past = All-nil (λ (a : Answer). (a.file ≡ file) × (number ≤ a.line)) }
 lines-ascend topics file number ([] ∷ more) =
     let rest = lines-ascend topics file (number + 1) more in
     record {
       up = rest.up;
-      past = All-weaker (λ (a : Answer). (a.file ≡ file) × (number + 1 ≤ a.line)) (λ (a : Answer). (a.file ≡ file) × (number ≤ a.line)) (λ a h. (h.0, omega (arith, h.1)))
+      past = All-weaker (λ (a : Answer). (a.file ≡ file) × (number + 1 ≤ a.line)) (λ (a : Answer). (a.file ≡ file) × (number ≤ a.line))
+          (λ a h. (h.0, omega (arith, h.1)))
           (map (answer_to topics file) (messages_from (number + 1) more)) rest.past;
     }
 lines-ascend topics file number ((b ∷ bs) ∷ more) =
@@ -33,7 +35,8 @@ lines-ascend topics file number ((b ∷ bs) ∷ more) =
         rest.up,
       );
       past = All-cons (λ (a : Answer). (a.file ≡ file) × (number ≤ a.line)) first others (refl, omega arith)
-          (All-weaker (λ (a : Answer). (a.file ≡ file) × (number + 1 ≤ a.line)) (λ (a : Answer). (a.file ≡ file) × (number ≤ a.line)) (λ a h. (h.0, omega (arith, h.1))) others rest.past);
+          (All-weaker (λ (a : Answer). (a.file ≡ file) × (number + 1 ≤ a.line)) (λ (a : Answer). (a.file ≡ file) × (number ≤ a.line))
+          (λ a h. (h.0, omega (arith, h.1))) others rest.past);
     }
 
 file-ascends : (topics : List (List ℕ × Kind)) (file : ℕ) (content : List ℕ) → AreOf file 1 (map (answer_to topics file) (messages_after 0 content))
@@ -55,7 +58,8 @@ files-ascend topics file (content ∷ more) =
     record {
       up = ascends-append place_of_answer mine others own.up rest.up
           (All-weaker (λ (a : Answer). (a.file ≡ file) × (1 ≤ a.line)) (λ (x : Answer). All (λ y. IsBefore (place_of_answer x) (place_of_answer y)) others)
-          (λ x h. All-weaker (λ (a : Answer). file + 1 ≤ a.file) (λ (y : Answer). IsBefore (place_of_answer x) (place_of_answer y)) (λ y later. inl (omega (arith, h.0, later))) others rest.past) mine own.past);
+          (λ x h. All-weaker (λ (a : Answer). file + 1 ≤ a.file) (λ (y : Answer). IsBefore (place_of_answer x) (place_of_answer y))
+          (λ y later. inl (omega (arith, h.0, later))) others rest.past) mine own.past);
       past = All-append (λ (a : Answer). file ≤ a.file) mine others
           (All-weaker (λ (a : Answer). (a.file ≡ file) × (1 ≤ a.line)) (λ (a : Answer). file ≤ a.file) (λ a h. omega (arith, h.0)) mine own.past)
           (All-weaker (λ (a : Answer). file + 1 ≤ a.file) (λ (a : Answer). file ≤ a.file) (λ a later. omega (arith, later)) others rest.past);

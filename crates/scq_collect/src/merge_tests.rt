@@ -69,7 +69,8 @@ fn members_are_merged_in_order_of_file_and_line(rt: HostRuntime) -> Result<(), F
     let alloc = rt.alloc();
     let three = "1:2 1 2 taken 128 a\n1:7 1 7 direct 131 \n2:1 2 1 taken 128 d\n";
     let ends =
-        "1:2 1 2 taken 128 a\n1:10 1 10 taken 129 ba7816bf8f01cfea414140de5dae2223b00361a396177a9cb410ff61f20015ad\n64:4294967295 1 4294967295 taken 18446744073709551615 e\n4294967295:1 0 1 direct 18446744073709551615 f\n";
+        "1:2 1 2 taken 128 a\n1:10 1 10 taken 129 ba7816bf8f01cfea414140de5dae2223b00361a396177a9cb410ff61f20015ad\n\
+         64:4294967295 1 4294967295 taken 18446744073709551615 e\n4294967295:1 0 1 direct 18446744073709551615 f\n";
     let rows = [
         ("", ""),
         (",,", ""),

@@ -59,7 +59,8 @@ fn totals_are_exact_at_the_largest_numbers(rt: HostRuntime) -> Result<(), Fail> 
         "a=len,b=len,c=len,d=len,e=len,f=len,g=len,h=len,i=len,j=len,k=len,l=len,m=len,n=len,o=len,p=len";
     let rows = [(1, 1, 15, 1, b"1".as_slice()), (1, 2, 16, 2, b"2")];
     let full =
-        b"1:1 p 1\n1:2 - 2\ntotal a 0 0\ntotal b 0 0\ntotal c 0 0\ntotal d 0 0\ntotal e 0 0\ntotal f 0 0\ntotal g 0 0\ntotal h 0 0\ntotal i 0 0\ntotal j 0 0\ntotal k 0 0\ntotal l 0 0\ntotal m 0 0\ntotal n 0 0\ntotal o 0 0\ntotal p 1 1\ntotal - 1 2\n";
+        b"1:1 p 1\n1:2 - 2\ntotal a 0 0\ntotal b 0 0\ntotal c 0 0\ntotal d 0 0\ntotal e 0 0\ntotal f 0 0\ntotal g 0 0\ntotal h 0 0\ntotal i 0 0\ntotal j 0 0\n\
+         total k 0 0\ntotal l 0 0\ntotal m 0 0\ntotal n 0 0\ntotal o 0 0\ntotal p 1 1\ntotal - 1 2\n";
     assert!(rt; is_text(alloc, names, &rows, full)?);
     Ok(())
 }

@@ -80,7 +80,8 @@ fn push_total(
 ) -> Result<(), NoMemory>
     requires known { topic ≤ length topics.now }
     requires within { topic < 17 }
-    ensures { (answers : List Answer) → slice_index totals.now.counts topic ≡ count_on topic answers → slice_index totals.now.bytes topic ≡ bytes_on topic answers
+    ensures { (answers : List Answer) → slice_index totals.now.counts topic ≡ count_on topic answers
+        → slice_index totals.now.bytes topic ≡ bytes_on topic answers
         → OnOk result (text.new.items ≡ text.old.items ++ total_line topics.now answers topic) }
 {
     text.extend_from_slice(b"total ")?;

@@ -10,9 +10,9 @@ use Rattle.scq_frames.specs.Framing.{bytes_ahead, Framing, visible_ahead, weight
 use Rattle.scq_frames.specs.declared.message.Message.{Message}
 use Rattle.scq_frames.proofs.TextLemmas.{messages_after-ended, messages_after-last, messages_after-nil}
 
-pub option_map-nothing : (visible : Option (List Message)) → option_map (λ rest. [] ++ rest) visible ≡ visible
+pub option_map-nothing : {X : Type 0} (visible : Option (List X)) → option_map (λ rest. [] ++ rest) visible ≡ visible
 option_map-nothing None = refl
-option_map-nothing (Some ms) = refl
+option_map-nothing (Some xs) = refl
 
 module _ (number : List ℕ → ℕ) where
   -- passing a line takes its message off those ahead
@@ -23,7 +23,8 @@ module _ (number : List ℕ → ℕ) where
   visible_ahead-line old len weight (Some left) ends =
       let behind = if old.ended then [] else left in
       ap (λ ms. Some (map (numbered old.file number) ms)) (messages_after-ended old.line old.held behind len ends)
-      ∙ ap Some (map-append (numbered old.file number) (message_in (old.line + 1) (take len old.held)) (messages_after (old.line + 1) (drop (len + 1) old.held ++ behind)))
+      ∙ ap Some (map-append (numbered old.file number) (message_in (old.line + 1) (take len old.held))
+      (messages_after (old.line + 1) (drop (len + 1) old.held ++ behind)))
 
   -- the last line is all that is ahead at the end
   pub visible_ahead-last : (old : Framing) (left : Option (List ℕ)) → IsTrue old.ended → HasNoLineFeed old.held 0 (length old.held)
@@ -55,7 +56,12 @@ module _ (number : List ℕ → ℕ) where
       → visible_ahead number first before ≡ option_map (λ rest. option_to_list given ++ rest) (visible_ahead number new after)
   gives-line first old new before after len given ahead passed =
       ahead ∙ visible_ahead-line old len (old.weight + sum_by weight_of (option_to_list given)) after passed.ends
-      ∙ ap (λ (ms : List Message). option_map (λ rest. ms ++ rest) (visible_ahead number (record old { line = old.line + 1; held = drop (len + 1) old.held; weight = old.weight + sum_by weight_of (option_to_list given) }) after)) (sym passed.gave)
+      ∙ ap (λ (ms : List Message). option_map (λ rest. ms ++ rest)
+      (visible_ahead number (record old {
+        line = old.line + 1;
+        held = drop (len + 1) old.held;
+        weight = old.weight + sum_by weight_of (option_to_list given);
+      }) after)) (sym passed.gave)
       ∙ ap (λ (f : Framing). option_map (λ rest. option_to_list given ++ rest) (visible_ahead number f after)) (sym passed.after)
 
   -- a line without a message is empty
@@ -71,7 +77,8 @@ module _ (number : List ℕ → ℕ) where
     pub none : IfNone given (new ≡ old)
     pub some : IfSome given (λ m. new ≡ record old { line = old.line + 1; held = []; weight = old.weight + weight_of m })
 
-  nothing_behind : (old new : Framing) (given : Option Message) (after : Option (List ℕ)) → PassedLast old new given → visible_ahead number new after ≡ option_map (λ _. []) after
+  nothing_behind : (old new : Framing) (given : Option Message) (after : Option (List ℕ)) → PassedLast old new given
+      → visible_ahead number new after ≡ option_map (λ _. []) after
   nothing_behind old new None after p =
       ap (λ (f : Framing). visible_ahead number f after) p.none ∙ visible_ahead-over old after p.ended (no_line (old.line + 1) old.file old.held p.gave)
   nothing_behind old new (Some m) after p =
@@ -88,9 +95,11 @@ module _ (number : List ℕ → ℕ) where
       → visible_ahead number first before ≡ visible_ahead number old after → PassedLast old new given
       → visible_ahead number first before ≡ option_map (λ rest. option_to_list given ++ rest) (visible_ahead number new after)
   gives-last first old new before after given ahead p =
-      last-only first old before after given new ahead p ∙ joined after ∙ ap (option_map (λ rest. option_to_list given ++ rest)) (sym (nothing_behind old new given after p))
+      last-only first old before after given new ahead p ∙ joined after
+      ∙ ap (option_map (λ rest. option_to_list given ++ rest)) (sym (nothing_behind old new given after p))
     where
-      joined : (after : Option (List ℕ)) → option_map (λ _. option_to_list given) after ≡ option_map (λ rest. option_to_list given ++ rest) (option_map (λ _. []) after)
+      joined : (after : Option (List ℕ)) → option_map (λ _. option_to_list given) after
+          ≡ option_map (λ rest. option_to_list given ++ rest) (option_map (λ _. []) after)
       joined None = refl
       joined (Some left) = ap Some (sym (append-nil (option_to_list given)))
 
@@ -101,13 +110,15 @@ module _ (number : List ℕ → ℕ) where
   none-last first old new before after (Some m) ahead p = tt
   none-last first old new before after None ahead p = empty before after (last-only first old before after None new ahead p)
     where
-      empty : (before after : Option (List ℕ)) → visible_ahead number first before ≡ option_map (λ _. []) after → visible_ahead number first before ≡ option_map (λ _. []) before
+      empty : (before after : Option (List ℕ)) → visible_ahead number first before ≡ option_map (λ _. []) after
+          → visible_ahead number first before ≡ option_map (λ _. []) before
       empty None after e = refl
       empty (Some left) None e = cc
       empty (Some left) (Some rest) e = e
 
   -- the same, under other names of what was given and of the framer
-  pub gives-again : (visible : Option (List Message)) (after : Option (List ℕ)) (new new' : Framing) (given given' : Option Message) → new' ≡ new → given' ≡ given
+  pub gives-again : (visible : Option (List Message)) (after : Option (List ℕ)) (new new' : Framing) (given given' : Option Message) → new' ≡ new
+      → given' ≡ given
       → visible ≡ option_map (λ rest. option_to_list given ++ rest) (visible_ahead number new after)
       → visible ≡ option_map (λ rest. option_to_list given' ++ rest) (visible_ahead number new' after)
   gives-again visible after new new' given given' framer message gives =

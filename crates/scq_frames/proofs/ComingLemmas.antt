@@ -18,7 +18,7 @@ use Rattle.scq_frames.specs.Coming.{counted_ahead, BeginsWithLong, Comes, IsNeed
 use Rattle.scq_frames.proofs.TextLemmas.{ended_parts, line-clear, messages_after-line, messages_after-last, messages_after-nil}
 use Rattle.scq_frames.proofs.TroubleLemmas.{counted-line, counted-failed, counted-many}
 use Rattle.scq_frames.proofs.CutLemmas.{bare, none_of_bare}
-use Rattle.scq_frames.proofs.FindingLemmas.{Finds-done}
+use Rattle.scq_frames.proofs.FindingLemmas.{Finds-done, ahead-fetched}
 
 -- since a call began the source gave these bytes, which were needed, and no message came. The messages
 -- ahead are the same, but that a topic may have been cut
@@ -27,7 +27,8 @@ pub record Quiet (first now : Framing) (bytes : List ℕ) : Type 0 where
       → map bare (counted_ahead first failed (bytes ++ more)) ≡ map bare (counted_ahead now failed more)
   pub needed : IsNeeded first bytes
 
-pub Quiet-start : (first now : Framing) → ((failed : Bool) (more : List ℕ) → counted_ahead first failed more ≡ counted_ahead now failed more) → Quiet first now []
+pub Quiet-start : (first now : Framing) → ((failed : Bool) (more : List ℕ) → counted_ahead first failed more ≡ counted_ahead now failed more)
+    → Quiet first now []
 Quiet-start first now same = record {
   same = λ failed more _. ap (map bare) (same failed more);
   needed = record { early = []; last = []; parts = refl; most = omega arith; none = λ some. absurd (some refl) };
@@ -40,7 +41,8 @@ counted_ahead-line : (f : Framing) (len weight : ℕ) (failed : Bool) (more : Li
 counted_ahead-line f len weight failed more ends within =
     let count : length (take len f.held) ≡ len = length-take-le len f.held (omega (arith, ends.within)) in
     let behind = drop (len + 1) f.held ++ more in
-    let rest : limit_left f - (length (take len f.held) + 1) ≡ f.most + length (drop (len + 1) f.held) - f.read = omega (arith, ends.within, length-drop (len + 1) f.held) in
+    let rest : limit_left f - (length (take len f.held) + 1) ≡ f.most + length (drop (len + 1) f.held) - f.read =
+    omega (arith, ends.within, length-drop (len + 1) f.held) in
     ap (λ (l : List ℕ). messages_after f.line (counted (limit_left f) failed l)) (ended_parts f.held more len ends)
     ∙ ap (messages_after f.line) (counted-line (limit_left f) failed (take len f.held) behind (omega (arith, ends.within)))
     ∙ messages_after-line f.line (take len f.held) (counted (limit_left f - (length (take len f.held) + 1)) failed behind) (line-clear f.held len ends)
@@ -48,25 +50,14 @@ counted_ahead-line f len weight failed more ends within =
 
 -- a line without a message was passed
 pub Quiet-line : (first old : Framing) (bytes : List ℕ) (len weight : ℕ) → Quiet first old bytes → EndsAt old.held len → old.read ≤ old.most
-    → message_in (old.line + 1) (take len old.held) ≡ [] → Quiet first (record old { line = old.line + 1; held = drop (len + 1) old.held; weight = weight }) bytes
+    → message_in (old.line + 1) (take len old.held) ≡ []
+    → Quiet first (record old { line = old.line + 1; held = drop (len + 1) old.held; weight = weight }) bytes
 Quiet-line first old bytes len weight q ends within none = record {
   same = λ failed more may.
       q.same failed more may ∙ ap (map bare) (counted_ahead-line old len weight failed more ends within
       ∙ ap (λ (ms : List Framed). ms ++ counted_ahead (record old { line = old.line + 1; held = drop (len + 1) old.held; weight = weight }) failed more) none);
   needed = q.needed;
 }
-
--- what was fetched was ahead
-counted_ahead-fetched : (old new : Framing) (before after : Option (List ℕ)) (fetched : Fetched old new before after) → old.read ≤ old.most
-    → new ≡ record old { held = new.held; read = new.read; ended = new.ended }
-    → (failed : Bool) (more : List ℕ) → counted_ahead old failed (fetched.bytes ++ more) ≡ counted_ahead new failed more
-counted_ahead-fetched old new before after fetched within same failed more =
-    let count : length new.held ≡ length old.held + length fetched.bytes = ap length fetched.held ∙ length-append old.held fetched.bytes in
-    let most : new.most ≡ old.most = ap (λ (f : Framing). f.most) same in
-    let line : new.line ≡ old.line = ap (λ (f : Framing). f.line) same in
-    let limit : limit_left old ≡ limit_left new = omega (arith, fetched.count) in
-    let text : old.held ++ (fetched.bytes ++ more) ≡ new.held ++ more = sym (append_assoc old.held fetched.bytes more) ∙ ap (λ (l : List ℕ). l ++ more) (sym fetched.held) in
-    cc
 
 -- where no line is whole, no message is, should a read fail next
 pub none_whole : (f : Framing) → HasNoLineFeed f.held 0 (length f.held) → f.read ≤ f.most → counted_ahead f true [] ≡ []
@@ -82,7 +73,8 @@ none_came first now bytes more failed q going none =
 
 -- so a read then is needed
 pub needed-fetched : (first old new : Framing) (mid after : Option (List ℕ)) (bytes : List ℕ) (q : Quiet first old bytes) (fetched : Fetched old new mid after)
-    → HasNoLineFeed old.held 0 (length old.held) → old.ended ≡ false → old.read ≤ old.most → new.read ≤ old.read + 4096 → IsNeeded first (bytes ++ fetched.bytes)
+    → HasNoLineFeed old.held 0 (length old.held) → old.ended ≡ false → old.read ≤ old.most → new.read ≤ old.read + 4096
+    → IsNeeded first (bytes ++ fetched.bytes)
 needed-fetched first old new mid after bytes q fetched clear going within few = record {
   early = bytes;
   last = fetched.bytes;
@@ -98,12 +90,13 @@ Quiet-fetched first old new mid after bytes q fetched clear going within few sam
   same = λ failed more may.
       ap (λ (l : List ℕ). map bare (counted_ahead first failed l)) (append_assoc bytes fetched.bytes more)
       ∙ q.same failed (fetched.bytes ++ more) (λ h. absurd (true≢false (sym h ∙ going)))
-      ∙ ap (map bare) (counted_ahead-fetched old new mid after fetched within same failed more);
+      ∙ ahead-fetched (λ size limit line text. map bare (messages_after line (counted limit failed text))) old new mid after fetched within same more;
   needed = needed-fetched first old new mid after bytes q fetched clear going within few;
 }
 
 -- the message of a line that is too long
-begins-long : (size number at count : ℕ) (line : List ℕ) (rest : List Framed) → IsTooLong size number line at count → BeginsWithLong at count (message_in number line ++ rest)
+begins-long : (size number at count : ℕ) (line : List ℕ) (rest : List Framed) → IsTooLong size number line at count
+    → BeginsWithLong at count (message_in number line ++ rest)
 begins-long size number at count [] rest long = absurd (omega (arith, long.above, long.count))
 begins-long size number at count (b ∷ bs) rest long = (sym long.number, sym long.count)
 
@@ -120,7 +113,8 @@ pub long_same : (at count : ℕ) (ms ns : List Framed) → map bare ms ≡ map b
 long_same at count ms ns same long = bare_long at count ms (subst (BeginsWithLong at count) (sym same) (long_bare at count ns long))
 
 -- the first line is too long, whatever follows
-pub Comes-long : (first old new : Framing) (len at count : ℕ) (bytes : List ℕ) (q : Quiet first old bytes) → EndsAt old.held len → old.read ≤ old.most → (IsTrue old.ended → IsTrue new.ended)
+pub Comes-long : (first old new : Framing) (len at count : ℕ) (bytes : List ℕ) (q : Quiet first old bytes) → EndsAt old.held len → old.read ≤ old.most
+    → (IsTrue old.ended → IsTrue new.ended)
     → IsTooLong old.size (old.line + 1) (take len old.held) at count → Comes first new bytes (Err (TooLong at count))
 Comes-long first old new len at count bytes q ends within stays long = λ failed more may.
     let behind = counted_ahead (record old { line = old.line + 1; held = drop (len + 1) old.held; weight = old.weight }) failed more in
@@ -142,18 +136,21 @@ at_end : (first old : Framing) (bytes : List ℕ) (q : Quiet first old bytes) �
 at_end first old bytes q clear within = q.same false [] (λ _. (refl, refl)) ∙ ap (map bare) (last_ahead old clear within)
 
 -- the last line is too long
-pub Comes-long_last : (first old new : Framing) (at count : ℕ) (bytes : List ℕ) (q : Quiet first old bytes) → HasNoLineFeed old.held 0 (length old.held) → old.read ≤ old.most → IsTrue new.ended
+pub Comes-long_last : (first old new : Framing) (at count : ℕ) (bytes : List ℕ) (q : Quiet first old bytes) → HasNoLineFeed old.held 0 (length old.held)
+    → old.read ≤ old.most → IsTrue new.ended
     → IsTooLong old.size (old.line + 1) old.held at count → Comes first new bytes (Err (TooLong at count))
 Comes-long_last first old new at count bytes q clear within ended long = λ failed more may.
     let nothing = may ended in
     let same : map bare (counted_ahead first failed (bytes ++ more)) ≡ map bare (message_in (old.line + 1) old.held ++ []) =
-    ap (λ (l : List ℕ). map bare (counted_ahead first failed (bytes ++ l))) nothing.0 ∙ ap (λ (b : Bool). map bare (counted_ahead first b (bytes ++ []))) nothing.1
+    ap (λ (l : List ℕ). map bare (counted_ahead first failed (bytes ++ l))) nothing.0
+    ∙ ap (λ (b : Bool). map bare (counted_ahead first b (bytes ++ []))) nothing.1
     ∙ at_end first old bytes q clear within ∙ ap (map bare) (sym (append-nil (message_in (old.line + 1) old.held))) in
     long_same at count (counted_ahead first failed (bytes ++ more)) (message_in (old.line + 1) old.held ++ []) same
     (begins-long old.size (old.line + 1) at count old.held [] long)
 
 -- a line was refused
-pub Comes-pass_err : (first old new : Framing) (len : ℕ) (fault : FrameFault) (bytes : List ℕ) (q : Quiet first old bytes) → EndsAt old.held len → old.read ≤ old.most → new ≡ old
+pub Comes-pass_err : (first old new : Framing) (len : ℕ) (fault : FrameFault) (bytes : List ℕ) (q : Quiet first old bytes) → EndsAt old.held len
+    → old.read ≤ old.most → new ≡ old
     → ((at : ℕ) × (count : ℕ) × (fault ≡ TooLong at count)) ⊎ (fault ≡ NoMemory)
     → ((at count : ℕ) → fault ≡ TooLong at count → IsTooLong old.size (old.line + 1) (take len old.held) at count) → Comes first new bytes (Err fault)
 Comes-pass_err first old new len fault bytes q ends within same faults long =
@@ -165,7 +162,8 @@ Comes-pass_err first old new len fault bytes q ends within same faults long =
     faults
 
 -- the last line was refused
-pub Comes-last_err : (first old new : Framing) (fault : FrameFault) (bytes : List ℕ) (q : Quiet first old bytes) → HasNoLineFeed old.held 0 (length old.held) → old.read ≤ old.most → IsTrue new.ended
+pub Comes-last_err : (first old new : Framing) (fault : FrameFault) (bytes : List ℕ) (q : Quiet first old bytes)
+    → HasNoLineFeed old.held 0 (length old.held) → old.read ≤ old.most → IsTrue new.ended
     → ((at : ℕ) × (count : ℕ) × (fault ≡ TooLong at count)) ⊎ (fault ≡ NoMemory)
     → ((at count : ℕ) → fault ≡ TooLong at count → IsTooLong old.size (old.line + 1) old.held at count) → Comes first new bytes (Err fault)
 Comes-last_err first old new fault bytes q clear within ended faults long =
@@ -177,13 +175,16 @@ Comes-last_err first old new fault bytes q clear within ended faults long =
     faults
 
 -- a read was refused: behind what is held, none of which is a whole line
-pub Comes-read_err : (first old new : Framing) (mid after : Option (List ℕ)) (fault : FrameFault) (bytes : List ℕ) (q : Quiet first old bytes) (fetched : Fetched old new mid after)
-    → HasNoLineFeed old.held 0 (length old.held) → old.read ≤ old.most → old.ended ≡ false → new ≡ record old { held = new.held; read = new.read; ended = new.ended }
+pub Comes-read_err : (first old new : Framing) (mid after : Option (List ℕ)) (fault : FrameFault) (bytes : List ℕ) (q : Quiet first old bytes)
+    (fetched : Fetched old new mid after)
+    → HasNoLineFeed old.held 0 (length old.held) → old.read ≤ old.most → old.ended ≡ false
+    → new ≡ record old { held = new.held; read = new.read; ended = new.ended }
     → (fault ≡ ReadFault → new ≡ old)
     → ((n : ℕ) → fault ≡ TooLarge n → (n ≡ new.most + 1) × (new.read ≡ n) × (old.read ≡ old.most))
     → ((at len : ℕ) → fault ≡ TooLong at len → ⊥) → Comes first new (bytes ++ fetched.bytes) (Err fault)
 Comes-read_err first old new mid after ReadFault bytes q fetched clear within going same unread large long =
-    let count : length old.held ≡ length old.held + length fetched.bytes = sym (ap (λ (f : Framing). length f.held) (unread refl)) ∙ ap length fetched.held ∙ length-append old.held fetched.bytes in
+    let count : length old.held ≡ length old.held + length fetched.bytes =
+    sym (ap (λ (f : Framing). length f.held) (unread refl)) ∙ ap length fetched.held ∙ length-append old.held fetched.bytes in
     let nothing : fetched.bytes ≡ [] = nil_from_length fetched.bytes (omega arith) in
     ap (λ (l : List ℕ). counted_ahead first true (bytes ++ l)) nothing ∙ none_came first old bytes [] true q going (none_whole old clear within)
 Comes-read_err first old new mid after (TooLong at len) bytes q fetched clear within going same unread large long = absurd (long at len refl)
@@ -197,7 +198,8 @@ Comes-read_err first old new mid after (TooLarge n) bytes q fetched clear within
     let front : HasNoLineFeed text 0 (limit_left old) =
     λ k low high is. clear k low (omega arith) (sym (get_or-append old.held fetched.bytes 0 k (omega arith)) ∙ is) in
     none_came first old bytes fetched.bytes false q going
-    (ap (messages_after old.line) (counted-many (limit_left old) false text front (omega (arith, length-append old.held fetched.bytes))) ∙ messages_after-nil old.line)
+    (ap (messages_after old.line) (counted-many (limit_left old) false text front (omega (arith, length-append old.held fetched.bytes)))
+    ∙ messages_after-nil old.line)
 Comes-read_err first old new mid after NoMemory bytes q fetched clear within going same unread large long = tt
 
 -- the end was read, and nothing was held
@@ -205,15 +207,18 @@ pub Comes-none : (first old new : Framing) (bytes : List ℕ) (q : Quiet first o
     → old.held ≡ [] → Comes first new bytes (Ok None)
 Comes-none first old new bytes q clear within none =
     ap (counted_ahead first false) (sym (append-nil bytes))
-    ∙ none_of_bare (counted_ahead first false (bytes ++ [])) (at_end first old bytes q clear within ∙ ap (λ (l : List ℕ). map bare (message_in (old.line + 1) l)) none)
+    ∙ none_of_bare (counted_ahead first false (bytes ++ []))
+    (at_end first old bytes q clear within ∙ ap (λ (l : List ℕ). map bare (message_in (old.line + 1) l)) none)
 
 -- whether a call failed doesn't matter to it
-Comes-done : (first now : Framing) (bytes : List ℕ) (given : Option Message) (failed : Bool) → Comes first now bytes (Ok given) → Comes first (record now { failed = failed }) bytes (Ok given)
+Comes-done : (first now : Framing) (bytes : List ℕ) (given : Option Message) (failed : Bool) → Comes first now bytes (Ok given)
+    → Comes first (record now { failed = failed }) bytes (Ok given)
 Comes-done first now bytes None failed comes = comes
 Comes-done first now bytes (Some m) failed comes = comes
 
 -- what a fault says is what the answer says
-pub Found-err : (first new : Framing) (before after : Option (List ℕ)) (result : Result (Option Message) FrameFault) (fault : FrameFault) (bytes : List ℕ) → result ≡ Err fault
+pub Found-err : (first new : Framing) (before after : Option (List ℕ)) (result : Result (Option Message) FrameFault) (fault : FrameFault) (bytes : List ℕ)
+    → result ≡ Err fault
     → new.read ≡ first.read + length bytes → before ≡ option_map (λ rest. bytes ++ rest) after → (IsTrue first.ended → bytes ≡ [])
     → IsNeeded first bytes → Finds first new bytes (Err fault) → Comes first new bytes (Err fault) → Found first new before after result
 Found-err first new before after result fault bytes is count moved idle needed finds comes = record {

@@ -17,7 +17,7 @@ use Rattle.scq_frames.specs.Framing.{Fetched, Framing, visible_size}
 use Rattle.scq_frames.specs.Finding.{Finds, IsTooLong}
 use Rattle.scq_frames.specs.Coming.{Comes, Found}
 use Rattle.scq_frames.proofs.TrimLemmas.{holding}
-use Rattle.scq_frames.proofs.FindingLemmas.{Gave, nothing_moved, moved-moved, trouble-fetched, Finds-long, Finds-long_last, Finds-read_err}
+use Rattle.scq_frames.proofs.FindingLemmas.{Gave, Gave-start, moved-moved, trouble-fetched, Finds-long, Finds-long_last, Finds-read_err}
 use Rattle.scq_frames.proofs.ComingLemmas.{Quiet, Quiet-start, Quiet-fetched, needed-fetched, Comes-long, Comes-long_last, Comes-read_err, Found-err}
 
 -- of a line that has not ended these many payload bytes came so far, too many, and none of the line is held
@@ -52,7 +52,8 @@ payload-grows line more some =
     ∙ omega (arith, whole, inside, length-drop (at + 1) (line ++ more), length-drop (at + 1) line)
 
 -- a line that goes on with bytes among which is no line feed
-pub clear-more : (line more : List ℕ) → HasNoLineFeed line 0 (length line) → HasNoLineFeed more 0 (length more) → HasNoLineFeed (line ++ more) 0 (length (line ++ more))
+pub clear-more : (line more : List ℕ) → HasNoLineFeed line 0 (length line) → HasNoLineFeed more 0 (length more)
+    → HasNoLineFeed (line ++ more) 0 (length (line ++ more))
 clear-more line more one two k low high is =
     ⊎_elim
     (λ (h : k < length line). one k low h (sym (get_or-append line more 0 k h) ∙ is))
@@ -69,13 +70,15 @@ ends-more line more len clear ends = record {
       λ k low high is.
       ⊎_elim
       (λ (h : k < length line). clear k low h (sym (get_or-append line more 0 k h) ∙ is))
-      (λ (h : length line ≤ k). ends.before (k - length line) (omega arith) (omega (arith, h, high)) (sym (get_or-append_right line more (length line) k 0 refl h) ∙ is))
+      (λ (h : length line ≤ k). ends.before (k - length line) (omega arith) (omega (arith, h, high))
+      (sym (get_or-append_right line more (length line) k 0 refl h) ∙ is))
       (cases_lt k (length line));
 }
 
 -- the counting begins: what is held is the line
 pub Counts-start : {S : Type 0} (left : S → Option (List ℕ)) (faults : S → ℕ) (first now : Framing) (source : S) (count : ℕ) → now ≡ record first { held = [] }
-    → HasNoLineFeed first.held 0 (length first.held) → count ≡ length (payload_of first.held) → first.size < count → count ≤ first.read → first.ended ≡ false → first.read ≤ first.most → first.most ≤ 2 ^ 30
+    → HasNoLineFeed first.held 0 (length first.held) → count ≡ length (payload_of first.held) → first.size < count → count ≤ first.read
+    → first.ended ≡ false → first.read ≤ first.most → first.most ≤ 2 ^ 30
     → Counts left faults first now source source count
 Counts-start left faults first now source count same clear is long small going within limit =
     subst (λ (f : Framing). Counts left faults first f source source count) (sym same) (record {
@@ -92,14 +95,7 @@ Counts-start left faults first now source count same clear is long small going w
       within = within;
       kept = refl;
       size = refl;
-      gave =
-          record {
-            bytes = [];
-            count = omega arith;
-            moved = nothing_moved (left source);
-            idle = λ _. refl;
-            trouble = λ failed more _. refl;
-          };
+      gave = Gave-start first (holding (record first { held = [] }) first.held) (left source) (λ failed more. refl) refl;
       quiet = Quiet-start first (holding (record first { held = [] }) first.held) (λ failed more. refl);
     })
 
@@ -126,7 +122,8 @@ module _ (now new : Framing) (before after : Option (List ℕ)) (line : List ℕ
       ∙ ap (λ (f : Framing). holding f line) is
 
 -- of an answer that is a fault it doesn't matter what is held
-Found-holding : (first new : Framing) (held : List ℕ) (before after : Option (List ℕ)) (fault : FrameFault) → Found first (holding new held) before after (Err fault) → Found first new before after (Err fault)
+Found-holding : (first new : Framing) (held : List ℕ) (before after : Option (List ℕ)) (fault : FrameFault)
+    → Found first (holding new held) before after (Err fault) → Found first new before after (Err fault)
 Found-holding first new held before after fault f = record {
   bytes = f.bytes;
   count = f.count;
@@ -149,11 +146,14 @@ Found-holding first new held before after fault f = record {
     comes (TooLarge count) bytes h = h
     comes NoMemory bytes h = h
 
-pub Found-dropped : (first new : Framing) (held : List ℕ) (before after : Option (List ℕ)) (fault : FrameFault) → Found first new before after (Err fault) → Found first (holding new held) before after (Err fault)
+pub Found-dropped : (first new : Framing) (held : List ℕ) (before after : Option (List ℕ)) (fault : FrameFault) → Found first new before after (Err fault)
+    → Found first (holding new held) before after (Err fault)
 Found-dropped first new held before after fault f = Found-holding first (holding new held) new.held before after fault f
 
-module _ {S : Type 0} (left : S → Option (List ℕ)) (faults : S → ℕ) (first now new : Framing) (source mid after : S) (count : ℕ) (s : Counts left faults first now source mid count)
-    (same : new ≡ record now { held = new.held; read = new.read; ended = new.ended }) (fetched : Fetched now new (left mid) (left after)) (few : new.read ≤ now.read + 4096) where
+module _ {S : Type 0} (left : S → Option (List ℕ)) (faults : S → ℕ) (first now new : Framing) (source mid after : S) (count : ℕ)
+    (s : Counts left faults first now source mid count)
+    (same : new ≡ record now { held = new.held; read = new.read; ended = new.ended }) (fetched : Fetched now new (left mid) (left after))
+    (few : new.read ≤ now.read + 4096) where
   -- the framers as if they held the whole line
   abbrev was : Framing
   was = holding now s.line
@@ -187,19 +187,22 @@ module _ {S : Type 0} (left : S → Option (List ℕ)) (faults : S → ℕ) (fir
   quiet_since = Quiet-fetched first was grown (left mid) (left after) s.gave.bytes s.quiet more s.clear s.going s.within few as_read
 
   -- the read failed
-  pub Counts-fault : (fault : FrameFault) → (fault ≡ ReadFault → new ≡ now) → ((n : ℕ) → fault ≡ TooLarge n → (n ≡ new.most + 1) × (new.read ≡ n) × (now.read ≡ now.most))
+  pub Counts-fault : (fault : FrameFault) → (fault ≡ ReadFault → new ≡ now)
+      → ((n : ℕ) → fault ≡ TooLarge n → (n ≡ new.most + 1) × (new.read ≡ n) × (now.read ≡ now.most))
       → ((at len : ℕ) → fault ≡ TooLong at len → ⊥) → Found first new (left source) (left after) (Err fault)
   Counts-fault fault unread large long =
       let still : fault ≡ ReadFault → grown ≡ was = λ e. line_unread now new (left mid) (left after) s.line s.none fetched same (unread e) in
       Found-holding first new (s.line ++ new.held) (left source) (left after) fault
-      (Found-err first grown (left source) (left after) (Err fault) fault (s.gave.bytes ++ more.bytes) refl (omega (arith, s.gave.count, more.count, length-append s.gave.bytes more.bytes))
+      (Found-err first grown (left source) (left after) (Err fault) fault (s.gave.bytes ++ more.bytes) refl
+      (omega (arith, s.gave.count, more.count, length-append s.gave.bytes more.bytes))
       (moved-moved s.gave.bytes more.bytes (left source) (left mid) (left after) s.gave.moved more.moved)
       (λ h. absurd (true≢false (sym h ∙ s.began)))
       (needed-fetched first was grown (left mid) (left after) s.gave.bytes s.quiet more s.clear s.going s.within few)
       (Finds-read_err first was grown (left source) (left mid) (left after) fault s.gave more s.clear s.within s.going as_read still large long)
       (Comes-read_err first was grown (left mid) (left after) fault s.gave.bytes s.quiet more s.clear s.within s.going as_read still large long))
 
-  long_line : (line : List ℕ) (total : ℕ) → total ≡ length (payload_of line) → first.size < total → IsTooLong new.size (new.line + 1) line (first.line + 1) total
+  long_line : (line : List ℕ) (total : ℕ) → total ≡ length (payload_of line) → first.size < total
+      → IsTooLong new.size (new.line + 1) line (first.line + 1) total
   long_line line total is long = record {
     number = ap (λ (n : ℕ). n + 1) (sym passed);
     count = is;
@@ -207,16 +210,19 @@ module _ {S : Type 0} (left : S → Option (List ℕ)) (faults : S → ℕ) (fir
   }
 
   -- the line ended
-  pub Counts-ended : (len : ℕ) → EndsAt new.held len → new.read ≤ new.most → Found first new (left source) (left after) (Err (TooLong (first.line + 1) (count + len)))
+  pub Counts-ended : (len : ℕ) → EndsAt new.held len → new.read ≤ new.most
+      → Found first new (left source) (left after) (Err (TooLong (first.line + 1) (count + len)))
   Counts-ended len ends within =
       let at : ℕ = length s.line + len in
       let whole = ends-more s.line new.held len s.clear ends in
       let line : take at (s.line ++ new.held) ≡ s.line ++ take len new.held = take-append-add s.line new.held len in
       let total : count + len ≡ length (payload_of (take at (s.line ++ new.held))) =
-      sym (ap (λ (l : List ℕ). length (payload_of l)) line ∙ s.grows (take len new.held) ∙ ap (λ (n : ℕ). count + n) (length-take-le len new.held (omega (arith, ends.within)))) in
+      sym (ap (λ (l : List ℕ). length (payload_of l)) line ∙ s.grows (take len new.held)
+      ∙ ap (λ (n : ℕ). count + n) (length-take-le len new.held (omega (arith, ends.within)))) in
       let long = long_line (take at (s.line ++ new.held)) (count + len) total (omega (arith, s.long)) in
       Found-holding first new (s.line ++ new.held) (left source) (left after) (TooLong (first.line + 1) (count + len))
-      (Found-err first grown (left source) (left after) (Err (TooLong (first.line + 1) (count + len))) (TooLong (first.line + 1) (count + len)) since.bytes refl since.count since.moved since.idle quiet_since.needed
+      (Found-err first grown (left source) (left after) (Err (TooLong (first.line + 1) (count + len))) (TooLong (first.line + 1) (count + len)) since.bytes
+      refl since.count since.moved since.idle quiet_since.needed
       (Finds-long first grown grown (left source) (left after) at (first.line + 1) (count + len) since whole within long)
       (Comes-long first grown grown at (first.line + 1) (count + len) since.bytes quiet_since whole within (λ h. h) long))
 
@@ -227,13 +233,15 @@ module _ {S : Type 0} (left : S → Option (List ℕ)) (faults : S → ℕ) (fir
       let whole = clear-more s.line new.held s.clear clear in
       let long = long_line (s.line ++ new.held) (count + length new.held) (sym (s.grows new.held)) (omega (arith, s.long)) in
       Found-holding first new (s.line ++ new.held) (left source) (left after) (TooLong (first.line + 1) (count + length new.held))
-      (Found-err first grown (left source) (left after) (Err (TooLong (first.line + 1) (count + length new.held))) (TooLong (first.line + 1) (count + length new.held)) since.bytes refl since.count since.moved since.idle quiet_since.needed
+      (Found-err first grown (left source) (left after) (Err (TooLong (first.line + 1) (count + length new.held)))
+      (TooLong (first.line + 1) (count + length new.held)) since.bytes refl since.count since.moved since.idle quiet_since.needed
       (Finds-long_last first grown grown (left source) (left after) (first.line + 1) (count + length new.held) since whole within long)
       (Comes-long_last first grown grown (first.line + 1) (count + length new.held) since.bytes quiet_since whole within ended long))
 
   -- the line goes on
   pub Counts-more : (next : Framing) → next ≡ record new { held = [] } → HasNoLineFeed new.held 0 (length new.held) → new.ended ≡ false → new.read ≤ new.most
-      → faults after ≡ faults mid → visible_size new (left after) ≡ visible_size now (left mid) → Counts left faults first next source after (count + length new.held)
+      → faults after ≡ faults mid → visible_size new (left after) ≡ visible_size now (left mid)
+      → Counts left faults first next source after (count + length new.held)
   Counts-more next empty clear going within kept size =
       subst (λ (f : Framing). Counts left faults first f source after (count + length new.held)) (sym empty) (record {
         line = s.line ++ new.held;

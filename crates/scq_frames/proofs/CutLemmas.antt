@@ -83,13 +83,15 @@ begins (b ∷ bs) = elim (is_line_feed b) as (λ t. is_line_feed b ≡ t → Beg
     onto is (with_line line rest e clear) = with_line (b ∷ line) rest (ap (λ (l : List ℕ). b ∷ l) e) (All-cons (λ b. is_line_feed b ≡ false) b line is clear)
     onto is (with_none clear) = with_none (All-cons (λ b. is_line_feed b ≡ false) b bs is clear)
 
-module _ {X : Type 0} (most : ℕ) (h : Framed → X) (over : Overlooks most h) (a b : List ℕ) (topic : IsTopic (a ++ b)) (front : IsTopic a) (long : most ≤ length a) (some : 0 < length a) where
+module _ {X : Type 0} (most : ℕ) (h : Framed → X) (over : Overlooks most h) (a b : List ℕ) (topic : IsTopic (a ++ b)) (front : IsTopic a)
+    (long : most ≤ length a) (some : 0 < length a) where
   first-cut : (number : ℕ) (rest : List ℕ) → map h (message_in number ((a ++ b) ++ rest)) ≡ map h (message_in number (a ++ rest))
   first-cut number rest =
       ap (map h) (message_in-some number ((a ++ b) ++ rest) (omega (arith, some, length-append (a ++ b) rest, length-append a b)))
       ∙ ap (λ (m : Framed). h m ∷ []) (framed-append number (a ++ b) rest topic.no_space)
       ∙ ap (λ (x : X). x ∷ []) (over number ((a ++ b) ++ before_first is_space rest) (a ++ before_first is_space rest) (payload_of rest)
-      (omega (arith, long, length-append (a ++ b) (before_first is_space rest), length-append a b)) (omega (arith, long, length-append a (before_first is_space rest))))
+      (omega (arith, long, length-append (a ++ b) (before_first is_space rest), length-append a b))
+      (omega (arith, long, length-append a (before_first is_space rest))))
       ∙ ap (λ (m : Framed). h m ∷ []) (sym (framed-append number a rest front.no_space))
       ∙ ap (map h) (sym (message_in-some number (a ++ rest) (omega (arith, some, length-append a rest))))
 
@@ -106,11 +108,14 @@ module _ {X : Type 0} (most : ℕ) (h : Framed → X) (over : Overlooks most h) 
       ∙ ap (map h) (sym (messages_after-line passed (a ++ line) rest (All-append (λ b. is_line_feed b ≡ false) a line front.no_line_feed clear)))
       ∙ ap (λ (l : List ℕ). map h (messages_after passed l)) (append_assoc a line (10 ∷ rest))
 
-  last-cut : (passed : ℕ) (rest : List ℕ) → All (λ b. is_line_feed b ≡ false) rest → map h (messages_after passed ((a ++ b) ++ rest)) ≡ map h (messages_after passed (a ++ rest))
+  last-cut : (passed : ℕ) (rest : List ℕ) → All (λ b. is_line_feed b ≡ false) rest
+      → map h (messages_after passed ((a ++ b) ++ rest)) ≡ map h (messages_after passed (a ++ rest))
   last-cut passed rest clear =
-      ap (map h) (messages_after-last passed ((a ++ b) ++ rest) (All-clear ((a ++ b) ++ rest) (All-append (λ b. is_line_feed b ≡ false) (a ++ b) rest topic.no_line_feed clear)))
+      ap (map h) (messages_after-last passed ((a ++ b) ++ rest)
+      (All-clear ((a ++ b) ++ rest) (All-append (λ b. is_line_feed b ≡ false) (a ++ b) rest topic.no_line_feed clear)))
       ∙ first-cut (passed + 1) rest
-      ∙ ap (map h) (sym (messages_after-last passed (a ++ rest) (All-clear (a ++ rest) (All-append (λ b. is_line_feed b ≡ false) a rest front.no_line_feed clear))))
+      ∙ ap (map h)
+      (sym (messages_after-last passed (a ++ rest) (All-clear (a ++ rest) (All-append (λ b. is_line_feed b ≡ false) a rest front.no_line_feed clear))))
 
   -- the messages of a text whose first topic was cut
   pub messages-cut : (passed : ℕ) (rest : List ℕ) → map h (messages_after passed ((a ++ b) ++ rest)) ≡ map h (messages_after passed (a ++ rest))
@@ -118,5 +123,6 @@ module _ {X : Type 0} (most : ℕ) (h : Framed → X) (over : Overlooks most h) 
     where
       by_start : Begins rest → map h (messages_after passed ((a ++ b) ++ rest)) ≡ map h (messages_after passed (a ++ rest))
       by_start (with_line line more e clear) =
-          ap (λ (l : List ℕ). map h (messages_after passed ((a ++ b) ++ l))) e ∙ line-cut passed line more clear ∙ ap (λ (l : List ℕ). map h (messages_after passed (a ++ l))) (sym e)
+          ap (λ (l : List ℕ). map h (messages_after passed ((a ++ b) ++ l))) e ∙ line-cut passed line more clear
+          ∙ ap (λ (l : List ℕ). map h (messages_after passed (a ++ l))) (sym e)
       by_start (with_none clear) = last-cut passed rest clear

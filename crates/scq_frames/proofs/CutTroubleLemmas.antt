@@ -22,11 +22,13 @@ twice true more = refl
 twice false more = refl
 
 -- the whole lines of a text are those of the rest behind a front without line feeds
-whole_lines-front : (a rest : List ℕ) → All (λ b. is_line_feed b ≡ false) a → whole_lines (a ++ rest) ≡ cond (list_any is_line_feed rest) (a ++ whole_lines rest) []
+whole_lines-front : (a rest : List ℕ) → All (λ b. is_line_feed b ≡ false) a
+    → whole_lines (a ++ rest) ≡ cond (list_any is_line_feed rest) (a ++ whole_lines rest) []
 whole_lines-front [] [] clear = refl
 whole_lines-front [] (b ∷ bs) clear = twice (list_any is_line_feed (b ∷ bs)) (b ∷ whole_lines bs)
 whole_lines-front (x ∷ xs) rest clear =
-    let more : whole_lines (xs ++ rest) ≡ cond (list_any is_line_feed rest) (xs ++ whole_lines rest) [] = whole_lines-front xs rest (All-tail (λ b. is_line_feed b ≡ false) x xs clear) in
+    let more : whole_lines (xs ++ rest) ≡ cond (list_any is_line_feed rest) (xs ++ whole_lines rest) [] =
+    whole_lines-front xs rest (All-tail (λ b. is_line_feed b ≡ false) x xs clear) in
     ap (λ (t : Bool). cond t (x ∷ whole_lines (xs ++ rest)) []) (list_any-front (x ∷ xs) rest clear)
     ∙ ap (λ (l : List ℕ). cond (list_any is_line_feed rest) (x ∷ l) []) more
     ∙ onto (list_any is_line_feed rest) (whole_lines rest)
@@ -42,12 +44,15 @@ past-cut most a b rest within =
     let whole : length ((a ++ b) ++ rest) ≡ length a + length b + length rest = omega (arith, length-append (a ++ b) rest, length-append a b) in
     let cut : length (a ++ rest) ≡ length a + length rest = length-append a rest in
     ⊎_elim
-    (λ (past : most < length ((a ++ b) ++ rest)). lt-ltb most (length ((a ++ b) ++ rest)) past ∙ sym (lt-ltb (most - length b) (length (a ++ rest)) (omega (arith, past, whole, cut, within))))
-    (λ (fits : length ((a ++ b) ++ rest) ≤ most). le-ltb most (length ((a ++ b) ++ rest)) fits ∙ sym (le-ltb (most - length b) (length (a ++ rest)) (omega (arith, fits, whole, cut, within))))
+    (λ (past : most < length ((a ++ b) ++ rest)). lt-ltb most (length ((a ++ b) ++ rest)) past
+    ∙ sym (lt-ltb (most - length b) (length (a ++ rest)) (omega (arith, past, whole, cut, within))))
+    (λ (fits : length ((a ++ b) ++ rest) ≤ most). le-ltb most (length ((a ++ b) ++ rest)) fits
+    ∙ sym (le-ltb (most - length b) (length (a ++ rest)) (omega (arith, fits, whole, cut, within))))
     (cases_lt most (length ((a ++ b) ++ rest)))
 
 -- what cannot tell the texts apart whatever follows can't tell apart what counts of them
-counted-cut : {Y : Type 0} (g : List ℕ → Y) (a b : List ℕ) (topic : IsTopic (a ++ b)) (front : IsTopic a) → ((rest : List ℕ) → g ((a ++ b) ++ rest) ≡ g (a ++ rest))
+counted-cut : {Y : Type 0} (g : List ℕ → Y) (a b : List ℕ) (topic : IsTopic (a ++ b)) (front : IsTopic a)
+    → ((rest : List ℕ) → g ((a ++ b) ++ rest) ≡ g (a ++ rest))
     → (most : ℕ) (failed : Bool) (rest : List ℕ) → length a + length b ≤ most
     → g (counted most failed ((a ++ b) ++ rest)) ≡ g (counted (most - length b) failed (a ++ rest))
 unfolding counted
@@ -62,7 +67,8 @@ counted-cut {Y} g a b topic front same most failed rest within =
     ap (λ (n : ℕ). whole_lines (take n (a ++ rest))) less
     ∙ ap whole_lines (take-append-add a rest k) ∙ whole_lines-front a (take k rest) front.no_line_feed in
     ap (λ (l : List ℕ). g (cond (failed || nat_lt most (length ((a ++ b) ++ rest))) l ((a ++ b) ++ rest))) whole
-    ∙ ap (λ (t : Bool). g (cond (failed || t) (cond (list_any is_line_feed (take k rest)) ((a ++ b) ++ whole_lines (take k rest)) []) ((a ++ b) ++ rest))) (past-cut most a b rest within)
+    ∙ ap (λ (t : Bool). g (cond (failed || t) (cond (list_any is_line_feed (take k rest)) ((a ++ b) ++ whole_lines (take k rest)) []) ((a ++ b) ++ rest)))
+    (past-cut most a b rest within)
     ∙ chosen (failed || nat_lt (most - length b) (length (a ++ rest))) (list_any is_line_feed (take k rest)) (whole_lines (take k rest))
     ∙ ap (λ (l : List ℕ). g (cond (failed || nat_lt (most - length b) (length (a ++ rest))) l (a ++ rest))) (sym cut)
   where
@@ -76,21 +82,25 @@ first_too_long-bare size [] = refl
 first_too_long-bare size (m ∷ ms) =
     ap (λ (o : Option Trouble). cond (nat_lt size (length m.payload)) (Some (LongPayload m.line (length m.payload))) o) (first_too_long-bare size ms)
 
-module _ (a b : List ℕ) (topic : IsTopic (a ++ b)) (front : IsTopic a) (some : 0 < length a) (most : ℕ) (failed : Bool) (passed : ℕ) (rest : List ℕ) (within : length a + length b ≤ most) where
+module _ (a b : List ℕ) (topic : IsTopic (a ++ b)) (front : IsTopic a) (some : 0 < length a) (most : ℕ) (failed : Bool) (passed : ℕ) (rest : List ℕ)
+    (within : length a + length b ≤ most) where
   -- the messages that count
   pub counted_messages-cut : {X : Type 0} (named : ℕ) (h : Framed → X) → Overlooks named h → named ≤ length a
       → map h (messages_after passed (counted most failed ((a ++ b) ++ rest))) ≡ map h (messages_after passed (counted (most - length b) failed (a ++ rest)))
   counted_messages-cut named h over long =
-      counted-cut (λ (l : List ℕ). map h (messages_after passed l)) a b topic front (messages-cut named h over a b topic front long some passed) most failed rest within
+      counted-cut (λ (l : List ℕ). map h (messages_after passed l)) a b topic front (messages-cut named h over a b topic front long some passed) most failed
+      rest within
 
   -- the trouble
   pub trouble_after-cut : (size : ℕ)
       → trouble_after size most failed passed ((a ++ b) ++ rest) ≡ trouble_after size (most - length b) failed passed (a ++ rest)
   unfolding trouble_after
   trouble_after-cut size =
-      let first : first_too_long size (messages_after passed (counted most failed ((a ++ b) ++ rest))) ≡ first_too_long size (messages_after passed (counted (most - length b) failed (a ++ rest))) =
+      let first : first_too_long size (messages_after passed (counted most failed ((a ++ b) ++ rest)))
+      ≡ first_too_long size (messages_after passed (counted (most - length b) failed (a ++ rest))) =
       first_too_long-bare size (messages_after passed (counted most failed ((a ++ b) ++ rest)))
       ∙ ap (first_too_long size) (counted_messages-cut 0 bare (bare-overlooks 0) (omega arith))
       ∙ sym (first_too_long-bare size (messages_after passed (counted (most - length b) failed (a ++ rest)))) in
       ap (λ (o : Option Trouble). option_or o (cond (nat_lt most (length ((a ++ b) ++ rest))) (Some ManyBytes) None)) first
-      ∙ ap (λ (t : Bool). option_or (first_too_long size (messages_after passed (counted (most - length b) failed (a ++ rest)))) (cond t (Some ManyBytes) None)) (past-cut most a b rest within)
+      ∙ ap (λ (t : Bool). option_or (first_too_long size (messages_after passed (counted (most - length b) failed (a ++ rest))))
+      (cond t (Some ManyBytes) None)) (past-cut most a b rest within)

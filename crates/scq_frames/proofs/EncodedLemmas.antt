@@ -26,7 +26,8 @@ chosen true x y e = cc
 chosen false x y e = (refl, cc)
 
 -- a number that was read stands in the first four bytes
-number_at-found : (bytes : List ℕ) (found : ℕ × List ℕ) → AreBytes bytes → number_at bytes ≡ Some found → (bytes ≡ big_bytes 4 found.0 ++ found.1) × AreBytes found.1
+number_at-found : (bytes : List ℕ) (found : ℕ × List ℕ) → AreBytes bytes → number_at bytes ≡ Some found
+    → (bytes ≡ big_bytes 4 found.0 ++ found.1) × AreBytes found.1
 unfolding number_at
 number_at-found bytes found small e =
     let parts = chosen (nat_lt (length bytes) 4) (big_number 4 bytes, drop 4 bytes) found e in
@@ -41,7 +42,8 @@ number_at-found bytes found small e =
     (λ (h : 4 ≤ i). subst (λ (b : ℕ). b < 256) (sym (get_or_past (take 4 bytes) i 0 (omega arith))) (omega arith)) (cases_lt i 4) in
     let read : big_number 4 bytes ≡ from_be_bytes w32 (take 4 bytes) = omega arith in
     let front : big_bytes 4 (big_number 4 bytes) ≡ take 4 bytes = be_bytes_4 (take 4 bytes) (big_number 4 bytes) four few read in
-    let whole : bytes ≡ big_bytes 4 (big_number 4 bytes) ++ drop 4 bytes = sym (take-append-drop 4 bytes) ∙ ap (λ (l : List ℕ). l ++ drop 4 bytes) (sym front) in
+    let whole : bytes ≡ big_bytes 4 (big_number 4 bytes) ++ drop 4 bytes =
+    sym (take-append-drop 4 bytes) ∙ ap (λ (l : List ℕ). l ++ drop 4 bytes) (sym front) in
     let behind : AreBytes (drop 4 bytes) = λ i. subst (λ (b : ℕ). b < 256) (sym (get_or-drop 4 bytes i 0)) (small (4 + i)) in
     subst (λ (f : ℕ × List ℕ). (bytes ≡ big_bytes 4 f.0 ++ f.1) × AreBytes f.1) parts.1 (whole, behind)
 
@@ -61,9 +63,11 @@ message_at-found bytes m small e =
     let count : length (take len.0 len.1) ≡ len.0 = length-take-le len.0 len.1 (ltb-false (length len.1) len.0 parts.0) in
     let rest : List ℕ = drop len.0 len.1 in
     let text : topic.1 ≡ big_bytes 4 (length (take len.0 len.1)) ++ (take len.0 len.1 ++ rest) =
-    four.0 ∙ ap (λ (l : List ℕ). big_bytes 4 len.0 ++ l) (sym (take-append-drop len.0 len.1)) ∙ ap (λ (n : ℕ). big_bytes 4 n ++ (take len.0 len.1 ++ rest)) (sym count) in
+    four.0 ∙ ap (λ (l : List ℕ). big_bytes 4 len.0 ++ l) (sym (take-append-drop len.0 len.1))
+    ∙ ap (λ (n : ℕ). big_bytes 4 n ++ (take len.0 len.1 ++ rest)) (sym count) in
     let whole : bytes ≡ message_bytes (record { file = file.0; line = line.0; topic = topic.0; payload = take len.0 len.1 }) ++ rest =
-    one.0 ∙ ap (λ (l : List ℕ). big_bytes 4 file.0 ++ l) (two.0 ∙ ap (λ (l : List ℕ). big_bytes 4 line.0 ++ l) (three.0 ∙ ap (λ (l : List ℕ). big_bytes 4 topic.0 ++ l) text)) in
+    one.0 ∙ ap (λ (l : List ℕ). big_bytes 4 file.0 ++ l)
+    (two.0 ∙ ap (λ (l : List ℕ). big_bytes 4 line.0 ++ l) (three.0 ∙ ap (λ (l : List ℕ). big_bytes 4 topic.0 ++ l) text)) in
     subst (λ (m : Message). BeginsWith bytes m) parts.1 (rest, whole)))))
 
 -- a message's bytes are read as the message, whatever follows them
@@ -78,7 +82,8 @@ message_at-again m rest fits =
     ∙ ap (option_and_then _) (number_at-again m.line after_line fits.line)
     ∙ ap (option_and_then _) (number_at-again m.topic after_topic fits.topic)
     ∙ ap (option_and_then _) (number_at-again (length m.payload) after_len fits.payload)
-    ∙ cond-false (nat_lt (length after_len) (length m.payload)) None (Some (record { file = m.file; line = m.line; topic = m.topic; payload = take (length m.payload) after_len }))
+    ∙ cond-false (nat_lt (length after_len) (length m.payload)) None
+    (Some (record { file = m.file; line = m.line; topic = m.topic; payload = take (length m.payload) after_len }))
     (le-ltb (length after_len) (length m.payload) (omega (arith, length-append m.payload rest)))
     ∙ ap (λ (p : List ℕ). Some (record { file = m.file; line = m.line; topic = m.topic; payload = p })) (take_at m.payload rest (length m.payload) refl)
 

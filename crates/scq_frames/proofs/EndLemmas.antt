@@ -2,7 +2,7 @@
 use Rattle.std.proofs.Common.{◌≡◌, ℕ, Bool, true, false, refl, sym, ◌∙◌, subst}
 use Rattle.std.specs.Prelude.{IsTrue}
 use Rattle.std.proofs.lemmas.Bool.{true≢false}
-use Rattle.scq_outside.specs.Faults.{Rose}
+use Rattle.scq_outside.specs.Counts.{Rose}
 use Rattle.scq_frames.specs.Framing.{EndsOnce}
 
 -- nothing was read

@@ -27,7 +27,8 @@ module _ (number : List ℕ → ℕ) where
   last_read old new (Some m) p = ap (λ (f : Framing). f.read) p.some
 
   -- a message was passed: what the source gave so far is found in the call
-  pub Found-line : (first old new : Framing) (before after : Option (List ℕ)) (len : ℕ) (given : Option Message) (m : Message) (g : Gave first old before after) → Quiet first old g.bytes
+  pub Found-line : (first old new : Framing) (before after : Option (List ℕ)) (len : ℕ) (given : Option Message) (m : Message)
+      (g : Gave first old before after) → Quiet first old g.bytes
       → Passed number old new len given → old.read ≤ old.most → given ≡ Some m → Found first new before after (Ok (Some m))
   Found-line first old new before after len given m g q p within some =
       let line = trouble-line first old g.bytes len (old.weight + sum_by weight_of (option_to_list given)) g.trouble p.ends within p.fits in
@@ -35,7 +36,8 @@ module _ (number : List ℕ → ℕ) where
       (record { bytes = g.bytes; count = g.count; moved = g.moved; idle = g.idle; needed = q.needed; finds = line; comes = tt })
 
   -- the end was read, with the last line or without one
-  pub Found-last : (first old new : Framing) (before after : Option (List ℕ)) (given : Option Message) (g : Gave first old before after) → Quiet first old g.bytes → PassedLast number old new given
+  pub Found-last : (first old new : Framing) (before after : Option (List ℕ)) (given : Option Message) (g : Gave first old before after)
+      → Quiet first old g.bytes → PassedLast number old new given
       → old.read ≤ old.most → length (payload_of old.held) ≤ old.size → Found first new before after (Ok given)
   Found-last first old new before after None g q p within fits = record {
     bytes = g.bytes;
@@ -58,13 +60,15 @@ module _ (number : List ℕ → ℕ) where
   }
 
 -- nothing came while no line was whole
-none_early : (old : Framing) (early bytes last : List ℕ) → bytes ≡ early ++ last → (bytes ≢ [] → counted_ahead old true early ≡ []) → HasNoLineFeed old.held 0 (length old.held)
+none_early : (old : Framing) (early bytes last : List ℕ) → bytes ≡ early ++ last → (bytes ≢ [] → counted_ahead old true early ≡ [])
+    → HasNoLineFeed old.held 0 (length old.held)
     → old.read ≤ old.most → counted_ahead old true early ≡ []
 none_early old [] bytes last parts none clear within = none_whole old clear within
 none_early old (b ∷ early) bytes last parts none clear within = none (λ is. cc)
 
 -- what an answer says of what came since an earlier moment of the call it says of the whole call
-module _ (first old new : Framing) (before mid after : Option (List ℕ)) (g : Gave first old before mid) (q : Quiet first old g.bytes) (going : old.ended ≡ false) where
+module _ (first old new : Framing) (before mid after : Option (List ℕ)) (g : Gave first old before mid) (q : Quiet first old g.bytes)
+    (going : old.ended ≡ false) where
   begun : {failed : Bool} {more : List ℕ} → MayFollow old failed more
   begun h = absurd (true≢false (sym h ∙ going))
 
@@ -78,11 +82,13 @@ module _ (first old new : Framing) (before mid after : Option (List ℕ)) (g : G
   Comes-later ReadFault bytes comes = none_came first old g.bytes bytes true q going comes
   Comes-later (TooLong line len) bytes comes = λ failed more may.
       long_same line len (counted_ahead first failed ((g.bytes ++ bytes) ++ more)) (counted_ahead old failed (bytes ++ more))
-      (ap (λ (l : List ℕ). map bare (counted_ahead first failed l)) (append_assoc g.bytes bytes more) ∙ q.same failed (bytes ++ more) begun) (comes failed more may)
+      (ap (λ (l : List ℕ). map bare (counted_ahead first failed l)) (append_assoc g.bytes bytes more) ∙ q.same failed (bytes ++ more) begun)
+      (comes failed more may)
   Comes-later (TooLarge count) bytes comes = none_came first old g.bytes bytes false q going comes
   Comes-later NoMemory bytes comes = tt
 
-  pub Found-later : (fault : FrameFault) → Found old new mid after (Err fault) → (IsTrue first.ended → IsTrue old.ended) → HasNoLineFeed old.held 0 (length old.held) → old.read ≤ old.most
+  pub Found-later : (fault : FrameFault) → Found old new mid after (Err fault) → (IsTrue first.ended → IsTrue old.ended)
+      → HasNoLineFeed old.held 0 (length old.held) → old.read ≤ old.most
       → Found first new before after (Err fault)
   Found-later fault f stays clear within = record {
     bytes = g.bytes ++ f.bytes;
@@ -95,7 +101,8 @@ module _ (first old new : Framing) (before mid after : Option (List ℕ)) (g : G
           last = f.needed.last;
           parts = ap (λ (l : List ℕ). g.bytes ++ l) f.needed.parts ∙ sym (append_assoc g.bytes f.needed.early f.needed.last);
           most = f.needed.most;
-          none = λ _. none_came first old g.bytes f.needed.early true q going (none_early old f.needed.early f.bytes f.needed.last f.needed.parts f.needed.none clear within);
+          none = λ _. none_came first old g.bytes f.needed.early true q going
+              (none_early old f.needed.early f.bytes f.needed.last f.needed.parts f.needed.none clear within);
         };
     finds = Finds-later fault f.bytes f.finds;
     comes = Comes-later fault f.bytes f.comes;

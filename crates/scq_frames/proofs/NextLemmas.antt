@@ -6,7 +6,7 @@ use Rattle.std.proofs.lemmas.Bool.{true≢false}
 use Rattle.scq_frames.specs.Lines.{HasNoLineFeed}
 use Rattle.scq_frames.specs.Text.{message_in}
 use Rattle.scq_frames.proofs.AheadLemmas.{Passed, gives-line, no_line, option_map-nothing}
-use Rattle.scq_frames.proofs.FindingLemmas.{Gave, trouble-line, trouble-fetched, moved-moved, nothing_moved}
+use Rattle.scq_frames.proofs.FindingLemmas.{Gave, Gave-start, trouble-line, trouble-fetched, moved-moved}
 use Rattle.scq_frames.proofs.ComingLemmas.{Quiet, Quiet-start, Quiet-line, Quiet-fetched}
 use Rattle.scq_frames.specs.Numbered.{numbered}
 use Rattle.scq_frames.specs.Trimming.{IsTrimmed}
@@ -36,7 +36,8 @@ module _ (number : List ℕ → ℕ) where
     pub quiet : Quiet first now found.bytes
 
   -- a call begins
-  pub Searches-start : {S : Type 0} (left : S → Option (List ℕ)) (faults : S → ℕ) (first now : Framing) (source : S) → now ≡ record first { failed = true } → first.read ≤ first.most
+  pub Searches-start : {S : Type 0} (left : S → Option (List ℕ)) (faults : S → ℕ) (first now : Framing) (source : S) → now ≡ record first { failed = true }
+      → first.read ≤ first.most
       → length first.held ≤ first.size + 4130 → Searches left faults first now source source
   Searches-start left faults first now source same within short = subst (λ (f : Framing). Searches left faults first f source source) (sym same) (record {
     file = refl;
@@ -53,14 +54,7 @@ module _ (number : List ℕ → ℕ) where
     short = short;
     kept = refl;
     empty = λ _ none. none;
-    found =
-        record {
-          bytes = [];
-          count = omega arith;
-          moved = nothing_moved (left source);
-          idle = λ _. refl;
-          trouble = λ failed more _. refl;
-        };
+    found = Gave-start first (record first { failed = true }) (left source) (λ failed more. refl) refl;
     quiet = Quiet-start first (record first { failed = true }) (λ failed more. refl);
   })
 
@@ -72,13 +66,15 @@ module _ (number : List ℕ → ℕ) where
       let f = record old { line = old.line + 1; held = drop (len + 1) old.held; weight = old.weight + sum_by weight_of (option_to_list given) } in
       let same : (visible : Option (List Message)) → option_map (λ rest. option_to_list given ++ rest) visible ≡ visible =
       λ visible. ap (λ (ms : List Message). option_map (λ rest. ms ++ rest) visible) nothing ∙ option_map-nothing visible in
-      let blank : message_in (old.line + 1) (take len old.held) ≡ [] = ap (message_in (old.line + 1)) (no_line number (old.line + 1) old.file (take len old.held) (sym nothing ∙ passed.gave)) in
+      let blank : message_in (old.line + 1) (take len old.held) ≡ [] =
+      ap (message_in (old.line + 1)) (no_line number (old.line + 1) old.file (take len old.held) (sym nothing ∙ passed.gave)) in
       subst (λ (f : Framing). Searches left faults first f source after) (sym passed.after) (record {
         file = s.file;
         payload = s.payload;
         most = s.most;
         failing = s.failing;
-        ahead = gives-line number first old new (left source) (left after) len given s.ahead passed ∙ same _ ∙ ap (λ (f : Framing). visible_ahead number f (left after)) passed.after;
+        ahead = gives-line number first old new (left source) (left after) len given s.ahead passed ∙ same _
+            ∙ ap (λ (f : Framing). visible_ahead number f (left after)) passed.after;
         size = s.size;
         end = s.end;
         ended = s.ended;
@@ -125,7 +121,8 @@ module _ (number : List ℕ → ℕ) where
               count = s.found.count;
               moved = s.found.moved;
               idle = s.found.idle;
-              trouble = λ failed more may. s.found.trouble failed more may ∙ trouble_ahead-trimmed old new.held 33 (omega arith) trimmed clear s.within failed more;
+              trouble = λ failed more may. s.found.trouble failed more may
+                  ∙ trouble_ahead-trimmed old new.held 33 (omega arith) trimmed clear s.within failed more;
             };
         quiet =
             record {
@@ -139,7 +136,8 @@ module _ (number : List ℕ → ℕ) where
       → Searches left faults first old source mid → old.ended ≡ false → new ≡ record old { held = new.held; read = new.read; ended = new.ended }
       → visible_ahead number old (left mid) ≡ visible_ahead number new (left after) → visible_size new (left after) ≡ visible_size old (left mid)
       → (IsTrue new.ended → NothingLeft (left after)) → new.read ≤ new.most → faults after ≡ faults mid → Fetched old new (left mid) (left after)
-      → HasNoLineFeed old.held 0 (length old.held) → new.read ≤ old.read + 4096 → length new.held ≤ new.size + 4130 → Searches left faults first new source after
+      → HasNoLineFeed old.held 0 (length old.held) → new.read ≤ old.read + 4096 → length new.held ≤ new.size + 4130
+      → Searches left faults first new source after
   Searches-read left faults first old new source mid after s going same ahead size end within kept fetched clear few short = record {
     file = ap (λ (f : Framing). f.file) same ∙ s.file;
     payload = ap (λ (f : Framing). f.size) same ∙ s.payload;

@@ -1,8 +1,7 @@
 -- Parts of a room, and the line feeds in them.
 use Rattle.std.proofs.Common.{◌≡◌, ℕ, ◌+◌, ◌-◌, ◌<◌, ◌≤◌, List, ◌++◌, length, take, drop, get_or, Some, None, sym, ◌∙◌, ap, ⊎_elim, arith, length-drop}
 use Rattle.std.specs.Prelude.{slice_range}
-use Rattle.std.specs.List.{CopiedTo, SameFrom}
-use Rattle.std.proofs.lemmas.List.{get_or-take, get_or-drop, drop-drop, drop-take, length-take, same_lists, take-take}
+use Rattle.std.proofs.lemmas.List.{get_or-take, get_or-drop, drop-drop, drop-take, length-take, take-take}
 use Rattle.std.proofs.Math.Seq.{take-add}
 use Rattle.std.proofs.lemmas.Bool.{cases_lt, eqb-true, eq-eqb}
 use Rattle.std.proofs.lemmas.Grind.{common_steps}
@@ -56,7 +55,8 @@ module _ (xs : List ℕ) (a b : ℕ) where
   -- and the other way round
   pub clear_from_part : b ≤ length xs → HasNoLineFeed (slice_range xs a b) 0 (length (slice_range xs a b)) → HasNoLineFeed xs a b
   clear_from_part within clear k low high is =
-      clear (k - a) (omega arith) (omega (arith, length-part within, low, high)) (get_or-part (k - a) (omega arith) ∙ ap (λ (i : ℕ). get_or xs i 0) (omega arith) ∙ is)
+      clear (k - a) (omega arith) (omega (arith, length-part within, low, high))
+      (get_or-part (k - a) (omega arith) ∙ ap (λ (i : ℕ). get_or xs i 0) (omega arith) ∙ is)
 
   -- the first line feed of the room from a on ends the first line of its part
   pub ends_part : b ≤ length xs → (n : ℕ) → a ≤ n → n < b → HasNoLineFeed xs a n → get_or xs n 0 ≡ 10 → EndsAt (slice_range xs a b) (n - a)
@@ -102,7 +102,8 @@ clear_again xs zs a s b d same low high clear k from to is =
 
 -- a part with its middle gone, after its front was moved up to the rest
 pub part-cut : (xs ys : List ℕ) (a from to b : ℕ) → from ≤ to → a + to ≤ b
-    → slice_range ys (a + (to - from)) (a + (to - from) + from) ≡ slice_range xs a (a + from) → drop (a + (to - from) + from) ys ≡ drop (a + (to - from) + from) xs
+    → slice_range ys (a + (to - from)) (a + (to - from) + from) ≡ slice_range xs a (a + from)
+    → drop (a + (to - from) + from) ys ≡ drop (a + (to - from) + from) xs
     → slice_range ys (a + (to - from)) b ≡ take from (slice_range xs a b) ++ drop to (slice_range xs a b)
 part-cut xs ys a from to b up within moved behind =
     let start : ℕ = a + (to - from) in

@@ -50,7 +50,8 @@ no_line_feed bytes n within clear k d low =
 pub ended_parts : (held more : List ℕ) (len : ℕ) → EndsAt held len → held ++ more ≡ take len held ++ 10 ∷ (drop (len + 1) held ++ more)
 ended_parts held more len ends =
     let cut : held ≡ take len held ++ 10 ∷ drop (len + 1) held =
-    sym (take-append-drop len held) ∙ ap (λ l. take len held ++ l) (drop_more held len 0 ends.within ∙ ap (λ (b : ℕ). b ∷ drop (len + 1) held) ends.line_feed) in
+    sym (take-append-drop len held) ∙ ap (λ l. take len held ++ l)
+    (drop_more held len 0 ends.within ∙ ap (λ (b : ℕ). b ∷ drop (len + 1) held) ends.line_feed) in
     ap (λ l. l ++ more) cut ∙ append_assoc (take len held) (10 ∷ drop (len + 1) held) more
 
 pub line-clear : (held : List ℕ) (len : ℕ) → EndsAt held len → All (λ b. is_line_feed b ≡ false) (take len held)
@@ -67,7 +68,8 @@ messages_after-line passed line rest clear =
 pub messages_after-ended : (passed : ℕ) (held more : List ℕ) (len : ℕ) → EndsAt held len
     → messages_after passed (held ++ more) ≡ message_in (passed + 1) (take len held) ++ messages_after (passed + 1) (drop (len + 1) held ++ more)
 messages_after-ended passed held more len ends =
-    ap (messages_after passed) (ended_parts held more len ends) ∙ messages_after-line passed (take len held) (drop (len + 1) held ++ more) (line-clear held len ends)
+    ap (messages_after passed) (ended_parts held more len ends)
+    ∙ messages_after-line passed (take len held) (drop (len + 1) held ++ more) (line-clear held len ends)
 
 -- a text without a line feed is one line, where it has bytes
 pub messages_after-last : (passed : ℕ) (held : List ℕ) → HasNoLineFeed held 0 (length held) → messages_after passed held ≡ message_in (passed + 1) held
@@ -76,7 +78,8 @@ messages_after-last passed [] clear = refl
 messages_after-last passed (b ∷ bs) clear =
     let held = b ∷ bs in
     let parts : slice_split is_line_feed held ≡ held ∷ [] =
-    slice_split_none is_line_feed held (λ k d low. subst (λ l. is_line_feed (get_or l k d) ≡ false) (take-length held) (no_line_feed held (length held) (omega arith) clear k d (subst (λ l. k < length l) (sym (take-length held)) low))) in
+    slice_split_none is_line_feed held (λ k d low. subst (λ l. is_line_feed (get_or l k d) ≡ false) (take-length held)
+    (no_line_feed held (length held) (omega arith) clear k d (subst (λ l. k < length l) (sym (take-length held)) low))) in
     ap (λ ps. messages_from (passed + 1) (lines_of_parts ps)) parts
 
 pub messages_after-nil : (passed : ℕ) → messages_after passed [] ≡ []

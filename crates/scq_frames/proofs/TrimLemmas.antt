@@ -49,7 +49,8 @@ parts_of : (most : ℕ) (old new : List ℕ) → IsCut most old new → HasNoLin
 parts_of most old new cut clear =
     let inside : cut.to ≤ length old = omega (arith, cut.within, length-take (position_or_len is_space old) old) in
     let sum : most + (cut.to - most) ≡ cut.to = omega (arith, cut.behind) in
-    let joined : take cut.to old ≡ take most old ++ take (cut.to - most) (drop most old) = ap (λ (n : ℕ). take n old) (sym sum) ∙ take-add most (cut.to - most) old in
+    let joined : take cut.to old ≡ take most old ++ take (cut.to - most) (drop most old) =
+    ap (λ (n : ℕ). take n old) (sym sum) ∙ take-add most (cut.to - most) old in
     record {
       front = take most old;
       gone = take (cut.to - most) (drop most old);
@@ -62,11 +63,13 @@ parts_of most old new cut clear =
     }
 
 -- where no line ended, none ends
-pub clear-cut : (from to : ℕ) (old : List ℕ) → HasNoLineFeed old 0 (length old) → HasNoLineFeed (take from old ++ drop to old) 0 (length (take from old ++ drop to old))
+pub clear-cut : (from to : ℕ) (old : List ℕ) → HasNoLineFeed old 0 (length old)
+    → HasNoLineFeed (take from old ++ drop to old) 0 (length (take from old ++ drop to old))
 clear-cut from to old clear =
     let all = all_clear old clear in
     All-clear (take from old ++ drop to old)
-    (All-append (λ b. is_line_feed b ≡ false) (take from old) (drop to old) (All-take (λ b. is_line_feed b ≡ false) from old all) (All-drop (λ b. is_line_feed b ≡ false) to old all))
+    (All-append (λ b. is_line_feed b ≡ false) (take from old) (drop to old) (All-take (λ b. is_line_feed b ≡ false) from old all)
+    (All-drop (λ b. is_line_feed b ≡ false) to old all))
 
 pub clear-trimmed : (most : ℕ) (old new : List ℕ) → IsTrimmed most old new → HasNoLineFeed old 0 (length old) → HasNoLineFeed new 0 (length new)
 clear-trimmed most old new trimmed clear =
@@ -81,7 +84,16 @@ length-trimmed most old new trimmed =
     ⊎_elim
     (λ (same : new ≡ old). omega (arith, ap length same))
     (λ (cut : IsCut most old new).
-    omega (arith, ap length cut.after, length-append (take most old) (drop cut.to old), length-take most old, length-drop cut.to old, cut.behind, cut.within, length-take (position_or_len is_space old) old))
+    omega (
+      arith,
+      ap length cut.after,
+      length-append (take most old) (drop cut.to old),
+      length-take most old,
+      length-drop cut.to old,
+      cut.behind,
+      cut.within,
+      length-take (position_or_len is_space old) old,
+    ))
     trimmed
 
 -- what a cut topic has
@@ -93,13 +105,15 @@ topic-cut most old long =
     let topic : length (before_first is_space old) ≡ at = length-take-le at old inside in
     let front : length (take most old) ≡ most = length-take-le most old (omega (arith, long, topic, inside)) in
     let none : All (λ b. is_space b ≡ false) (take most old) =
-    λ k d low. ap is_space (get_or-take most old k d (omega (arith, low, front))) ∙ fails_before_first is_space old k d (omega (arith, low, front, long, topic)) in
+    λ k d low. ap is_space (get_or-take most old k d (omega (arith, low, front)))
+    ∙ fails_before_first is_space old k d (omega (arith, low, front, long, topic)) in
     let first : position_or_len is_space (drop at old) ≡ 0 =
     ⊎_elim
     (λ (h : at < length old). prefix_len-drop_no (λ b. not (is_space b)) old at 0 h (ap not (passes_at_first is_space old 0 h)))
     (λ (h : length old ≤ at). prefix_len-drop_all (λ b. not (is_space b)) old at h)
     (cases_lt at (length old)) in
-    let place : position_or_len is_space (take most old ++ drop at old) ≡ most = position-append is_space (take most old) (drop at old) none ∙ omega (arith, front, first) in
+    let place : position_or_len is_space (take most old ++ drop at old) ≡ most =
+    position-append is_space (take most old) (drop at old) none ∙ omega (arith, front, first) in
     let short : length (before_first is_space (take most old ++ drop at old)) ≤ most =
     omega (arith, place, length-take (position_or_len is_space (take most old ++ drop at old)) (take most old ++ drop at old)) in
     subst (λ (n : ℕ). length (before_first is_space (take most old ++ drop n old)) ≤ most) (sym topic) short
@@ -108,7 +122,8 @@ topic-cut most old long =
 abbrev pub holding : Framing → List ℕ → Framing
 holding f held = record f { held = held }
 
-module _ (f : Framing) (held : List ℕ) (most : ℕ) (some : 0 < most) (p : Parts most f.held held) (within : f.read ≤ f.most) (failed : Bool) (more : List ℕ) where
+module _ (f : Framing) (held : List ℕ) (most : ℕ) (some : 0 < most) (p : Parts most f.held held) (within : f.read ≤ f.most) (failed : Bool)
+    (more : List ℕ) where
   text : f.held ++ more ≡ (p.front ++ p.gone) ++ (p.rest ++ more)
   text = ap (λ (l : List ℕ). l ++ more) p.before ∙ append_assoc (p.front ++ p.gone) p.rest more
 
@@ -126,10 +141,12 @@ module _ (f : Framing) (held : List ℕ) (most : ℕ) (some : 0 < most) (p : Par
   inside : length p.front + length p.gone ≤ limit_left f
   inside = omega (arith, long_held, within)
 
-  counted_ahead-cut : {X : Type 0} (h : Framed → X) → Overlooks most h → map h (counted_ahead f failed more) ≡ map h (counted_ahead (holding f held) failed more)
+  counted_ahead-cut : {X : Type 0} (h : Framed → X) → Overlooks most h
+      → map h (counted_ahead f failed more) ≡ map h (counted_ahead (holding f held) failed more)
   counted_ahead-cut h over =
       ap (λ (l : List ℕ). map h (messages_after f.line (counted (limit_left f) failed l))) text
-      ∙ counted_messages-cut p.front p.gone p.all p.first (omega (arith, some, p.long)) (limit_left f) failed f.line (p.rest ++ more) inside most h over (omega (arith, p.long))
+      ∙ counted_messages-cut p.front p.gone p.all p.first (omega (arith, some, p.long)) (limit_left f) failed f.line (p.rest ++ more) inside most h over
+      (omega (arith, p.long))
       ∙ ap (λ (n : ℕ). map h (messages_after f.line (counted n failed (p.front ++ (p.rest ++ more))))) limit
       ∙ ap (λ (l : List ℕ). map h (messages_after f.line (counted (limit_left (holding f held)) failed l))) (sym text_cut)
 
@@ -140,8 +157,10 @@ module _ (f : Framing) (held : List ℕ) (most : ℕ) (some : 0 < most) (p : Par
       ∙ ap (λ (n : ℕ). trouble_after f.size n failed f.line (p.front ++ (p.rest ++ more))) limit
       ∙ ap (λ (l : List ℕ). trouble_after f.size (limit_left (holding f held)) failed f.line l) (sym text_cut)
 
-module _ (f : Framing) (held : List ℕ) (most : ℕ) (some : 0 < most) (trimmed : IsTrimmed most f.held held) (clear : HasNoLineFeed f.held 0 (length f.held)) where
-  pub counted_ahead-trimmed : f.read ≤ f.most → (failed : Bool) (more : List ℕ) → map bare (counted_ahead f failed more) ≡ map bare (counted_ahead (holding f held) failed more)
+module _ (f : Framing) (held : List ℕ) (most : ℕ) (some : 0 < most) (trimmed : IsTrimmed most f.held held)
+    (clear : HasNoLineFeed f.held 0 (length f.held)) where
+  pub counted_ahead-trimmed : f.read ≤ f.most → (failed : Bool) (more : List ℕ)
+      → map bare (counted_ahead f failed more) ≡ map bare (counted_ahead (holding f held) failed more)
   counted_ahead-trimmed within failed more =
       ⊎_elim
       (λ (same : held ≡ f.held). ap (λ (l : List ℕ). map bare (counted_ahead (holding f l) failed more)) (sym same))
@@ -160,9 +179,12 @@ module _ (f : Framing) (held : List ℕ) (most : ℕ) (some : 0 < most) (trimmed
   visible_ahead-cut number over p None = refl
   visible_ahead-cut number over p (Some left) =
       let behind = if f.ended then [] else left in
-      ap (λ (l : List ℕ). Some (map (numbered f.file number) (messages_after f.line l))) (ap (λ (l : List ℕ). l ++ behind) p.before ∙ append_assoc (p.front ++ p.gone) p.rest behind)
-      ∙ ap Some (messages-cut most (numbered f.file number) over p.front p.gone p.all p.first (omega (arith, p.long)) (omega (arith, some, p.long)) f.line (p.rest ++ behind))
-      ∙ ap (λ (l : List ℕ). Some (map (numbered f.file number) (messages_after f.line l))) (sym (ap (λ (l : List ℕ). l ++ behind) p.after ∙ append_assoc p.front p.rest behind))
+      ap (λ (l : List ℕ). Some (map (numbered f.file number) (messages_after f.line l)))
+      (ap (λ (l : List ℕ). l ++ behind) p.before ∙ append_assoc (p.front ++ p.gone) p.rest behind)
+      ∙ ap Some (messages-cut most (numbered f.file number) over p.front p.gone p.all p.first (omega (arith, p.long)) (omega (arith, some, p.long))
+      f.line (p.rest ++ behind))
+      ∙ ap (λ (l : List ℕ). Some (map (numbered f.file number) (messages_after f.line l)))
+      (sym (ap (λ (l : List ℕ). l ++ behind) p.after ∙ append_assoc p.front p.rest behind))
 
   pub visible_ahead-trimmed : (number : List ℕ → ℕ) → Overlooks most (numbered f.file number) → (left : Option (List ℕ))
       → visible_ahead number f left ≡ visible_ahead number (holding f held) left

@@ -48,7 +48,8 @@ option_or-none None = refl
 option_or-none (Some x) = refl
 
 -- a text is too large by what follows a line within the limit
-past-line : (most : ℕ) (line rest : List ℕ) → length line + 1 ≤ most → nat_lt most (length (line ++ 10 ∷ rest)) ≡ nat_lt (most - (length line + 1)) (length rest)
+past-line : (most : ℕ) (line rest : List ℕ) → length line + 1 ≤ most
+    → nat_lt most (length (line ++ 10 ∷ rest)) ≡ nat_lt (most - (length line + 1)) (length rest)
 past-line most line rest within =
     let total : length (line ++ 10 ∷ rest) ≡ length line + suc (length rest) = length-append line (10 ∷ rest) in
     let k : ℕ = most - (length line + 1) in
@@ -84,12 +85,14 @@ trouble_after-line size most failed passed line rest clear within =
     let k : ℕ = most - (length line + 1) in
     let text = line ++ 10 ∷ rest in
     let first = first_too_long size (message_in (passed + 1) line) in
-    let found : first_too_long size (messages_after passed (counted most failed text)) ≡ option_or first (first_too_long size (messages_after (passed + 1) (counted k failed rest))) =
+    let found : first_too_long size (messages_after passed (counted most failed text))
+    ≡ option_or first (first_too_long size (messages_after (passed + 1) (counted k failed rest))) =
     ap (λ l. first_too_long size (messages_after passed l)) (counted-line most failed line rest within)
     ∙ ap (first_too_long size) (messages_after-line passed line (counted k failed rest) clear)
     ∙ first_too_long-append size (message_in (passed + 1) line) (messages_after (passed + 1) (counted k failed rest)) in
     ap (λ (o : Option Trouble). option_or o (cond (nat_lt most (length text)) (Some ManyBytes) None)) found
-    ∙ ap (λ (t : Bool). option_or (option_or first (first_too_long size (messages_after (passed + 1) (counted k failed rest)))) (cond t (Some ManyBytes) None)) (past-line most line rest within)
+    ∙ ap (λ (t : Bool). option_or (option_or first (first_too_long size (messages_after (passed + 1) (counted k failed rest))))
+    (cond t (Some ManyBytes) None)) (past-line most line rest within)
     ∙ option_or-assoc first _ _
 
 -- a payload that is not too long is no trouble
@@ -121,7 +124,8 @@ pub trouble_after-failed : (size most passed : ℕ) (held : List ℕ) → HasNoL
 unfolding trouble_after
 trouble_after-failed size most passed held clear within =
     let fits : nat_lt most (length held) ≡ false = le-ltb most (length held) within in
-    ap (λ (l : List ℕ). option_or (first_too_long size (messages_after passed l)) (if nat_lt most (length held) then Some ManyBytes else None)) (counted-failed most held clear within)
+    ap (λ (l : List ℕ). option_or (first_too_long size (messages_after passed l)) (if nat_lt most (length held) then Some ManyBytes else None))
+    (counted-failed most held clear within)
     ∙ ap (λ ms. option_or (first_too_long size ms) (if nat_lt most (length held) then Some ManyBytes else None)) (messages_after-nil passed)
     ∙ ap (λ (t : Bool). cond t (Some ManyBytes) None) fits
 
@@ -143,6 +147,7 @@ pub trouble_after-many : (size most : ℕ) (failed : Bool) (passed : ℕ) (text 
     → trouble_after size most failed passed text ≡ Some ManyBytes
 unfolding trouble_after
 trouble_after-many size most failed passed text clear past =
-    ap (λ (l : List ℕ). option_or (first_too_long size (messages_after passed l)) (cond (nat_lt most (length text)) (Some ManyBytes) None)) (counted-many most failed text clear past)
+    ap (λ (l : List ℕ). option_or (first_too_long size (messages_after passed l)) (cond (nat_lt most (length text)) (Some ManyBytes) None))
+    (counted-many most failed text clear past)
     ∙ ap (λ ms. option_or (first_too_long size ms) (cond (nat_lt most (length text)) (Some ManyBytes) None)) (messages_after-nil passed)
     ∙ ap (λ (t : Bool). cond t (Some ManyBytes) None) (lt-ltb most (length text) past)

@@ -1,6 +1,6 @@
 ghost use Rattle.std.specs.Prelude.{◌≡◌, ◌≢◌, ◌⊎◌, ℕ, List, ◌+◌, ◌^◌, ◌<◌, ◌≤◌, ◌++◌, [], ◌∷◌, length, take, drop, false, map, IsTrue, Err, IfOk, IfErr, IfSome, IfNone, OnOk, OnErr, IsErrOf, is_err, sum_by};
 ghost use Rattle.std.specs.Option.{option_map, option_to_list};
-ghost use Rattle.scq_outside.specs.Faults.{Rose};
+ghost use Rattle.scq_outside.specs.Counts.{Rose};
 ghost use Rattle.scq_topics.specs.Topics.{HaveShortNames, topic_of};
 ghost use Rattle.scq_frames.specs.Numbered.{numbered};
 ghost use Rattle.scq_frames.specs.Text.{message_in, payload_of};
@@ -115,6 +115,7 @@ impl Framer {
         // it. No byte is read too early.
         ensures found { Found self.old self.new (S.left source.old) (S.left source.new) result }
         ensures read_fault { IsErrOf result FrameFault.ReadFault → Rose (S.faults source.old) (S.faults source.new) }
+        ensures never_falls { S.faults source.old ≤ S.faults source.new }
         ensures going { IsErrOf result FrameFault.ReadFault → self.old.ended ≡ false }
         ensures kept { result ≢ Err FrameFault.ReadFault → S.faults source.new ≡ S.faults source.old }
         ensures too_long { (line len : ℕ) → IsErrOf result (FrameFault.TooLong line len) → (self.old.line < line) × (self.old.size < len) }
@@ -253,6 +254,7 @@ impl Framer {
         ensures held { length self.new.held ≤ self.new.size + 4130 }
 
         ensures read_fault { result ≡ FrameFault.ReadFault → Rose (S.faults source.old) (S.faults source.new) }
+        ensures never_falls { S.faults source.old ≤ S.faults source.new }
         ensures kept { result ≢ FrameFault.ReadFault → S.faults source.new ≡ S.faults source.old }
         ensures too_long { (line len : ℕ) → result ≡ FrameFault.TooLong line len → (self.old.line < line) × (self.old.size < len) }
         ensures too_large { (bytes : ℕ) → result ≡ FrameFault.TooLarge bytes → (bytes ≡ self.new.most + 1) × (self.new.read ≡ bytes) }
@@ -318,6 +320,7 @@ impl Framer {
         ensures falls { OnOk result (work_left self.new < work_left self.old) }
 
         ensures read_fault { IsErrOf result FrameFault.ReadFault → Rose (S.faults source.old) (S.faults source.new) }
+        ensures never_falls { S.faults source.old ≤ S.faults source.new }
         ensures kept { result ≢ Err FrameFault.ReadFault → S.faults source.new ≡ S.faults source.old }
         ensures too_large { (bytes : ℕ) → IsErrOf result (FrameFault.TooLarge bytes)
             → (bytes ≡ self.new.most + 1) × (self.new.read ≡ bytes) × (self.old.read ≡ self.old.most) }

@@ -1,7 +1,7 @@
 //! The room in which a window's bytes stand: how more of it is made, and how it is read into.
 ghost use Rattle.std.specs.Prelude.{◌≡◌, ◌≢◌, ◌⊎◌, ℕ, ◌+◌, ◌-◌, ◌*◌, ◌<◌, ◌≤◌, ◌++◌, take, drop, slice_range, vec_len, Ok, IfOk, IfSome, OnOk, OnErr, []};
 ghost use Rattle.std.specs.Option.{option_map};
-ghost use Rattle.scq_outside.specs.Faults.{Rose};
+ghost use Rattle.scq_outside.specs.Counts.{Rose};
 
 use scq_outside::{Failed, Source};
 use scq_word::NoMemory;
@@ -65,6 +65,7 @@ pub fn read_at<S: Source>(
     ensures kept { OnOk result (S.faults source.new ≡ S.faults source.old) }
     ensures unmoved { OnErr result (S.left source.new ≡ S.left source.old) }
     ensures rose { OnErr result (Rose (S.faults source.old) (S.faults source.new)) }
+    ensures never_falls { S.faults source.old ≤ S.faults source.new }
     ensures ended { result ≡ Ok 0 → Rose (S.ends source.old) (S.ends source.new) }
     ensures not_ended { result ≢ Ok 0 → S.ends source.new ≡ S.ends source.old }
 {

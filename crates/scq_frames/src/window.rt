@@ -1,6 +1,6 @@
 ghost use Rattle.std.specs.Prelude.{◌≡◌, ℕ, ◌+◌, ◌-◌, ◌<◌, ◌≤◌, ◌++◌, [], length, take, drop, slice_range, vec_len, Ok, IfOk, IfErr, IfSome, IfNone, OnOk, OnErr, IsErrOf, ◌⊎◌, ◌≢◌};
 ghost use Rattle.std.specs.Option.{option_map};
-ghost use Rattle.scq_outside.specs.Faults.{Rose};
+ghost use Rattle.scq_outside.specs.Counts.{Rose};
 ghost use Rattle.std.specs.List.{before_first};
 ghost use Rattle.scq_topics.specs.Runs.{is_space};
 ghost use Rattle.scq_frames.specs.Lines.{EndsAt, HasNoLineFeed};
@@ -136,6 +136,7 @@ impl Window {
         ensures left { OnErr result (S.left source.new ≡ S.left source.old) }
 
         ensures rose { IsErrOf result FrameFault.ReadFault → Rose (S.faults source.old) (S.faults source.new) }
+        ensures never_falls { S.faults source.old ≤ S.faults source.new }
         ensures kept { result ≢ Err FrameFault.ReadFault → S.faults source.new ≡ S.faults source.old }
         ensures ended { result ≡ Ok 0 → Rose (S.ends source.old) (S.ends source.new) }
         ensures not_ended { result ≢ Ok 0 → S.ends source.new ≡ S.ends source.old }

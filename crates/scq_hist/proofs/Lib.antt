@@ -10,3 +10,4 @@ pub mod OrderLemmas
 pub mod Overtaken
 pub mod Longer
 pub mod Firsts
+pub mod HandedOn

@@ -3,7 +3,7 @@ use Rattle.std.proofs.Common.{◌≡◌, ℕ, zero, suc, ◌<◌, ◌≤◌, inl
 use Rattle.std.proofs.lemmas.Bool.{cases_lt}
 use Rattle.std.proofs.lemmas.Option.{slice_get_within, slice_get_past}
 use Rattle.scq_hist.specs.Aspects.{IsLawfulAt, IsLawful}
-use Rattle.scq_hist.specs.Calls.{under_way, puts_before, IsCall}
+use Rattle.scq_hist.specs.Calls.{under_way, IsCall}
 use Rattle.scq_hist.specs.declared.events.Call.{Call}
 use Rattle.scq_hist.specs.declared.events.Event.{Event}
 use Rattle.scq_hist.specs.declared.events.Event.TheVariants.{Start, End}
@@ -22,11 +22,6 @@ pub same_under_way : (events more : List Event) (seat m : ℕ) → m ≤ length 
 same_under_way events more seat zero le = refl
 same_under_way events more seat (suc m) le =
     rw (same_event events more m (omega arith), same_under_way events more seat m (omega arith)) refl
-
-pub same_puts_before : (events more : List Event) (seat m : ℕ) → m ≤ length events → puts_before (events ++ more) seat m ≡ puts_before events seat m
-same_puts_before events more seat zero le = refl
-same_puts_before events more seat (suc m) le =
-    rw (same_event events more m (omega arith), same_puts_before events more seat m (omega arith)) refl
 
 pub same_call : (events more : List Event) (seat s e : ℕ) (call : Call) (reply : Reply) → IsCall events seat call s e reply
     → IsCall (events ++ more) seat call s e reply

@@ -1,6 +1,6 @@
 -- For private calls. Of some puts: how many no End has got, and from which moment on the others are claimed
 use Rattle.std.specs.Prelude.{◌≡◌, ℕ, ◌+◌, ◌<◌, ◌≤◌, ◌⊎◌, max, List, length}
-use Rattle.scq_hist.specs.Calls.{IsCall, IsPut, IsFinishedAt, IsGot, IsGetOf}
+use Rattle.scq_hist.specs.Calls.{IsCall, IsPut, IsGot, IsGetOf}
 use Rattle.scq_hist.specs.declared.events.Call.TheVariants.{Get}
 use Rattle.scq_hist.specs.declared.events.Reply.TheVariants.{Nothing}
 use Rattle.scq_hist.specs.Counts.{IsCount}

@@ -47,8 +47,8 @@ pub(crate) fn act_of(alloc: Global, phase: &Phase, step: &Step) -> Result<Act, N
     }
 }
 
-/// The call that has ended, where the seat is idle.
-pub(crate) fn ended(state: &State, seat: u32) -> Option<&Ended>
+/// The call that the seat's step has ended: the newest of its record, where the seat is idle after it.
+pub fn ended(state: &State, seat: u32) -> Option<&Ended>
     requires { seat < state.now.setup.seats }
     ensures { let part = (machine_of state.now).part seat in option_copied result ≡ ended_in part.phase part.calls }
 {

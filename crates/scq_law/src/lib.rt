@@ -27,6 +27,7 @@ pub mod runs;
 #[cfg(test)]
 mod tests;
 
+pub use act::ended;
 pub use ordered::{OrderFault, Ordered};
 pub use ordering::one_order;
 pub use replayed::{ReplayFault, Replayed};

@@ -8,13 +8,10 @@ use Rattle.std.specs.Char.{is_ascii_digit, digit_value}
 use Rattle.std.specs.Str.{all_ascii_digits}
 use Rattle.std.specs.Str.Parse.{digits_value}
 
-both_true : (a b : Bool) → (a && b) ≡ true → (a ≡ true) × (b ≡ true)
-both_true true b e = (refl, e)
-both_true false b e = cc
-
 all_ascii_digits-append : (xs ys : List ℕ) → all_ascii_digits (xs ++ ys) ≡ (all_ascii_digits xs && all_ascii_digits ys)
 all_ascii_digits-append [] ys = refl
-all_ascii_digits-append (x ∷ xs) ys = and_on (is_ascii_digit x) (all_ascii_digits xs) (all_ascii_digits ys) (all_ascii_digits (xs ++ ys)) (all_ascii_digits-append xs ys)
+all_ascii_digits-append (x ∷ xs) ys =
+    and_on (is_ascii_digit x) (all_ascii_digits xs) (all_ascii_digits ys) (all_ascii_digits (xs ++ ys)) (all_ascii_digits-append xs ys)
   where
     and_on : (a b c d : Bool) → d ≡ (b && c) → (a && d) ≡ (a && b && c)
     and_on true b c d e = e
@@ -48,4 +45,5 @@ value_more xs i low here =
 -- digits with room for one more of 19
 pub value_short : (xs : List ℕ) (i : ℕ) → i < length xs → length xs ≤ 19 → all_ascii_digits (take i xs) ≡ true → digits_value 10 (take i xs) < 10 ^ 18
 value_short xs i low few digits =
-    digits_value_short (numerals_by_value (λ ds. all_ascii_digits ds ≡ true) tells_all_ascii_digits) (take i xs) 18 digits (omega (arith, length-take-le i xs (omega arith)))
+    digits_value_short (numerals_by_value (λ ds. all_ascii_digits ds ≡ true) tells_all_ascii_digits) (take i xs) 18 digits
+    (omega (arith, length-take-le i xs (omega arith)))

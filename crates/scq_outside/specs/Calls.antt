@@ -1,7 +1,7 @@
 -- How the calls of an object in memory go. They are numbered from 1.
 use Rattle.std.specs.Prelude.{ℕ, ◌+◌, Bool, ◌==◌, nat_lt, List, min, slice_index_or}
 use Rattle.std.specs.List.{list_all, list_any}
-use Rattle.scq_outside.specs.Faults.{last_count}
+use Rattle.scq_outside.specs.Counts.{last_count}
 
 -- the most bytes that each call moves, as far as that is said, which calls fail, and how many were made
 pub record Calls : Type 0 where

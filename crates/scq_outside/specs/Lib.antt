@@ -1,5 +1,5 @@
 pub mod Calls
-pub mod Faults
+pub mod Counts
 pub mod Memory
 pub mod Readable
 pub mod Table

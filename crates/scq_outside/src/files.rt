@@ -1,6 +1,6 @@
 ghost use Rattle.std.specs.Prelude.{◌≡◌, ℕ, ◌≤◌, Option, IsSome, IfOk, OnOk, OnErr, IfSome};
 ghost use Rattle.std.specs.Option.{option_map};
-ghost use Rattle.scq_outside.specs.Faults.{Rose};
+ghost use Rattle.scq_outside.specs.Counts.{Rose};
 ghost use Rattle.scq_outside.specs.Table.{Table, without_name};
 
 use crate::{Failed, Source};

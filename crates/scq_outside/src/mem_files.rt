@@ -1,5 +1,5 @@
 ghost use Rattle.std.specs.Prelude.{◌≡◌, ◌≤◌, ℕ, List, Some, if◌then◌else◌, IfOk, OnOk, OnErr};
-ghost use Rattle.scq_outside.specs.Faults.{one_more};
+ghost use Rattle.scq_outside.specs.Counts.{one_more};
 ghost use Rattle.scq_outside.specs.Readable.{Readable};
 ghost use Rattle.std.specs.Str.{bytes_eq};
 

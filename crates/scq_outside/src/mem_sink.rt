@@ -1,6 +1,6 @@
 ghost use Rattle.std.specs.Prelude.{◌≡◌, ◌⊎◌, ◌+◌, ◌<◌, ◌≤◌, ◌++◌, [], Some, IsTrue, false, length, take, min, vec_capacity, IfOk, OnOk, OnErr, IsErr, ◌↔◌};
 ghost use Rattle.scq_outside.specs.Calls.{are_pieces, first_call, next_call, fails_next, granted};
-ghost use Rattle.scq_outside.specs.Faults.{one_more};
+ghost use Rattle.scq_outside.specs.Counts.{one_more};
 ghost use Rattle.scq_outside.specs.Written.{Written};
 
 use crate::script::Script;

@@ -1,5 +1,5 @@
 ghost use Rattle.std.specs.Prelude.{◌≡◌, ◌≢◌, ℕ, ◌<◌, ◌≤◌, ◌++◌, List, [], Some, Ok, length, take, drop, min, IfOk};
-ghost use Rattle.scq_outside.specs.Faults.{one_more};
+ghost use Rattle.scq_outside.specs.Counts.{one_more};
 ghost use Rattle.scq_outside.specs.Readable.{Plain};
 
 use crate::{Failed, Source};

@@ -1,6 +1,6 @@
 ghost use Rattle.std.specs.Prelude.{◌≡◌, ℕ, ◌<◌, ◌≤◌, ◌++◌, List, Option, length, take, IfOk, OnOk, OnErr};
 ghost use Rattle.std.specs.Option.{option_map};
-ghost use Rattle.scq_outside.specs.Faults.{Rose};
+ghost use Rattle.scq_outside.specs.Counts.{Rose};
 
 use crate::Failed;
 

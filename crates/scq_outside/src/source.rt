@@ -1,6 +1,6 @@
 ghost use Rattle.std.specs.Prelude.{◌≡◌, ◌≢◌, ℕ, ◌<◌, ◌≤◌, ◌++◌, List, [], Option, Ok, length, take, IfOk, OnOk, OnErr, IfSome};
 ghost use Rattle.std.specs.Option.{option_map};
-ghost use Rattle.scq_outside.specs.Faults.{Rose};
+ghost use Rattle.scq_outside.specs.Counts.{Rose};
 
 use thiserror::Error;
 

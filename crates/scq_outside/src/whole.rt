@@ -1,6 +1,6 @@
 //! A source read to its end.
 ghost use Rattle.std.specs.Prelude.{◌≡◌, ◌≢◌, ℕ, ◌^◌, ◌<◌, ◌≤◌, List, [], length, Err, IfOk, IfErr, OnOk, OnErr, IfSome, IsErrOf};
-ghost use Rattle.scq_outside.specs.Faults.{Rose};
+ghost use Rattle.scq_outside.specs.Counts.{Rose};
 ghost use Rattle.scq_outside.specs.Taking.{Took, TookUntil};
 
 use crate::{ReadAllFault, Source};

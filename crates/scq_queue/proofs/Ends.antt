@@ -140,13 +140,21 @@ module _ {B : Type 0} where
   sent_ended passes m w =
       let p = w.is.0 in
       let came = came_by sent_by p.calls w.number m w.is.2 in
-      record { seat = w.pass; number = came.at; is = called passes w.pass came.at p _ w.is.1 (came.is ∙ ap (λ (e : Ended). Some e) (sent_call came.call m came.gives)) }
+      record {
+        seat = w.pass;
+        number = came.at;
+        is = called passes w.pass came.at p _ w.is.1 (came.is ∙ ap (λ (e : Ended). Some e) (sent_call came.call m came.gives));
+      }
 
   pub taken_ended : (passes : List (PassStanding B)) (m : Placed) → WasTaken passes m → band.HasEnded (records_of passes) (Got (suc m.topic) m.place m.bytes)
   taken_ended passes m w =
       let p = w.is.0 in
       let came = came_by taken_by p.calls w.number m w.is.2 in
-      record { seat = w.pass; number = came.at; is = called passes w.pass came.at p _ w.is.1 (came.is ∙ ap (λ (e : Ended). Some e) (taken_call came.call m came.gives)) }
+      record {
+        seat = w.pass;
+        number = came.at;
+        is = called passes w.pass came.at p _ w.is.1 (came.is ∙ ap (λ (e : Ended). Some e) (taken_call came.call m came.gives));
+      }
 
   module _ (c : Setup) (opening : List (List ℕ)) (passes : List (PassStanding B)) where
     pub takes_are_sends : band.EachGetHasItsPut c opening (records_of passes) → EachTakeIsASend passes
@@ -205,9 +213,11 @@ module _ {B : Type 0} where
               let sum_is = is.balance (suc topic) low in
               let none = no_opening topic in
               let gets = sum_images (λ (p : PassStanding B). p.calls) (tally (was_got (suc topic))) passes
-              ∙ sum_same (λ (p : PassStanding B). tally (was_got (suc topic)) p.calls) (λ p. on_topic topic (takes_of p.calls)) passes (λ p. got_taken topic p.calls) in
+              ∙ sum_same (λ (p : PassStanding B). tally (was_got (suc topic)) p.calls) (λ p. on_topic topic (takes_of p.calls)) passes
+              (λ p. got_taken topic p.calls) in
               let puts = sum_images (λ (p : PassStanding B). p.calls) (tally (was_done (suc topic))) passes
-              ∙ sum_same (λ (p : PassStanding B). tally (was_done (suc topic)) p.calls) (λ p. on_topic topic (sends_of p.calls)) passes (λ p. done_sent topic p.calls) in
+              ∙ sum_same (λ (p : PassStanding B). tally (was_done (suc topic)) p.calls) (λ p. on_topic topic (sends_of p.calls)) passes
+              (λ p. done_sent topic p.calls) in
               omega (arith, sum_is, none, gets, puts);
         }
 

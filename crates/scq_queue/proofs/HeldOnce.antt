@@ -14,7 +14,7 @@ use Rattle.scq_queue.specs.declared.calls.TakeRefusal.{TakeRefusal}
 use Rattle.scq_queue.specs.declared.calls.TakeRefusal.TheVariants.{Empty, Spent}
 use Rattle.scq_queue.specs.Passes.{PassStanding, HeldStanding, IsHeldBy, FoundNothing, FoundFull, without, after_put, after_get, after_spent_put, after_spent_get}
 use Rattle.scq_queue.specs.Closing.{AreTheHeld}
-use Rattle.scq_queue.specs.Trials.{AllOf, HoldsJust}
+use Rattle.scq_queue.specs.HoldsJust.{AllOf, HoldsJust}
 use Rattle.scq_queue.proofs.Hands.{contains_last}
 use Rattle.scq_queue.proofs.HeldValues.{cases_spent}
 
@@ -76,9 +76,6 @@ none_before (z ∷ w ∷ []) x y a b e = absurd (cc)
 none_before (z ∷ w ∷ v ∷ xs) x y a b e = absurd (cc)
 
 module _ {B : Type 0} where
-  indices : List (HeldStanding B) → List ℕ
-  indices values = map (λ (h : HeldStanding B). h.index) values
-
   all-append : (queue : Identity B) (number : ℕ) (values : List (HeldStanding B)) (h : HeldStanding B) → AllOf queue number values → h.queue ≡ queue
       → h.pass ≡ number → AllOf queue number (values ++ h ∷ [])
   all-append queue number [] h all own is = (own, is, tt)
@@ -164,7 +161,8 @@ module _ {B : Type 0} where
         | inr some ↦ same_as old new old (kept some.0 some.1) (record { queue = refl; number = refl; held = refl; retired = refl })
       ]
 
-  pub take_refused : (topic : ℕ) (old new : PassStanding B) (refusal : TakeRefusal) → ((head : ℕ) → refusal ≡ Empty head → FoundNothing (suc topic) head old new)
+  pub take_refused : (topic : ℕ) (old new : PassStanding B) (refusal : TakeRefusal)
+      → ((head : ℕ) → refusal ≡ Empty head → FoundNothing (suc topic) head old new)
       → ((ticket : ℕ) → refusal ≡ Spent ticket → old.spent ≡ None → new ≡ after_spent_get (suc topic) ticket old)
       → ((ticket : ℕ) → old.spent ≡ Some ticket → new ≡ old) → IsAlike old new
   take_refused topic old new (Empty head) empty spent kept =

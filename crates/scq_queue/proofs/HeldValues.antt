@@ -143,7 +143,13 @@ module _ {B : Type 0} where
       → AreLifted later × ((fulls : List ℕ) → FoundNothing ring head (pass_over s fulls) (pass_over later fulls))
   found_nothing s later ring head lifted found = (
     (lifted_with later (indices_of s.hand) (ap (λ (t : Standing B). t.hand) found.seat ∙ lifted)).0,
-    λ fulls. record { drawn = found.drawn; pass = ap (λ (t : Standing B). pass_over t fulls) found.seat; known = found.known; below = found.below; past = found.past },
+    λ fulls. record {
+      drawn = found.drawn;
+      pass = ap (λ (t : Standing B). pass_over t fulls) found.seat;
+      known = found.known;
+      below = found.below;
+      past = found.past;
+    },
   )
 
   pub get_spent : (s later : Standing B) (ring ticket : ℕ) → AreLifted s → later ≡ band.after_spent_get ring ticket s
@@ -161,11 +167,14 @@ module _ {B : Type 0} where
       → (later.hand ≡ s.hand) × (later.band ≡ s.band) × (later.number ≡ s.number)
   refused s later ring refusal empty spent kept =
       elim (cases_refusal refusal) [
-        | inl found ↦ let is = (empty found.0 found.1).seat in (ap (λ (t : Standing B). t.hand) is, ap (λ (t : Standing B). t.band) is, ap (λ (t : Standing B). t.number) is)
+        | inl found ↦ let is = (empty found.0 found.1).seat in
+            (ap (λ (t : Standing B). t.hand) is, ap (λ (t : Standing B). t.band) is, ap (λ (t : Standing B). t.number) is)
         | inr drew ↦
             elim (cases_spent s.spent) [
-              | inl none ↦ let is = spent drew.0 drew.1 none in (ap (λ (t : Standing B). t.hand) is, ap (λ (t : Standing B). t.band) is, ap (λ (t : Standing B). t.number) is)
-              | inr some ↦ let is = kept some.0 some.1 in (ap (λ (t : Standing B). t.hand) is, ap (λ (t : Standing B). t.band) is, ap (λ (t : Standing B). t.number) is)
+              | inl none ↦ let is = spent drew.0 drew.1 none in
+                  (ap (λ (t : Standing B). t.hand) is, ap (λ (t : Standing B). t.band) is, ap (λ (t : Standing B). t.number) is)
+              | inr some ↦ let is = kept some.0 some.1 in
+                  (ap (λ (t : Standing B). t.hand) is, ap (λ (t : Standing B). t.band) is, ap (λ (t : Standing B). t.number) is)
             ]
       ]
 

@@ -39,10 +39,10 @@ spent_adds r t is_put = record { sent = refl; taken = refl; full = refl }
 
 -- the sends and takes of a record with such a call more
 sends_none : (calls : List Ended) (e : Ended) → sent_by e ≡ None → sends_of (calls ++ e ∷ []) ≡ sends_of calls
-sends_none calls e none = sends-append calls e ∙ rw none (append-nil (sends_of calls))
+sends_none calls e none = sends-append calls (e ∷ []) ∙ rw none (append-nil (sends_of calls))
 
 takes_none : (calls : List Ended) (e : Ended) → taken_by e ≡ None → takes_of (calls ++ e ∷ []) ≡ takes_of calls
-takes_none calls e none = takes-append calls e ∙ rw none (append-nil (takes_of calls))
+takes_none calls e none = takes-append calls (e ∷ []) ∙ rw none (append-nil (takes_of calls))
 
 -- one more, of a count that stands still at its last value
 counted_more : (n : ℕ) → min (counted n + 1) (2 ^ 64 - 1) ≡ counted (n + 1)
@@ -59,12 +59,12 @@ module _ {B : Type 0} where
   pub one_send : (p q : PassStanding B) (t place : ℕ) (w : List ℕ) → q.calls ≡ p.calls ++ Done (suc t) place w ∷ [] → q.fulls ≡ p.fulls
       → lists_of q ≡ with_send t place w (lists_of p)
   one_send p q t place w calls fulls =
-      rw (ap sends_of calls ∙ sends-append p.calls (Done (suc t) place w), ap takes_of calls ∙ takes_none p.calls (Done (suc t) place w) refl, fulls) refl
+      rw (ap sends_of calls ∙ sends-append p.calls (Done (suc t) place w ∷ []), ap takes_of calls ∙ takes_none p.calls (Done (suc t) place w) refl, fulls) refl
 
   pub one_take : (p q : PassStanding B) (t place : ℕ) (w : List ℕ) → q.calls ≡ p.calls ++ Got (suc t) place w ∷ [] → q.fulls ≡ p.fulls
       → lists_of q ≡ with_take t place w (lists_of p)
   one_take p q t place w calls fulls =
-      rw (ap sends_of calls ∙ sends_none p.calls (Got (suc t) place w) refl, ap takes_of calls ∙ takes-append p.calls (Got (suc t) place w), fulls) refl
+      rw (ap sends_of calls ∙ sends_none p.calls (Got (suc t) place w) refl, ap takes_of calls ∙ takes-append p.calls (Got (suc t) place w ∷ []), fulls) refl
 
   pub one_full : (p q : PassStanding B) (head : ℕ) → q.calls ≡ p.calls ++ Nothing 0 ∷ [] → q.fulls ≡ p.fulls ++ head ∷ []
       → lists_of q ≡ with_full head (lists_of p)

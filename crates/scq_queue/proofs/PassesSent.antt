@@ -1,17 +1,13 @@
--- A pass and a held value may be sent to another thread where the buffers may.
+-- A pass may be sent to another thread where the buffers may.
 use denote.RattleType.{RattleType}
 use denote.Builtin.{u8}
 use denote.Param.Send.{IsSend, sendable, view_send}
-use denote.Param.SendFields.{declared_send, as_row_send}
-use denote.Struct.Field.{row_field}
+use denote.Param.SendFields.{declared_send}
 use Rattle.scq_word.specs.declared.buffer.Buffer.{Ghosts}
-use Rattle.scq_band.specs.contracts.seat.Seat as seat
-use Rattle.scq_band.proofs.SeatsSent.{snapshot_sent, vec_sent, u32_sent, u64_sent, seat_sent}
+use Rattle.scq_band.proofs.SeatsSent.{snapshot_sent, vec_sent, u64_sent, seat_sent}
 use Rattle.scq_queue.specs.contracts.counts.Counts as counts
 use Rattle.scq_queue.specs.contracts.fulls.Fulls as fulls
 use Rattle.scq_queue.specs.contracts.heap_buffer.HeapBuffer as heap_buffer
-use Rattle.scq_queue.specs.contracts.held.Held as held
-use Rattle.scq_queue.specs.contracts.held.Held.TheInside as held_inside
 use Rattle.scq_queue.specs.contracts.pass.Pass as pass
 use Rattle.scq_queue.specs.contracts.pass.Pass.TheInside as pass_inside
 
@@ -22,11 +18,6 @@ pub pass_sent : (B : RattleType) (buffer : Ghosts B.Denot) → IsSend B → IsSe
 pass_sent B buffer sends =
     view_send (pass_inside.the_row B buffer) _ _ _ _
     (declared_send (pass_inside.the_type B buffer) (seat_sent B buffer sends, (snapshot_sent fulls.the_row, (counts_sent, tt))))
-
-pub held_sent : (B : RattleType) (buffer : Ghosts B.Denot) → IsSend B → IsSend (held.the_row B buffer)
-held_sent B buffer sends =
-    view_send (held_inside.the_row B buffer) _ _ _ _
-    (declared_send (held_inside.the_type B buffer) (u32_sent, (as_row_send (row_field B) sends, (snapshot_sent (seat.the_row B buffer), tt))))
 
 -- a buffer on the heap may
 pub heap_buffer_sent : IsSend heap_buffer.the_row

@@ -11,12 +11,12 @@ use Rattle.scq_law.specs.Bounds.{tally}
 use Rattle.scq_law.specs.Kept.{was_done, was_got}
 use Rattle.scq_queue.specs.Lists.{Placed, sent_by, taken_by, sends_of, takes_of, on_topic}
 
--- a record with one call more
-pub sends-append : (calls : List Ended) (e : Ended) → sends_of (calls ++ e ∷ []) ≡ sends_of calls ++ sends_of (e ∷ [])
-sends-append calls e = filter_map-append sent_by calls (e ∷ [])
+-- a record with more calls
+pub sends-append : (xs ys : List Ended) → sends_of (xs ++ ys) ≡ sends_of xs ++ sends_of ys
+sends-append xs ys = filter_map-append sent_by xs ys
 
-pub takes-append : (calls : List Ended) (e : Ended) → takes_of (calls ++ e ∷ []) ≡ takes_of calls ++ takes_of (e ∷ [])
-takes-append calls e = filter_map-append taken_by calls (e ∷ [])
+pub takes-append : (xs ys : List Ended) → takes_of (xs ++ ys) ≡ takes_of xs ++ takes_of ys
+takes-append xs ys = filter_map-append taken_by xs ys
 
 -- the call by which a member came into a list: its position, and that the member's number is how many came before
 pub record CameBy (h : Ended → Option Placed) (calls : List Ended) (number : ℕ) (m : Placed) : Type 0 where

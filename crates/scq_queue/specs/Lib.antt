@@ -2,4 +2,4 @@ pub mod Lists
 pub mod Passes
 pub mod Closing
 pub mod Kept
-pub mod Trials
+pub mod HoldsJust

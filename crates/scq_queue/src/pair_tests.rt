@@ -1,67 +1,23 @@
 //! Two passes in turn: one tells the other by a note what it sent, and the gate closes once both have retired.
-ghost use Rattle.std.specs.Prelude.{◌≡◌, ◌≤◌, [], length, IfOk, vec_capacity};
-ghost use Rattle.std.proofs.Common.{sym, refl, ◌∙◌};
-ghost use Rattle.std.specs.Vec.{with_items};
-ghost use Rattle.scq_word.specs.Written.{rewritten};
+ghost use Rattle.std.specs.Prelude.{◌≡◌, ◌≤◌, [], IfOk, vec_capacity};
 ghost use Rattle.scq_queue.specs.Passes.{first_passes};
 
 use crate::tests::{lent, sent, took};
-use crate::{Closed, Held, Pass, Queue};
+use crate::{Closed, HeapBuffer, Held, Pass, Queue};
 use scq_word::{Buffer, Setup};
 use std::alloc::Global;
 use std::process::Abort;
 use std::test::Fail;
 
-/// Bytes with a tag, which stays.
-#[derive(Drop)]
-struct Tagged {
-    tag: u32,
-    bytes: Vec<u8>,
-}
-
-impl Buffer for Tagged {
-    ghost contents = { λ tagged. tagged.bytes.items };
-
-    ghost IsSameBuffer = { λ a b. (a.tag ≡ b.tag) × (length a.bytes.items ≡ length b.bytes.items) };
-
-    ghost written = { λ tagged bytes. record { tag = tagged.tag; bytes = with_items tagged.bytes bytes } };
-
-    ghost same_as_itself = { λ a. (refl, refl) };
-
-    ghost same_back = { λ a b same. (sym same.0, sym same.1) };
-
-    ghost same_along = { λ a b c first second. (first.0 ∙ second.0, first.1 ∙ second.1) };
-
-    ghost same_length = { λ a b same. same.1 };
-
-    ghost written_bytes = { λ a bytes same. rewritten a.bytes.items bytes a.bytes.len a.bytes.ok.0 same };
-
-    ghost written_same = { λ a bytes. (refl, sym a.bytes.ok.0 ∙ (with_items a.bytes bytes).ok.0) };
-
-    fn bytes(&self) -> &[u8] {
-        self.bytes.as_slice()
-    }
-
-    fn bytes_mut(&mut self) -> &mut [u8] {
-        self.bytes.as_mut_slice()
-    }
-}
-
-/// A queue of order 1 with one topic and two passes, over tagged buffers of one byte.
-fn made(alloc: Global) -> Result<(Queue<Tagged>, Vec<Pass<Tagged>>), Fail>
+/// A queue of order 1 with one topic and two passes, over buffers of one byte and of two.
+fn made(alloc: Global) -> Result<(Queue<HeapBuffer>, Vec<Pass<HeapBuffer>>), Fail>
     ensures setup { IfOk result (λ made. (made.0.setup.rings ≡ 2) × (made.0.setup.seats ≡ 2)) }
     ensures passes { IfOk result (λ made. made.1.items ≡ first_passes made.0 2) }
 {
     let setup = Setup::new(1, 2, 2, 1 << 60)?;
     let mut buffers = Vec::with_capacity(alloc, 2)?;
-    buffers.push(Tagged {
-        tag: 10,
-        bytes: vec![in alloc; b'a'; 1]?,
-    })?;
-    buffers.push(Tagged {
-        tag: 11,
-        bytes: vec![in alloc; b'b'; 1]?,
-    })?;
+    buffers.push(HeapBuffer::new(alloc, 1)?)?;
+    buffers.push(HeapBuffer::new(alloc, 2)?)?;
     match Queue::make(alloc, setup, buffers) {
         Ok(made) => Ok(made),
         Err(_) => Err(Fail::from("no memory")),
@@ -131,7 +87,7 @@ fn one_pass_tells_the_other(rt: HostRuntime) -> Result<(), Fail> {
     let closed = run(&rt, queue, passes, sender, taker);
     assert_eq!(rt; closed.left.as_slice(), [1, 0].as_slice());
     assert_eq!(rt; closed.buffers.len(), 2);
-    assert_eq!(rt; closed.buffers[0].tag, 10);
-    assert_eq!(rt; closed.buffers[1].tag, 11);
+    assert_eq!(rt; closed.buffers[0].bytes().len(), 1);
+    assert_eq!(rt; closed.buffers[1].bytes().len(), 2);
     Ok(())
 }

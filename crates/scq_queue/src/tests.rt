@@ -3,7 +3,7 @@
 //! was got goes on top of those that are held, and the one on top is sent or given back. The expected values were worked out by hand.
 ghost use Rattle.std.specs.Prelude.{◌≡◌, ◌+◌, ◌<◌, ◌≤◌, [], IfOk, vec_len, vec_capacity};
 ghost use Rattle.scq_queue.specs.Passes.{first_passes};
-ghost use Rattle.scq_queue.specs.Trials.{HoldsJust};
+ghost use Rattle.scq_queue.specs.HoldsJust.{HoldsJust};
 
 use crate::{Closed, HeapBuffer, Held, LendRefusal, Pass, Queue, Spent, TakeRefusal};
 use scq_word::{Buffer, Setup};

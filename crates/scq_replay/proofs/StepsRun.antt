@@ -1,8 +1,6 @@
 -- The steps of a schedule so far: their lines are printed, and the rest gives what it gives from the state reached.
-use Rattle.std.proofs.Common.{◌≡◌, ℕ, ◌+◌, List, [], ◌∷◌, ◌++◌, append_assoc, Option, Some, None, Result, Ok, Err, ◌⊎◌, inl, inr, refl, sym, ◌∙◌, ap, subst}
+use Rattle.std.proofs.Common.{◌≡◌, ℕ, ◌+◌, List, [], ◌∷◌, ◌++◌, append_assoc, Option, Some, None, Result, Ok, Err, ◌⊎◌, inl, inr, refl, sym, ◌∙◌, ap}
 use Rattle.std.specs.Prelude.{IfErr}
-use Rattle.std.specs.Result.{IsErrAnd}
-use Rattle.std.proofs.lemmas.List.{append-nil}
 use Rattle.scq_word.specs.declared.setup.Setup.{Setup}
 use Rattle.scq_core.specs.Machine.{Machine}
 use Rattle.scq_core.specs.declared.step.Step.{Step}
@@ -27,7 +25,8 @@ onto-nil (Err fault) = refl
 pub run_start : (c : Setup) (start : Machine) (lines : List (List ℕ)) (printed : List ℕ) → printed ≡ [] → IsRun c start lines start 1 lines printed
 run_start c start lines printed none = record { gives = sym (ap (λ p. onto p (steps_from c start 1 lines)) none ∙ onto-nil (steps_from c start 1 lines)) }
 
-pub run_more : (c : Setup) (start : Machine) (lines : List (List ℕ)) (m next : Machine) (number : ℕ) (line : List ℕ) (rest more : List (List ℕ)) (old new : List ℕ)
+pub run_more : (c : Setup) (start : Machine) (lines : List (List ℕ)) (m next : Machine) (number : ℕ) (line : List ℕ) (rest more : List (List ℕ))
+    (old new : List ℕ)
     → rest ≡ line ∷ more → IsRun c start lines m number rest old → IsMade c number line m next old new → IsRun c start lines next (number + 1) more new
 run_more c start lines m next number line rest more old new cut run made =
     record {
@@ -37,16 +36,12 @@ run_more c start lines m next number line rest more old new cut run made =
     }
 
 pub run_refused : (c : Setup) (start : Machine) (lines : List (List ℕ)) (m : Machine) (number : ℕ) (line : List ℕ) (rest more : List (List ℕ)) (old : List ℕ)
-    (fault : ScheduleFault) → rest ≡ line ∷ more → IsRun c start lines m number rest old → IsRefused c number line m fault → steps_from c start 1 lines ≡ Err fault
+    (fault : ScheduleFault) → rest ≡ line ∷ more → IsRun c start lines m number rest old → IsRefused c number line m fault
+    → steps_from c start 1 lines ≡ Err fault
 run_refused c start lines m number line rest more old fault cut run (bad_line none) =
     run.gives ∙ ap (λ r. onto old (steps_from c m number r)) cut ∙ (rw none refl)
 run_refused c start lines m number line rest more old fault cut run (not_enabled turn says none) =
     run.gives ∙ ap (λ r. onto old (steps_from c m number r)) cut ∙ (rw (says, none) refl)
-
-pub run_end : (c : Setup) (start : Machine) (lines : List (List ℕ)) (m : Machine) (number : ℕ) (rest : List (List ℕ)) (printed : List ℕ)
-    → rest ≡ [] → IsRun c start lines m number rest printed → steps_from c start 1 lines ≡ Ok printed
-run_end c start lines m number rest printed none run =
-    run.gives ∙ ap (λ r. onto printed (steps_from c m number r)) none ∙ ap Ok (append-nil printed)
 
 -- no line is refused for a call that hasn't ended
 of_rest : (text : List ℕ) (seat : ℕ) (r : Result (List ℕ) ScheduleFault) → onto text r ≡ Err (Unfinished seat) → r ≡ Err (Unfinished seat)
@@ -76,10 +71,6 @@ given_never lines r seat (steps_of c steps has) is = never_unfinished c (schedul
 pub refused_never : {T : Type 0} (lines : List (List ℕ)) (r : Result T ScheduleFault) (seat : ℕ)
     → IfErr r (λ fault. (fault ≡ NoMemory) ⊎ Gives lines (Err fault)) → r ≡ Err (Unfinished seat) → ⊥
 refused_never lines (Ok x) seat refused is = absurd (cc)
-refused_never lines (Err fault) seat (inl want) is = let same : fault ≡ Unfinished seat = cc in absurd (let both : NoMemory ≡ Unfinished seat = sym want ∙ same in cc)
+refused_never lines (Err fault) seat (inl want) is = let same : fault ≡ Unfinished seat = cc in
+    absurd (let both : NoMemory ≡ Unfinished seat = sym want ∙ same in cc)
 refused_never lines (Err fault) seat (inr gives) is = given_never lines (Err fault) seat gives (let same : fault ≡ Unfinished seat = cc in ap Err same)
-
--- what `?` hands on has what is said of the fault
-pub handed_on : {T E : Type 0} (r : Result T E) (fault : E) (P : E → Type 0) → IsErrAnd r (λ passed. passed ≡ fault) → P fault → IfErr r P
-handed_on (Ok x) fault P passed said = absurd passed
-handed_on (Err x) fault P passed said = subst P (sym passed) said

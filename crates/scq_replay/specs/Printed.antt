@@ -1,17 +1,17 @@
 -- How a step of a schedule is printed: the words of its call's ring after it, and the reply where it ends the call
-use Rattle.std.specs.Prelude.{ℕ, zero, suc, ◌-◌, ℤ, pos, ◌-ℤ◌, List, [], ◌++◌, length, Option, Some, None, unwrap_or, slice_get, codes, decimal}
+use Rattle.std.specs.Prelude.{ℕ, zero, suc, ◌-◌, ℤ, pos, ◌-ℤ◌, List, [], ◌++◌, Option, Some, None, unwrap_or, codes, decimal}
 use Rattle.std.specs.Fmt.{signed_decimal}
 use Rattle.std.specs.Option.{option_or}
 use Rattle.scq_word.specs.declared.setup.Setup.{Setup}
 use Rattle.scq_core.specs.declared.ended.Ended.{Ended}
 use Rattle.scq_core.specs.declared.ended.Ended.TheVariants.{Done, Got, Nothing, Spent}
 use Rattle.scq_core.specs.declared.phase.Phase.{Phase}
-use Rattle.scq_core.specs.declared.phase.Phase.TheVariants.{Idle}
 use Rattle.scq_core.specs.declared.step.Step.{Step}
 use Rattle.scq_core.specs.declared.step.Step.TheVariants.{E1, E1Again, E2, E3, E4, E5, E6, D1, D2, D3, D4, D5, D6, D7, D8, D9, D10}
 use Rattle.scq_core.specs.Machine.{Cells, Machine}
 use Rattle.scq_core.specs.Table.{ring_slots, zero_level}
 use Rattle.scq_core.specs.Turn.{ring_under_way}
+use Rattle.scq_law.specs.Acts.{ended_in}
 use Rattle.scq_lines.specs.Lines.{content_text}
 
 -- the name of a step: a put's first ticket and its later ones are drawn by E1
@@ -73,11 +73,6 @@ reply_words (Some (Got ring place content)) = codes " got " ++ decimal place ++ 
 reply_words (Some (Nothing ring)) = codes " nothing"
 reply_words (Some (Spent ring ticket is_put)) = codes " spent " ++ decimal ticket
 
--- the call that a seat's step has ended: the newest of its record, where the seat is idle after the step
-abbrev pub ended_call : Phase → List Ended → Option Ended
-ended_call Idle calls = slice_get calls (length calls - 1)
-ended_call phase calls = None
-
 -- which step of which seat it is
 abbrev pub head_words : ℕ → ℕ → Step → List ℕ
 head_words number seat step = decimal number ++ codes " " ++ decimal seat ++ codes " " ++ step_name step
@@ -85,4 +80,4 @@ head_words number seat step = decimal number ++ codes " " ++ decimal seat ++ cod
 -- the line of a step of this number, seat and ring, from the state after it
 abbrev pub step_line : Setup → ℕ → ℕ → Step → ℕ → Machine → List ℕ
 step_line c number seat step ring m =
-    head_words number seat step ++ ring_words c m.cells ring ++ reply_words (ended_call (m.part seat).phase (m.part seat).calls) ++ codes "\n"
+    head_words number seat step ++ ring_words c m.cells ring ++ reply_words (ended_in (m.part seat).phase (m.part seat).calls) ++ codes "\n"

@@ -7,10 +7,11 @@ ghost use Rattle.scq_core.specs.Reach.{IsReachable};
 ghost use Rattle.scq_core.specs.StateLists.{machine_of};
 ghost use Rattle.scq_core.specs.Table.{ring_slots};
 ghost use Rattle.scq_lines.specs.Lines.{content_text};
-ghost use Rattle.scq_replay.specs.Printed.{step_name, begun_on, call_ring, head_words, entry_words, counter_words, threshold_words, ring_words, reply_words, ended_call, step_line};
+ghost use Rattle.scq_replay.specs.Printed.{step_name, begun_on, call_ring, head_words, entry_words, counter_words, threshold_words, ring_words, reply_words, step_line};
 
 use itoa::Buffer;
-use scq_core::{Ended, Phase, State, Step};
+use scq_core::{Ended, State, Step};
+use scq_law::ended;
 use scq_word::{Bytes, NoMemory};
 
 /// The ring of the call that a step of the seat begins or goes on with.
@@ -148,17 +149,6 @@ fn add_entries(text: &mut Vec<u8>, ring: u32, slots: u32, state: &State) -> Resu
         add_number(text, b" ", state.entry(ring, slot))?;
     }
     Ok(())
-}
-
-/// The call that the seat's step has ended.
-fn ended(state: &State, seat: u32) -> Option<&Ended>
-    requires { seat < state.now.setup.seats }
-    ensures { let part = (machine_of state.now).part seat in option_copied result ≡ ended_call part.phase part.calls }
-{
-    match state.phase(seat) {
-        Phase::Idle => state.last(seat),
-        _ => None,
-    }
 }
 
 pub(crate) fn add_reply(text: &mut Vec<u8>, ended: Option<&Ended>) -> Result<(), NoMemory>

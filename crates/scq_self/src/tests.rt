@@ -99,7 +99,8 @@ fn summaries_are_those_of_an_outside_program(rt: HostRuntime) -> Result<(), Fail
     let alloc = rt.alloc();
     let three = summary_of_file(alloc, 1, 3)?;
     let wanted =
-        b"lines 3\ntotal l 2 23\ntotal w 0 0\ntotal s 0 0\ntotal h 0 0\ntotal e 1 11\ntotal - 0 0\ndigest 1411b7cc7ac532f181794fd37e7dff97758666d827b9e5d502254f4257992583\n";
+        b"lines 3\ntotal l 2 23\ntotal w 0 0\ntotal s 0 0\ntotal h 0 0\ntotal e 1 11\ntotal - 0 0\n\
+         digest 1411b7cc7ac532f181794fd37e7dff97758666d827b9e5d502254f4257992583\n";
     assert_eq!(rt; three.bytes(), wanted.as_slice());
     let rows: [(u32, u32, &[u8]); 6] = [
         (

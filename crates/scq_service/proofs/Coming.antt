@@ -1,22 +1,23 @@
 -- How sources come, one by one.
-use Rattle.std.proofs.Common.{◌≡◌, ◌⊎◌, ◌∙◌, refl, sym, ap, subst, arith, ℕ, ◌+◌, ◌-◌, ◌<◌, ◌≤◌, List, [], ◌∷◌, ◌++◌, length, take, get_or, length-append, Option, Some, None, IsSome, IfSome}
+use Rattle.std.proofs.Common.{◌≡◌, ◌⊎◌, ◌∙◌, refl, sym, ap, subst, arith, ℕ, ◌+◌, ◌-◌, ◌<◌, List, [], ◌∷◌, ◌++◌, length, take, get_or, length-append, Option, Some, None, IsSome, IfSome}
 use Rattle.std.specs.Prelude.{IsSomeAnd, IsTrue, option_and_then, slice_get}
-use Rattle.std.specs.List.{All, list_any}
+use Rattle.std.specs.List.{list_any}
 use Rattle.std.specs.Option.{option_map}
 use Rattle.std.specs.Str.{bytes_eq}
 use Rattle.std.proofs.lemmas.List.{take_more}
 use Rattle.std.proofs.lemmas.List.Elements.{All-push}
 use Rattle.std.proofs.lemmas.Option.{slice_get-get_or}
-use Rattle.scq_outside.specs.Faults.{Rose}
+use Rattle.scq_outside.specs.Counts.{Rose}
 use Rattle.scq_outside.specs.Table.{Table, without_name}
 use Rattle.scq_work.specs.Ends.{all_left}
 use Rattle.scq_service.specs.Answers.{HaveCome}
 use Rattle.scq_service.specs.Contents.{IfVisible, IsMissing, without_names}
 use Rattle.scq_service.specs.Ends.{Change, HasMissed}
-use Rattle.scq_service.proofs.Files.{gone, without-more, visible-more}
+use Rattle.scq_service.proofs.Files.{gone, no-contents, parts, visible-more, without-more}
 
 -- one name more left the table
-table-more : (old now new : Option Table) (names : List (List ℕ)) (name : List ℕ) → now ≡ option_map (without_names names) old → new ≡ option_map (without_name name) now
+table-more : (old now new : Option Table) (names : List (List ℕ)) (name : List ℕ) → now ≡ option_map (without_names names) old
+    → new ≡ option_map (without_name name) now
     → new ≡ option_map (without_names (names ++ name ∷ [])) old
 table-more old now new names name before after = after ∙ ap (option_map (without_name name)) before ∙ at old where
   at : (o : Option Table) → option_map (without_name name) (option_map (without_names names) o) ≡ option_map (without_names (names ++ name ∷ [])) o
@@ -39,41 +40,22 @@ missing (Some table) now names i name within is left none =
 rose-since : (old now new : ℕ) → now ≡ old → Rose now new → Rose old new
 rose-since old now new same rose = let R : ℕ → Type 0 = λ n. Rose n new in subst R same rose
 
--- what the first source has left, and the others
-pub parts : (o : Option (List ℕ)) (more : Option (List (List ℕ))) (contents : List (List ℕ)) → option_and_then (λ c. option_map (λ cs. c ∷ cs) more) o ≡ Some contents
-    → (c : List ℕ) × (cs : List (List ℕ)) × (o ≡ Some c) × (more ≡ Some cs) × (contents ≡ c ∷ cs)
-parts None more contents e = cc
-parts (Some c) None contents e = cc
-parts (Some c) (Some cs) contents e = (c, cs, refl, refl, cc)
-
 module _ {S : Type 0} (faults : S → ℕ) (left : S → Option (List ℕ)) where
   -- what one source more has left
   left-more : (sources : List S) (source : S) (contents : List (List ℕ)) (content : List ℕ) → left source ≡ Some content → all_left left sources ≡ Some contents
       → all_left left (sources ++ source ∷ []) ≡ Some (contents ++ content ∷ [])
   left-more [] source contents content this all =
-      ap (option_and_then (λ c. option_map (λ more. c ∷ more) (Some []))) this ∙ ap (λ (before : List (List ℕ)). Some (before ++ content ∷ [])) (none all)
-    where
-      none : {cs : List (List ℕ)} → Some [] ≡ Some cs → [] ≡ cs
-      none e = cc
+      ap (option_and_then (λ c. option_map (λ more. c ∷ more) (Some []))) this
+      ∙ ap (λ (before : List (List ℕ)). Some (before ++ content ∷ [])) (no-contents all)
   left-more (s ∷ ss) source contents content this all =
       let p = parts (left s) (all_left left ss) contents all in
       ap (option_and_then (λ c. option_map (λ more. c ∷ more) (all_left left (ss ++ source ∷ [])))) p.2
       ∙ ap (option_map (λ more. p.0 ∷ more)) (left-more ss source p.1 content this p.3)
       ∙ ap (λ (before : List (List ℕ)). Some (before ++ content ∷ [])) (sym p.4)
 
-  -- no source has come yet
-  pub come-none : (names : List (List ℕ)) (table : Option Table) (opens : Change ℕ) → HaveCome faults left names (record { table = record { old = table; new = table }; opens = opens; sources = []; read = 0 })
-  come-none names table opens = record { within = omega arith; table = same table; fresh = λ k d less. absurd (omega arith); unread = none table } where
-    same : (o : Option Table) → o ≡ option_map (without_names []) o
-    same None = refl
-    same (Some table) = refl
-
-    none : (o : Option Table) → IfVisible o [] (λ contents. all_left left [] ≡ Some contents)
-    none None = tt
-    none (Some table) = refl
-
   -- one more has come
-  pub come-more : (names : List (List ℕ)) (table : Change (Option Table)) (opens opens' : Change ℕ) (sources : List S) (source : S) (name : List ℕ) (new : Option Table)
+  pub come-more : (names : List (List ℕ)) (table : Change (Option Table)) (opens opens' : Change ℕ) (sources : List S) (source : S) (name : List ℕ)
+      (new : Option Table)
       → HaveCome faults left names (record { table = table; opens = opens; sources = sources; read = 0 })
       → length sources < length names → name ≡ get_or names (length sources) [] → new ≡ option_map (without_name name) table.new → faults source ≡ 0
       → IfSome table.new (λ files. IsSome (files name) × (left source ≡ files name))

@@ -10,7 +10,7 @@ use Rattle.std.specs.Option.{option_map}
 use Rattle.scq_words.specs.declared.text_request.TextCommand.{TextCommand}
 use Rattle.scq_service.specs.Causes.{IsTroubled}
 use Rattle.scq_service.specs.Contents.{contents_of, IfVisible}
-use Rattle.scq_outside.specs.Faults.{Rose}
+use Rattle.scq_outside.specs.Counts.{Rose}
 use Rattle.scq_service.specs.Ends.{Left, Wrote, EndsAlone, EndsOver, EndsWhole, IsCalm, IsCalmText, IsOfTextAlone, most_text}
 use Rattle.scq_service.specs.declared.fault.Fault.{Fault}
 use Rattle.scq_service.specs.declared.fault.Fault.TheVariants.{Words, OpenFault, ReadFault, TooLong, TooLarge, WriteFault, BadLine, NotEnabled, Unlawful, Unfinished, NoMemory}
@@ -33,16 +33,19 @@ never size trouble (Some table) names file P some sound troubled get = at (conte
   at : (o : Option (List (List ℕ))) → IsSomeAnd o (λ contents. All (λ content. file_trouble size false content ≡ None) contents) → IsSomeAnd o P → ⊥
   at None sound troubled = sound
   at (Some contents) sound troubled =
-      let found = all-at (λ content. file_trouble size false content ≡ None) (λ content. file_trouble size false content ≡ Some trouble) contents (file - 1) sound (get contents troubled) in
+      let found = all-at (λ content. file_trouble size false content ≡ None) (λ content. file_trouble size false content ≡ Some trouble) contents (file - 1)
+      sound (get contents troubled) in
       let clash : None ≡ Some trouble = sym found.1 ∙ found.2 in
       cc
 
-above-none : {S : Type 0} (faults : S → ℕ) (sources : List S) (k : ℕ) → All (λ source. faults source ≡ 0) sources → IsSomeAnd (slice_get sources k) (λ source. 0 < faults source) → ⊥
+above-none : {S : Type 0} (faults : S → ℕ) (sources : List S) (k : ℕ) → All (λ source. faults source ≡ 0) sources
+    → IsSomeAnd (slice_get sources k) (λ source. 0 < faults source) → ⊥
 above-none faults sources k quiet some =
     let found = all-at (λ source. faults source ≡ 0) (λ source. 0 < faults source) sources k quiet some in
     omega (arith, found.1, found.2)
 
-pub complete : {S : Type 0} (size : ℕ) (text : List (List ℕ) → List ℕ) (faults : S → ℕ) (left : S → Option (List ℕ)) (names : List (List ℕ)) (r : Left S) (w : Wrote) (end : Option Fault)
+pub complete : {S : Type 0} (size : ℕ) (text : List (List ℕ) → List ℕ) (faults : S → ℕ) (left : S → Option (List ℕ)) (names : List (List ℕ)) (r : Left S)
+    (w : Wrote) (end : Option Fault)
     → EndsOver size text faults left names r w end → IsCalm size faults names r w → (end ≡ None) ⊎ (end ≡ Some NoMemory)
 complete size text faults left names r w None e calm = inl refl
 complete size text faults left names r w (Some NoMemory) e calm = inr refl
@@ -60,7 +63,8 @@ complete size text faults left names r w (Some (Unlawful line)) e calm = absurd 
 complete size text faults left names r w (Some (Unfinished seat)) e calm = absurd (e.0)
 
 -- a run over no file of the outside, none of whose writes failed, ends likewise
-pub complete-alone : (text : List ℕ) (w : Wrote) (end : Option Fault) → EndsAlone text w end → ¬ Rose w.faults.old w.faults.new → (end ≡ None) ⊎ (end ≡ Some NoMemory)
+pub complete-alone : (text : List ℕ) (w : Wrote) (end : Option Fault) → EndsAlone text w end → ¬ Rose w.faults.old w.faults.new
+    → (end ≡ None) ⊎ (end ≡ Some NoMemory)
 complete-alone text w None e calm = inl refl
 complete-alone text w (Some NoMemory) e calm = inr refl
 complete-alone text w (Some WriteFault) e calm = absurd (calm e.0)
@@ -75,13 +79,16 @@ complete-alone text w (Some (Unlawful line)) e calm = absurd e
 complete-alone text w (Some (Unfinished seat)) e calm = absurd e
 
 -- the one source has not both counts
-one-apart : {S : Type 0} (faults : S → ℕ) (sources : List S) → length sources ≡ 1 → All (λ source. faults source ≡ 0) sources → All (λ source. faults source ≡ 1) sources → ⊥
+one-apart : {S : Type 0} (faults : S → ℕ) (sources : List S) → length sources ≡ 1 → All (λ source. faults source ≡ 0) sources
+    → All (λ source. faults source ≡ 1) sources → ⊥
 one-apart faults [] one quiet failed = cc
 one-apart faults (x ∷ xs) one quiet failed = omega (arith, quiet 0 x (omega arith), failed 0 x (omega arith))
 
 -- a content that fits was not too large
-fits-or-large : {S : Type 0} (left : S → Option (List ℕ)) (table : Option Table) (name : List ℕ) (sources : List S) (read : ℕ) → IsSome table → length sources ≡ 1 → read ≡ most_text + 1
-    → IfSome table (λ files. IsSomeAnd (files name) (λ content. All (λ source. Some (length content) ≡ option_map (λ rest. read + length rest) (left source)) sources))
+fits-or-large : {S : Type 0} (left : S → Option (List ℕ)) (table : Option Table) (name : List ℕ) (sources : List S) (read : ℕ) → IsSome table
+    → length sources ≡ 1 → read ≡ most_text + 1
+    → IfSome table (λ files. IsSomeAnd (files name)
+    (λ content. All (λ source. Some (length content) ≡ option_map (λ rest. read + length rest) (left source)) sources))
     → IfSome table (λ files. IsSomeAnd (files name) (λ content. length content ≤ most_text)) → ⊥
 fits-or-large left None name sources read some one more large fits = cc
 fits-or-large left (Some files) name [] read some one more large fits = cc
@@ -96,7 +103,8 @@ fits-or-large left (Some files) name (x ∷ xs) read some one more large fits = 
   at (Some content) large fits = past (left x) (length content) (large 0 x (omega arith)) fits
 
 -- a run over one whole file, in whose way nothing stood, ends by its text or for want of memory
-pub complete-text : {S : Type 0} (command : TextCommand) (faults : S → ℕ) (left : S → Option (List ℕ)) (name : List ℕ) (r : Left S) (w : Wrote) (end : Option Fault)
+pub complete-text : {S : Type 0} (command : TextCommand) (faults : S → ℕ) (left : S → Option (List ℕ)) (name : List ℕ) (r : Left S) (w : Wrote)
+    (end : Option Fault)
     → EndsWhole command faults left name r w end → IsCalmText faults name r w → IsOfTextAlone command end
 complete-text command faults left name r w None e calm = inl refl
 complete-text command faults left name r w (Some NoMemory) e calm = inr (inl refl)

@@ -1,28 +1,22 @@
 -- Tables and contents of files, with one file more.
-use Rattle.std.proofs.Common.{◌≡◌, ◌⊎◌, ◌∙◌, refl, sym, ap, subst, inl, inr, arith, true, false, ℕ, suc, ◌+◌, Bool, ◌||◌, List, [], ◌∷◌, ◌++◌, length, map, append_assoc, Option, Some, None, IsSome, IfSome, cond}
-use Rattle.std.specs.Prelude.{IsSomeAnd, nat_lt, option_and_then, unwrap_or}
+use Rattle.std.proofs.Common.{◌≡◌, ◌⊎◌, ◌∙◌, refl, sym, ap, subst, inl, inr, true, false, ℕ, Bool, ◌||◌, List, [], ◌∷◌, ◌++◌, Option, Some, None, IsSome, IfSome, cond}
+use Rattle.std.specs.Prelude.{IsSomeAnd, option_and_then}
 use Rattle.std.specs.List.{list_any}
-use Rattle.std.specs.Option.{option_map, option_or}
+use Rattle.std.specs.Option.{option_map}
 use Rattle.std.specs.Str.{bytes_eq}
-use Rattle.std.proofs.lemmas.List.{append-nil}
 use Rattle.std.proofs.lemmas.Slice.Eq.{bytes_eq-Decides}
-use Rattle.scq_topics.specs.declared.kind.Kind.{Kind}
-use Rattle.scq_frames.specs.Text.{messages_of}
 use Rattle.scq_outside.specs.Table.{Table, without_name}
-use Rattle.scq_collect.specs.Judged.{file_trouble}
-use Rattle.scq_collect.specs.Output.{answer_to, answers_to}
-use Rattle.scq_collect.specs.declared.answered.Answered.{Answered}
-use Rattle.scq_service.specs.Causes.{given_of, file_fault, first_file_fault, HaveRest}
 use Rattle.scq_service.specs.Contents.{contents_of, IfVisible, without_names}
-use Rattle.scq_service.specs.declared.fault.Fault.{Fault}
 
 -- one name more leaves the table
-pub without-more : (names : List (List ℕ)) (name : List ℕ) (table : Table) → without_names (names ++ name ∷ []) table ≡ without_name name (without_names names table)
+pub without-more : (names : List (List ℕ)) (name : List ℕ) (table : Table)
+    → without_names (names ++ name ∷ []) table ≡ without_name name (without_names names table)
 without-more [] name table = refl
 without-more (x ∷ xs) name table = without-more xs name (without_name x table)
 
 -- what is not there now was never there, or was taken
-pub gone : (names : List (List ℕ)) (table : Table) (name : List ℕ) → without_names names table name ≡ None → (table name ≡ None) ⊎ (list_any (bytes_eq name) names ≡ true)
+pub gone : (names : List (List ℕ)) (table : Table) (name : List ℕ) → without_names names table name ≡ None
+    → (table name ≡ None) ⊎ (list_any (bytes_eq name) names ≡ true)
 gone [] table name e = inl e
 gone (x ∷ xs) table name e = elim (gone xs (without_name x table) name e) [
   | inl none ↦ at (bytes_eq x name) refl none
@@ -39,29 +33,30 @@ gone (x ∷ xs) table name e = elim (gone xs (without_name x table) name e) [
       inr (ap (λ b. b || list_any (bytes_eq name) xs) back)
   at false other e = inl e
 
+-- of no files these are no contents
+pub no-contents : {contents : List (List ℕ)} → Some [] ≡ Some contents → [] ≡ contents
+no-contents e = cc
+
+-- what the first has, and the others
+pub parts : (o : Option (List ℕ)) (more : Option (List (List ℕ))) (contents : List (List ℕ))
+    → option_and_then (λ c. option_map (λ cs. c ∷ cs) more) o ≡ Some contents
+    → (c : List ℕ) × (cs : List (List ℕ)) × (o ≡ Some c) × (more ≡ Some cs) × (contents ≡ c ∷ cs)
+parts None more contents e = cc
+parts (Some c) None contents e = cc
+parts (Some c) (Some cs) contents e = (c, cs, refl, refl, cc)
+
 -- the contents with one more
-pub contents-more : (table : Table) (names : List (List ℕ)) (name content : List ℕ) (contents : List (List ℕ)) → contents_of table names ≡ Some contents → without_names names table name ≡ Some content
+pub contents-more : (table : Table) (names : List (List ℕ)) (name content : List ℕ) (contents : List (List ℕ)) → contents_of table names ≡ Some contents
+    → without_names names table name ≡ Some content
     → contents_of table (names ++ name ∷ []) ≡ Some (contents ++ content ∷ [])
 contents-more table [] name content contents all this =
     ap (option_and_then (λ content. option_map (λ more. content ∷ more) (Some []))) this
-    ∙ ap (λ (before : List (List ℕ)). Some (before ++ content ∷ [])) (none all)
-  where
-    none : {cs : List (List ℕ)} → Some [] ≡ Some cs → [] ≡ cs
-    none e = cc
+    ∙ ap (λ (before : List (List ℕ)). Some (before ++ content ∷ [])) (no-contents all)
 contents-more table (x ∷ xs) name content contents all this =
-    parts (table x) (contents_of (without_name x table) xs) refl all (λ cs f. contents-more (without_name x table) xs name content cs f this)
-  where
-    parts : (o : Option (List ℕ)) (more : Option (List (List ℕ))) → table x ≡ o → option_and_then (λ c. option_map (λ cs. c ∷ cs) more) (table x) ≡ Some contents
-        → ((cs : List (List ℕ)) → more ≡ Some cs → contents_of (without_name x table) (xs ++ name ∷ []) ≡ Some (cs ++ content ∷ []))
-        → option_and_then (λ c. option_map (λ cs. c ∷ cs) (contents_of (without_name x table) (xs ++ name ∷ []))) (table x) ≡ Some (contents ++ content ∷ [])
-    parts None more e all again = let none : None ≡ Some contents = sym (ap (option_and_then (λ c. option_map (λ cs. c ∷ cs) more)) e) ∙ all in absurd (cc)
-    parts (Some c) None e all again = let none : None ≡ Some contents = sym (ap (option_and_then (λ c. option_map (λ cs. c ∷ cs) None)) e) ∙ all in absurd (cc)
-    parts (Some c) (Some cs) e all again =
-        let whole : Some (c ∷ cs) ≡ Some contents = sym (ap (option_and_then (λ c. option_map (λ cs. c ∷ cs) (Some cs))) e) ∙ all in
-        let same : c ∷ cs ≡ contents = cc in
-        ap (option_and_then (λ c. option_map (λ more. c ∷ more) (contents_of (without_name x table) (xs ++ name ∷ [])))) e
-        ∙ ap (option_map (λ more. c ∷ more)) (again cs refl)
-        ∙ ap (λ (before : List (List ℕ)). Some (before ++ content ∷ [])) same
+    let p = parts (table x) (contents_of (without_name x table) xs) contents all in
+    ap (option_and_then (λ c. option_map (λ more. c ∷ more) (contents_of (without_name x table) (xs ++ name ∷ [])))) p.2
+    ∙ ap (option_map (λ more. p.0 ∷ more)) (contents-more (without_name x table) xs name content p.1 p.3 this)
+    ∙ ap (λ (before : List (List ℕ)). Some (before ++ content ∷ [])) (sym p.4)
 
 -- what is visible of the files so far, and of the next one
 pub visible-more : (old now : Option Table) (names : List (List ℕ)) (name : List ℕ) (before : Option (List ℕ)) (P Q : List (List ℕ) → Type 0)
@@ -73,7 +68,8 @@ visible-more (Some table) now names name before P Q is there seen more =
     let here : IsSome (without_names names table name) × (before ≡ without_names names table name) = subst T is there in
     next (without_names names table name) refl here.0 here.1 (contents_of table names) refl seen
   where
-    next : (o : Option (List ℕ)) → without_names names table name ≡ o → IsSome o → before ≡ o → (all : Option (List (List ℕ))) → contents_of table names ≡ all → IsSomeAnd all P
+    next : (o : Option (List ℕ)) → without_names names table name ≡ o → IsSome o → before ≡ o → (all : Option (List (List ℕ)))
+        → contents_of table names ≡ all → IsSomeAnd all P
         → IsSomeAnd (contents_of table (names ++ name ∷ [])) Q
     next None e some is all f seen = absurd (cc some)
     next (Some content) e some is None f seen = absurd seen

@@ -1,6 +1,7 @@
 pub mod Coming
 pub mod Completeness
 pub mod Files
+pub mod Merging
 pub mod OneFile
 pub mod Pieces
 pub mod ReportLines

@@ -1,5 +1,5 @@
 -- What the reading of one file says of its fault.
-use Rattle.std.proofs.Common.{◌≡◌, ◌≢◌, ◌∙◌, refl, sym, ap, subst, arith, true, false, ℕ, ◌+◌, ◌-◌, ◌<◌, ◌^◌, Bool, List, [], ◌++◌, length, take, length-append, Option, Some, None, IfSome}
+use Rattle.std.proofs.Common.{◌≡◌, ◌≢◌, ◌∙◌, refl, sym, ap, subst, arith, true, false, ℕ, ◌-◌, ◌<◌, ◌^◌, Bool, List, [], ◌++◌, length, take, length-append, Option, Some, None, IfSome}
 use Rattle.std.specs.Prelude.{nat_lt, unwrap_or}
 use Rattle.std.specs.Option.{option_map}
 use Rattle.std.proofs.Math.Seq.{take-append_seam}
@@ -7,8 +7,8 @@ use Rattle.std.proofs.lemmas.Bool.{lt-ltb}
 use Rattle.scq_frames.specs.Trouble.{Trouble, LongPayload, ManyBytes}
 use Rattle.scq_frames.specs.declared.fault.FrameFault.{FrameFault}
 use Rattle.scq_frames.specs.declared.fault.FrameFault.TheVariants as frame
-use Rattle.scq_outside.specs.Faults.{Rose}
-use Rattle.scq_collect.specs.Judged.{file_trouble, Judged, Judges}
+use Rattle.scq_outside.specs.Counts.{Rose}
+use Rattle.scq_collect.specs.Judged.{file_trouble, Judges}
 use Rattle.scq_work.specs.Reading as reading
 use Rattle.scq_service.specs.Causes.{given_of, file_fault}
 use Rattle.scq_service.specs.declared.fault.Fault.{Fault}
@@ -51,7 +51,8 @@ module _ {S : Type 0} (size : ℕ) (faults : S → ℕ) (left : S → Option (Li
 
   -- the fault of one source, by the bytes that it gave
   one-fault : (file : ℕ) (content bytes rest : List ℕ) (source : S) (failed : Bool) (trouble : Option Trouble) → nat_lt 0 (faults source) ≡ failed
-      → left source ≡ Some rest → content ≡ bytes ++ rest → file_trouble size failed bytes ≡ trouble → fault_of_one file content source ≡ file_fault size file failed trouble
+      → left source ≡ Some rest → content ≡ bytes ++ rest → file_trouble size failed bytes ≡ trouble
+      → fault_of_one file content source ≡ file_fault size file failed trouble
   one-fault file content bytes rest source failed trouble flag is e found =
       ap (λ b. file_fault size file b (file_trouble size b (given_of content (unwrap_or (left source) [])))) flag
       ∙ ap (λ o. file_fault size file failed (file_trouble size failed (given_of content (unwrap_or o [])))) is
@@ -62,7 +63,8 @@ module _ {S : Type 0} (size : ℕ) (faults : S → ℕ) (left : S → Option (Li
   calm source none = ap (λ n. nat_lt 0 n) none
 
   -- one that was read to its end has none
-  pub one-whole : (file : ℕ) (content : List ℕ) (old new : S) → left old ≡ Some content → faults old ≡ 0 → reading.IsWhole size faults left old new → fault_of_one file content new ≡ None
+  pub one-whole : (file : ℕ) (content : List ℕ) (old new : S) → left old ≡ Some content → faults old ≡ 0 → reading.IsWhole size faults left old new
+      → fault_of_one file content new ≡ None
   one-whole file content old new is fresh whole =
       let judged = whole.judged in
       let split = split-visible content judged.bytes (left new) (sym is ∙ judged.moved) in
@@ -79,7 +81,8 @@ module _ {S : Type 0} (size : ℕ) (faults : S → ℕ) (left : S → Option (Li
       record { rest = split.0; left = split.1; whole = split.2; judges = subst J split.1 judged.judges }
 
   -- one whose reading stopped at a fault has it
-  pub one-stopped : (file : ℕ) (content : List ℕ) (old new : S) (fault : FrameFault) → fault ≢ frame.NoMemory → left old ≡ Some content → faults old ≡ 0 → reading.IsStopped size faults left old new fault
+  pub one-stopped : (file : ℕ) (content : List ℕ) (old new : S) (fault : FrameFault) → fault ≢ frame.NoMemory → left old ≡ Some content → faults old ≡ 0
+      → reading.IsStopped size faults left old new fault
       → fault_of_one file content new ≡ Some (fault_of_file size file fault)
   one-stopped file content old new frame.ReadFault other is fresh stop =
       let t = told content old new frame.ReadFault is stop in

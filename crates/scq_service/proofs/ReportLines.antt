@@ -15,7 +15,8 @@ lines-split number (x ∷ xs) zero n d within at =
     ap (λ k. worker_line k x ++ worker_lines (k + 1) xs) same
 lines-split number (x ∷ xs) (suc i) n d within at =
     ap (λ (rest : List ℕ). worker_line number x ++ rest) (lines-split (number + 1) xs i n d (omega arith) (omega arith))
-    ∙ sym (append_assoc (worker_line number x) (worker_lines (number + 1) (take i xs)) (worker_line n (get_or xs i d) ++ worker_lines (n + 1) (drop (suc i) xs)))
+    ∙ sym (append_assoc (worker_line number x) (worker_lines (number + 1) (take i xs))
+    (worker_line n (get_or xs i d) ++ worker_lines (n + 1) (drop (suc i) xs)))
 
 lines-next : (number : ℕ) (counts : List Counts) (i n : ℕ) (d : Counts) → i < length counts → n ≡ number + i
     → worker_lines number (take (suc i) counts) ≡ worker_lines number (take i counts) ++ worker_line n (get_or counts i d)

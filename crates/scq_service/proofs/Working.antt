@@ -6,7 +6,6 @@ use Rattle.std.specs.Option.{option_map, option_or}
 use Rattle.std.proofs.lemmas.List.{get_or-take, length-take-le}
 use Rattle.std.proofs.lemmas.Option.{slice_get-get_or}
 use Rattle.scq_frames.specs.Framing.{NothingLeft}
-use Rattle.scq_frames.specs.Trouble.{LongPayload, ManyBytes}
 use Rattle.scq_frames.specs.declared.fault.FrameFault.{FrameFault}
 use Rattle.scq_frames.specs.declared.fault.FrameFault.TheVariants as frame
 use Rattle.scq_outside.specs.Table.{Table}
@@ -15,13 +14,13 @@ use Rattle.scq_work.specs.Reading as reading
 use Rattle.scq_work.specs.declared.worked.WorkFault.{WorkFault}
 use Rattle.scq_work.specs.declared.worked.WorkFault.TheVariants as work
 use Rattle.scq_service.specs.Answers.{HaveAllCome, HaveCome}
-use Rattle.scq_service.specs.Causes.{given_of, first_file_fault, IsTroubled, HaveRest}
+use Rattle.scq_service.specs.Causes.{given_of, first_file_fault, HaveRest}
 use Rattle.scq_service.specs.Contents.{contents_of, IfVisible, IsMissing, without_names}
-use Rattle.scq_service.specs.Ends.{Change, HasGot, HasMissed, IsRefused, IsReadOf, IsUnchanged, ReadsOver}
+use Rattle.scq_service.specs.Ends.{Change, HasGot, HasMissed, IsRefused, IsUnchanged, ReadsOver}
 use Rattle.scq_service.specs.Faults.{bytes_of_large, fault_of_work}
 use Rattle.scq_service.specs.declared.fault.Fault.TheVariants.{OpenFault}
-use Rattle.scq_service.proofs.Coming.{parts}
-use Rattle.scq_service.proofs.OneFile.{fault_of_file, fault_of_one, given-is, large-of, long-of, one-stopped, one-whole, rose-above, split-visible}
+use Rattle.scq_service.proofs.Files.{no-contents, parts}
+use Rattle.scq_service.proofs.OneFile.{fault_of_file, given-is, large-of, long-of, one-stopped, one-whole, rose-above, split-visible}
 
 pub visible-weaker : (table : Option Table) (names : List (List ℕ)) (P Q : List (List ℕ) → Type 0) → IfVisible table names P
     → ((contents : List (List ℕ)) → P contents → Q contents) → IfVisible table names Q
@@ -38,9 +37,7 @@ module _ {S : Type 0} (size : ℕ) (faults : S → ℕ) (left : S → Option (Li
   -- each source has left what follows the bytes that it gave
   have-rest : (olds news : List S) (contents : List (List ℕ)) → length news ≡ length olds → all_left left olds ≡ Some contents
       → ((k : ℕ) (d : S) → k < length olds → HasMoved faults left (slice_index_or olds k d) (slice_index_or news k d)) → HaveRest left contents news
-  have-rest [] [] contents long all moved = let H : List (List ℕ) → Type 0 = λ cs. HaveRest left cs [] in subst H (none all) tt where
-    none : {cs : List (List ℕ)} → Some [] ≡ Some cs → [] ≡ cs
-    none e = cc
+  have-rest [] [] contents long all moved = let H : List (List ℕ) → Type 0 = λ cs. HaveRest left cs [] in subst H (no-contents all) tt
   have-rest [] (new ∷ news) contents long all moved = absurd (omega (arith, long))
   have-rest (old ∷ olds) [] contents long all moved = absurd (omega (arith, long))
   have-rest (old ∷ olds) (new ∷ news) contents long all moved =
@@ -55,12 +52,11 @@ module _ {S : Type 0} (size : ℕ) (faults : S → ℕ) (left : S → Option (Li
       )
 
   -- files that were read to their ends have no fault
-  sound : (file : ℕ) (olds news : List S) (contents : List (List ℕ)) → length news ≡ length olds → all_left left olds ≡ Some contents → All (λ source. faults source ≡ 0) olds
+  sound : (file : ℕ) (olds news : List S) (contents : List (List ℕ)) → length news ≡ length olds → all_left left olds ≡ Some contents
+      → All (λ source. faults source ≡ 0) olds
       → ((k : ℕ) (d : S) → k < length olds → reading.IsWhole size faults left (slice_index_or olds k d) (slice_index_or news k d))
       → first_file_fault size faults left file contents news ≡ None
-  sound file [] [] contents long all fresh whole = ap (λ (cs : List (List ℕ)). first_file_fault size faults left file cs []) (none all) where
-    none : {cs : List (List ℕ)} → Some [] ≡ Some cs → cs ≡ []
-    none e = cc
+  sound file [] [] contents long all fresh whole = ap (λ (cs : List (List ℕ)). first_file_fault size faults left file cs []) (sym (no-contents all))
   sound file [] (new ∷ news) contents long all fresh whole = absurd (omega (arith, long))
   sound file (old ∷ olds) [] contents long all fresh whole = absurd (omega (arith, long))
   sound file (old ∷ olds) (new ∷ news) contents long all fresh whole =
@@ -68,10 +64,12 @@ module _ {S : Type 0} (size : ℕ) (faults : S → ℕ) (left : S → Option (Li
       let one = one-whole size faults left file p.0 old new p.2 (fresh 0 old (omega arith)) (whole 0 old (omega arith)) in
       ap (λ (cs : List (List ℕ)). first_file_fault size faults left file cs (new ∷ news)) p.4
       ∙ ap (λ o. option_or o (first_file_fault size faults left (file + 1) p.1 news)) one
-      ∙ sound (file + 1) olds news p.1 (omega (arith, long)) p.3 (λ k d less. fresh (suc k) d (omega (arith, less))) (λ k d less. whole (suc k) d (omega (arith, less)))
+      ∙ sound (file + 1) olds news p.1 (omega (arith, long)) p.3 (λ k d less. fresh (suc k) d (omega (arith, less)))
+      (λ k d less. whole (suc k) d (omega (arith, less)))
 
   -- the file that was stopped behind such files has the first fault
-  first : (file k : ℕ) (olds news : List S) (contents : List (List ℕ)) (fault : FrameFault) → fault ≢ frame.NoMemory → length news ≡ length olds → k < length olds
+  first : (file k : ℕ) (olds news : List S) (contents : List (List ℕ)) (fault : FrameFault) → fault ≢ frame.NoMemory → length news ≡ length olds
+      → k < length olds
       → all_left left olds ≡ Some contents → All (λ source. faults source ≡ 0) olds
       → ((j : ℕ) (d : S) → j < k → reading.IsWhole size faults left (slice_index_or olds j d) (slice_index_or news j d))
       → ((d : S) → reading.IsStopped size faults left (slice_index_or olds k d) (slice_index_or news k d) fault)
@@ -116,18 +114,21 @@ module _ {S : Type 0} (size : ℕ) (faults : S → ℕ) (left : S → Option (Li
   module _ (names : List (List ℕ)) (table : Change (Option Table)) (opens : Change ℕ) (olds news : List S) (long : length news ≡ length olds)
       (come : HaveCome faults left names (record { table = table; opens = opens; sources = olds; read = 0 })) where
     -- what follows from the contents is so where they are visible
-    pub if-got : (Q : List (List ℕ) → Type 0) → ((contents : List (List ℕ)) → all_left left olds ≡ Some contents → Q contents) → IfVisible table.old (take (length news) names) Q
+    pub if-got : (Q : List (List ℕ) → Type 0) → ((contents : List (List ℕ)) → all_left left olds ≡ Some contents → Q contents)
+        → IfVisible table.old (take (length news) names) Q
     if-got Q more =
         let V : ℕ → Type 0 = λ n. IfVisible table.old (take n names) Q in
         subst V (sym long) (visible-weaker table.old (take (length olds) names) _ Q come.unread more)
 
-    next-missed : HasMissed names (record { table = table; opens = opens; sources = olds; read = 0 }) → (read : ℕ) → HasMissed names (record { table = table; opens = opens; sources = news; read = read })
+    next-missed : HasMissed names (record { table = table; opens = opens; sources = olds; read = 0 }) → (read : ℕ)
+        → HasMissed names (record { table = table; opens = opens; sources = news; read = read })
     next-missed m read =
         let M : ℕ → Type 0 = λ n. IfSome table.old (λ files. IsMissing files names (n + 1)) in
         record { rose = m.rose; missing = subst M (sym long) m.missing }
 
     -- where all had come the count of files was kept, and else the next was missed
-    pub kept-of : (all : Bool) → HaveAllCome names (record { table = table; opens = opens; sources = olds; read = 0 }) all → length olds ≡ length names → IsUnchanged opens
+    pub kept-of : (all : Bool) → HaveAllCome names (record { table = table; opens = opens; sources = olds; read = 0 }) all → length olds ≡ length names
+        → IsUnchanged opens
     kept-of true came all = came.1
     kept-of false came all = absurd (omega (arith, came.0, all))
 
@@ -147,7 +148,8 @@ module _ {S : Type 0} (size : ℕ) (faults : S → ℕ) (left : S → Option (Li
           rest = if-got _ (λ contents all. have-rest olds news contents long all moved);
         }
 
-    pub ends-all : ((k : ℕ) (d : S) → k < length olds → reading.IsWhole size faults left (slice_index_or olds k d) (slice_index_or news k d)) → length olds ≡ length names
+    pub ends-all : ((k : ℕ) (d : S) → k < length olds → reading.IsWhole size faults left (slice_index_or olds k d) (slice_index_or news k d))
+        → length olds ≡ length names
         → ReadsOver size faults left names (record { table = table; opens = opens; sources = news; read = 0 }) None
     ends-all whole all = record {
       all = long ∙ all;
@@ -157,7 +159,8 @@ module _ {S : Type 0} (size : ℕ) (faults : S → ℕ) (left : S → Option (Li
       read = refl;
     }
 
-    pub ends-stopped : ((k : ℕ) (d : S) → k < length olds → reading.IsWhole size faults left (slice_index_or olds k d) (slice_index_or news k d)) → length olds < length names
+    pub ends-stopped : ((k : ℕ) (d : S) → k < length olds → reading.IsWhole size faults left (slice_index_or olds k d) (slice_index_or news k d))
+        → length olds < length names
         → HasMissed names (record { table = table; opens = opens; sources = olds; read = 0 })
         → ReadsOver size faults left names (record { table = table; opens = opens; sources = news; read = 0 }) (Some (OpenFault (length olds + 1)))
     ends-stopped whole more m = record {
@@ -191,11 +194,13 @@ module _ {S : Type 0} (size : ℕ) (faults : S → ℕ) (left : S → Option (Li
         }
 
     -- the source of a file, and the one that it was
-    source-at : (file : ℕ) → 0 < file → file ≤ length olds → (P : S → S → Type 0) → ((d : S) → P (slice_index_or olds (file - 1) d) (slice_index_or news (file - 1) d))
+    source-at : (file : ℕ) → 0 < file → file ≤ length olds → (P : S → S → Type 0)
+        → ((d : S) → P (slice_index_or olds (file - 1) d) (slice_index_or news (file - 1) d))
         → (old : S) × (new : S) × (slice_get news (file - 1) ≡ Some new) × ((contents : List (List ℕ)) → all_left left olds ≡ Some contents
         → (content : List ℕ) × (slice_get contents (file - 1) ≡ Some content) × (left old ≡ Some content)) × P old new
     source-at file some within P each = at olds (omega (arith, some, within)) where
-      at : (sources : List S) → 0 < length sources → (old : S) × (new : S) × (slice_get news (file - 1) ≡ Some new) × ((contents : List (List ℕ)) → all_left left olds ≡ Some contents
+      at : (sources : List S) → 0 < length sources
+          → (old : S) × (new : S) × (slice_get news (file - 1) ≡ Some new) × ((contents : List (List ℕ)) → all_left left olds ≡ Some contents
           → (content : List ℕ) × (slice_get contents (file - 1) ≡ Some content) × (left old ≡ Some content)) × P old new
       at [] more = absurd (omega (arith, more))
       at (d ∷ ds) more = (
@@ -208,7 +213,8 @@ module _ {S : Type 0} (size : ℕ) (faults : S → ℕ) (left : S → Option (Li
 
     pub ends-met : (fault : WorkFault) → HasCause size faults left olds news fault
         → (length olds < length names → HasMissed names (record { table = table; opens = opens; sources = olds; read = 0 }))
-        → ReadsOver size faults left names (record { table = table; opens = opens; sources = news; read = bytes_of_large fault }) (Some (fault_of_work size fault))
+        → ReadsOver size faults left names (record { table = table; opens = opens; sources = news; read = bytes_of_large fault })
+        (Some (fault_of_work size fault))
     ends-met (work.Read file) stops missed =
         let at = source-at file stops.first stops.last (λ old new. reading.IsStopped size faults left old new frame.ReadFault) stops.cause in (
           refused 0 file frame.ReadFault (λ e. cc) stops missed,
@@ -223,7 +229,8 @@ module _ {S : Type 0} (size : ℕ) (faults : S → ℕ) (left : S → Option (Li
           refl,
           above.0,
           above.1,
-          if-got _ (λ contents all. let c = at.3 contents all in some-and (slice_get contents (file - 1)) c.0 _ c.1 (long-of size faults left c.0 at.0 at.1 line len c.2 at.4)),
+          if-got _ (λ contents all. let c = at.3 contents all in
+              some-and (slice_get contents (file - 1)) c.0 _ c.1 (long-of size faults left c.0 at.0 at.1 line len c.2 at.4)),
         )
     ends-met (work.TooLarge file bytes) stops missed =
         let at = source-at file stops.first stops.last (λ old new. reading.IsStopped size faults left old new (frame.TooLarge bytes)) stops.cause in
@@ -233,7 +240,8 @@ module _ {S : Type 0} (size : ℕ) (faults : S → ℕ) (left : S → Option (Li
           above.0,
           if-got _ (λ contents all. let c = at.3 contents all in (
             some-and (slice_get contents (file - 1)) c.0 _ c.1 (large-of size faults left c.0 at.0 at.1 bytes c.2 at.4),
-            some-and (slice_get contents (file - 1)) c.0 _ c.1 (some-and (slice_get news (file - 1)) at.1 (λ source. Some (length c.0) ≡ option_map (λ b. bytes + length b) (left source)) at.2
+            some-and (slice_get contents (file - 1)) c.0 _ c.1
+                (some-and (slice_get news (file - 1)) at.1 (λ source. Some (length c.0) ≡ option_map (λ b. bytes + length b) (left source)) at.2
                 (sym (ap (option_map length) c.2) ∙ above.1)),
           )),
         )

@@ -3,7 +3,7 @@
 use Rattle.std.specs.Prelude.{◌≡◌, ◌⊎◌, false, ℕ, ◌+◌, ◌-◌, ◌^◌, ◌<◌, ◌≤◌, List, [], Option, Some, None, IsSome, IfSome, IsSomeAnd, Result, Ok, Err, length, take, slice_get}
 use Rattle.std.specs.List.{All}
 use Rattle.std.specs.Option.{option_map}
-use Rattle.scq_outside.specs.Faults.{Rose}
+use Rattle.scq_outside.specs.Counts.{Rose}
 use Rattle.scq_outside.specs.Table.{Table, without_name}
 use Rattle.scq_frames.specs.Framing.{NothingLeft}
 use Rattle.scq_frames.specs.Trouble.{LongPayload, ManyBytes}
@@ -87,7 +87,8 @@ pub record IsStopped {S : Type 0} (size : ℕ) (faults : S → ℕ) (left : S �
 
 -- this file has the first fault, and those before it were read to their ends; where not all sources were got,
 -- the next one was not
-pub record IsRefused {S : Type 0} (size : ℕ) (faults : S → ℕ) (left : S → Option (List ℕ)) (names : List (List ℕ)) (r : Left S) (file : ℕ) (fault : Fault) : Type 0 where
+pub record IsRefused {S : Type 0} (size : ℕ) (faults : S → ℕ)
+    (left : S → Option (List ℕ)) (names : List (List ℕ)) (r : Left S) (file : ℕ) (fault : Fault) : Type 0 where
   pub first : 0 < file
   pub last : file ≤ length r.sources
   pub stopped : length r.sources < length names → HasMissed names r

@@ -1,5 +1,5 @@
 -- What the program ends with.
-use Rattle.std.specs.Prelude.{ℕ, ◌^◌, List, [], ◌++◌, Option, Some, None, codes, decimal}
+use Rattle.std.specs.Prelude.{ℕ, ◌^◌, List, ◌++◌, Option, Some, None, codes, decimal}
 use Rattle.scq_topics.specs.declared.topics.TopicFault.{TopicFault}
 use Rattle.scq_topics.specs.declared.topics.TopicFault.TheVariants.{TooMany, BadName, BadKind, Twice}
 use Rattle.scq_words.specs.declared.fault.WordsFault.{WordsFault}

@@ -153,13 +153,17 @@ run --topics a=len,b=len,c=len,d=len,e=len,f=len,g=len,h=len,i=len,j=len,k=len,l
 run --topics=-=no f|topics entry 1: bad name
 run --topics a=len,-=no,a=len f|topics entry 2: bad name
 run --topics a=len,a=no f|topics entry 2: bad kind
-run --topics a=len,a=sum f f f f f f f f f f f f f f f f f f f f f f f f f f f f f f f f f f f f f f f f f f f f f f f f f f f f f f f f f f f f f f f f f|topics entry 2: named twice
-run --topics a f f f f f f f f f f f f f f f f f f f f f f f f f f f f f f f f f f f f f f f f f f f f f f f f f f f f f f f f f f f f f f f f f|topics entry 1: bad kind
+run --topics a=len,a=sum f f f f f f f f f f f f f f f f f f f f f f f f f f f f f f f f f f f f f f f f f f f f f f f f f f f f f f f f f f f f f f \
+    f f f|topics entry 2: named twice
+run --topics a f f f f f f f f f f f f f f f f f f f f f f f f f f f f f f f f f f f f f f f f f f f f f f f f f f f f f f f f f f f f f f f f \
+    f|topics entry 1: bad kind
 run f f f f f f f f f f f f f f f f f f f f f f f f f f f f f f f f f f f f f f f f f f f f f f f f f f f f f f f f f f f f f f f f f |more than 64 files
 run  f f f f f f f f f f f f f f f f f f f f f f f f f f f f f f f f f f f f f f f f f f f f f f f f f f f f f f f f f f f f f f f f|more than 64 files
 run --workers 65 |file 1 has no name
-run --order 1 --workers 3 f f f f f f f f f f f f f f f f f f f f f f f f f f f f f f f f f f f f f f f f f f f f f f f f f f f f f f f f f f f f f f f f f|more than 64 files
-run --order 13 f f f f f f f f f f f f f f f f f f f f f f f f f f f f f f f f f f f f f f f f f f f f f f f f f f f f f f f f f f f f f f f f f|order is not in 1..12
+run --order 1 --workers 3 f f f f f f f f f f f f f f f f f f f f f f f f f f f f f f f f f f f f f f f f f f f f f f f f f f f f f f f f f f f f f f \
+    f f f|more than 64 files
+run --order 13 f f f f f f f f f f f f f f f f f f f f f f f f f f f f f f f f f f f f f f f f f f f f f f f f f f f f f f f f f f f f f f f f \
+    f|order is not in 1..12
 run --workers 4097 --order 1 f|workers is not in 1..4096
 self --seed 1 --lines 3|
 self --seed=1 --lines=3|

@@ -77,7 +77,12 @@ pub fn read_files<R: Threads + Sync, F: Files, G: Gate>(
       sources = result.sources.items;
       read = result.read;
     }) result.worked }
-    ensures work { IsWork job.now.topics job.now.order job.now.size job.now.workers result.worked }
+    ensures work { IsWork job.now.topics job.now.order job.now.size job.now.workers F.Src.faults F.Src.left (map string_bytes names.now) (record {
+      table = record { old = F.table files.old; new = F.table files.new };
+      opens = record { old = F.faults files.old; new = F.faults files.new };
+      sources = result.sources.items;
+      read = result.read;
+    }) result.worked }
 {
     let Ok(mut sources) = Vec::with_capacity(alloc, names.len()) else {
         return Outcome::at(Vec::new(alloc), Fault::NoMemory);

@@ -1,5 +1,5 @@
 ghost use Rattle.std.specs.Prelude.{◌≡◌, ◌++◌, codes, decimal, OnOk, OnErr};
-ghost use Rattle.scq_outside.specs.Faults.{Rose};
+ghost use Rattle.scq_outside.specs.Counts.{Rose};
 ghost use Rattle.scq_service.specs.Faults.{entry_line, fault_line, file_line, limit_line, payload_line, seat_line, text_line, topics_line, words_line};
 ghost use Rattle.scq_service.specs.Writing.{written_with, WrotePart};
 
@@ -108,7 +108,8 @@ fn write_limit<K: Sink>(sink: &mut K, len: u64, limit: u32) -> Result<(), Failed
 }
 
 fn write_too_large<K: Sink>(sink: &mut K, file: u32, limit: u64) -> Result<(), Failed>
-    ensures whole { OnOk result (K.written sink.new ≡ written_with (K.written sink.old) (file_line file (codes ": more than ") ++ (decimal limit ++ codes " bytes\n"))) }
+    ensures whole { OnOk result (K.written sink.new
+        ≡ written_with (K.written sink.old) (file_line file (codes ": more than ") ++ (decimal limit ++ codes " bytes\n"))) }
     ensures part { WrotePart (K.written sink.old) (K.written sink.new) (file_line file (codes ": more than ") ++ (decimal limit ++ codes " bytes\n")) }
     ensures kept { OnOk result (K.faults sink.new ≡ K.faults sink.old) }
     ensures rose { OnErr result (Rose (K.faults sink.old) (K.faults sink.new)) }
@@ -123,8 +124,7 @@ fn write_about<K: Sink>(sink: &mut K, file: u32, what: &[u8]) -> Result<(), Fail
     ensures kept { OnOk result (K.faults sink.new ≡ K.faults sink.old) }
     ensures rose { OnErr result (Rose (K.faults sink.old) (K.faults sink.new)) }
 {
-    write_all(sink, b"file ")?;
-    write_count(sink, u64::from(file), what)
+    write_numbered(sink, b"file ", file, what)
 }
 
 fn write_of_line<K: Sink>(sink: &mut K, line: u32, what: &[u8]) -> Result<(), Failed>
@@ -133,8 +133,7 @@ fn write_of_line<K: Sink>(sink: &mut K, line: u32, what: &[u8]) -> Result<(), Fa
     ensures kept { OnOk result (K.faults sink.new ≡ K.faults sink.old) }
     ensures rose { OnErr result (Rose (K.faults sink.old) (K.faults sink.new)) }
 {
-    write_all(sink, b"line ")?;
-    write_count(sink, u64::from(line), what)
+    write_numbered(sink, b"line ", line, what)
 }
 
 fn write_of_seat<K: Sink>(sink: &mut K, seat: u32, what: &[u8]) -> Result<(), Failed>
@@ -143,8 +142,7 @@ fn write_of_seat<K: Sink>(sink: &mut K, seat: u32, what: &[u8]) -> Result<(), Fa
     ensures kept { OnOk result (K.faults sink.new ≡ K.faults sink.old) }
     ensures rose { OnErr result (Rose (K.faults sink.old) (K.faults sink.new)) }
 {
-    write_all(sink, b"seat ")?;
-    write_count(sink, u64::from(seat), what)
+    write_numbered(sink, b"seat ", seat, what)
 }
 
 fn write_entry<K: Sink>(sink: &mut K, at: u32, what: &[u8]) -> Result<(), Failed>
@@ -153,8 +151,23 @@ fn write_entry<K: Sink>(sink: &mut K, at: u32, what: &[u8]) -> Result<(), Failed
     ensures kept { OnOk result (K.faults sink.new ≡ K.faults sink.old) }
     ensures rose { OnErr result (Rose (K.faults sink.old) (K.faults sink.new)) }
 {
-    write_all(sink, b"topics entry ")?;
-    write_count(sink, u64::from(at), what)
+    write_numbered(sink, b"topics entry ", at, what)
+}
+
+/// Writes a name, a number, and what follows it.
+fn write_numbered<K: Sink>(
+    sink: &mut K,
+    name: &[u8],
+    number: u32,
+    what: &[u8],
+) -> Result<(), Failed>
+    ensures whole { OnOk result (K.written sink.new ≡ written_with (K.written sink.old) (name.now ++ (decimal number ++ what.now))) }
+    ensures part { WrotePart (K.written sink.old) (K.written sink.new) (name.now ++ (decimal number ++ what.now)) }
+    ensures kept { OnOk result (K.faults sink.new ≡ K.faults sink.old) }
+    ensures rose { OnErr result (Rose (K.faults sink.old) (K.faults sink.new)) }
+{
+    write_all(sink, name)?;
+    write_count(sink, u64::from(number), what)
 }
 
 fn write_count<K: Sink>(sink: &mut K, count: u64, what: &[u8]) -> Result<(), Failed>

@@ -41,7 +41,10 @@ pub fn run_files<R: Threads + Sync, F: Files, K: Sink, G: Gate>(
           sources = result.sources.items;
           read = result.read;
         })
-        (record { written = record { old = K.written out.old; new = K.written out.new }; faults = record { old = K.faults out.old; new = K.faults out.new } }) result.fault }
+        (record {
+          written = record { old = K.written out.old; new = K.written out.new };
+          faults = record { old = K.faults out.old; new = K.faults out.new };
+        }) result.fault }
     ensures status { result.status ≡ status_of result.fault }
     ensures worked { WorkedAt result.fault result.worked }
     ensures told { IsWorkOf job.now.topics job.now.order job.now.size job.now.workers (map string_bytes names.now) (record {
@@ -50,7 +53,12 @@ pub fn run_files<R: Threads + Sync, F: Files, K: Sink, G: Gate>(
       sources = result.sources.items;
       read = result.read;
     }) result.worked }
-    ensures work { IsWork job.now.topics job.now.order job.now.size job.now.workers result.worked }
+    ensures work { IsWork job.now.topics job.now.order job.now.size job.now.workers F.Src.faults F.Src.left (map string_bytes names.now) (record {
+      table = record { old = F.table files.old; new = F.table files.new };
+      opens = record { old = F.faults files.old; new = F.faults files.new };
+      sources = result.sources.items;
+      read = result.read;
+    }) result.worked }
 {
     let outcome = read_files(rt, alloc, job, names, files, gate);
     let text = match &outcome.worked {

@@ -1,5 +1,5 @@
 ghost use Rattle.std.specs.Prelude.{◌≡◌, ◌⊎◌, Ok, None, Some, map, string_bytes};
-ghost use Rattle.scq_outside.specs.Faults.{Rose};
+ghost use Rattle.scq_outside.specs.Counts.{Rose};
 ghost use Rattle.scq_words.specs.Asked.{asked, generated, run, whole, RunAsked, SelfAsked, TextAsked};
 ghost use Rattle.scq_service.specs.Answers.{WorkedAs};
 ghost use Rattle.scq_service.specs.Ends.{EndsAs, IsCalm, IsCalmText, IsOfTextAlone};
@@ -44,10 +44,14 @@ pub fn serve<R: Threads + Sync, F: Files, K: Sink, G: Gate>(
           sources = result.sources.items;
           read = result.read;
         })
-        (record { written = record { old = K.written out.old; new = K.written out.new }; faults = record { old = K.faults out.old; new = K.faults out.new } }) result.fault }
+        (record {
+          written = record { old = K.written out.old; new = K.written out.new };
+          faults = record { old = K.faults out.old; new = K.faults out.new };
+        }) result.fault }
 
-    // What workers answered is there exactly where the text of it was whole, and is what one thread answers.
-    ensures worked { WorkedAs (asked (map string_bytes words.now))
+    // What workers answered is there exactly where the text of it was whole. It answers such messages as `IsWork` says, which are those
+    // of the contents where these are visible.
+    ensures worked { WorkedAs F.Src.faults F.Src.left (asked (map string_bytes words.now))
         (record {
           table = record { old = F.table files.old; new = F.table files.new };
           opens = record { old = F.faults files.old; new = F.faults files.new };
@@ -86,7 +90,8 @@ pub fn serve<R: Threads + Sync, F: Files, K: Sink, G: Gate>(
     // Err has the fault's line, or at status 0 the lines of the workers where they are asked for: whole where it didn't fail.
     ensures reported { Rose (K.faults err.old) (K.faults err.new)
         ⊎ (K.written err.new ≡ written_with (K.written err.old) (reported (asks_report (asked (map string_bytes words.now))) result.fault result.worked)) }
-    ensures reported_front { WrotePart (K.written err.old) (K.written err.new) (reported (asks_report (asked (map string_bytes words.now))) result.fault result.worked) }
+    ensures reported_front { WrotePart (K.written err.old) (K.written err.new)
+        (reported (asks_report (asked (map string_bytes words.now))) result.fault result.worked) }
 {
     let Ran { outcome, report } = run(rt, alloc, words, files, out, gate);
     report_run(err, &outcome.fault, &outcome.worked, report);
@@ -132,8 +137,11 @@ fn run<R: Threads + Sync, F: Files, K: Sink, G: Gate>(
           sources = result.outcome.sources.items;
           read = result.outcome.read;
         })
-        (record { written = record { old = K.written out.old; new = K.written out.new }; faults = record { old = K.faults out.old; new = K.faults out.new } }) result.outcome.fault }
-    ensures worked { WorkedAs (asked (map string_bytes words.now))
+        (record {
+          written = record { old = K.written out.old; new = K.written out.new };
+          faults = record { old = K.faults out.old; new = K.faults out.new };
+        }) result.outcome.fault }
+    ensures worked { WorkedAs F.Src.faults F.Src.left (asked (map string_bytes words.now))
         (record {
           table = record { old = F.table files.old; new = F.table files.new };
           opens = record { old = F.faults files.old; new = F.faults files.new };

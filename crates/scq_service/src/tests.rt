@@ -57,7 +57,8 @@ pub(crate) static WORKED: [Row; 16] = [
         "run --topics h=sha256 f",
         "f:h abc\nh\n",
         0,
-        "1:1 h ba7816bf8f01cfea414140de5dae2223b00361a396177a9cb410ff61f20015ad\n1:2 h e3b0c44298fc1c149afbf4c8996fb92427ae41e4649b934ca495991b7852b855\ntotal h 2 3\ntotal - 0 0\n",
+        "1:1 h ba7816bf8f01cfea414140de5dae2223b00361a396177a9cb410ff61f20015ad\n1:2 h e3b0c44298fc1c149afbf4c8996fb92427ae41e4649b934ca495991b7852b855\n\
+         total h 2 3\ntotal - 0 0\n",
         "",
     ),
     (
@@ -348,7 +349,8 @@ fn want_of_memory_is_reported(rt: HostRuntime) -> Result<(), Fail> {
         (
             "self --seed 1 --lines 1",
             "",
-            "lines 1\ntotal l 1 12\ntotal w 0 0\ntotal s 0 0\ntotal h 0 0\ntotal e 0 0\ntotal - 0 0\ndigest 573556eb523665d194f6ec3c54b3294c59e7e1a3b37b2d1966fe0802c179cbab\n",
+            "lines 1\ntotal l 1 12\ntotal w 0 0\ntotal s 0 0\ntotal h 0 0\ntotal e 0 0\ntotal - 0 0\n\
+             digest 573556eb523665d194f6ec3c54b3294c59e7e1a3b37b2d1966fe0802c179cbab\n",
         ),
     ];
     for (words, files, output) in rows {

@@ -97,7 +97,8 @@ static ROWS: [Row; 28] = [
         "replay f",
         "f:setup 1 2 1 1000\n0 D1 0\n0 D2\n0 D3\n0 D4\n",
         0,
-        "1 0 D1 ring 0 head 4 tail 6 threshold 5 entries 12 13 7 7\n2 0 D2 ring 0 head 5 tail 6 threshold 5 entries 12 13 7 7\n3 0 D3 ring 0 head 5 tail 6 threshold 5 entries 12 13 7 7\n4 0 D4 ring 0 head 5 tail 6 threshold 5 entries 15 13 7 7 got 4 -\n",
+        "1 0 D1 ring 0 head 4 tail 6 threshold 5 entries 12 13 7 7\n2 0 D2 ring 0 head 5 tail 6 threshold 5 entries 12 13 7 7\n\
+         3 0 D3 ring 0 head 5 tail 6 threshold 5 entries 12 13 7 7\n4 0 D4 ring 0 head 5 tail 6 threshold 5 entries 15 13 7 7 got 4 -\n",
         "",
     ),
     (

@@ -33,7 +33,10 @@ pub fn run_text<F: Files, K: Sink>(
       sources = result.sources.items;
       read = result.read;
     })
-        (record { written = record { old = K.written out.old; new = K.written out.new }; faults = record { old = K.faults out.old; new = K.faults out.new } }) result.fault }
+        (record {
+          written = record { old = K.written out.old; new = K.written out.new };
+          faults = record { old = K.faults out.old; new = K.faults out.new };
+        }) result.fault }
     ensures worked { result.worked ≡ None }
 {
     match read_one(alloc, name, files) {

@@ -1,5 +1,5 @@
 ghost use Rattle.std.specs.Prelude.{◌≡◌, ◌⊎◌, ◌≤◌, ◌++◌, decimal, sum_by, OnOk, OnErr};
-ghost use Rattle.scq_outside.specs.Faults.{Rose};
+ghost use Rattle.scq_outside.specs.Counts.{Rose};
 ghost use Rattle.scq_service.specs.Reports.{counts_line, report_lines, reported, worker_line};
 ghost use Rattle.scq_service.specs.Writing.{written_with, WrotePart};
 
@@ -38,7 +38,8 @@ pub fn report_workers<K: Sink>(sink: &mut K, counts: &[Counts]) -> Result<(), Fa
 /// Reports how a run ended: its fault, where it has one, or else what the workers did, where that is asked for. Nothing depends on
 /// whether the sink takes it.
 pub fn report_run<K: Sink>(sink: &mut K, fault: &Option<Fault>, worked: &Option<Worked>, asks: bool)
-    ensures reported { Rose (K.faults sink.old) (K.faults sink.new) ⊎ (K.written sink.new ≡ written_with (K.written sink.old) (reported asks fault.now worked.now)) }
+    ensures reported { Rose (K.faults sink.old) (K.faults sink.new)
+        ⊎ (K.written sink.new ≡ written_with (K.written sink.old) (reported asks fault.now worked.now)) }
     ensures front { WrotePart (K.written sink.old) (K.written sink.new) (reported asks fault.now worked.now) }
 {
     if let Some(fault) = fault {

@@ -15,49 +15,56 @@ static GENERATED: [Row; 7] = [
         "self --seed 1 --lines 3",
         "f:x 1\n",
         0,
-        "lines 3\ntotal l 2 23\ntotal w 0 0\ntotal s 0 0\ntotal h 0 0\ntotal e 1 11\ntotal - 0 0\ndigest 1411b7cc7ac532f181794fd37e7dff97758666d827b9e5d502254f4257992583\n",
+        "lines 3\ntotal l 2 23\ntotal w 0 0\ntotal s 0 0\ntotal h 0 0\ntotal e 1 11\ntotal - 0 0\n\
+         digest 1411b7cc7ac532f181794fd37e7dff97758666d827b9e5d502254f4257992583\n",
         "",
     ),
     (
         "self --seed 0 --lines 1",
         "f:x 1\n",
         0,
-        "lines 1\ntotal l 1 7\ntotal w 0 0\ntotal s 0 0\ntotal h 0 0\ntotal e 0 0\ntotal - 0 0\ndigest 2e3235fe8a79bb9fa86f690a2b1f4bcbf29c122bceb637f8ee62cc60d512faea\n",
+        "lines 1\ntotal l 1 7\ntotal w 0 0\ntotal s 0 0\ntotal h 0 0\ntotal e 0 0\ntotal - 0 0\n\
+         digest 2e3235fe8a79bb9fa86f690a2b1f4bcbf29c122bceb637f8ee62cc60d512faea\n",
         "",
     ),
     (
         "self --seed 0 --lines 1000",
         "f:x 1\n",
         0,
-        "lines 1000\ntotal l 216 2879\ntotal w 199 2665\ntotal s 212 2812\ntotal h 185 2462\ntotal e 188 2534\ntotal - 0 0\ndigest e4eeb318928a7cc92a1e4c1e6ab2f4de124a540f80049a4265b20968792ea550\n",
+        "lines 1000\ntotal l 216 2879\ntotal w 199 2665\ntotal s 212 2812\ntotal h 185 2462\ntotal e 188 2534\ntotal - 0 0\n\
+         digest e4eeb318928a7cc92a1e4c1e6ab2f4de124a540f80049a4265b20968792ea550\n",
         "",
     ),
     (
         "self --seed 1 --lines 1",
         "f:x 1\n",
         0,
-        "lines 1\ntotal l 1 12\ntotal w 0 0\ntotal s 0 0\ntotal h 0 0\ntotal e 0 0\ntotal - 0 0\ndigest 573556eb523665d194f6ec3c54b3294c59e7e1a3b37b2d1966fe0802c179cbab\n",
+        "lines 1\ntotal l 1 12\ntotal w 0 0\ntotal s 0 0\ntotal h 0 0\ntotal e 0 0\ntotal - 0 0\n\
+         digest 573556eb523665d194f6ec3c54b3294c59e7e1a3b37b2d1966fe0802c179cbab\n",
         "",
     ),
     (
         "self --seed 1 --lines 1000",
         "f:x 1\n",
         0,
-        "lines 1000\ntotal l 207 2777\ntotal w 199 2668\ntotal s 208 2792\ntotal h 205 2752\ntotal e 181 2404\ntotal - 0 0\ndigest 18f88ab56f60e4d76464ec210be9694684147cd3d0514d86aa4239fec882b616\n",
+        "lines 1000\ntotal l 207 2777\ntotal w 199 2668\ntotal s 208 2792\ntotal h 205 2752\ntotal e 181 2404\ntotal - 0 0\n\
+         digest 18f88ab56f60e4d76464ec210be9694684147cd3d0514d86aa4239fec882b616\n",
         "",
     ),
     (
         "self --seed 2147483647 --lines 1",
         "f:x 1\n",
         0,
-        "lines 1\ntotal l 0 0\ntotal w 0 0\ntotal s 0 0\ntotal h 1 12\ntotal e 0 0\ntotal - 0 0\ndigest 006095aad6dad9386ff6c2d55c0a64570fd33fadde61e83a166420e333e36588\n",
+        "lines 1\ntotal l 0 0\ntotal w 0 0\ntotal s 0 0\ntotal h 1 12\ntotal e 0 0\ntotal - 0 0\n\
+         digest 006095aad6dad9386ff6c2d55c0a64570fd33fadde61e83a166420e333e36588\n",
         "",
     ),
     (
         "self --seed 2147483647 --lines 1000",
         "f:x 1\n",
         0,
-        "lines 1000\ntotal l 181 2419\ntotal w 199 2643\ntotal s 207 2783\ntotal h 201 2688\ntotal e 212 2828\ntotal - 0 0\ndigest 01ca328024c1b2035be2a1009d6bf045bad1d173046f137d428662cdba5690bd\n",
+        "lines 1000\ntotal l 181 2419\ntotal w 199 2643\ntotal s 207 2783\ntotal h 201 2688\ntotal e 212 2828\ntotal - 0 0\n\
+         digest 01ca328024c1b2035be2a1009d6bf045bad1d173046f137d428662cdba5690bd\n",
         "",
     ),
 ];

@@ -1,5 +1,5 @@
 ghost use Rattle.std.specs.Prelude.{◌≡◌, OnOk, OnErr};
-ghost use Rattle.scq_outside.specs.Faults.{Rose};
+ghost use Rattle.scq_outside.specs.Counts.{Rose};
 ghost use Rattle.scq_service.specs.Writing.{written_with, WrotePart};
 
 use scq_outside::{Failed, Sink};

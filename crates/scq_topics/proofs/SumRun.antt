@@ -187,9 +187,11 @@ has_bytes-longer (first ∷ token) part byte = refl
 plus-not_going_on : (sum : ℕ) (token : List ℕ) (byte : ℕ) (parts : List (List ℕ)) → IsBegun token → goes_on token byte ≡ false
     → plus_numbers sum (filter has_bytes (onto (token ++ byte ∷ []) parts)) ≡ None
 plus-not_going_on sum token byte [] t e =
-    rw (has_bytes-longer token [] byte) (plus-refused is_number (digits_value 10) (2 ^ 64) sum ((token ++ byte ∷ []) ++ []) [] (is_number-refused token [] byte t e))
+    rw (has_bytes-longer token [] byte) (plus-refused is_number (digits_value 10) (2 ^ 64) sum ((token ++ byte ∷ []) ++ []) []
+    (is_number-refused token [] byte t e))
 plus-not_going_on sum token byte (part ∷ parts) t e =
-    rw (has_bytes-longer token part byte) (plus-refused is_number (digits_value 10) (2 ^ 64) sum ((token ++ byte ∷ []) ++ part) (filter has_bytes parts) (is_number-refused token part byte t e))
+    rw (has_bytes-longer token part byte) (plus-refused is_number (digits_value 10) (2 ^ 64) sum ((token ++ byte ∷ []) ++ part) (filter has_bytes parts)
+    (is_number-refused token part byte t e))
 
 -- a token that ends: it is added
 plus-ended : (sum : ℕ) (token : List ℕ) (parts : List (List ℕ)) → IsBegun token

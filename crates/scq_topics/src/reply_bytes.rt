@@ -1,4 +1,4 @@
-ghost use Rattle.std.specs.Prelude.{◌≡◌, ℕ, List, IfOk};
+ghost use Rattle.std.specs.Prelude.{◌≡◌, ◌≤◌, ℕ, List, length, IsOk, IfOk};
 
 use scq_word::NoMemory;
 use smallvec::SmallVec;
@@ -24,7 +24,8 @@ impl Model for ReplyBytes {
 impl ReplyBytes {
     /// A copy, in one allocation of just this length where it has more than 16 bytes.
     pub fn copy_of(alloc: Global, from: &[u8]) -> Result<ReplyBytes, NoMemory>
-        ensures { IfOk result (λ copy. copy ≡ from.now) }
+        ensures copied { IfOk result (λ copy. copy ≡ from.now) }
+        ensures short { length from.now ≤ 16 → IsOk result }
     {
         Ok(ReplyBytes {
             bytes: SmallVec::from_slice(alloc, from)?,

@@ -3,13 +3,13 @@ use Rattle.std.proofs.Common.{◌≡◌, ◌∙◌, refl, sym, ap, ℕ, List, []
 use Rattle.std.specs.Prelude.{◌≢◌, IsErrOf, unwrap_or, option_map}
 use Rattle.std.specs.Result.{IsErrAnd}
 use Rattle.std.specs.Option.{option_or}
-use Rattle.clap.specs.Words.{Row, all_of, first_of, first_value, matched_of, matches_of, raw_values, rows_of}
+use Rattle.clap.specs.Words.{App, Row, all_of, first_of, first_value, matched_of, matches_of, raw_values, rows_of, takes}
 use Rattle.clap.specs.declared.parser.matches.Found.{Found}
 use Rattle.clap.proofs.WalkLemmas.{first_value-rows, raw_values-rows}
 use Rattle.scq_words.specs.Commands.{run_app, self_app, text_app}
 use Rattle.scq_words.specs.Asked.{Asked, RunTexts, SelfTexts, answered_by, asked_of_run, asked_of_self, asked_of_text, is_given, refused_names, text_command, text_file, whole, with_flag, first_of_tests, generated, refused_by_clap, run, run_asked, run_tests, run_texts, self_asked, self_tests, self_texts, texts_of_run, texts_of_self}
 use Rattle.scq_words.specs.declared.fault.WordsFault.{WordsFault}
-use Rattle.scq_words.specs.declared.fault.WordsFault.TheVariants.{NoName}
+use Rattle.scq_words.specs.declared.fault.WordsFault.TheVariants.{NoName, NotUnderstood}
 use Rattle.scq_words.specs.declared.text_request.TextCommand.{TextCommand}
 use Rattle.scq_words.specs.declared.fault.WordsError.{WordsError}
 use Rattle.scq_words.specs.declared.fault.WordsError.TheVariants.{Refused, NoMemory}
@@ -18,12 +18,14 @@ use Rattle.scq_words.specs.declared.fault.WordsError.TheVariants.{Refused, NoMem
 text-same : (f : Found) (rows : List Row) (name : List ℕ) (text : Option (List ℕ)) → rows_of f ≡ rows → text ≡ first_value f name → text ≡ first_of name rows
 text-same f rows name text same got = got ∙ first_value-rows f name ∙ ap (first_of name) same
 
-files-same : (f : Found) (rows : List Row) (name : List ℕ) (files : Option (List (List ℕ))) → rows_of f ≡ rows → files ≡ option_map raw_values (matched_of f name)
+files-same : (f : Found) (rows : List Row) (name : List ℕ) (files : Option (List (List ℕ))) → rows_of f ≡ rows
+    → files ≡ option_map raw_values (matched_of f name)
     → unwrap_or files [] ≡ unwrap_or (all_of name rows) []
 files-same f rows name files same got = ap (λ o. unwrap_or o []) (got ∙ raw_values-rows f name ∙ ap (all_of name) same)
 
 pub run-texts : (f : Found) (rows : List Row) (workers order size topics report : Option (List ℕ)) (files : Option (List (List ℕ))) → rows_of f ≡ rows
-    → workers ≡ first_value f (codes "workers") → order ≡ first_value f (codes "order") → size ≡ first_value f (codes "size") → topics ≡ first_value f (codes "topics") → report ≡ first_value f (codes "report")
+    → workers ≡ first_value f (codes "workers") → order ≡ first_value f (codes "order") → size ≡ first_value f (codes "size")
+    → topics ≡ first_value f (codes "topics") → report ≡ first_value f (codes "report")
     → files ≡ option_map raw_values (matched_of f (codes "files")) → texts_of_run workers order size topics report (unwrap_or files []) ≡ run_texts rows
 run-texts f rows workers order size topics report files same w o s t r fs =
     let ew = text-same f rows (codes "workers") workers same w in
@@ -44,17 +46,20 @@ self-texts f rows seed lines workers same s l w =
     λ i. texts_of_self (es i) (el i) (ew i)
 
 -- `clap` takes the words, and then the tests decide
-after_clap : (clap rest : Option WordsFault) (what : Asked) (said : Result Asked WordsFault) → clap ≡ None → answered_by rest what ≡ said → answered_by (option_or clap rest) what ≡ said
+after_clap : (clap rest : Option WordsFault) (what : Asked) (said : Result Asked WordsFault) → clap ≡ None → answered_by rest what ≡ said
+    → answered_by (option_or clap rest) what ≡ said
 after_clap clap rest what said passes is = ap (λ test. answered_by (option_or test rest) what) passes ∙ is
 
-pub run-answer : (words : List (List ℕ)) (t : RunTexts) (said : Result Asked WordsFault) → refused_by_clap run_app words ≡ None → t ≡ run_texts (matches_of run_app words)
+pub run-answer : (words : List (List ℕ)) (t : RunTexts) (said : Result Asked WordsFault) → refused_by_clap run_app words ≡ None
+    → t ≡ run_texts (matches_of run_app words)
     → answered_by (first_of_tests (run_tests t)) (run (run_asked t)) ≡ said → asked_of_run words ≡ said
 unfolding asked_of_run
 run-answer words t said passes is answer =
     after_clap (refused_by_clap run_app words) _ _ said passes
     (ap (λ (t : RunTexts). answered_by (first_of_tests (run_tests t)) (run (run_asked t))) (sym is) ∙ answer)
 
-pub self-answer : (words : List (List ℕ)) (t : SelfTexts) (said : Result Asked WordsFault) → refused_by_clap self_app words ≡ None → t ≡ self_texts (matches_of self_app words)
+pub self-answer : (words : List (List ℕ)) (t : SelfTexts) (said : Result Asked WordsFault) → refused_by_clap self_app words ≡ None
+    → t ≡ self_texts (matches_of self_app words)
     → answered_by (first_of_tests (self_tests t)) (generated (self_asked t)) ≡ said → asked_of_self words ≡ said
 unfolding asked_of_self
 self-answer words t said passes is answer =
@@ -79,7 +84,8 @@ asked-refused-self words fault refused =
     let t = self_texts (matches_of self_app words) in
     ap (λ test. answered_by (option_or test (first_of_tests (self_tests t))) (generated (self_asked t))) refused
 
-pub file-text : (f : Found) (rows : List Row) (file : Option (List ℕ)) → rows_of f ≡ rows → file ≡ first_value f (codes "file") → unwrap_or file [] ≡ text_file rows
+pub file-text : (f : Found) (rows : List Row) (file : Option (List ℕ)) → rows_of f ≡ rows → file ≡ first_value f (codes "file")
+    → unwrap_or file [] ≡ text_file rows
 file-text f rows file same got = ap (λ o. unwrap_or o []) (text-same f rows (codes "file") file same got)
 
 -- the flag of `replay`
@@ -99,7 +105,8 @@ text-answer command asks words file said passes is flag answer =
     ∙ ap (λ (asks : TextCommand). answered_by (first_of_tests (refused_names (file ∷ []) ∷ [])) (whole (record { command = asks; file = file }))) (sym flag)
     ∙ answer)
 
-pub asked-refused-text : (command : TextCommand) (words : List (List ℕ)) (fault : WordsFault) → refused_by_clap (text_app command) words ≡ Some fault → asked_of_text command words ≡ Err fault
+pub asked-refused-text : (command : TextCommand) (words : List (List ℕ)) (fault : WordsFault) → refused_by_clap (text_app command) words ≡ Some fault
+    → asked_of_text command words ≡ Err fault
 unfolding asked_of_text
 asked-refused-text command words fault refused =
     let rows = matches_of (text_app command) words in
@@ -118,13 +125,22 @@ pub name-there : (name : List ℕ) → eqb (length name) 0 ≡ false → first_o
 name-there name is = rw is refl
 
 -- an error that `?` hands on
-pub handed-on : {T E : Type 0} (r : Result T E) (e f : E) → IsErrAnd r (λ passed. passed ≡ e) → IsErrOf r f → e ≡ f
+handed-on : {T E : Type 0} (r : Result T E) (e f : E) → IsErrAnd r (λ passed. passed ≡ e) → IsErrOf r f → e ≡ f
 handed-on (Ok x) e f passed is = absurd passed
 handed-on (Err x) e f passed is = let same : x ≡ f = cc in sym passed ∙ same
 
 -- want of memory is no fault of the words
-pub refused-some : (e : WordsError) (fault : WordsFault) → e ≡ Refused fault → e ≢ NoMemory
+refused-some : (e : WordsError) (fault : WordsFault) → e ≡ Refused fault → e ≢ NoMemory
 refused-some e fault is = λ memory. cc
 
-pub refused-same : {fault other : WordsFault} → Refused fault ≡ Refused other → fault ≡ other
+refused-same : {fault other : WordsFault} → Refused fault ≡ Refused other → fault ≡ other
 refused-same e = cc
+
+-- the fault that `?` hands on from `clap` is that of the words
+pub refused-on : {T : Type 0} (app : App) (words : List (List ℕ)) (result : Result T WordsError) (error : WordsError) (fault : WordsFault)
+    → (error ≢ NoMemory → (error ≡ Refused NotUnderstood) × (refused_by_clap app words ≡ Some NotUnderstood) × (takes app words ≡ false))
+    → IsErrAnd result (λ passed. passed ≡ error) → IsErrOf result (Refused fault) → refused_by_clap app words ≡ Some fault
+refused-on app words result error fault said passed is =
+    let same = handed-on result error (Refused fault) passed is in
+    let why = said (refused-some error fault same) in
+    why.1 ∙ ap Some (refused-same (sym why.0 ∙ same))

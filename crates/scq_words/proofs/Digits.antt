@@ -18,7 +18,8 @@ all-digits [] = refl
 all-digits (b ∷ bs) = ap (λ rest. is_ascii_digit b && rest) (all-digits bs)
 
 -- a text that is too long, or has something else
-pub number-none : (bytes : List ℕ) (few digits : Bool) → leb (length bytes) 10 ≡ few → all_ascii_digits bytes ≡ digits → (few && digits) ≡ false → number_in bytes ≡ None
+pub number-none : (bytes : List ℕ) (few digits : Bool) → leb (length bytes) 10 ≡ few → all_ascii_digits bytes ≡ digits → (few && digits) ≡ false
+    → number_in bytes ≡ None
 number-none bytes few digits is all none =
     ap (λ b. cond (ltb 0 (length bytes) && b && all_ascii_digits bytes) (Some (digits_value 10 bytes)) None) is
     ∙ ap (λ b. cond (ltb 0 (length bytes) && few && b) (Some (digits_value 10 bytes)) None) all
@@ -46,7 +47,8 @@ none_or_some : (n : ℕ) → (n ≡ 0) ⊎ (0 < n)
 none_or_some zero = inl refl
 none_or_some (suc n) = inr (omega arith)
 
-pub number-parsed : {E : Type 0} (bytes : List ℕ) (r : Result ℕ E) → ParsesUnsigned 64 10 bytes r → all_ascii_digits bytes ≡ true → length bytes ≤ 10 → result_ok r ≡ number_in bytes
+pub number-parsed : {E : Type 0} (bytes : List ℕ) (r : Result ℕ E) → ParsesUnsigned 64 10 bytes r → all_ascii_digits bytes ≡ true → length bytes ≤ 10
+    → result_ok r ≡ number_in bytes
 number-parsed {E = E} bytes r parses all few =
     let own = numerals_by_value (λ ds. all_ascii_digits ds ≡ true) tells_all_ascii_digits in
     at r (parse_digits own 64 bytes r parses all)

@@ -20,11 +20,13 @@ row-one : asked (codes "run" ∷ codes "f" ∷ []) ≡ Ok (run (record { workers
 unfolding asked_of_run walk_fault walked defaults_fault
 row-one = refl
 
-row-two : asked (codes "run" ∷ codes "f" ∷ codes "g" ∷ []) ≡ Ok (run (record { workers = 4; order = 6; size = 65536; topics = []; report = false; files = codes "f" ∷ codes "g" ∷ [] }))
+row-two : asked (codes "run" ∷ codes "f" ∷ codes "g" ∷ [])
+    ≡ Ok (run (record { workers = 4; order = 6; size = 65536; topics = []; report = false; files = codes "f" ∷ codes "g" ∷ [] }))
 unfolding asked_of_run walk_fault walked defaults_fault
 row-two = refl
 
-row-report : asked (codes "run" ∷ codes "--report" ∷ codes "f" ∷ []) ≡ Ok (run (record { workers = 4; order = 6; size = 65536; topics = []; report = true; files = codes "f" ∷ [] }))
+row-report : asked (codes "run" ∷ codes "--report" ∷ codes "f" ∷ [])
+    ≡ Ok (run (record { workers = 4; order = 6; size = 65536; topics = []; report = true; files = codes "f" ∷ [] }))
 unfolding asked_of_run walk_fault walked defaults_fault
 row-report = refl
 

@@ -44,9 +44,11 @@ fn check_run(
     report: Option<&str>,
     files: &[&str],
 ) -> Result<RunRequest, WordsError>
-    ensures request { let texts = texts_of_run (text_in workers.entry) (text_in order.entry) (text_in size.entry) (text_in topics.entry) (text_in report.entry) (map (λ name. name.now) files.now) in
+    ensures request { let texts = texts_of_run (text_in workers.entry) (text_in order.entry) (text_in size.entry) (text_in topics.entry)
+        (text_in report.entry) (map (λ name. name.now) files.now) in
         IfOk result (λ request. (first_of_tests (run_tests texts) ≡ None) × (run_asked texts ≡ run_of request)) }
-    ensures refused { let texts = texts_of_run (text_in workers.entry) (text_in order.entry) (text_in size.entry) (text_in topics.entry) (text_in report.entry) (map (λ name. name.now) files.now) in
+    ensures refused { let texts = texts_of_run (text_in workers.entry) (text_in order.entry) (text_in size.entry) (text_in topics.entry)
+        (text_in report.entry) (map (λ name. name.now) files.now) in
         (fault : TheFault) → IsErrOf result (WordsError.Refused fault) → first_of_tests (run_tests texts) ≡ Some fault }
     ensures ranges { IfOk result (λ request. IsRunInRange (run_of request)) }
 {

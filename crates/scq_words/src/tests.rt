@@ -194,7 +194,8 @@ static PAIRS: [(&str, &str); 21] = [
     ),
     ("run --topics a=len,a=no f", "topics entry 2: bad kind"),
     (
-        "run --topics a=len,a=sum f f f f f f f f f f f f f f f f f f f f f f f f f f f f f f f f f f f f f f f f f f f f f f f f f f f f f f f f f f f f f f f f f",
+        "run --topics a=len,a=sum f f f f f f f f f f f f f f f f f f f f f f f f f f f f f f f f f f f f f f f f f f f f f f f f f f f f f f f f f f f f f \
+         f f f f",
         "topics entry 2: named twice",
     ),
     (
@@ -211,7 +212,8 @@ static PAIRS: [(&str, &str); 21] = [
     ),
     ("run --workers 65 ", "file 1 has no name"),
     (
-        "run --order 1 --workers 3 f f f f f f f f f f f f f f f f f f f f f f f f f f f f f f f f f f f f f f f f f f f f f f f f f f f f f f f f f f f f f f f f f",
+        "run --order 1 --workers 3 f f f f f f f f f f f f f f f f f f f f f f f f f f f f f f f f f f f f f f f f f f f f f f f f f f f f f f f f f f f f f \
+         f f f f",
         "more than 64 files",
     ),
     (

@@ -14,11 +14,11 @@ use Rattle.scq_frames.proofs.EncodedLemmas.{message_at-again}
 use Rattle.scq_collect.specs.Output.{Answer, without_way}
 use Rattle.scq_collect.specs.Collected.{answer_of}
 use Rattle.scq_collect.specs.declared.answered.Answered.{Answered}
+use Rattle.scq_collect.proofs.Orders.{contains-first, contains-more}
 use Rattle.scq_queue.specs.Lists.{Placed}
 use Rattle.scq_work.specs.Members.{AnswersTake, AnswersSoFar, none, and_answered, and_passed_over}
-use Rattle.scq_work.specs.Passing.{ArePassedOn, Sends, AnswersDirectly}
+use Rattle.scq_work.specs.Passing.{ArePassedOn, Sends}
 use Rattle.scq_work.specs.Passing as passing
-use Rattle.scq_work.proofs.Distinct.{contains-front, contains-behind}
 
 -- the answer to the message that bytes begin with; where there is none, to one without bytes
 abbrev pub answer_at : List (List ℕ × Kind) → Placed → Answer
@@ -44,13 +44,14 @@ pub together : {W A : Type 0} (f g h : W → List A) (ws : List W) → ((w : W) 
     → IsPermutation (flat_map f ws) (flat_map g ws ++ flat_map h ws)
 together f g h [] each = IsPermutation-refl []
 together f g h (w ∷ ws) each =
-    let rest = together f g h ws (λ v has. each v (contains-behind w v ws has)) in
+    let rest = together f g h ws (λ v has. each v (contains-more w v ws has)) in
     IsPermutation-trans (f w ++ flat_map f ws) ((g w ++ h w) ++ (flat_map g ws ++ flat_map h ws)) ((g w ++ flat_map g ws) ++ (h w ++ flat_map h ws))
-    (IsPermutation-append (f w) (g w ++ h w) (flat_map f ws) (flat_map g ws ++ flat_map h ws) (each w (contains-front w ws)) rest)
+    (IsPermutation-append (f w) (g w ++ h w) (flat_map f ws) (flat_map g ws ++ flat_map h ws) (each w (contains-first w ws)) rest)
     (crossed (g w) (h w) (flat_map g ws) (flat_map h ws))
 
 -- a worker's messages, answered, are its sends as they are read and its direct answers
-pub passed-answers : (topics : List (List ℕ × Kind)) (messages : List Message) (sends : List Placed) (directs : List Answered) → ArePassedOn topics messages sends directs
+pub passed-answers : (topics : List (List ℕ × Kind)) (messages : List Message) (sends : List Placed) (directs : List Answered)
+    → ArePassedOn topics messages sends directs
     → IsPermutation (map (answer_of topics) messages) (map (answer_at topics) sends ++ map without_way directs)
 passed-answers topics messages sends directs passing.none = IsPermutation-refl []
 passed-answers topics messages sends directs (passing.and_sent {ms} {sends = before} {directs = ds} m send more is) =
@@ -67,7 +68,8 @@ passed-answers topics messages sends directs (passing.and_sent {ms} {sends = bef
     (IsPermutation-append_left (answer_of topics m ∷ []) answers (reads ++ plain) rest)
     (subst (λ l. IsPermutation l ((reads ++ answer_of topics m ∷ []) ++ plain)) (sym (append_assoc reads plain (answer_of topics m ∷ [])))
     (subst (IsPermutation (reads ++ (plain ++ answer_of topics m ∷ []))) (sym (append_assoc reads (answer_of topics m ∷ []) plain))
-    (IsPermutation-append_right reads (plain ++ answer_of topics m ∷ []) (answer_of topics m ∷ plain) (IsPermutation-append_comm plain (answer_of topics m ∷ [])))))))
+    (IsPermutation-append_right reads (plain ++ answer_of topics m ∷ []) (answer_of topics m ∷ plain)
+    (IsPermutation-append_comm plain (answer_of topics m ∷ [])))))))
 passed-answers topics messages sends directs (passing.and_answered {ms} {sends = before} {directs = ds} m a more is) =
     let answers = map (answer_of topics) ms in
     let reads = map (answer_at topics) sends in

@@ -4,21 +4,15 @@ use Rattle.std.specs.Prelude.{count_by, ◌==◌}
 use Rattle.std.proofs.lemmas.Bool.{ne_eqb}
 use Rattle.std.specs.List.{list_any}
 use Rattle.std.proofs.lemmas.List.{append-nil, append_assoc, length-append}
-use Rattle.std.proofs.lemmas.List.Elements.{filter_map-append}
 use Rattle.std.proofs.lemmas.List.Folds.{list_any-append}
 use Rattle.std.proofs.lemmas.List.Sums.{sum_by-append}
 use Rattle.scq_core.specs.declared.ended.Ended.{Ended}
 use Rattle.scq_core.specs.declared.ended.Ended.TheVariants.{Done, Got, Nothing}
 use Rattle.scq_law.specs.Bounds.{tally, was_put}
 use Rattle.scq_law.proofs.Base.SeatSums.{tally-append}
-use Rattle.scq_queue.specs.Lists.{sends_of, takes_of, sent_by, taken_by}
+use Rattle.scq_queue.specs.Lists.{sends_of, takes_of}
+use Rattle.scq_queue.proofs.Records.{sends-append, takes-append}
 use Rattle.scq_work.specs.Records.{is_got, is_put, is_lend, AreTakes, none, and_got, and_found_none}
-
-pub sends-append : (xs ys : List Ended) → sends_of (xs ++ ys) ≡ sends_of xs ++ sends_of ys
-sends-append xs ys = filter_map-append sent_by xs ys
-
-pub takes-append : (xs ys : List Ended) → takes_of (xs ++ ys) ≡ takes_of xs ++ takes_of ys
-takes-append xs ys = filter_map-append taken_by xs ys
 
 pub takes-join : (xs ys : List Ended) → AreTakes xs → AreTakes ys → AreTakes (xs ++ ys)
 takes-join xs ys one none = subst AreTakes (sym (append-nil xs)) one

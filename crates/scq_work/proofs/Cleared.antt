@@ -28,7 +28,8 @@ whole-end None number Whole none = (refl, refl)
 whole-end None number (Stopped fault) none = absurd (cc)
 
 -- a file is taken off a desk
-pub whole-more : {B S : Type 0} {Q : Type 0} (desks : List (Desk B S)) (j : ℕ) (new d : Desk B S) (file : OwnFile S) (first : Option (ℕ × FrameFault)) → j < length desks
+pub whole-more : {B S : Type 0} {Q : Type 0} (desks : List (Desk B S)) (j : ℕ) (new d : Desk B S) (file : OwnFile S) (first : Option (ℕ × FrameFault))
+    → j < length desks
     → (get_or desks j d).files.items ≡ new.files.items ++ file ∷ [] → option_or first (end_fault file.number file.end) ≡ None
     → (first ≡ None → AllWhole desks → Q) → AllWhole (set desks j new) → Q
 whole-more {B} {S} desks j new d file first within is none so each =

@@ -35,7 +35,8 @@ flat-of f g [] = refl
 flat-of f g (v ∷ vs) = ap (λ l. f (g v) ++ l) (flat-of f g vs)
 
 -- a send of messages on known topics is that of one of them
-send-message : (topics : List (List ℕ × Kind)) (messages : List Message) (sends : List Placed) (directs : List Answered) → ArePassedOn topics messages sends directs
+send-message : (topics : List (List ℕ × Kind)) (messages : List Message) (sends : List Placed) (directs : List Answered)
+    → ArePassedOn topics messages sends directs
     → All (λ m. m.topic ≤ length topics) messages → (s : Placed) → Contains sends s → IsMessage (length topics) s
 send-message topics messages sends directs passing.none known s has = absurd (omega (arith, has.1))
 send-message topics messages sends directs (passing.and_sent {ms} {sends = before} {directs = ds} m send more is) known s has =
@@ -80,7 +81,8 @@ module _ {B : Type 0} where
   -- so of each worker: its Taken members are its takes, one by one, and the answers to what is read of them
   pub all-taken : (topics : List (List ℕ × Kind)) (works : List (Work B)) → All (IsWork topics) works → EachTakeIsASend (passes_in works)
       → (w : Work B) → Contains works w
-      → AnswersItsTakes topics (takes_of w.pass.calls) w.members × (map without_way (filter is_taken w.members) ≡ map (answer_at topics) (takes_of w.pass.calls))
+      → AnswersItsTakes topics (takes_of w.pass.calls) w.members
+      × (map without_way (filter is_taken w.members) ≡ map (answer_at topics) (takes_of w.pass.calls))
   all-taken topics works each sent w has =
       let its = All-contains (IsWork topics) works w each has in
       let at = found-at works w has in
@@ -90,7 +92,8 @@ module _ {B : Type 0} where
       (in-all (λ (w : Work B). takes_of w.pass.calls) works at.0 w t at.1 stands)))
 
   -- a worker's list is its takes, as they are read, and its direct answers
-  list-answers : (topics : List (List ℕ × Kind)) (works : List (Work B)) → All (IsWork topics) works → EachTakeIsASend (passes_in works) → (w : Work B) → Contains works w
+  list-answers : (topics : List (List ℕ × Kind)) (works : List (Work B)) → All (IsWork topics) works → EachTakeIsASend (passes_in works) → (w : Work B)
+      → Contains works w
       → IsPermutation (map without_way w.members) (map (answer_at topics) (takes_of w.pass.calls) ++ map without_way (filter is_direct w.members))
   list-answers topics works each sent w has =
       let both = IsPermutation-map without_way w.members (filter is_taken w.members ++ filter is_direct w.members)
@@ -101,7 +104,8 @@ module _ {B : Type 0} where
       (subst (IsPermutation (map without_way w.members)) split both)
 
   -- the answers of all workers are those to the messages of all, each once
-  pub all-answered : (topics : List (List ℕ × Kind)) (works : List (Work B)) → All (IsWork topics) works → EachTakeIsASend (passes_in works) → SendsAreTakes (passes_in works)
+  pub all-answered : (topics : List (List ℕ × Kind)) (works : List (Work B)) → All (IsWork topics) works → EachTakeIsASend (passes_in works)
+      → SendsAreTakes (passes_in works)
       → IsPermutation (map without_way (members_of works)) (map (answer_of topics) (messages_in works))
   all-answered topics works each sent same =
       let reads : Work B → List Answer = λ w. map (answer_at topics) (takes_of w.pass.calls) in
@@ -121,7 +125,8 @@ module _ {B : Type 0} where
       (subst (IsPermutation (map (answer_at topics) (all_takes (passes_in works)))) (sym sends_are)
       (IsPermutation-sym (map (answer_at topics) (all_sends (passes_in works))) (map (answer_at topics) (all_takes (passes_in works)))
       (IsPermutation-map (answer_at topics) (all_sends (passes_in works)) (all_takes (passes_in works)) same))) in
-      let joined : IsPermutation (flat_map (λ (w : Work B). map without_way w.members) works) (flat_map (λ (w : Work B). map (answer_of topics) w.messages) works) =
+      let joined : IsPermutation (flat_map (λ (w : Work B). map without_way w.members) works)
+      (flat_map (λ (w : Work B). map (answer_of topics) w.messages) works) =
       IsPermutation-trans (flat_map (λ (w : Work B). map without_way w.members) works) (flat_map reads works ++ flat_map plain works)
       (flat_map (λ (w : Work B). map (answer_of topics) w.messages) works) lists
       (IsPermutation-trans (flat_map reads works ++ flat_map plain works) (flat_map sent_reads works ++ flat_map plain works)
@@ -129,4 +134,5 @@ module _ {B : Type 0} where
       (IsPermutation-append_left (flat_map plain works) (flat_map reads works) (flat_map sent_reads works) back)
       (IsPermutation-sym (flat_map (λ (w : Work B). map (answer_of topics) w.messages) works) (flat_map sent_reads works ++ flat_map plain works) messages)) in
       subst (λ (l : List Answer). IsPermutation l (map (answer_of topics) (messages_in works))) (flat-map without_way (λ (w : Work B). w.members) works)
-      (subst (IsPermutation (flat_map (λ (w : Work B). map without_way w.members) works)) (flat-map (answer_of topics) (λ (w : Work B). w.messages) works) joined)
+      (subst (IsPermutation (flat_map (λ (w : Work B). map without_way w.members) works))
+      (flat-map (answer_of topics) (λ (w : Work B). w.messages) works) joined)

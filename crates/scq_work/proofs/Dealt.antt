@@ -14,7 +14,8 @@ upto from zero = []
 upto from (suc count) = from ∷ upto (from + 1) count
 
 -- what two functions make of numbers that are all others than one
-others-same : {A : Type 0} (f g : ℕ → List A) (j from count : ℕ) → j < from → ((w : ℕ) → j ≢ w → g w ≡ f w) → flat_map g (upto from count) ≡ flat_map f (upto from count)
+others-same : {A : Type 0} (f g : ℕ → List A) (j from count : ℕ) → j < from → ((w : ℕ) → j ≢ w → g w ≡ f w)
+    → flat_map g (upto from count) ≡ flat_map f (upto from count)
 others-same f g j from zero less same = refl
 others-same f g j from (suc count) less same =
     let here : g from ≡ f from = same from (λ e. absurd (omega (arith, e))) in
@@ -34,13 +35,15 @@ block-first f g x j from zero low high here same = absurd (omega arith)
 block-first {A} f g x j from (suc count) low high here same =
     at (j == from) refl (λ above. block-first f g x j (from + 1) count above (omega arith) here same)
   where
-    at : (b : Bool) → (j == from) ≡ b → (from + 1 ≤ j → IsPermutation (x ++ flat_map f (upto (from + 1) count)) (flat_map g (upto (from + 1) count))) → IsPermutation (x ++ flat_map f (upto from (suc count))) (flat_map g (upto from (suc count)))
+    at : (b : Bool) → (j == from) ≡ b → (from + 1 ≤ j → IsPermutation (x ++ flat_map f (upto (from + 1) count)) (flat_map g (upto (from + 1) count)))
+        → IsPermutation (x ++ flat_map f (upto from (suc count))) (flat_map g (upto from (suc count)))
     at true e again =
         let is : j ≡ from = grind arith in
         let first : g from ≡ x ++ f from = subst (λ w. g w ≡ x ++ f w) is here in
         let rest = others-same f g j (from + 1) count (omega (arith, is)) same in
         let whole : x ++ flat_map f (upto from (suc count)) ≡ flat_map g (upto from (suc count)) =
-        sym (append_assoc x (f from) (flat_map f (upto (from + 1) count))) ∙ ap (λ l. l ++ flat_map f (upto (from + 1) count)) (sym first) ∙ ap (λ l. g from ++ l) (sym rest) in
+        sym (append_assoc x (f from) (flat_map f (upto (from + 1) count))) ∙ ap (λ l. l ++ flat_map f (upto (from + 1) count)) (sym first)
+        ∙ ap (λ l. g from ++ l) (sym rest) in
         subst (IsPermutation (x ++ flat_map f (upto from (suc count)))) whole (IsPermutation-refl _)
     at false e again =
         let other : j ≢ from = grind arith in
@@ -92,7 +95,8 @@ collected {X} {Y} R workers file [] lists some each = ([], tt, λ w less. none (
   none [] h = refl
   none (y ∷ l) h = absurd h
 collected {X} {Y} R workers file (x ∷ xs) lists some each =
-    first (λ lists each. collected R workers (file + 1) xs lists some each) (lists j) refl (subst (λ b. AllZip R (if b then (file, x) ∷ files_of workers j (file + 1) xs else files_of workers j (file + 1) xs) (lists j))
+    first (λ lists each. collected R workers (file + 1) xs lists some each) (lists j) refl
+    (subst (λ b. AllZip R (if b then (file, x) ∷ files_of workers j (file + 1) xs else files_of workers j (file + 1) xs) (lists j))
     (is-own workers file) (each j (mod-below (file - 1) workers some)))
   where
     j : ℕ
@@ -119,7 +123,8 @@ collected {X} {Y} R workers file (x ∷ xs) lists some each =
             rw e (subst (λ b. AllZip R (if b then (file, x) ∷ files_of workers w (file + 1) xs else files_of workers w (file + 1) xs) (lists w))
             (not-own workers file w other) (each w less))
 
-        back : (w : ℕ) → w < workers → (given : List Y) → seconds (files_of workers w (file + 1) given) ≡ (if j == w then ys else lists w) → (b : Bool) → (j == w) ≡ b
+        back : (w : ℕ) → w < workers → (given : List Y) → seconds (files_of workers w (file + 1) given) ≡ (if j == w then ys else lists w) → (b : Bool)
+            → (j == w) ≡ b
             → seconds (files_of workers w file (y ∷ given)) ≡ lists w
         back w less given so true e =
             let same : j ≡ w = grind arith in

@@ -1,5 +1,5 @@
 -- Files on desks: how their numbers and sources go along.
-use Rattle.std.proofs.Common.{◌≡◌, ◌≢◌, ◌∙◌, refl, sym, ap, subst, arith, true, false, zero, suc, ℕ, ◌+◌, ◌-◌, ◌%◌, ◌<◌, ◌≤◌, List, [], ◌∷◌, ◌++◌, length, reverse, take, drop, get_or, drop-cons, add-one}
+use Rattle.std.proofs.Common.{◌≡◌, ◌≢◌, ◌∙◌, refl, sym, ap, subst, arith, true, false, ℕ, ◌+◌, ◌-◌, ◌%◌, ◌<◌, ◌≤◌, List, [], ◌∷◌, ◌++◌, length, reverse, take, drop, get_or, drop-cons, add-one}
 use Rattle.std.specs.Prelude.{slice_index_or}
 use Rattle.std.proofs.lemmas.List.{map-append, reverse-append, length-append, length-take-le, take-append-le, take_all, take-take, get_or-take, get_or_push}
 use Rattle.scq_work.specs.Files.{is_of, files_of}
@@ -7,20 +7,6 @@ use Rattle.scq_work.specs.Dealings.{AreDealt, without_files}
 use Rattle.scq_work.specs.Desks.{ids_of}
 use Rattle.scq_work.specs.declared.desk.Desk.{Desk}
 use Rattle.scq_work.specs.declared.own_file.OwnFile.{OwnFile}
-
--- files of the same numbers and sources, place by place
-pub same-ids : {S : Type 0} (xs ys : List (OwnFile S)) → length xs ≡ length ys
-    → ((k : ℕ) (d : OwnFile S) → k < length ys → ((slice_index_or xs k d).number ≡ (slice_index_or ys k d).number) × ((slice_index_or xs k d).was.value ≡ (slice_index_or ys k d).was.value))
-    → ids_of xs ≡ ids_of ys
-same-ids [] [] long each = refl
-same-ids [] (y ∷ ys) long each = absurd (omega arith)
-same-ids (x ∷ xs) [] long each = absurd (omega arith)
-same-ids (x ∷ xs) (y ∷ ys) long each =
-    let here = each zero x (omega arith) in
-    let number : x.number ≡ y.number = here.0 in
-    let was : x.was.value ≡ y.was.value = here.1 in
-    let rest = same-ids xs ys (omega arith) (λ k d less. each (suc k) d (omega arith)) in
-    cc
 
 -- one file in front of others: it is this worker's, or another's
 pub own-first : {A : Type 0} (workers w at : ℕ) (x : A) (xs : List A) → at % workers ≡ w
@@ -30,7 +16,8 @@ own-first workers w at x xs same =
       mine : (at w workers : ℕ) → at % workers ≡ w → is_of workers w (at + 1) ≡ true
       mine at w workers same = let e : at + 1 - 1 ≡ at = omega arith in rw (e, same) (grind arith)
 
-pub other-first : {A : Type 0} (workers w at : ℕ) (x : A) (xs : List A) → at % workers ≢ w → files_of workers w (at + 1) (x ∷ xs) ≡ files_of workers w (at + 1 + 1) xs
+pub other-first : {A : Type 0} (workers w at : ℕ) (x : A) (xs : List A) → at % workers ≢ w
+    → files_of workers w (at + 1) (x ∷ xs) ≡ files_of workers w (at + 1 + 1) xs
 other-first workers w at x xs apart = rw (others at w workers apart) refl where
   others : (at w workers : ℕ) → at % workers ≢ w → is_of workers w (at + 1) ≡ false
   others at w workers apart = let e : at + 1 - 1 ≡ at = omega arith in rw e (grind arith)
@@ -49,7 +36,8 @@ taken-apart src front x n at is next within =
     (sym all ∙ take-take at n src (omega arith), drop-at src at x (omega arith) ∙ ap (λ y. y ∷ drop (at + 1) src) last)
 
 -- a file is laid on the desk of its worker
-pub laid : {S : Type 0} (workers w at : ℕ) (files : List (OwnFile S)) (f : OwnFile S) (x : S) (rest : List S) → at % workers ≡ w → f.number ≡ at + 1 → f.was.value ≡ x
+pub laid : {S : Type 0} (workers w at : ℕ) (files : List (OwnFile S)) (f : OwnFile S) (x : S) (rest : List S) → at % workers ≡ w → f.number ≡ at + 1
+    → f.was.value ≡ x
     → ids_of files ≡ reverse (files_of workers w (at + 1 + 1) rest) → ids_of (files ++ f ∷ []) ≡ reverse (files_of workers w (at + 1) (x ∷ rest))
 laid workers w at files f x rest same number was are =
     map-append (λ (g : OwnFile _). (g.number, g.was.value)) files (f ∷ []) ∙ ap (λ front. front ++ (f.number, f.was.value) ∷ []) are
@@ -66,7 +54,8 @@ desk-empty workers w at (x ∷ xs) some same none =
 
 -- desks whose files are the same are dealt the same
 pub still-dealt : {B S : Type 0} (file : ℕ) (sources : List S) (old new : List (Desk B S)) → length new ≡ length old
-    → ((w : ℕ) (d : Desk B S) → w < length old → ids_of (slice_index_or new w d).files.items ≡ ids_of (slice_index_or old w d).files.items) → AreDealt file sources old → AreDealt file sources new
+    → ((w : ℕ) (d : Desk B S) → w < length old → ids_of (slice_index_or new w d).files.items ≡ ids_of (slice_index_or old w d).files.items)
+    → AreDealt file sources old → AreDealt file sources new
 still-dealt file sources old new long same dealt w d less =
     let within : w < length old = omega (arith, less, long) in
     subst (λ m. ids_of (slice_index_or new w d).files.items ≡ reverse (files_of m w file sources)) (sym long) (same w d within ∙ dealt w d within)

@@ -1,11 +1,12 @@
 -- Lists in which no member stands twice.
-use Rattle.std.proofs.Common.{◌≡◌, ◌≢◌, refl, sym, subst, arith, zero, suc, ◌≤◌, List, [], ◌∷◌, ◌++◌, length, get_or, ⊎_elim, inl, inr, ◌⊎◌}
+use Rattle.std.proofs.Common.{◌≡◌, ◌≢◌, refl, sym, subst, arith, zero, suc, ◌≤◌, List, [], ◌∷◌, ◌++◌, length, get_or, ⊎_elim}
 use Rattle.std.specs.List.{All, AllPairs, Contains, remove}
 use Rattle.std.specs.List.Sorted.{IsPermutation}
 use Rattle.std.proofs.lemmas.List.{append-nil, length-append}
 use Rattle.std.proofs.lemmas.List.Elements.{Contains-append_cases, Contains-get_or}
 use Rattle.std.proofs.lemmas.List.Kept.{AllPairs-cons}
 use Rattle.std.proofs.lemmas.List.Sorted.{IsPermutation-refl, IsPermutation-trans, IsPermutation-cons, IsPermutation-remove, Contains-permutation, length_permutation}
+use Rattle.scq_collect.proofs.Orders.{contains-cases, contains-first, contains-more}
 
 -- no member stands twice
 abbrev pub IsDistinct : {A : Type 0} → List A → Type 0
@@ -13,17 +14,6 @@ IsDistinct xs = AllPairs (λ x y. x ≢ y) xs
 
 pub distinct-tail : {A : Type 0} (x : A) (xs : List A) → IsDistinct (x ∷ xs) → IsDistinct xs
 distinct-tail x xs apart i j d less within = apart (suc i) (suc j) d (omega arith) (omega arith)
-
--- a member of a list with one in front is that one, or a member of the list
-pub contains-cases : {A : Type 0} (x z : A) (xs : List A) → Contains (x ∷ xs) z → (x ≡ z) ⊎ Contains xs z
-contains-cases x z xs (zero, within, is) = inl is
-contains-cases x z xs (suc k, within, is) = inr (k, omega arith, is)
-
-pub contains-front : {A : Type 0} (x : A) (xs : List A) → Contains (x ∷ xs) x
-contains-front x xs = (zero, omega arith, refl)
-
-pub contains-behind : {A : Type 0} (x z : A) (xs : List A) → Contains xs z → Contains (x ∷ xs) z
-contains-behind x z xs (k, within, is) = (suc k, omega arith, is)
 
 -- where no member stands twice, the first is no later one
 pub distinct-front : {A : Type 0} (x : A) (xs : List A) → IsDistinct (x ∷ xs) → Contains xs x → ⊥
@@ -33,12 +23,12 @@ distinct-front x xs apart (k, within, is) = apart zero (suc k) x (omega arith) (
 pub included : {A : Type 0} (xs ys : List A) → IsDistinct xs → ((z : A) → Contains xs z → Contains ys z) → (rest : List A) × IsPermutation ys (xs ++ rest)
 included [] ys apart within = (ys, IsPermutation-refl ys)
 included (x ∷ xs) ys apart within =
-    let at = within x (contains-front x xs) in
+    let at = within x (contains-first x xs) in
     let others : List _ = remove ys at.0 in
     let taken : IsPermutation ys (x ∷ others) = IsPermutation-remove ys at.0 x at.1 (sym at.2) in
     let still : (z : _) → Contains xs z → Contains others z = λ z has.
     ⊎_elim (λ (e : x ≡ z). absurd (distinct-front x xs apart (subst (Contains xs) (sym e) has))) (λ (h : Contains others z). h)
-    (contains-cases x z others (Contains-permutation ys (x ∷ others) z taken (within z (contains-behind x z xs has)))) in
+    (contains-cases x z others (Contains-permutation ys (x ∷ others) z taken (within z (contains-more x z xs has)))) in
     let more = included xs others (distinct-tail x xs apart) still in
     (more.0, IsPermutation-trans ys (x ∷ others) (x ∷ (xs ++ more.0)) taken (IsPermutation-cons x others (xs ++ more.0) more.1))
 
@@ -48,7 +38,8 @@ included-length xs ys apart within =
     omega (arith, length_permutation ys (xs ++ more.0) more.1, length-append xs more.0)
 
 -- two lists with the same members, none of which stands twice, are one another in some order
-pub same-members : {A : Type 0} (xs ys : List A) → IsDistinct xs → IsDistinct ys → ((z : A) → Contains xs z → Contains ys z) → ((z : A) → Contains ys z → Contains xs z)
+pub same-members : {A : Type 0} (xs ys : List A) → IsDistinct xs → IsDistinct ys → ((z : A) → Contains xs z → Contains ys z)
+    → ((z : A) → Contains ys z → Contains xs z)
     → IsPermutation xs ys
 same-members xs ys one other there back =
     let more = included ys xs other back in
@@ -71,7 +62,8 @@ pairs-append R [] ys one other across = other
 pairs-append R (x ∷ xs) ys one other across =
     let behind : All (R x) (xs ++ ys) = λ k d within.
     ⊎_elim (λ (h : Contains xs (get_or (xs ++ ys) k d)). pairs-front R x _ xs one h)
-    (λ (h : Contains ys (get_or (xs ++ ys) k d)). across x _ (contains-front x xs) h)
+    (λ (h : Contains ys (get_or (xs ++ ys) k d)). across x _ (contains-first x xs) h)
     (Contains-append_cases xs ys (get_or (xs ++ ys) k d) (Contains-get_or (xs ++ ys) k d within)) in
-    let rest = pairs-append R xs ys (λ i j d less within. one (suc i) (suc j) d (omega arith) (omega arith)) other (λ m n in_xs in_ys. across m n (contains-behind x m xs in_xs) in_ys) in
+    let rest = pairs-append R xs ys (λ i j d less within. one (suc i) (suc j) d (omega arith) (omega arith)) other
+    (λ m n in_xs in_ys. across m n (contains-more x m xs in_xs) in_ys) in
     AllPairs-cons R x (xs ++ ys) behind rest

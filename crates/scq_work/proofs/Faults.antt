@@ -1,24 +1,17 @@
--- The fault of several workers, and what follows where there is none.
+-- The fault of several workers: its cause, and that want of memory comes first.
 use Rattle.std.proofs.Common.{◌≡◌, ◌≢◌, refl, subst, true, false, ℕ, Bool, List, Option, Some, None, Result, Ok, Err}
-use Rattle.std.specs.Prelude.{IfOk, IfErr, OnOk}
+use Rattle.std.specs.Prelude.{IfErr}
 use Rattle.scq_frames.specs.declared.fault.FrameFault.{FrameFault}
 use Rattle.scq_frames.specs.declared.fault.FrameFault.TheVariants as frame
-use Rattle.scq_work.specs.Ends.{fault_of_workers, HasCause, StopsAt}
+use Rattle.scq_work.specs.Ends.{fault_of_workers, AllEndFed, HasCause, MemoryIsFirst, StopsAt}
 use Rattle.scq_work.specs.declared.worked.WorkFault.{WorkFault}
 use Rattle.scq_work.specs.declared.worked.WorkFault.TheVariants.{Read, TooLong, TooLarge, NoMemory}
 
--- without a fault nobody wanted memory, and no file has one
-pub no-fault : (starved : Bool) (first : Option (ℕ × FrameFault)) → fault_of_workers starved first ≡ None → (starved ≡ false) × (first ≡ None)
-no-fault true first e = absurd (cc)
-no-fault false None e = (refl, refl)
-no-fault false (Some (file, frame.ReadFault)) e = absurd (cc)
-no-fault false (Some (file, frame.TooLong line len)) e = absurd (cc)
-no-fault false (Some (file, frame.TooLarge bytes)) e = absurd (cc)
-no-fault false (Some (file, frame.NoMemory)) e = absurd (cc)
-
 -- a fault has the cause of the first file's
-pub caused : {S : Type 0} (size : ℕ) (faults : S → ℕ) (left : S → Option (List ℕ)) (olds news : List S) (starved : Bool) (first : Option (ℕ × FrameFault)) (fault : WorkFault)
-    → fault_of_workers starved first ≡ Some fault → ((file : ℕ) (f : FrameFault) → first ≡ Some (file, f) → f ≢ frame.NoMemory → StopsAt size faults left olds news file f)
+pub caused : {S : Type 0} (size : ℕ) (faults : S → ℕ) (left : S → Option (List ℕ)) (olds news : List S) (starved : Bool) (first : Option (ℕ × FrameFault))
+    (fault : WorkFault)
+    → fault_of_workers starved first ≡ Some fault
+    → ((file : ℕ) (f : FrameFault) → first ≡ Some (file, f) → f ≢ frame.NoMemory → StopsAt size faults left olds news file f)
     → HasCause size faults left olds news fault
 caused size faults left olds news true first fault e cause =
     let is : NoMemory ≡ fault = cc in
@@ -37,15 +30,22 @@ caused size faults left olds news false (Some (file, frame.NoMemory)) fault e ca
     let is : NoMemory ≡ fault = cc in
     subst (HasCause size faults left olds news) is tt
 
--- what holds of an answer that is Ok, by what is known only then
-pub ok-then : {X E : Type 0} (r : Result X E) (P A : Type 0) (Q R : X → Type 0) → OnOk r P → (P → A) → (A → IfOk r Q) → ((x : X) → A → Q x → R x) → IfOk r R
-ok-then (Ok x) P A Q R p f h k = k x (f p) (h (f p))
-ok-then (Err e) P A Q R p f h k = tt
+-- want of memory comes first
+pub memory-first : {S : Type 0} (size : ℕ) (faults : S → ℕ) (left : S → Option (List ℕ)) (olds news : List S) (starved : Bool)
+    (first : Option (ℕ × FrameFault)) (fault : WorkFault)
+    → fault_of_workers starved first ≡ Some fault → (starved ≡ false → AllEndFed size faults left olds news)
+    → MemoryIsFirst size faults left olds news fault
+memory-first {S} size faults left olds news true first fault e fed =
+    let is : NoMemory ≡ fault = cc in
+    subst (λ f. MemoryIsFirst size faults left olds news f) is tt
+memory-first {S} size faults left olds news false first fault e fed = by fault where
+  by : (f : WorkFault) → MemoryIsFirst size faults left olds news f
+  by (Read file) = fed refl
+  by (TooLong file line len) = fed refl
+  by (TooLarge file bytes) = fed refl
+  by NoMemory = tt
 
-pub on-ok : {X E : Type 0} (r : Result X E) (P Q : Type 0) → (P → Q) → OnOk r P → OnOk r Q
-on-ok (Ok x) P Q f p = f p
-on-ok (Err e) P Q f p = tt
-
+-- what follows of the error of an answer
 pub err-then : {X E : Type 0} (r : Result X E) (P Q : E → Type 0) → ((e : E) → P e → Q e) → IfErr r P → IfErr r Q
 err-then (Ok x) P Q f p = tt
 err-then (Err e) P Q f p = f e p

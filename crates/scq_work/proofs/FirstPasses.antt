@@ -15,14 +15,16 @@ module _ {B : Type 0} (queue : Identity B) where
   first-at zero k d less = absurd (omega arith)
   first-at (suc n) k d less = elim (cases_eq k n) [
     | inl same ↦
-        ap (λ j. get_or (first_passes queue n ++ first_pass queue n ∷ []) j d) same ∙ get_or_push (first_passes queue n) (first_pass queue n) d n (first-length n)
+        ap (λ j. get_or (first_passes queue n ++ first_pass queue n ∷ []) j d) same
+        ∙ get_or_push (first_passes queue n) (first_pass queue n) d n (first-length n)
         ∙ ap (first_pass queue) (sym same)
     | inr apart ↦
         get_or_append_left (first_passes queue n) (first_pass queue n ∷ []) d k (omega (arith, first-length n)) ∙ first-at n k d (omega arith)
   ]
 
   -- the pass behind so many
-  pub pass-at : (n : ℕ) (front rest : List (PassStanding B)) (p : PassStanding B) → front ++ p ∷ rest ≡ first_passes queue n → p ≡ first_pass queue (length front)
+  pub pass-at : (n : ℕ) (front rest : List (PassStanding B)) (p : PassStanding B) → front ++ p ∷ rest ≡ first_passes queue n
+      → p ≡ first_pass queue (length front)
   pass-at n front rest p are =
       let long = ap length are in
       let within : length front < n = omega (arith, long, first-length n, length-append front (p ∷ rest)) in

@@ -1,7 +1,7 @@
 -- What a pass knows of the rings, when the numbers of one ring change.
 use Rattle.std.proofs.Common.{◌≡◌, ◌≢◌, refl, sym, ◌∙◌, ap, subst, arith, ℕ, ◌+◌, ◌<◌, ◌≤◌, List, length, ⊎_elim, Option, Some, None}
 use Rattle.std.proofs.lemmas.Bool.{cases_eq}
-use Rattle.std.proofs.lemmas.List.{get_or-set_other, get_or-set_same, length-set}
+use Rattle.std.proofs.lemmas.List.{get_or-set_other, get_or-set_same}
 use Rattle.scq_band.specs.declared.numbers.Numbers.{Numbers}
 use Rattle.scq_band.specs.Numbers.{known_of, changed, finishes, sees, passes, drew, empties}
 
@@ -12,9 +12,6 @@ known-other f r q ns apart = get_or-set_other ns r q (f (known_of ns r)) (record
 -- of the ring they are the changed ones
 pub known-same : (f : Numbers → Numbers) (r : ℕ) (ns : List Numbers) → r < length ns → known_of (changed f r ns) r ≡ f (known_of ns r)
 known-same f r ns within = get_or-set_same ns r (f (known_of ns r)) (record { finished = 0; seen = 0; head = 0 }) within
-
-pub known-length : (f : Numbers → Numbers) (r : ℕ) (ns : List Numbers) → length (changed f r ns) ≡ length ns
-known-length f r ns = length-set ns r (f (known_of ns r))
 
 -- no number of another falls
 pub record Raises (x y : Numbers) : Type 0 where

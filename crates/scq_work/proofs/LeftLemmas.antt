@@ -1,5 +1,5 @@
 -- A worker that met Spent: how little it had begun, and what it keeps.
-use Rattle.std.proofs.Common.{◌≡◌, sym, ◌∙◌, ap, subst, arith, suc, ℕ, ◌+◌, ◌≤◌, List, [], ◌∷◌, ◌++◌, length, Option, Some, None, Bool, true, false}
+use Rattle.std.proofs.Common.{◌≡◌, sym, ◌∙◌, ap, subst, arith, suc, ℕ, ◌+◌, ◌≤◌, List, [], ◌∷◌, ◌++◌, length, Option, Some, None, true, false}
 use Rattle.std.specs.Prelude.{◌==◌, if◌then◌else◌, IfSome}
 use Rattle.std.proofs.lemmas.List.{append-nil, length-append}
 use Rattle.scq_core.specs.declared.ended.Ended.{Ended}
@@ -9,15 +9,12 @@ use Rattle.scq_law.proofs.Base.SeatSums.{tally-append}
 use Rattle.scq_queue.specs.Lists.{sends_of, takes_of}
 use Rattle.scq_queue.specs.Passes.{PassStanding, HeldStanding, HasGot, WasLent, after_spent_get, after_spent_put}
 use Rattle.scq_work.specs.Working.{HasTaken, HasFoundFull, HasLeft, index_of}
-use Rattle.scq_work.proofs.Blocks.{sends-append, takes-append}
-use Rattle.scq_work.proofs.WorkerSteps.{thrifty-taken, thrifty-full}
+use Rattle.scq_queue.proofs.Records.{sends-append, takes-append}
+use Rattle.scq_work.proofs.WorkerSteps.{at_most, thrifty-taken, thrifty-full}
 
 -- a put that met Spent is at most one on a ring
 few : (ring r : ℕ) → (if ring == r then 1 else 0) + 0 ≤ 1
-few ring r = at_most (ring == r) where
-  at_most : (b : Bool) → (if b then 1 else 0) + 0 ≤ 1
-  at_most true = omega arith
-  at_most false = omega arith
+few ring r = at_most (ring == r)
 
 module _ {B : Type 0} where
   -- a get met Spent
@@ -27,7 +24,8 @@ module _ {B : Type 0} where
       let calls : q.calls ≡ p.calls ++ last = ap (λ (x : PassStanding B). x.calls) is in
       let sends : sends_of q.calls ≡ sends_of p.calls = ap sends_of calls ∙ sends-append p.calls last ∙ append-nil (sends_of p.calls) in
       let takes : takes_of q.calls ≡ takes_of p.calls = ap takes_of calls ∙ takes-append p.calls last ∙ append-nil (takes_of p.calls) in
-      let all : (r : ℕ) → tally (was_put r) q.calls ≡ tally (was_put r) p.calls + 0 = λ r. ap (tally (was_put r)) calls ∙ tally-append (was_put r) p.calls last in
+      let all : (r : ℕ) → tally (was_put r) q.calls ≡ tally (was_put r) p.calls + 0 =
+      λ r. ap (tally (was_put r)) calls ∙ tally-append (was_put r) p.calls last in
       record {
         spent = (ticket, ap (λ (x : PassStanding B). x.spent) is);
         thrifty = λ was. record {
@@ -50,12 +48,14 @@ module _ {B : Type 0} where
       let before : q.calls ≡ p.calls ++ first = ap (λ (x : PassStanding B). x.calls) got.pass in
       let calls : r.calls ≡ (p.calls ++ first) ++ last = ap (λ (x : PassStanding B). x.calls) is ∙ ap (λ l. l ++ last) before in
       let sends : sends_of r.calls ≡ sends_of p.calls =
-      ap sends_of calls ∙ sends-append (p.calls ++ first) last ∙ append-nil (sends_of (p.calls ++ first)) ∙ sends-append p.calls first ∙ append-nil (sends_of p.calls) in
+      ap sends_of calls ∙ sends-append (p.calls ++ first) last ∙ append-nil (sends_of (p.calls ++ first)) ∙ sends-append p.calls first
+      ∙ append-nil (sends_of p.calls) in
       let takes : takes_of r.calls ≡ takes_of p.calls ++ takes_of first =
       ap takes_of calls ∙ takes-append (p.calls ++ first) last ∙ append-nil (takes_of (p.calls ++ first)) ∙ takes-append p.calls first in
       let more : length (takes_of r.calls) ≡ length (takes_of p.calls) + 1 = ap length takes ∙ length-append (takes_of p.calls) (takes_of first) in
       let all : (k : ℕ) → tally (was_put k) r.calls ≡ tally (was_put k) p.calls + tally (was_put k) last = λ k.
-      ap (tally (was_put k)) calls ∙ tally-append (was_put k) (p.calls ++ first) last ∙ ap (λ n. n + tally (was_put k) last) (tally-append (was_put k) p.calls first ∙ omega arith) in
+      ap (tally (was_put k)) calls ∙ tally-append (was_put k) (p.calls ++ first) last
+      ∙ ap (λ n. n + tally (was_put k) last) (tally-append (was_put k) p.calls first ∙ omega arith) in
       let one : (k : ℕ) → tally (was_put k) last ≤ 1 = λ k. few 0 k in
       record {
         spent = (ticket, ap (λ (x : PassStanding B). x.spent) is);
@@ -67,7 +67,8 @@ module _ {B : Type 0} where
           puts = λ t. let low = was.puts t in omega (arith, all (suc t), one (suc t));
           returns = let low = was.returns in omega (arith, all 0, one 0);
         };
-        held = ap (λ (x : PassStanding B). x.held) is ∙ ap (λ (x : PassStanding B). x.held) got.pass ∙ ap (λ (x : HeldStanding B). p.held ++ x.index ∷ []) (sym same);
+        held = ap (λ (x : PassStanding B). x.held) is ∙ ap (λ (x : PassStanding B). x.held) got.pass
+            ∙ ap (λ (x : HeldStanding B). p.held ++ x.index ∷ []) (sym same);
         own = (
           ap (λ (x : PassStanding B). x.queue) is ∙ ap (λ (x : PassStanding B). x.queue) got.pass,
           ap (λ (x : PassStanding B). x.number) is ∙ ap (λ (x : PassStanding B). x.number) got.pass,
@@ -86,11 +87,14 @@ module _ {B : Type 0} where
       let before : q.calls ≡ p.calls ++ first = ap (λ (x : PassStanding B). x.calls) got.pass in
       let calls : r.calls ≡ (p.calls ++ first) ++ last = ap (λ (x : PassStanding B). x.calls) is ∙ ap (λ l. l ++ last) before in
       let sends : sends_of r.calls ≡ sends_of p.calls =
-      ap sends_of calls ∙ sends-append (p.calls ++ first) last ∙ append-nil (sends_of (p.calls ++ first)) ∙ sends-append p.calls first ∙ append-nil (sends_of p.calls) in
+      ap sends_of calls ∙ sends-append (p.calls ++ first) last ∙ append-nil (sends_of (p.calls ++ first)) ∙ sends-append p.calls first
+      ∙ append-nil (sends_of p.calls) in
       let takes : takes_of r.calls ≡ takes_of p.calls =
-      ap takes_of calls ∙ takes-append (p.calls ++ first) last ∙ append-nil (takes_of (p.calls ++ first)) ∙ takes-append p.calls first ∙ append-nil (takes_of p.calls) in
+      ap takes_of calls ∙ takes-append (p.calls ++ first) last ∙ append-nil (takes_of (p.calls ++ first)) ∙ takes-append p.calls first
+      ∙ append-nil (takes_of p.calls) in
       let all : (k : ℕ) → tally (was_put k) r.calls ≡ tally (was_put k) p.calls + tally (was_put k) last = λ k.
-      ap (tally (was_put k)) calls ∙ tally-append (was_put k) (p.calls ++ first) last ∙ ap (λ n. n + tally (was_put k) last) (tally-append (was_put k) p.calls first ∙ omega arith) in
+      ap (tally (was_put k)) calls ∙ tally-append (was_put k) (p.calls ++ first) last
+      ∙ ap (λ n. n + tally (was_put k) last) (tally-append (was_put k) p.calls first ∙ omega arith) in
       let one : (k : ℕ) → tally (was_put k) last ≤ 1 = λ k. few (suc topic) k in
       record {
         spent = (ticket, ap (λ (x : PassStanding B). x.spent) is);
@@ -112,7 +116,8 @@ module _ {B : Type 0} where
       }
 
   -- it had taken before
-  pub left-taken : (before after : ℕ) (p q r : PassStanding B) (k : Option (HeldStanding B)) → HasTaken p q → HasLeft before after q r k → HasLeft before after p r k
+  pub left-taken : (before after : ℕ) (p q r : PassStanding B) (k : Option (HeldStanding B)) → HasTaken p q → HasLeft before after q r k
+      → HasLeft before after p r k
   left-taken before after p q r k taken left =
       record {
         spent = left.spent;
@@ -127,7 +132,8 @@ module _ {B : Type 0} where
       }
 
   -- it had found no buffer free before
-  pub left-full : (messages head : ℕ) (p q r : PassStanding B) (k : Option (HeldStanding B)) → HasFoundFull head p q → HasLeft (messages + 1) (messages + 1) q r k
+  pub left-full : (messages head : ℕ) (p q r : PassStanding B) (k : Option (HeldStanding B)) → HasFoundFull head p q
+      → HasLeft (messages + 1) (messages + 1) q r k
       → HasLeft messages (messages + 1) p r k
   left-full messages head p q r k full left =
       record {

@@ -7,7 +7,7 @@ mod PassLemmas
 mod RecordSteps
 mod WorkerSteps
 mod LeftLemmas
-mod ListLemmas
+mod MemberLemmas
 mod PassedOn
 mod FileLists
 mod ReadLemmas
@@ -22,6 +22,7 @@ mod SoFar
 mod Cleared
 mod Faults
 pub mod Orders
+mod AllGave
 mod AllRun
 mod FirstPasses
 mod Parting

@@ -1,5 +1,5 @@
 -- No pass kept a ticket: what the workers began is too little for the ticket bound of any ring to be past the limit.
-use Rattle.std.proofs.Common.{◌≡◌, refl, sym, ◌∙◌, ap, arith, zero, suc, ℕ, ◌+◌, ◌*◌, ◌^◌, ◌<◌, ◌≤◌, List, [], ◌∷◌, length, map, get_or, pow_mono, Option, Some, None, Bool, true, false}
+use Rattle.std.proofs.Common.{◌≡◌, refl, ◌∙◌, ap, arith, zero, suc, ℕ, ◌+◌, ◌*◌, ◌^◌, ◌<◌, ◌≤◌, List, [], ◌∷◌, length, map, get_or, pow_mono, Option, Some, None, Bool, true, false}
 use Rattle.std.specs.Prelude.{sum_by, slice_get, if◌then◌else◌, ◌==◌}
 use Rattle.std.specs.List.{All}
 use Rattle.std.specs.Option.{option_map}
@@ -13,6 +13,7 @@ use Rattle.scq_word.specs.Bounds.{reset_value, ticket_bound}
 use Rattle.scq_word.proofs.BoundLemmas.{reset_small}
 use Rattle.scq_law.specs.Bounds.{tally, was_put, openings}
 use Rattle.scq_band.specs.Closing.{begun_on}
+use Rattle.scq_band.proofs.ClosedCounts.{sum_by-map}
 use Rattle.scq_queue.specs.Lists.{sends_of, takes_of}
 use Rattle.scq_queue.specs.Passes.{PassStanding}
 use Rattle.scq_queue.specs.Closing.{EachTakeIsASend, NoPlaceIsTakenTwice, EachKeptIsPastTheBound}
@@ -31,7 +32,8 @@ few-tickets c begun small seats low =
     omega arith
 
 -- a sum of numbers, each at most one more than another
-sums : {A : Type 0} (f g : A → ℕ) (xs : List A) → ((k : ℕ) (d : A) → k < length xs → f (get_or xs k d) ≤ g (get_or xs k d) + 1) → sum_by f xs ≤ sum_by g xs + length xs
+sums : {A : Type 0} (f g : A → ℕ) (xs : List A) → ((k : ℕ) (d : A) → k < length xs → f (get_or xs k d) ≤ g (get_or xs k d) + 1)
+    → sum_by f xs ≤ sum_by g xs + length xs
 sums f g [] each = omega arith
 sums f g (x ∷ xs) each =
     let here : f x ≤ g x + 1 = each zero x (omega arith) in
@@ -44,10 +46,6 @@ sums-le f g (x ∷ xs) each =
     let here : f x ≤ g x = each zero x (omega arith) in
     let rest = sums-le f g xs (λ k d less. each (suc k) d (omega arith)) in
     omega (arith, sum_by-cons f x xs, sum_by-cons g x xs)
-
-pub sum-map : {A B : Type 0} (f : B → ℕ) (h : A → B) (xs : List A) → sum_by f (map h xs) ≡ sum_by (λ x. f (h x)) xs
-sum-map f h [] = refl
-sum-map f h (x ∷ xs) = sum_by-cons f (h x) (map h xs) ∙ ap (λ n. f (h x) + n) (sum-map f h xs) ∙ sym (sum_by-cons (λ y. f (h y)) x xs)
 
 openings-few : (c : Setup) (r : ℕ) → openings c r ≤ n_of c.order
 openings-few c r = by (r == 0) where
@@ -70,28 +68,33 @@ module _ {B : Type 0} where
   few-sends : (works : List (ℕ × PassStanding B)) → AllThrifty works → length (all_sends (passes_of works)) ≤ messages_of works
   few-sends works each =
       let all : length (all_sends (passes_of works)) ≡ sum_by (λ (w : ℕ × PassStanding B). length (sends_of w.1.calls)) works =
-      length-flat_map (λ (p : PassStanding B). sends_of p.calls) (passes_of works) ∙ sum-map (λ (p : PassStanding B). length (sends_of p.calls)) (λ (w : ℕ × PassStanding B). w.1) works in
+      length-flat_map (λ (p : PassStanding B). sends_of p.calls) (passes_of works)
+      ∙ sum_by-map (λ (p : PassStanding B). length (sends_of p.calls)) (λ (w : ℕ × PassStanding B). w.1) works in
       let few = sums-le (λ (w : ℕ × PassStanding B). length (sends_of w.1.calls)) (λ (w : ℕ × PassStanding B). w.0) works (λ k d less. (each k d less).sends) in
       omega arith
 
-  all-takes : (works : List (ℕ × PassStanding B)) → length (all_takes (passes_of works)) ≡ sum_by (λ (w : ℕ × PassStanding B). length (takes_of w.1.calls)) works
+  all-takes : (works : List (ℕ × PassStanding B))
+      → length (all_takes (passes_of works)) ≡ sum_by (λ (w : ℕ × PassStanding B). length (takes_of w.1.calls)) works
   all-takes works =
-      length-flat_map (λ (p : PassStanding B). takes_of p.calls) (passes_of works) ∙ sum-map (λ (p : PassStanding B). length (takes_of p.calls)) (λ (w : ℕ × PassStanding B). w.1) works
+      length-flat_map (λ (p : PassStanding B). takes_of p.calls) (passes_of works)
+      ∙ sum_by-map (λ (p : PassStanding B). length (takes_of p.calls)) (λ (w : ℕ × PassStanding B). w.1) works
 
   -- the puts that were begun on a ring
   begun-few : (c : Setup) (works : List (ℕ × PassStanding B)) → AllThrifty works → length (all_takes (passes_of works)) ≤ messages_of works → (r : ℕ)
       → begun_on c (map (λ (p : PassStanding B). p.calls) (passes_of works)) r ≤ messages_of works + length works + n_of c.order
   begun-few c works each takes r =
-      let first = sum-map (tally (was_put r)) (λ (p : PassStanding B). p.calls) (passes_of works) in
-      let all = sum-map (λ (p : PassStanding B). tally (was_put r) p.calls) (λ (w : ℕ × PassStanding B). w.1) works in
+      let first = sum_by-map (tally (was_put r)) (λ (p : PassStanding B). p.calls) (passes_of works) in
+      let all = sum_by-map (λ (p : PassStanding B). tally (was_put r) p.calls) (λ (w : ℕ × PassStanding B). w.1) works in
       let few = by r in
       let opening = openings-few c r in
       omega arith where
         by : (r : ℕ) → sum_by (λ (w : ℕ × PassStanding B). tally (was_put r) w.1.calls) works ≤ messages_of works + length works
         by zero =
-            let these = sums (λ (w : ℕ × PassStanding B). tally (was_put 0) w.1.calls) (λ (w : ℕ × PassStanding B). length (takes_of w.1.calls)) works (λ k d less. (each k d less).returns) in
+            let these = sums (λ (w : ℕ × PassStanding B). tally (was_put 0) w.1.calls) (λ (w : ℕ × PassStanding B). length (takes_of w.1.calls)) works
+            (λ k d less. (each k d less).returns) in
             omega (arith, all-takes works)
-        by (suc t) = sums (λ (w : ℕ × PassStanding B). tally (was_put (suc t)) w.1.calls) (λ (w : ℕ × PassStanding B). w.0) works (λ k d less. (each k d less).puts t)
+        by (suc t) = sums (λ (w : ℕ × PassStanding B). tally (was_put (suc t)) w.1.calls) (λ (w : ℕ × PassStanding B). w.0) works
+            (λ k d less. (each k d less).puts t)
 
   -- no pass met Spent
   pub none-spent : (c : Setup) (works : List (ℕ × PassStanding B)) → c.order ≤ 12 → c.seats ≤ n_of c.order → c.limit ≡ 2 ^ 60 → length works ≤ c.seats
@@ -108,7 +111,8 @@ module _ {B : Type 0} where
     by None is = is
     by (Some ticket) is =
         let at : slice_get (map (λ (p : PassStanding B). p.spent) (passes_of works)) k ≡ Some (Some ticket) =
-        slice_get-map (λ (p : PassStanding B). p.spent) (passes_of works) k ∙ ap (λ o. option_map (λ (p : PassStanding B). p.spent) o) (slice_get-get_or (passes_of works) k d less) ∙ ap Some is in
+        slice_get-map (λ (p : PassStanding B). p.spent) (passes_of works) k
+        ∙ ap (λ o. option_map (λ (p : PassStanding B). p.spent) o) (slice_get-get_or (passes_of works) k d less) ∙ ap Some is in
         let past = kept k ticket at in
         let begun = begun-few c works each takes past.ring in
         let few = few-tickets c (begun_on c (map (λ (p : PassStanding B). p.calls) (passes_of works)) past.ring) small seats (omega (arith, n_small)) in
@@ -116,7 +120,8 @@ module _ {B : Type 0} where
         absurd (omega arith)
 
   -- each pass has few sends, takes and Full replies
-  pub all-bounded : (works : List (ℕ × PassStanding B)) → messages_of works ≤ 2 ^ 35 → AllThrifty works → EachTakeIsASend (passes_of works) → NoPlaceIsTakenTwice (passes_of works)
+  pub all-bounded : (works : List (ℕ × PassStanding B)) → messages_of works ≤ 2 ^ 35 → AllThrifty works → EachTakeIsASend (passes_of works)
+      → NoPlaceIsTakenTwice (passes_of works)
       → (k : ℕ) (d : ℕ × PassStanding B) → k < length works → IsBounded (get_or works k d).1
   all-bounded works messages each sent once k d less =
       let its = each k d less in

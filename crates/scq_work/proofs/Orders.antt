@@ -1,7 +1,7 @@
 -- The messages of files, one file behind the other: on known topics, in order of file and line, and answered as one thread would. So the
 -- answers of workers, which are those to the messages in some order, are apart and on known topics.
 use Rattle.std.proofs.Common.{◌≡◌, ◌∙◌, refl, sym, ap, subst, inl, inr, arith, zero, suc, true, false, Bool, ℕ, ◌+◌, ◌<◌, ◌≤◌, List, [], ◌∷◌, ◌++◌, length, map, get_or, Option, Some, None}
-use Rattle.std.specs.Prelude.{slice_index_or, IfSome, option_and_then, flat_map, ◌==◌, ◌&&◌}
+use Rattle.std.specs.Prelude.{slice_index_or, IfSome, option_and_then, flat_map}
 use Rattle.std.specs.List.{All, IsDistinct}
 use Rattle.std.specs.List.Sorted.{IsPermutation}
 use Rattle.std.specs.Option.{option_map}
@@ -19,17 +19,11 @@ use Rattle.scq_collect.specs.declared.answered.Answered.{Answered}
 use Rattle.scq_collect.specs.Collected.{answer_of}
 use Rattle.scq_collect.specs.Merging.{AreApart, IsBefore, IsInOrder, place_of, place_of_answer, place_of_answered}
 use Rattle.scq_collect.specs.Output.{Answer, answer_to, answers_to, without_way}
-use Rattle.scq_collect.proofs.Orders.{ascends, ascends-distinct}
+use Rattle.scq_collect.proofs.Orders.{is_place, is_place-flip, ascends, ascends-distinct}
 use Rattle.scq_work.specs.Reading.{AreOf}
 use Rattle.scq_work.specs.Ends.{AreGiven, all_left, messages_in}
 
--- the same place, as a test
-abbrev is_place : ℕ × ℕ → ℕ × ℕ → Bool
-is_place p q = (p.0 == q.0) && (p.1 == q.1)
-
-is_place-flip : (p q : ℕ × ℕ) → is_place p q ≡ is_place q p
-is_place-flip p q = grind (arith, nat_tests)
-
+-- a place is itself
 is_place-itself : (p : ℕ × ℕ) → is_place p p ≡ true
 is_place-itself p = grind (arith, nat_tests)
 
@@ -64,7 +58,8 @@ own-past known file (m ∷ ms) others of past place within =
     let at : (file + 1, m.line) ≡ place_of m = ap (λ n. (n, m.line)) (sym of.0) in
     (here, subst (λ p. Rises p (ms ++ others)) at (own-rises known (file + 1) m.line ms others of.3 past))
 
-given-past : {S : Type 0} (topics : List (List ℕ × Kind)) (size : ℕ) (left : S → Option (List ℕ)) (file : ℕ) (was : List S) (given : List (List Message)) → AreGiven topics size left (file + 1) was given
+given-past : {S : Type 0} (topics : List (List ℕ × Kind)) (size : ℕ) (left : S → Option (List ℕ)) (file : ℕ) (was : List S) (given : List (List Message))
+    → AreGiven topics size left (file + 1) was given
     → RisesPast file (all_of given)
 unfolding Rises RisesPast
 given-past topics size left file [] [] none place within = tt
@@ -74,16 +69,19 @@ given-past topics size left file (x ∷ xs) (own ∷ more) gave place within =
     own-past (length topics) file own (all_of more) gave.0.of (given-past topics size left (file + 1) xs more gave.1) place within
 
 -- messages that rise are in order
-in-order : (place : ℕ × ℕ) (ms : List Message) → Rises place ms → (k : ℕ) (d : Message) → k + 1 < length ms → IsBefore (place_of (slice_index_or ms k d)) (place_of (slice_index_or ms (k + 1) d))
+in-order : (place : ℕ × ℕ) (ms : List Message) → Rises place ms → (k : ℕ) (d : Message) → k + 1 < length ms
+    → IsBefore (place_of (slice_index_or ms k d)) (place_of (slice_index_or ms (k + 1) d))
 unfolding Rises
 in-order place [] rises k d less = absurd (omega arith)
 in-order place (m ∷ []) rises k d less = absurd (omega arith)
 in-order place (m ∷ n ∷ ms) rises zero d less = rises.1.0
 in-order place (m ∷ n ∷ ms) rises (suc k) d less =
     let next : suc (k + 1) ≡ suc k + 1 = omega arith in
-    subst (λ j. IsBefore (place_of (slice_index_or (n ∷ ms) k d)) (place_of (slice_index_or (m ∷ n ∷ ms) j d))) next (in-order (place_of m) (n ∷ ms) rises.1 k d (omega arith))
+    subst (λ j. IsBefore (place_of (slice_index_or (n ∷ ms) k d)) (place_of (slice_index_or (m ∷ n ∷ ms) j d))) next
+    (in-order (place_of m) (n ∷ ms) rises.1 k d (omega arith))
 
-given-in-order : {S : Type 0} (topics : List (List ℕ × Kind)) (size : ℕ) (left : S → Option (List ℕ)) (was : List S) (given : List (List Message)) → AreGiven topics size left 1 was given
+given-in-order : {S : Type 0} (topics : List (List ℕ × Kind)) (size : ℕ) (left : S → Option (List ℕ)) (was : List S) (given : List (List Message))
+    → AreGiven topics size left 1 was given
     → IsInOrder place_of (all_of given)
 unfolding RisesPast
 given-in-order topics size left was given gave = in-order (0, 0) (all_of given) (given-past topics size left 0 was given gave (0, 0) (omega arith))
@@ -94,16 +92,19 @@ of-known known file line [] of k d less = absurd (omega arith)
 of-known known file line (m ∷ ms) of zero d less = of.2
 of-known known file line (m ∷ ms) of (suc k) d less = of-known known file m.line ms of.3 k d (omega arith)
 
-pub given-known : {S : Type 0} (topics : List (List ℕ × Kind)) (size : ℕ) (left : S → Option (List ℕ)) (file : ℕ) (was : List S) (given : List (List Message)) → AreGiven topics size left file was given
+pub given-known : {S : Type 0} (topics : List (List ℕ × Kind)) (size : ℕ) (left : S → Option (List ℕ)) (file : ℕ) (was : List S)
+    (given : List (List Message)) → AreGiven topics size left file was given
     → All (λ m. m.topic ≤ length topics) (all_of given)
 given-known topics size left file [] [] none = All-nil (λ (m : Message). m.topic ≤ length topics)
 given-known topics size left file [] (own ∷ more) none = absurd none
 given-known topics size left file (x ∷ xs) [] none = absurd none
 given-known topics size left file (x ∷ xs) (own ∷ more) gave =
-    All-append (λ m. m.topic ≤ length topics) own (all_of more) (of-known (length topics) file 0 own gave.0.of) (given-known topics size left (file + 1) xs more gave.1)
+    All-append (λ m. m.topic ≤ length topics) own (all_of more) (of-known (length topics) file 0 own gave.0.of)
+    (given-known topics size left (file + 1) xs more gave.1)
 
 -- their payloads are short
-given-short : {S : Type 0} (topics : List (List ℕ × Kind)) (size : ℕ) (left : S → Option (List ℕ)) (file : ℕ) (was : List S) (given : List (List Message)) → AreGiven topics size left file was given
+given-short : {S : Type 0} (topics : List (List ℕ × Kind)) (size : ℕ) (left : S → Option (List ℕ)) (file : ℕ) (was : List S) (given : List (List Message))
+    → AreGiven topics size left file was given
     → All (λ m. length m.payload ≤ size) (all_of given)
 given-short topics size left file [] [] none = All-nil (λ (m : Message). length m.payload ≤ size)
 given-short topics size left file [] (own ∷ more) none = absurd none
@@ -112,29 +113,34 @@ given-short topics size left file (x ∷ xs) (own ∷ more) gave =
     All-append (λ (m : Message). length m.payload ≤ size) own (all_of more) gave.0.short (given-short topics size left (file + 1) xs more gave.1)
 
 -- where the bytes of all files are visible, they are those of the contents
-pub given-told : {S : Type 0} (topics : List (List ℕ × Kind)) (size : ℕ) (left : S → Option (List ℕ)) (file : ℕ) (was : List S) (given : List (List Message)) → AreGiven topics size left file was given
+pub given-told : {S : Type 0} (topics : List (List ℕ × Kind)) (size : ℕ) (left : S → Option (List ℕ)) (file : ℕ) (was : List S)
+    (given : List (List Message)) → AreGiven topics size left file was given
     → IfSome (all_left left was) (λ contents. given ≡ messages_in topics file contents)
 given-told topics size left file [] [] none = refl
 given-told topics size left file [] (own ∷ more) none = absurd none
 given-told topics size left file (x ∷ xs) [] none = absurd none
-given-told topics size left file (x ∷ xs) (own ∷ more) gave = both (left x) (all_left left xs) gave.0.all (given-told topics size left (file + 1) xs more gave.1) where
-  both : (first : Option (List ℕ)) (rest : Option (List (List ℕ))) → IfSome first (λ bytes. own ≡ map (numbered file (topic_of topics)) (messages_of bytes))
-      → IfSome rest (λ contents. more ≡ messages_in topics (file + 1) contents)
-      → IfSome (option_and_then (λ content. option_map (λ more. content ∷ more) rest) first) (λ contents. own ∷ more ≡ messages_in topics file contents)
-  both None rest is others = tt
-  both (Some bytes) None is others = tt
-  both (Some bytes) (Some contents) is others = ap (λ l. l ∷ more) is ∙ ap (λ l. map (numbered file (topic_of topics)) (messages_of bytes) ∷ l) others
+given-told topics size left file (x ∷ xs) (own ∷ more) gave =
+    both (left x) (all_left left xs) gave.0.all (given-told topics size left (file + 1) xs more gave.1) where
+      both : (first : Option (List ℕ)) (rest : Option (List (List ℕ))) → IfSome first (λ bytes. own ≡ map (numbered file (topic_of topics)) (messages_of bytes))
+          → IfSome rest (λ contents. more ≡ messages_in topics (file + 1) contents)
+          → IfSome (option_and_then (λ content. option_map (λ more. content ∷ more) rest) first) (λ contents. own ∷ more ≡ messages_in topics file contents)
+      both None rest is others = tt
+      both (Some bytes) None is others = tt
+      both (Some bytes) (Some contents) is others = ap (λ l. l ∷ more) is ∙ ap (λ l. map (numbered file (topic_of topics)) (messages_of bytes) ∷ l) others
 
 -- and their answers are those of one thread
-numbered-answers : (topics : List (List ℕ × Kind)) (file : ℕ) (ms : List Framed) → map (answer_of topics) (map (numbered file (topic_of topics)) ms) ≡ map (answer_to topics file) ms
+numbered-answers : (topics : List (List ℕ × Kind)) (file : ℕ) (ms : List Framed)
+    → map (answer_of topics) (map (numbered file (topic_of topics)) ms) ≡ map (answer_to topics file) ms
 numbered-answers topics file [] = refl
 numbered-answers topics file (m ∷ ms) = ap (λ (rest : List Answer). answer_to topics file m ∷ rest) (numbered-answers topics file ms)
 
-pub told-answers : (topics : List (List ℕ × Kind)) (file : ℕ) (contents : List (List ℕ)) → map (answer_of topics) (all_of (messages_in topics file contents)) ≡ answers_to topics file contents
+pub told-answers : (topics : List (List ℕ × Kind)) (file : ℕ) (contents : List (List ℕ))
+    → map (answer_of topics) (all_of (messages_in topics file contents)) ≡ answers_to topics file contents
 told-answers topics file [] = refl
 told-answers topics file (content ∷ more) =
     map-append (answer_of topics) (map (numbered file (topic_of topics)) (messages_of content)) (all_of (messages_in topics (file + 1) more))
-    ∙ ap (λ (front : List Answer). front ++ map (answer_of topics) (all_of (messages_in topics (file + 1) more))) (numbered-answers topics file (messages_of content))
+    ∙ ap (λ (front : List Answer). front ++ map (answer_of topics) (all_of (messages_in topics (file + 1) more)))
+    (numbered-answers topics file (messages_of content))
     ∙ ap (λ (last : List Answer). map (answer_to topics file) (messages_of content) ++ last) (told-answers topics (file + 1) more)
 
 -- some message, to read past a list
@@ -145,16 +151,19 @@ no_message = record { file = 0; line = 0; topic = 0; payload = [] }
 answers-in-order : (topics : List (List ℕ × Kind)) (given : List Message) → IsInOrder place_of given → IsInOrder place_of_answer (map (answer_of topics) given)
 answers-in-order topics given order k d less =
     let long : k + 1 < length given = omega (arith, length-map given (answer_of topics)) in
-    rw (get_or-map (answer_of topics) given k no_message d (omega arith), get_or-map (answer_of topics) given (k + 1) no_message d long) (order k no_message long)
+    rw (get_or-map (answer_of topics) given k no_message d (omega arith), get_or-map (answer_of topics) given (k + 1) no_message d long)
+    (order k no_message long)
 
-answers-known : (topics : List (List ℕ × Kind)) (given : List Message) → All (λ m. m.topic ≤ length topics) given → All (λ a. a.topic ≤ length topics) (map (answer_of topics) given)
+answers-known : (topics : List (List ℕ × Kind)) (given : List Message) → All (λ m. m.topic ≤ length topics) given
+    → All (λ a. a.topic ≤ length topics) (map (answer_of topics) given)
 answers-known topics given known k d less =
     let long : k < length given = omega (arith, length-map given (answer_of topics)) in
     rw (get_or-map (answer_of topics) given k no_message d long) (known k no_message long)
 
 -- members whose answers are those to the messages, in some order, are apart
-pub members-apart : {S : Type 0} (topics : List (List ℕ × Kind)) (size : ℕ) (left : S → Option (List ℕ)) (was : List S) (given : List (List Message)) (members : List Answered)
-    → AreGiven topics size left 1 was given → IsPermutation (map without_way members) (map (answer_of topics) (all_of given)) → AreApart place_of_answered members
+pub members-apart : {S : Type 0} (topics : List (List ℕ × Kind)) (size : ℕ) (left : S → Option (List ℕ)) (was : List S) (given : List (List Message))
+    (members : List Answered) → AreGiven topics size left 1 was given → IsPermutation (map without_way members) (map (answer_of topics) (all_of given))
+    → AreApart place_of_answered members
 members-apart topics size left was given members gave same i j d less within alike =
     let test : Answer → Answer → Bool = λ x y. is_place (place_of_answer x) (place_of_answer y) in
     let answers = map (answer_of topics) (all_of given) in
@@ -174,28 +183,32 @@ members-apart topics size left was given members gave same i j d less within ali
     absurd (cc)
 
 -- and on known topics
-pub members-known : {S : Type 0} (topics : List (List ℕ × Kind)) (size : ℕ) (left : S → Option (List ℕ)) (was : List S) (given : List (List Message)) (members : List Answered)
-    → AreGiven topics size left 1 was given → IsPermutation (map without_way members) (map (answer_of topics) (all_of given)) → All (λ a. a.topic ≤ length topics) members
+pub members-known : {S : Type 0} (topics : List (List ℕ × Kind)) (size : ℕ) (left : S → Option (List ℕ)) (was : List S) (given : List (List Message))
+    (members : List Answered) → AreGiven topics size left 1 was given → IsPermutation (map without_way members) (map (answer_of topics) (all_of given))
+    → All (λ a. a.topic ≤ length topics) members
 members-known topics size left was given members gave same k d less =
     let answers = map (answer_of topics) (all_of given) in
-    let known = All-permutation (λ (a : Answer). a.topic ≤ length topics) answers (map without_way members) (IsPermutation-sym (map without_way members) answers same)
+    let known = All-permutation (λ (a : Answer). a.topic ≤ length topics) answers (map without_way members)
+    (IsPermutation-sym (map without_way members) answers same)
     (answers-known topics (all_of given) (given-known topics size left 1 was given gave)) in
     subst (λ (a : Answer). a.topic ≤ length topics) (get_or-map without_way members k d (without_way d) less)
     (known k (without_way d) (omega (arith, length-map members without_way)))
 
 -- and they answer to short payloads
-pub members-short : {S : Type 0} (topics : List (List ℕ × Kind)) (size : ℕ) (left : S → Option (List ℕ)) (was : List S) (given : List (List Message)) (members : List Answered)
-    → AreGiven topics size left 1 was given → IsPermutation (map without_way members) (map (answer_of topics) (all_of given)) → All (λ a. a.bytes ≤ size) members
+pub members-short : {S : Type 0} (topics : List (List ℕ × Kind)) (size : ℕ) (left : S → Option (List ℕ)) (was : List S) (given : List (List Message))
+    (members : List Answered) → AreGiven topics size left 1 was given → IsPermutation (map without_way members) (map (answer_of topics) (all_of given))
+    → All (λ a. a.bytes ≤ size) members
 members-short topics size left was given members gave same k d less =
     let answers = map (answer_of topics) (all_of given) in
     let short = All-map (λ (a : Answer). a.bytes ≤ size) (answer_of topics) (all_of given) (given-short topics size left 1 was given gave) in
-    let all = All-permutation (λ (a : Answer). a.bytes ≤ size) answers (map without_way members) (IsPermutation-sym (map without_way members) answers same) short in
+    let all = All-permutation (λ (a : Answer). a.bytes ≤ size) answers (map without_way members)
+    (IsPermutation-sym (map without_way members) answers same) short in
     subst (λ (a : Answer). a.bytes ≤ size) (get_or-map without_way members k d (without_way d) less)
     (all k (without_way d) (omega (arith, length-map members without_way)))
 
 -- and where the bytes of all files are visible, they are those of one thread
-pub members-told : {S : Type 0} (topics : List (List ℕ × Kind)) (size : ℕ) (left : S → Option (List ℕ)) (was : List S) (given : List (List Message)) (members : List Answered)
-    → AreGiven topics size left 1 was given → IsPermutation (map without_way members) (map (answer_of topics) (all_of given))
+pub members-told : {S : Type 0} (topics : List (List ℕ × Kind)) (size : ℕ) (left : S → Option (List ℕ)) (was : List S) (given : List (List Message))
+    (members : List Answered) → AreGiven topics size left 1 was given → IsPermutation (map without_way members) (map (answer_of topics) (all_of given))
     → IfSome (all_left left was) (λ contents. IsPermutation (map without_way members) (answers_to topics 1 contents))
 members-told topics size left was given members gave same = at (all_left left was) (given-told topics size left 1 was given gave) where
   at : (o : Option (List (List ℕ))) → IfSome o (λ contents. given ≡ messages_in topics 1 contents)

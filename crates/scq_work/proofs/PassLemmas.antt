@@ -9,21 +9,22 @@ use Rattle.scq_core.specs.declared.ended.Ended.TheVariants.{Done, Got, Nothing}
 use Rattle.scq_band.specs.declared.numbers.Numbers.{Numbers}
 use Rattle.scq_band.specs.Numbers.{known_of, changed, finishes, sees, passes, drew, empties}
 use Rattle.scq_band.specs.Standing.{Identity}
+use Rattle.scq_band.proofs.Learning.{changed_length}
 use Rattle.scq_frames.specs.declared.message.Message.{Message}
+use Rattle.scq_collect.proofs.Orders.{contains-first, contains-more}
 use Rattle.scq_queue.specs.Passes.{PassStanding, HeldStanding, HasGot, WasLent, WasGivenBack, FoundEmpty, FoundFull, after_put, without, known_on, after_look}
 use Rattle.scq_work.specs.Records.{none, and_got, and_found_none}
 use Rattle.scq_work.specs.Passing.{Sends}
 use Rattle.scq_work.specs.Working.{KnowsMore, HasTaken, HasSent, HasFoundFull, Suits, takes_left}
 use Rattle.scq_work.proofs.Blocks.{takes-join}
-use Rattle.scq_work.proofs.Distinct.{contains-front, contains-behind}
-use Rattle.scq_work.proofs.KnownNumbers.{known-other, known-same, known-length, Raises, raises-along, known-raised, finishes-raises, got-raises, empty-raises, empty-finished, empty-passes, finished-stays}
+use Rattle.scq_work.proofs.KnownNumbers.{known-other, known-same, Raises, raises-along, known-raised, finishes-raises, got-raises, empty-raises, empty-finished, empty-passes, finished-stays}
 
 -- an index that was not there before it came leaves as it came
 pub without-came : (i : ℕ) (held : List ℕ) → (Contains held i → ⊥) → without i (held ++ i ∷ []) ≡ held
 without-came i [] came = rw (eq-eqb i i refl) refl
 without-came i (j ∷ held) came =
-    let apart : (j == i) ≡ false = ne_eqb j i (λ e. came (subst (Contains (j ∷ held)) e (contains-front j held))) in
-    rw apart (ap (λ l. j ∷ l) (without-came i held (λ h. came (contains-behind j i held h))))
+    let apart : (j == i) ≡ false = ne_eqb j i (λ e. came (subst (Contains (j ∷ held)) e (contains-first j held))) in
+    rw apart (ap (λ l. j ∷ l) (without-came i held (λ h. came (contains-more j i held h))))
 
 -- one take more of a topic: each topic below the next has one more, and each other as many as before
 pub counted-below : (topic : ℕ) (was now later : ℕ → ℕ) → ((t : ℕ) → t < topic → now t ≡ was t + 1) → ((t : ℕ) → topic ≤ t → now t ≡ was t)
@@ -93,20 +94,31 @@ module _ {B : Type 0} where
       let f : Numbers → Numbers = λ x. sees place (passes (place + 1) x) in
       let q_numbers : q.numbers ≡ changed f (suc topic) p.numbers = ap (λ (x : PassStanding B). x.numbers) got.pass in
       let r_numbers : r.numbers ≡ changed (finishes back.place) 0 q.numbers = ap (λ (x : PassStanding B). x.numbers) back.pass in
-      let q_length : length q.numbers ≡ length p.numbers = ap length q_numbers ∙ known-length f (suc topic) p.numbers in
-      let r_length : length r.numbers ≡ length q.numbers = ap length r_numbers ∙ known-length (finishes back.place) 0 q.numbers in
+      let q_length : length q.numbers ≡ length p.numbers = ap length q_numbers ∙ changed_length f (suc topic) p.numbers in
+      let r_length : length r.numbers ≡ length q.numbers = ap length r_numbers ∙ changed_length (finishes back.place) 0 q.numbers in
       let first : (k : ℕ) → Raises (known_of p.numbers k) (known_of q.numbers k) = λ k.
       subst (λ ns. Raises (known_of p.numbers k) (known_of ns k)) (sym q_numbers) (known-raised f (suc topic) k p.numbers (got-raises place) within) in
       let then_ : (k : ℕ) → Raises (known_of q.numbers k) (known_of r.numbers k) = λ k.
-      subst (λ ns. Raises (known_of q.numbers k) (known_of ns k)) (sym r_numbers) (known-raised (finishes back.place) 0 k q.numbers (finishes-raises back.place) (omega arith)) in
+      subst (λ ns. Raises (known_of q.numbers k) (known_of ns k)) (sym r_numbers)
+      (known-raised (finishes back.place) 0 k q.numbers (finishes-raises back.place) (omega arith)) in
       let both : (k : ℕ) → Raises (known_of p.numbers k) (known_of r.numbers k) = λ k. raises-along _ _ _ (first k) (then_ k) in
       record {
         block = ([] ++ Got (suc topic) place bytes ∷ []) ++ Done 0 back.place bytes ∷ [];
         are = and_got topic place back.place bytes none;
-        pass = calls-alone p r _ _ (back.pass ∙ ap (λ (x : PassStanding B). record x { calls = x.calls ++ Done 0 back.place bytes ∷ []; held = without h.index x.held; numbers = changed (finishes back.place) 0 x.numbers }) got.pass
-            ∙ ap (λ (held : List ℕ). record p { calls = (p.calls ++ Got (suc topic) place bytes ∷ []) ++ Done 0 back.place bytes ∷ []; held = held; numbers = changed (finishes back.place) 0 (changed f (suc topic) p.numbers) }) (without-came h.index p.held got.came)
-            ∙ ap (λ (calls : List Ended). record p { calls = calls; numbers = changed (finishes back.place) 0 (changed f (suc topic) p.numbers) }) (append_assoc p.calls (Got (suc topic) place bytes ∷ []) (Done 0 back.place bytes ∷ []))
-            ∙ ap (λ ns. record p { calls = p.calls ++ (Got (suc topic) place bytes ∷ Done 0 back.place bytes ∷ []); numbers = ns }) (sym (r_numbers ∙ ap (changed (finishes back.place) 0) q_numbers)));
+        pass = calls-alone p r _ _ (back.pass ∙ ap (λ (x : PassStanding B). record x {
+          calls = x.calls ++ Done 0 back.place bytes ∷ [];
+          held = without h.index x.held;
+          numbers = changed (finishes back.place) 0 x.numbers;
+        }) got.pass
+            ∙ ap (λ (held : List ℕ). record p {
+              calls = (p.calls ++ Got (suc topic) place bytes ∷ []) ++ Done 0 back.place bytes ∷ [];
+              held = held;
+              numbers = changed (finishes back.place) 0 (changed f (suc topic) p.numbers);
+            }) (without-came h.index p.held got.came)
+            ∙ ap (λ (calls : List Ended). record p { calls = calls; numbers = changed (finishes back.place) 0 (changed f (suc topic) p.numbers) })
+            (append_assoc p.calls (Got (suc topic) place bytes ∷ []) (Done 0 back.place bytes ∷ []))
+            ∙ ap (λ ns. record p { calls = p.calls ++ (Got (suc topic) place bytes ∷ Done 0 back.place bytes ∷ []); numbers = ns })
+            (sym (r_numbers ∙ ap (changed (finishes back.place) 0) q_numbers)));
         knows = record { rings = r_length ∙ q_length; finished = λ t. (both (suc t)).finished; head = λ t. (both (suc t)).head };
         same = λ t. ap (λ ns. (known_of ns (suc t)).finished) r_numbers
             ∙ ap (λ (x : _). x.finished) (known-other (finishes back.place) 0 (suc t) q.numbers (λ e. omega arith))
@@ -126,12 +138,17 @@ module _ {B : Type 0} where
       ap (λ ns. (known_of ns k).finished) numbers ∙ finished-stays f (suc topic) k p.numbers (empty-finished found.drawn) within in
       let past : (known_of p.numbers (suc topic)).finished < (known_of q.numbers (suc topic)).head =
       subst (λ ns. (known_of p.numbers (suc topic)).finished < (known_of ns (suc topic)).head) (sym numbers)
-      (subst (λ x. (known_of p.numbers (suc topic)).finished < x.head) (sym (known-same f (suc topic) p.numbers within)) (empty-passes found.drawn (known_of p.numbers (suc topic)))) in (
+      (subst (λ x. (known_of p.numbers (suc topic)).finished < x.head) (sym (known-same f (suc topic) p.numbers within))
+      (empty-passes found.drawn (known_of p.numbers (suc topic)))) in (
         record {
           block = [] ++ Nothing (suc topic) ∷ [];
           are = and_found_none topic none;
           pass = calls-alone p q (p.calls ++ Nothing (suc topic) ∷ []) (changed f (suc topic) p.numbers) found.pass;
-          knows = record { rings = ap length numbers ∙ known-length f (suc topic) p.numbers; finished = λ t. (raised (suc t)).finished; head = λ t. (raised (suc t)).head };
+          knows = record {
+            rings = ap length numbers ∙ changed_length f (suc topic) p.numbers;
+            finished = λ t. (raised (suc t)).finished;
+            head = λ t. (raised (suc t)).head;
+          };
           same = λ t. stays (suc t);
         },
         subst (λ n. n < (known_of q.numbers (suc topic)).head) (sym (stays (suc topic))) past,
@@ -146,23 +163,30 @@ module _ {B : Type 0} where
       subst (λ ns. Raises (known_of p.numbers k) (known_of ns k)) (sym numbers) (known-raised f 0 k p.numbers (empty-raises found.drawn) within) in
       record {
         pass = found.pass ∙ ap (λ ns. record p { calls = p.calls ++ Nothing 0 ∷ []; fulls = p.fulls ++ head ∷ []; numbers = ns }) (sym numbers);
-        knows = record { rings = ap length numbers ∙ known-length f 0 p.numbers; finished = λ t. (raised (suc t)).finished; head = λ t. (raised (suc t)).head };
+        knows = record {
+          rings = ap length numbers ∙ changed_length f 0 p.numbers;
+          finished = λ t. (raised (suc t)).finished;
+          head = λ t. (raised (suc t)).head;
+        };
       }
 
   -- a buffer was lent, and sent with the bytes of a message
-  pub lent-and-sent : (contents : B → List ℕ) (m : Message) (place : ℕ) (bytes : List ℕ) (p q r : PassStanding B) (h : HeldStanding B) → suc m.topic < length p.numbers
-      → WasLent contents p q h → r ≡ after_put (suc m.topic) h.index place bytes q → Sends m (record { topic = m.topic; place = place; bytes = bytes }) → HasSent m p r
+  pub lent-and-sent : (contents : B → List ℕ) (m : Message) (place : ℕ) (bytes : List ℕ) (p q r : PassStanding B) (h : HeldStanding B)
+      → suc m.topic < length p.numbers
+      → WasLent contents p q h → r ≡ after_put (suc m.topic) h.index place bytes q → Sends m (record { topic = m.topic; place = place; bytes = bytes })
+      → HasSent m p r
   lent-and-sent contents m place bytes p q r h within lent sent sends =
       let over = contents h.buffer in
       let f : Numbers → Numbers = λ x. sees lent.place (passes (lent.place + 1) x) in
       let q_numbers : q.numbers ≡ changed f 0 p.numbers = ap (λ (x : PassStanding B). x.numbers) lent.got.pass in
       let r_numbers : r.numbers ≡ changed (finishes place) (suc m.topic) q.numbers = ap (λ (x : PassStanding B). x.numbers) sent in
-      let q_length : length q.numbers ≡ length p.numbers = ap length q_numbers ∙ known-length f 0 p.numbers in
-      let r_length : length r.numbers ≡ length q.numbers = ap length r_numbers ∙ known-length (finishes place) (suc m.topic) q.numbers in
+      let q_length : length q.numbers ≡ length p.numbers = ap length q_numbers ∙ changed_length f 0 p.numbers in
+      let r_length : length r.numbers ≡ length q.numbers = ap length r_numbers ∙ changed_length (finishes place) (suc m.topic) q.numbers in
       let first : (k : ℕ) → Raises (known_of p.numbers k) (known_of q.numbers k) = λ k.
       subst (λ ns. Raises (known_of p.numbers k) (known_of ns k)) (sym q_numbers) (known-raised f 0 k p.numbers (got-raises lent.place) (omega arith)) in
       let then_ : (k : ℕ) → Raises (known_of q.numbers k) (known_of r.numbers k) = λ k.
-      subst (λ ns. Raises (known_of q.numbers k) (known_of ns k)) (sym r_numbers) (known-raised (finishes place) (suc m.topic) k q.numbers (finishes-raises place) (omega arith)) in
+      subst (λ ns. Raises (known_of q.numbers k) (known_of ns k)) (sym r_numbers)
+      (known-raised (finishes place) (suc m.topic) k q.numbers (finishes-raises place) (omega arith)) in
       let both : (k : ℕ) → Raises (known_of p.numbers k) (known_of r.numbers k) = λ k. raises-along _ _ _ (first k) (then_ k) in
       let last : known_of r.numbers (suc m.topic) ≡ finishes place (known_of q.numbers (suc m.topic)) =
       ap (λ ns. known_of ns (suc m.topic)) r_numbers ∙ known-same (finishes place) (suc m.topic) q.numbers (omega arith) in
@@ -172,8 +196,13 @@ module _ {B : Type 0} where
         place = place;
         bytes = bytes;
         pass = sent ∙ ap (λ (x : PassStanding B). after_put (suc m.topic) h.index place bytes x) lent.got.pass
-            ∙ ap (λ (held : List ℕ). record p { calls = (p.calls ++ Got 0 lent.place over ∷ []) ++ Done (suc m.topic) place bytes ∷ []; held = held; numbers = changed (finishes place) (suc m.topic) (changed f 0 p.numbers) }) (without-came h.index p.held lent.got.came)
-            ∙ ap (λ ns. record p { calls = (p.calls ++ Got 0 lent.place over ∷ []) ++ Done (suc m.topic) place bytes ∷ []; numbers = ns }) (sym (r_numbers ∙ ap (changed (finishes place) (suc m.topic)) q_numbers));
+            ∙ ap (λ (held : List ℕ). record p {
+              calls = (p.calls ++ Got 0 lent.place over ∷ []) ++ Done (suc m.topic) place bytes ∷ [];
+              held = held;
+              numbers = changed (finishes place) (suc m.topic) (changed f 0 p.numbers);
+            }) (without-came h.index p.held lent.got.came)
+            ∙ ap (λ ns. record p { calls = (p.calls ++ Got 0 lent.place over ∷ []) ++ Done (suc m.topic) place bytes ∷ []; numbers = ns })
+            (sym (r_numbers ∙ ap (changed (finishes place) (suc m.topic)) q_numbers));
         sends = sends;
         knows = record { rings = r_length ∙ q_length; finished = λ t. (both (suc t)).finished; head = λ t. (both (suc t)).head };
         finished = subst (λ x. place ≤ x.finished) (sym last) (omega arith);
@@ -182,7 +211,13 @@ module _ {B : Type 0} where
   -- it asked whether all had retired
   pub looked : (p : PassStanding B) (found : ℕ) → HasTaken p (after_look found p)
   looked p found =
-      record { block = []; are = none; pass = rw (append-nil p.calls) refl; knows = record { rings = refl; finished = λ t. omega arith; head = λ t. omega arith }; same = λ t. refl }
+      record {
+        block = [];
+        are = none;
+        pass = rw (append-nil p.calls) refl;
+        knows = record { rings = refl; finished = λ t. omega arith; head = λ t. omega arith };
+        same = λ t. refl;
+      }
 
   -- a pass that has taken still suits
   pub suits-taken : (shared : Identity B) (topics : ℕ) (p q : PassStanding B) → Suits shared topics p → HasTaken p q → Suits shared topics q

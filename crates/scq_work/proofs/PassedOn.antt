@@ -27,15 +27,6 @@ one-of-all P xs i x all is =
 
 module _ {B : Type 0} where
   -- the pass still suits
-  pub suits-sent : (shared : Identity B) (topics : ℕ) (m : Message) (p q : PassStanding B) → Suits shared topics p → HasSent m p q → Suits shared topics q
-  suits-sent shared topics m p q suits h =
-      record {
-        queue = ap (λ (x : PassStanding B). x.queue) h.pass ∙ suits.queue;
-        rings = suits.rings;
-        numbers = h.knows.rings ∙ suits.numbers;
-        spent = ap (λ (x : PassStanding B). x.spent) h.pass ∙ suits.spent;
-      }
-
   pub suits-full : (shared : Identity B) (topics head : ℕ) (p q : PassStanding B) → Suits shared topics p → HasFoundFull head p q → Suits shared topics q
   suits-full shared topics head p q suits h =
       record {
@@ -56,7 +47,8 @@ module _ {B : Type 0} where
       }
 
   -- it found no buffer free, has answered a message more itself, and has helped
-  pub work-helped : (topics : List (List ℕ × Kind)) (messages : List Message) (m : Message) (head : ℕ) (p q r : PassStanding B) (was mid is : List Answered) (before after : Bool)
+  pub work-helped : (topics : List (List ℕ × Kind)) (messages : List Message) (m : Message) (head : ℕ) (p q r : PassStanding B) (was mid is : List Answered)
+      (before after : Bool)
       → IsAtWork topics messages p was before → HasFoundFull head p q → HasTaken q r
       → ((topic : ℕ) → topic < length topics + 1 → count_by (is_take topic) r.calls ≡ count_by (is_take topic) q.calls + 1)
       → (after ≡ false → before ≡ false) → (after ≡ false → mid ≡ was ++ answered topics (Direct head) m ∷ []) → (after ≡ false → HasAnswered topics q r mid is)
@@ -73,13 +65,16 @@ module _ {B : Type 0} where
       }
 
   -- the send of a value that was lent met Spent: that value came back
-  pub left-sent : (contents : B → List ℕ) (messages topic ticket : ℕ) (p q r : PassStanding B) (h : HeldStanding B) (kept : Option (HeldStanding B)) → WasLent contents p q h
-      → r ≡ after_spent_put (suc topic) ticket q → IsSome kept → IfSome kept (λ k. (k.index ≡ h.index) × (k.queue ≡ h.queue)) → HasLeft messages (messages + 1) p r kept
+  pub left-sent : (contents : B → List ℕ) (messages topic ticket : ℕ) (p q r : PassStanding B) (h : HeldStanding B) (kept : Option (HeldStanding B))
+      → WasLent contents p q h
+      → r ≡ after_spent_put (suc topic) ticket q → IsSome kept → IfSome kept (λ k. (k.index ≡ h.index) × (k.queue ≡ h.queue))
+      → HasLeft messages (messages + 1) p r kept
   left-sent contents messages topic ticket p q r h None lent is some_ back = absurd (search rules)
   left-sent contents messages topic ticket p q r h (Some k) lent is some_ back = left-at-send contents messages topic ticket p q r h k lent is back.0 back.1
 
   -- it met Spent at this message
-  pub work-stopped : (shared : Identity B) (topics : List (List ℕ × Kind)) (messages : List Message) (m : Message) (p q : PassStanding B) (members : List Answered) (starved : Bool)
+  pub work-stopped : (shared : Identity B) (topics : List (List ℕ × Kind)) (messages : List Message) (m : Message) (p q : PassStanding B)
+      (members : List Answered) (starved : Bool)
       (kept : Option (HeldStanding B)) → IsAtWork topics messages p members starved → p.queue ≡ shared → p.retired ≡ None
       → HasLeft (length messages) (length messages + 1) p q kept → HasStopped shared (length (messages ++ m ∷ [])) q kept
   work-stopped shared topics messages m p q members starved kept was queue stays left =
@@ -88,6 +83,6 @@ module _ {B : Type 0} where
         thrifty = subst (λ n. IsThrifty 1 n q) (sym (length-append messages (m ∷ []))) (left.thrifty was.thrifty);
         queue = left.own.0 ∙ queue;
         stays = left.own.2 ∙ stays;
-        held = left.held ∙ ap (λ l. l ++ index_of kept) was.producing.none;
+        held = left.held ∙ ap (λ l. l ++ index_of kept) was.producing.between.none;
         its = subst (λ (x : Identity B). IfSome kept (λ h. h.queue ≡ x)) queue left.its;
       }

@@ -4,7 +4,7 @@ use Rattle.std.specs.Prelude.{IfSome, IsTrue, All}
 use Rattle.std.proofs.lemmas.List.Elements.{All-nil, All-push}
 use Rattle.std.specs.Option.{option_map}
 use Rattle.std.proofs.lemmas.List.{append-nil, length-append}
-use Rattle.scq_outside.specs.Faults.{Rose}
+use Rattle.scq_outside.specs.Counts.{Rose}
 use Rattle.scq_topics.specs.declared.kind.Kind.{Kind}
 use Rattle.scq_topics.specs.Topics.{topic_of}
 use Rattle.scq_frames.specs.declared.message.Message.{Message}
@@ -14,7 +14,7 @@ use Rattle.scq_frames.specs.declared.fault.FrameFault.{FrameFault}
 use Rattle.scq_frames.specs.declared.fault.FrameFault.TheVariants.{ReadFault, TooLong, TooLarge, NoMemory}
 use Rattle.scq_frames.specs.Framing.{Framing, IsNext, NothingLeft, fresh, visible_ahead, visible_size}
 use Rattle.scq_frames.specs.Coming.{Found}
-use Rattle.scq_frames.proofs.FindingLemmas.{Gave, Gave-start, Gave-found, Found-gave}
+use Rattle.scq_frames.proofs.FindingLemmas.{Gave, Gave-found, Found-gave}
 use Rattle.scq_collect.proofs.Judging.{if-visible, judged-end, judged-fault, judged-long, sized}
 use Rattle.scq_work.specs.Reading.{AreOf, IsRead}
 use Rattle.scq_work.specs.Desks.{IsNew}
@@ -27,12 +27,6 @@ use Rattle.scq_work.specs.declared.own_file.FileEnd.TheVariants.{Unread, Whole, 
 pub record HasGiven (before ahead : Option (List Message)) (given : List Message) : Type 0 where
   pub visible : before ≡ option_map (λ rest. given ++ rest) ahead
 
-pub given-none : (before : Option (List Message)) → HasGiven before before []
-given-none before = record { visible = same before } where
-  same : (o : Option (List Message)) → o ≡ option_map (λ rest. [] ++ rest) o
-  same None = refl
-  same (Some ms) = refl
-
 -- two fronts are one
 fronts : (given : List Message) (m : Message) (o : Option (List Message)) →
     option_map (λ rest. given ++ rest) (option_map (λ rest. (m ∷ []) ++ rest) o) ≡ option_map (λ rest. (given ++ m ∷ []) ++ rest) o
@@ -43,7 +37,8 @@ fronts given m (Some rest) = ap Some (sym (append_assoc given (m ∷ []) rest))
 pub given-next : (before ahead after : Option (List Message)) (given given' : List Message) (m : Message) → HasGiven before ahead given
     → ahead ≡ option_map (λ rest. (m ∷ []) ++ rest) after → given' ≡ given ++ m ∷ [] → HasGiven before after given'
 given-next before ahead after given given' m g next more = record {
-  visible = g.visible ∙ ap (option_map (λ rest. given ++ rest)) next ∙ fronts given m after ∙ ap (λ (front : List Message). option_map (λ rest. front ++ rest) after) (sym more);
+  visible = g.visible ∙ ap (option_map (λ rest. given ++ rest)) next ∙ fronts given m after
+      ∙ ap (λ (front : List Message). option_map (λ rest. front ++ rest) after) (sym more);
 }
 
 -- all were given once none is ahead
@@ -77,8 +72,8 @@ of-more known file line last [] m of same above low = (same, omega (arith, of, a
 of-more known file line last (x ∷ ms) m of same above low = (of.0, of.1, of.2, of-more known file x.line last ms m of.3 same above low)
 
 -- a file is being read: so far its source gave what the framer has, and that had no trouble
-pub record IsReading {S : Type 0} (topics : List (List ℕ × Kind)) (size : ℕ) (faults : S → ℕ) (left : S → Option (List ℕ)) (file : ℕ) (start now : S) (framer : Framing)
-    (given : List Message) : Type 0 where
+pub record IsReading {S : Type 0} (topics : List (List ℕ × Kind)) (size : ℕ) (faults : S → ℕ) (left : S → Option (List ℕ)) (file : ℕ) (start now : S)
+    (framer : Framing) (given : List Message) : Type 0 where
   pub ahead : HasGiven (visible_ahead (topic_of topics) (fresh file size (2 ^ 30)) (left start)) (visible_ahead (topic_of topics) framer (left now)) given
   pub all : AreOfUpTo (length topics) file 0 framer.line given
   pub short : All (λ m. length m.payload ≤ size) given
@@ -103,30 +98,13 @@ pub record Answers {S : Type 0} (faults : S → ℕ) (left : S → Option (List 
   pub stays : IsTrue old.ended → IsTrue new.ended
   pub size_same : visible_size new (left now) ≡ visible_size old (left before)
 
-pub reading-first : {S : Type 0} (topics : List (List ℕ × Kind)) (size : ℕ) (faults : S → ℕ) (left : S → Option (List ℕ)) (file : ℕ) (start : S)
-    → IsReading topics size faults left file start start (fresh file size (2 ^ 30)) []
-reading-first topics size faults left file start = record {
-  ahead = given-none (visible_ahead (topic_of topics) (fresh file size (2 ^ 30)) (left start));
-  all = omega arith;
-  short = All-nil (λ (m : Message). length m.payload ≤ size);
-  number = refl;
-  gave = Gave-start _ _ (left start) (λ failed more. refl) refl;
-  going = refl;
-  payload = refl;
-  most = refl;
-  bounded = omega arith;
-  few = omega arith;
-  end = λ h. absurd (cc);
-  size_same = refl;
-  kept = refl;
-}
-
 -- it gave a message more
-pub reading-next : {S : Type 0} (topics : List (List ℕ × Kind)) (size : ℕ) (faults : S → ℕ) (left : S → Option (List ℕ)) (file : ℕ) (start before now : S) (old new : Framing)
-    (given given' : List Message) (m : Message) → IsReading topics size faults left file start before old given → Answers faults left before now old new
+pub reading-next : {S : Type 0} (topics : List (List ℕ × Kind)) (size : ℕ) (faults : S → ℕ) (left : S → Option (List ℕ)) (file : ℕ) (start before now : S)
+    (old new : Framing) (given given' : List Message) (m : Message) → IsReading topics size faults left file start before old given
+    → Answers faults left before now old new
     → visible_ahead (topic_of topics) old (left before) ≡ option_map (λ rest. (m ∷ []) ++ rest) (visible_ahead (topic_of topics) new (left now))
-    → IsNext old new m → m.topic ≤ length topics → length m.payload ≤ old.size → Found old new (left before) (left now) (Ok (Some m)) → new.failed ≡ false → faults now ≡ faults before
-    → given' ≡ given ++ m ∷ [] → IsReading topics size faults left file start now new given'
+    → IsNext old new m → m.topic ≤ length topics → length m.payload ≤ old.size → Found old new (left before) (left now) (Ok (Some m)) → new.failed ≡ false
+    → faults now ≡ faults before → given' ≡ given ++ m ∷ [] → IsReading topics size faults left file start now new given'
 reading-next topics size faults left file start before now old new given given' m r said gives next known fits found going kept grown =
     let first = fresh file size (2 ^ 30) in
     let all = Gave-found first old new (left start) (left before) (left now) (Ok (Some m)) r.gave found (λ h. absurd (cc)) said.stays (λ e. absurd (cc)) in
@@ -136,7 +114,8 @@ reading-next topics size faults left file start before now old new given given' 
     record {
       ahead = given-next _ _ (visible_ahead (topic_of topics) new (left now)) _ _ m r.ahead gives grown;
       all = subst O (sym grown) (subst (λ n. AreOfUpTo (length topics) file 0 n (given ++ m ∷ [])) (sym next.line) of);
-      short = subst (All (λ (x : Message). length x.payload ≤ size)) (sym grown) (All-push (λ (x : Message). length x.payload ≤ size) given m r.short (omega (arith, fits, r.payload)));
+      short = subst (All (λ (x : Message). length x.payload ≤ size)) (sym grown)
+          (All-push (λ (x : Message). length x.payload ≤ size) given m r.short (omega (arith, fits, r.payload)));
       number = said.file ∙ r.number;
       gave = Found-gave first new (left start) (left now) m all;
       going = going;
@@ -154,14 +133,15 @@ few-given : (count weight : ℕ) → 2 * count ≤ weight → weight ≤ 2 ^ 30 
 few-given count weight few bounded = omega arith
 
 -- it was read to its end
-pub reading-whole : {S : Type 0} (topics : List (List ℕ × Kind)) (size : ℕ) (faults : S → ℕ) (left : S → Option (List ℕ)) (file : ℕ) (start before now : S) (old new : Framing)
-    (given : List Message) → IsReading topics size faults left file start before old given → Answers faults left before now old new
-    → visible_ahead (topic_of topics) old (left before) ≡ option_map (λ _. []) (left before) → Found old new (left before) (left now) (Ok None) → IsTrue new.ended
-    → faults now ≡ faults before → IsRead topics size faults left file start now given Whole
+pub reading-whole : {S : Type 0} (topics : List (List ℕ × Kind)) (size : ℕ) (faults : S → ℕ) (left : S → Option (List ℕ)) (file : ℕ) (start before now : S)
+    (old new : Framing) (given : List Message) → IsReading topics size faults left file start before old given → Answers faults left before now old new
+    → visible_ahead (topic_of topics) old (left before) ≡ option_map (λ _. []) (left before) → Found old new (left before) (left now) (Ok None)
+    → IsTrue new.ended → faults now ≡ faults before → IsRead topics size faults left file start now given Whole
 reading-whole topics size faults left file start before now old new given r said none found over kept = record {
   ends = record {
     judged = judged-end size file new (left start) (left now)
-        (Gave-found (fresh file size (2 ^ 30)) old new (left start) (left before) (left now) (Ok None) r.gave found (λ h. absurd (cc)) said.stays (λ e. absurd (cc)));
+        (Gave-found (fresh file size (2 ^ 30)) old new (left start) (left before) (left now) (Ok None) r.gave found (λ h. absurd (cc)) said.stays
+        (λ e. absurd (cc)));
     ended = said.end r.end over;
     kept = kept ∙ r.kept;
   };
@@ -172,13 +152,15 @@ reading-whole topics size faults left file start before now old new given r said
 }
 
 -- it was read up to a fault
-pub reading-fault : {S : Type 0} (topics : List (List ℕ × Kind)) (size : ℕ) (faults : S → ℕ) (left : S → Option (List ℕ)) (file : ℕ) (start before now : S) (old new : Framing)
-    (given : List Message) (fault : FrameFault) → IsReading topics size faults left file start before old given → Answers faults left before now old new
+pub reading-fault : {S : Type 0} (topics : List (List ℕ × Kind)) (size : ℕ) (faults : S → ℕ) (left : S → Option (List ℕ)) (file : ℕ) (start before now : S)
+    (old new : Framing) (given : List Message) (fault : FrameFault) → IsReading topics size faults left file start before old given
+    → Answers faults left before now old new
     → Found old new (left before) (left now) (Err fault) → (fault ≡ ReadFault → Rose (faults before) (faults now)) → (fault ≡ ReadFault → old.ended ≡ false)
     → (fault ≢ ReadFault → faults now ≡ faults before) → ((line len : ℕ) → fault ≡ TooLong line len → (old.line < line) × (old.size < len))
     → ((n : ℕ) → fault ≡ TooLarge n → (n ≡ new.most + 1) × (new.read ≡ n)) → IsRead topics size faults left file start now given (Stopped fault)
 reading-fault {S} topics size faults left file start before now old new given fault r said found rose going kept long large =
-    let all = Gave-found (fresh file size (2 ^ 30)) old new (left start) (left before) (left now) (Err fault) r.gave found (λ h. absurd (cc)) said.stays (λ e. going (fault-is fault (Err fault) refl e)) in
+    let all = Gave-found (fresh file size (2 ^ 30)) old new (left start) (left before) (left now) (Err fault) r.gave found (λ h. absurd (cc)) said.stays
+    (λ e. going (fault-is fault (Err fault) refl e)) in
     let many : (n : ℕ) → fault ≡ TooLarge n → (n ≡ 2 ^ 30 + 1) × (option_map length (left start) ≡ option_map (λ rest. n + length rest) (left now)) = λ n e.
     let its = large n e in
     (omega (arith, its.0, said.most, r.most), sized n new.read (left start) (left now) its.1 (said.size_same ∙ r.size_same)) in
@@ -204,8 +186,9 @@ reading-fault {S} topics size faults left file start before now old new given fa
       fault-is x r is e = cc
 
 -- its worker leaves it
-pub reading-left : {S : Type 0} (topics : List (List ℕ × Kind)) (size : ℕ) (faults : S → ℕ) (left : S → Option (List ℕ)) (file : ℕ) (start now : S) (framer : Framing)
-    (given : List Message) → IsReading topics size faults left file start now framer given → IsRead topics size faults left file start now given (Stopped NoMemory)
+pub reading-left : {S : Type 0} (topics : List (List ℕ × Kind)) (size : ℕ) (faults : S → ℕ) (left : S → Option (List ℕ)) (file : ℕ) (start now : S)
+    (framer : Framing) (given : List Message) → IsReading topics size faults left file start now framer given
+    → IsRead topics size faults left file start now given (Stopped NoMemory)
 reading-left topics size faults left file start now framer given r = record {
   ends = record {
     judged = record { bytes = r.gave.bytes; moved = r.gave.moved; judges = if-visible (left now) _ (λ rest e. tt) };

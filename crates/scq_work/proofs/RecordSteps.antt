@@ -21,7 +21,8 @@ use Rattle.scq_work.proofs.Blocks.{takes-no_lend, takes-even}
 -- where no call is a Full, none stands there
 pub no-full : (calls front after : List Ended) → tally was_full calls ≡ 0 → calls ≡ front ++ Nothing 0 ∷ after → ⊥
 no-full calls front after zero_ is =
-    let all : tally was_full calls ≡ tally was_full front + tally was_full (Nothing 0 ∷ after) = ap (tally was_full) is ∙ tally-append was_full front (Nothing 0 ∷ after) in
+    let all : tally was_full calls ≡ tally was_full front + tally was_full (Nothing 0 ∷ after) =
+    ap (tally was_full) is ∙ tally-append was_full front (Nothing 0 ∷ after) in
     omega arith
 
 pub takes-no_full : (calls : List Ended) → AreTakes calls → tally was_full calls ≡ 0
@@ -34,11 +35,13 @@ takes-no_full calls (and_found_none {calls = before} topic more) =
 
 -- what the calls behind must say of a Full among them
 pub helps-more : (topics : ℕ) (xs rest : List Ended) (c : Ended) → HelpsOnceAfterEachFull topics xs → is_lend c ≡ true
-    → ((front after : List Ended) (topic : ℕ) → c ∷ rest ≡ front ++ Nothing 0 ∷ after → topic < topics → count_by (is_take topic) (before_first is_lend after) ≡ 1)
+    → ((front after : List Ended) (topic : ℕ) → c ∷ rest ≡ front ++ Nothing 0 ∷ after → topic < topics
+    → count_by (is_take topic) (before_first is_lend after) ≡ 1)
     → HelpsOnceAfterEachFull topics (xs ++ c ∷ rest)
 helps-more topics xs rest c once led inside before after topic is low =
     ⊎_elim (λ (h : (mid : List Ended) × (xs ≡ before ++ Nothing 0 ∷ mid) × (after ≡ mid ++ c ∷ rest)).
-    ap (λ l. count_by (is_take topic) (before_first is_lend l)) h.2 ∙ ap (count_by (is_take topic)) (before-led is_lend h.0 rest c led) ∙ once before h.0 topic h.1 low)
+    ap (λ l. count_by (is_take topic) (before_first is_lend l)) h.2 ∙ ap (count_by (is_take topic)) (before-led is_lend h.0 rest c led)
+    ∙ once before h.0 topic h.1 low)
     (λ (h : (front : List Ended) × (before ≡ xs ++ front) × (c ∷ rest ≡ front ++ Nothing 0 ∷ after)). inside h.0 after topic h.2 low)
     (split-append xs (c ∷ rest) before after (Nothing 0) is)
 
@@ -68,16 +71,19 @@ alone-sent xs from ring place over bytes alone =
     (λ front after is. absurd (no-full (Got 0 from over ∷ Done ring place bytes ∷ []) front after refl is)))
 
 pub even-sent : (xs : List Ended) (from ring place : ℕ) (over bytes : List ℕ) → count_by is_got xs ≡ count_by is_put xs
-    → count_by is_got ((xs ++ Got 0 from over ∷ []) ++ Done ring place bytes ∷ []) ≡ count_by is_put ((xs ++ Got 0 from over ∷ []) ++ Done ring place bytes ∷ [])
+    → count_by is_got ((xs ++ Got 0 from over ∷ []) ++ Done ring place bytes ∷ [])
+    ≡ count_by is_put ((xs ++ Got 0 from over ∷ []) ++ Done ring place bytes ∷ [])
 even-sent xs from ring place over bytes even =
     let block : List Ended = Got 0 from over ∷ Done ring place bytes ∷ [] in
     let P : List Ended → Type 0 = λ l. count_by is_got l ≡ count_by is_put l in
     subst P (sym (append_assoc xs (Got 0 from over ∷ []) (Done ring place bytes ∷ [])))
     (sum_by-append _ xs block ∙ ap (λ n. n + 1) even ∙ sym (sum_by-append _ xs block))
 
-pub even-taken : (xs block : List Ended) → AreTakes block → count_by is_got xs ≡ count_by is_put xs → count_by is_got (xs ++ block) ≡ count_by is_put (xs ++ block)
+pub even-taken : (xs block : List Ended) → AreTakes block → count_by is_got xs ≡ count_by is_put xs
+    → count_by is_got (xs ++ block) ≡ count_by is_put (xs ++ block)
 even-taken xs block are even =
-    sum_by-append _ xs block ∙ ap (λ n. n + count_by is_got block) even ∙ ap (λ n. count_by is_put xs + n) (takes-even block are) ∙ sym (sum_by-append _ xs block)
+    sum_by-append _ xs block ∙ ap (λ n. n + count_by is_got block) even ∙ ap (λ n. count_by is_put xs + n) (takes-even block are)
+    ∙ sym (sum_by-append _ xs block)
 
 -- a Full, and then the help: a take of each topic
 where-full : (block front after : List Ended) → AreTakes block → Nothing 0 ∷ block ≡ front ++ Nothing 0 ∷ after → (front ≡ []) × (block ≡ after)
@@ -119,11 +125,14 @@ alone-taken xs block are alone = alone-more xs block alone (λ front after is. a
 pub helps-taken : (topics : ℕ) (xs block : List Ended) → AreTakes block → HelpsAfterEachFull topics xs → HelpsAfterEachFull topics (xs ++ block)
 helps-taken topics xs block are helps before after topic is low =
     ⊎_elim (λ (h : (mid : List Ended) × (xs ≡ before ++ Nothing 0 ∷ mid) × (after ≡ mid ++ block)).
-    let P : List Ended → Type 0 = λ l. (1 ≤ count_by (is_take topic) (before_first is_lend l)) × (list_any is_lend l ≡ true → count_by (is_take topic) (before_first is_lend l) ≡ 1) in
+    let P : List Ended → Type 0 = λ l. (1 ≤ count_by (is_take topic) (before_first is_lend l))
+    × (list_any is_lend l ≡ true → count_by (is_take topic) (before_first is_lend l) ≡ 1) in
     subst P (sym h.2) (more h.0 (helps before h.0 topic h.1 low) (list_any is_lend h.0) refl))
-    (λ (h : (front : List Ended) × (before ≡ xs ++ front) × (block ≡ front ++ Nothing 0 ∷ after)). absurd (no-full block h.0 after (takes-no_full block are) h.2))
+    (λ (h : (front : List Ended) × (before ≡ xs ++ front) × (block ≡ front ++ Nothing 0 ∷ after)).
+    absurd (no-full block h.0 after (takes-no_full block are) h.2))
     (split-append xs block before after (Nothing 0) is) where
-      more : (mid : List Ended) → (1 ≤ count_by (is_take topic) (before_first is_lend mid)) × (list_any is_lend mid ≡ true → count_by (is_take topic) (before_first is_lend mid) ≡ 1)
+      more : (mid : List Ended) → (1 ≤ count_by (is_take topic) (before_first is_lend mid))
+          × (list_any is_lend mid ≡ true → count_by (is_take topic) (before_first is_lend mid) ≡ 1)
           → (b : Bool) → list_any is_lend mid ≡ b
           → (1 ≤ count_by (is_take topic) (before_first is_lend (mid ++ block)))
           × (list_any is_lend (mid ++ block) ≡ true → count_by (is_take topic) (before_first is_lend (mid ++ block)) ≡ 1)
@@ -152,7 +161,8 @@ unspent-more xs ys one more ring ticket put has =
 -- a call that is none, alone
 unspent-one : (call : Ended) → ((ring ticket : ℕ) (put : Bool) → call ≡ Spent ring ticket put → ⊥) → MeetsNoSpent (call ∷ [])
 unspent-one call other ring ticket put has =
-    ⊎_elim (λ (h : Contains [] (Spent ring ticket put)). absurd (search rules)) (other ring ticket put) (Contains-push_cases [] call (Spent ring ticket put) has)
+    ⊎_elim (λ (h : Contains [] (Spent ring ticket put)). absurd (search rules)) (other ring ticket put)
+    (Contains-push_cases [] call (Spent ring ticket put) has)
 
 unspent-got : (ring place : ℕ) (bytes : List ℕ) → MeetsNoSpent (Got ring place bytes ∷ [])
 unspent-got ring place bytes = unspent-one (Got ring place bytes) (λ r t p is. absurd (cc))
@@ -163,9 +173,11 @@ unspent-done ring place bytes = unspent-one (Done ring place bytes) (λ r t p is
 unspent-nothing : (ring : ℕ) → MeetsNoSpent (Nothing ring ∷ [])
 unspent-nothing ring = unspent-one (Nothing ring) (λ r t p is. absurd (cc))
 
-pub unspent-sent : (xs : List Ended) (from ring place : ℕ) (over bytes : List ℕ) → MeetsNoSpent xs → MeetsNoSpent ((xs ++ Got 0 from over ∷ []) ++ Done ring place bytes ∷ [])
+pub unspent-sent : (xs : List Ended) (from ring place : ℕ) (over bytes : List ℕ) → MeetsNoSpent xs
+    → MeetsNoSpent ((xs ++ Got 0 from over ∷ []) ++ Done ring place bytes ∷ [])
 unspent-sent xs from ring place over bytes was =
-    unspent-more (xs ++ Got 0 from over ∷ []) (Done ring place bytes ∷ []) (unspent-more xs (Got 0 from over ∷ []) was (unspent-got 0 from over)) (unspent-done ring place bytes)
+    unspent-more (xs ++ Got 0 from over ∷ []) (Done ring place bytes ∷ []) (unspent-more xs (Got 0 from over ∷ []) was (unspent-got 0 from over))
+    (unspent-done ring place bytes)
 
 pub unspent-full : (xs : List Ended) → MeetsNoSpent xs → MeetsNoSpent (xs ++ Nothing 0 ∷ [])
 unspent-full xs was = unspent-more xs (Nothing 0 ∷ []) was (unspent-nothing 0)
@@ -181,7 +193,8 @@ unspent-taken xs block are was = unspent-more xs block was (all block are) where
 
 -- messages go on following a record that grows
 pub follows-sent : (ms : List Message) (m : Message) (xs : List Ended) (from place : ℕ) (over bytes : List ℕ) → FollowsCalls ms xs
-    → Sends m (record { topic = m.topic; place = place; bytes = bytes }) → FollowsCalls (ms ++ m ∷ []) ((xs ++ Got 0 from over ∷ []) ++ Done (suc m.topic) place bytes ∷ [])
+    → Sends m (record { topic = m.topic; place = place; bytes = bytes })
+    → FollowsCalls (ms ++ m ∷ []) ((xs ++ Got 0 from over ∷ []) ++ Done (suc m.topic) place bytes ∷ [])
 follows-sent ms m xs from place over bytes was sends = by_send m place bytes (by_other (Got 0 from over) was refl refl) sends
 
 pub follows-taken : (ms : List Message) (xs block : List Ended) → AreTakes block → FollowsCalls ms xs → FollowsCalls ms (xs ++ block)

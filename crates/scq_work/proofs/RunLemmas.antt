@@ -1,16 +1,15 @@
 -- A worker's whole work: how it begins, and what its end is, by how it left.
-use Rattle.std.proofs.Common.{◌≡◌, refl, sym, ◌∙◌, ap, subst, arith, zero, suc, ℕ, ◌+◌, ◌<◌, List, [], ◌∷◌, ◌++◌, length, take, drop, Option, Some, None, Bool, false, rules}
+use Rattle.std.proofs.Common.{◌≡◌, refl, sym, ◌∙◌, ap, subst, arith, ℕ, ◌+◌, ◌<◌, List, [], ◌∷◌, ◌++◌, length, take, drop, Option, Some, None, Bool, false, rules}
 use Rattle.std.specs.Prelude.{IfSome}
 use Rattle.std.specs.List.{All, list_any}
 use Rattle.std.proofs.lemmas.List.{length-append}
 use Rattle.std.proofs.Math.Seq.{take-append_seam, drop-append_seam}
-use Rattle.scq_word.specs.declared.setup.Setup.{Setup}
 use Rattle.scq_core.specs.declared.ended.Ended.{Ended}
 use Rattle.scq_core.specs.declared.ended.Ended.TheVariants.{Nothing}
 use Rattle.scq_topics.specs.declared.kind.Kind.{Kind}
 use Rattle.scq_collect.specs.declared.answered.Answered.{Answered}
-use Rattle.scq_band.specs.Numbers.{first_numbers, first_numbers_of}
 use Rattle.scq_band.specs.Standing.{Identity}
+use Rattle.scq_band.proofs.Opening.{numbers_length}
 use Rattle.scq_queue.specs.Passes.{PassStanding, HeldStanding, first_pass, known_on}
 use Rattle.scq_work.specs.Desks.{all_given, HasRun}
 use Rattle.scq_work.specs.Given.{given_in}
@@ -26,10 +25,6 @@ use Rattle.scq_work.specs.Working.{Suits, HasTaken, HasAnswered, HasLeft, IsSwee
 use Rattle.scq_work.specs.declared.own_file.OwnFile.{OwnFile}
 use Rattle.scq_work.proofs.WorkerSteps.{taken-calls, sweeping-first, sweeping-taken, swept, thrifty-taken, listed-taken}
 
-first-length : (c : Setup) (n : ℕ) → length (first_numbers c n) ≡ n
-first-length c zero = refl
-first-length c (suc n) = length-append (first_numbers c n) (first_numbers_of c n ∷ []) ∙ (let rest = first-length c n in omega arith)
-
 -- of no calls each is nowhere
 no-call : (before after : List Ended) (call : Ended) → [] ≡ before ++ call ∷ after → ⊥
 no-call [] after call is = absurd (cc)
@@ -41,12 +36,14 @@ AllRead topics size faults left files = All (λ f. IsRead topics size faults lef
 
 module _ {B : Type 0} where
   -- a new pass suits, and nothing is passed on yet
-  pub suits-first : (shared : Identity B) (topics number : ℕ) (p : PassStanding B) → shared.setup.rings ≡ topics + 2 → p ≡ first_pass shared number → Suits shared topics p
+  pub suits-first : (shared : Identity B) (topics number : ℕ) (p : PassStanding B) → shared.setup.rings ≡ topics + 2 → p ≡ first_pass shared number
+      → Suits shared topics p
   suits-first shared topics number p rings is =
       subst (Suits shared topics) (sym is)
-      (record { queue = refl; rings = rings; numbers = first-length shared.setup shared.setup.rings ∙ rings; spent = refl })
+      (record { queue = refl; rings = rings; numbers = numbers_length shared.setup shared.setup.rings ∙ rings; spent = refl })
 
-  pub work-first : (topics : List (List ℕ × Kind)) (shared : Identity B) (number : ℕ) (p : PassStanding B) (members : List Answered) (starved : Bool) → p ≡ first_pass shared number
+  pub work-first : (topics : List (List ℕ × Kind)) (shared : Identity B) (number : ℕ) (p : PassStanding B) (members : List Answered) (starved : Bool)
+      → p ≡ first_pass shared number
       → members ≡ [] → IsAtWork topics [] p members starved
   work-first topics shared number p members starved is new =
       subst (λ (q : PassStanding B). IsAtWork topics [] q members starved) (sym is)
@@ -54,11 +51,13 @@ module _ {B : Type 0} where
       (record {
         producing = record {
           helps = λ before after topic at low. absurd (no-call before after (Nothing 0) at);
-          alone = λ before after at. absurd (no-call before after (Nothing 0) at);
-          even = refl;
-          none = refl;
-          unspent = λ ring ticket put has. absurd (search rules);
-          knows = record { sends = λ m has. absurd (search rules) };
+          between = record {
+            alone = λ before after at. absurd (no-call before after (Nothing 0) at);
+            even = refl;
+            none = refl;
+            unspent = λ ring ticket put has. absurd (search rules);
+            knows = record { sends = λ m has. absurd (search rules) };
+          };
         };
         thrifty = record { sends = omega arith; fulls = omega arith; puts = λ topic. omega arith; returns = omega arith };
         listed = λ fed. record { passed = passing.none; follows = no_call; takes = none; fulls = tt };
@@ -66,7 +65,16 @@ module _ {B : Type 0} where
 
   -- retiring changes none of these
   sweeping-retired : (topics : ℕ) (p : PassStanding B) → IsSweeping topics p → IsSweeping topics (after_retire p)
-  sweeping-retired topics p was = record { helps = was.helps; alone = was.alone; even = was.even; none = was.none; unspent = was.unspent; knows = record { sends = was.knows.sends } }
+  sweeping-retired topics p was = record {
+    helps = was.helps;
+    between = record {
+      alone = was.between.alone;
+      even = was.between.even;
+      none = was.between.none;
+      unspent = was.between.unspent;
+      knows = record { sends = was.between.knows.sends };
+    };
+  }
 
   thrifty-retired : (late messages : ℕ) (p : PassStanding B) → IsThrifty late messages p → IsThrifty late messages (after_retire p)
   thrifty-retired late messages p was = record { sends = was.sends; fulls = was.fulls; puts = was.puts; returns = was.returns }
@@ -98,14 +106,16 @@ module _ {B : Type 0} where
       }
 
   -- it has read its files, swept and left
-  pub run-left : {S : Type 0} (shared : Identity B) (topics : List (List ℕ × Kind)) (size : ℕ) (faults : S → ℕ) (left : S → Option (List ℕ)) (files : List (OwnFile S))
+  pub run-left : {S : Type 0} (shared : Identity B) (topics : List (List ℕ × Kind)) (size : ℕ) (faults : S → ℕ) (left : S → Option (List ℕ))
+      (files : List (OwnFile S))
       (p q : PassStanding B) (was is : List Answered) (before after : Bool) (kept : Option (HeldStanding B))
       → AllRead topics size faults left files → Suits shared (length topics) p → IsAtWork topics (all_given files) p was before
       → HasTaken (after_retire p) q → ((t : ℕ) → t < length topics + 1 → (known_on t q).finished < (known_on t q).head)
       → (after ≡ false → before ≡ false) → (after ≡ false → HasAnswered topics p q was is) → kept ≡ None
       → HasRun shared topics size faults left files q is after kept
   run-left shared topics size faults left files p q was is before after kept read suits work taken empty fed_before more nothing =
-      let sweeping = sweeping-taken (length topics + 1) (after_retire p) q (sweeping-retired (length topics + 1) p (sweeping-first (length topics + 1) p work.producing)) taken in
+      let sweeping = sweeping-taken (length topics + 1) (after_retire p) q
+      (sweeping-retired (length topics + 1) p (sweeping-first (length topics + 1) p work.producing)) taken in
       let long : length q.numbers ≡ length topics + 2 = taken.knows.rings ∙ suits.numbers in
       record {
         read = read;
@@ -113,15 +123,16 @@ module _ {B : Type 0} where
             (thrifty-taken (length (all_given files)) (after_retire p) q (thrifty-retired 0 (length (all_given files)) p work.thrifty) taken);
         queue = ap (λ (x : PassStanding B). x.queue) taken.pass ∙ suits.queue;
         retired = (length p.calls, ap (λ (x : PassStanding B). x.retired) taken.pass);
-        held = sweeping.none ∙ ap index_of (sym nothing);
+        held = sweeping.between.none ∙ ap index_of (sym nothing);
         its = subst (λ (k : Option (HeldStanding B)). IfSome k (λ h. h.queue ≡ shared)) (sym nothing) tt;
         sweeping = λ awake. sweeping;
         ended = λ awake. retired-taken topics p q work.producing.helps taken;
-        swept = λ awake. swept q sweeping.knows (λ t low. empty t (omega arith));
+        swept = λ awake. swept q sweeping.between.knows (λ t low. empty t (omega arith));
         listed = λ awake fed.
             let old = work.listed (fed_before fed) in
             let answered = more fed in
-            listed-taken topics (all_given files) (after_retire p) q was is (record { passed = old.passed; follows = old.follows; takes = old.takes; fulls = old.fulls }) taken
+            listed-taken topics (all_given files) (after_retire p) q was is
+            (record { passed = old.passed; follows = old.follows; takes = old.takes; fulls = old.fulls }) taken
             (record { takes = answered.takes; directs = answered.directs });
       }
 
@@ -130,7 +141,8 @@ module _ {B : Type 0} where
   some-none p ticket is none_ = absurd (cc)
 
   -- it met Spent in a sweep
-  pub run-late : {S : Type 0} (shared : Identity B) (topics : List (List ℕ × Kind)) (size : ℕ) (faults : S → ℕ) (left : S → Option (List ℕ)) (files : List (OwnFile S))
+  pub run-late : {S : Type 0} (shared : Identity B) (topics : List (List ℕ × Kind)) (size : ℕ) (faults : S → ℕ) (left : S → Option (List ℕ))
+      (files : List (OwnFile S))
       (p q : PassStanding B) (was is : List Answered) (before after : Bool) (kept held : Option (HeldStanding B))
       → AllRead topics size faults left files → Suits shared (length topics) p → IsAtWork topics (all_given files) p was before
       → HasLeft (length (all_given files)) (length (all_given files)) (after_retire p) q held → kept ≡ held
@@ -142,7 +154,7 @@ module _ {B : Type 0} where
         thrifty = end.thrifty (thrifty-retired 0 (length (all_given files)) p work.thrifty);
         queue = end.own.0 ∙ suits.queue;
         retired = (length p.calls, end.own.2);
-        held = end.held ∙ ap (λ l. l ++ index_of held) work.producing.none;
+        held = end.held ∙ ap (λ l. l ++ index_of held) work.producing.between.none;
         its = subst (λ (x : Identity B). IfSome held (λ h. h.queue ≡ x)) suits.queue end.its;
         sweeping = λ awake. absurd (some-none q end.spent.0 end.spent.1 awake);
         ended = λ awake. absurd (some-none q end.spent.0 end.spent.1 awake);
@@ -151,7 +163,8 @@ module _ {B : Type 0} where
       })
 
   -- it met Spent while it read its files, and then retired
-  pub run-stopped : {S : Type 0} (shared : Identity B) (topics : List (List ℕ × Kind)) (size : ℕ) (faults : S → ℕ) (left : S → Option (List ℕ)) (files : List (OwnFile S))
+  pub run-stopped : {S : Type 0} (shared : Identity B) (topics : List (List ℕ × Kind)) (size : ℕ) (faults : S → ℕ) (left : S → Option (List ℕ))
+      (files : List (OwnFile S))
       (p q : PassStanding B) (is : List Answered) (after : Bool) (kept held : Option (HeldStanding B))
       → AllRead topics size faults left files → HasStopped shared (length (all_given files)) p held → q ≡ after_retire p → kept ≡ held
       → HasRun shared topics size faults left files q is after kept

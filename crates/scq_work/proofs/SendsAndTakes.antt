@@ -46,7 +46,8 @@ apart-all f Alike [] once = λ i j d less within. absurd (omega arith)
 apart-all f Alike (p ∷ ps) once =
     pairs-append (λ m n. Alike m n → ⊥) (f p) (flat_map f ps)
     (λ i j d less within alike.
-    let same = once zero i zero j p p (get_or (f p) i d) (get_or (f p) j d) refl (slice_get-get_or (f p) i d (omega arith)) refl (slice_get-get_or (f p) j d within) alike in
+    let same = once zero i zero j p p (get_or (f p) i d) (get_or (f p) j d) refl (slice_get-get_or (f p) i d (omega arith)) refl
+    (slice_get-get_or (f p) j d within) alike in
     absurd (omega arith))
     (apart-all f Alike ps (λ a x b y q r m n at_q at_m at_r at_n alike.
     let same = once (suc a) x (suc b) y q r m n at_q at_m at_r at_n alike in
@@ -112,7 +113,8 @@ module _ {B : Type 0} where
       included-length (all_takes passes) (all_sends passes) (distinct (all_takes passes) (takes-apart passes once)) (take-was-sent passes sent)
 
   -- nothing is left
-  pub nothing-is-left : (c : Setup) (passes : List (PassStanding B)) (topics : ℕ) (left : List ℕ) → c.rings ≡ topics + 1 → IsBalance c passes left → SendsAreTakes passes
+  pub nothing-is-left : (c : Setup) (passes : List (PassStanding B)) (topics : ℕ) (left : List ℕ) → c.rings ≡ topics + 1 → IsBalance c passes left
+      → SendsAreTakes passes
       → NothingIsLeft topics left
   nothing-is-left c passes topics left rings balance same topic low =
       let one : Placed → ℕ = λ m. if m.topic == topic then 1 else 0 in

@@ -24,9 +24,10 @@ use Rattle.scq_work.specs.Together.{IsBounded}
 use Rattle.scq_work.specs.Working.{index_of}
 use Rattle.scq_work.specs.declared.desk.Desk.{Desk}
 use Rattle.scq_work.specs.declared.worker.Worker.{Worker}
-use Rattle.scq_work.proofs.AllRun.{map-map, passes_at, lists_at, held_at}
+use Rattle.scq_work.proofs.AllRun.{passes_at, lists_at, held_at}
 use Rattle.scq_work.proofs.Conclusion.{flat-of}
 use Rattle.scq_work.proofs.FirstPasses.{first-length, first-at}
+use Rattle.scq_work.proofs.Lists.{map-map}
 
 -- what holds of an answer that is Ok, by what is known of it
 pub ok-more : {X E : Type 0} (r : Result X E) (P Q : X → Type 0) → IfOk r P → ((x : X) → P x → Q x) → IfOk r Q
@@ -68,14 +69,16 @@ module _ {B S : Type 0} where
       → All (λ d. d.worker.starved ≡ false) old
   same-fed new old same each = all-same (λ k. k.0.starved ≡ false) new old same each
 
-  pub still-fresh : (shared : Identity B) (new old : List (Desk B S)) → map without_files new ≡ map without_files old → All (IsFresh shared) old → All (IsFresh shared) new
+  pub still-fresh : (shared : Identity B) (new old : List (Desk B S)) → map without_files new ≡ map without_files old → All (IsFresh shared) old
+      → All (IsFresh shared) new
   still-fresh shared new old same fresh k d less =
       let is = all-same (λ q. (q.0.pass ≡ first_pass shared q.0.number) × (q.0.members.items ≡ []) × (q.1 ≡ None)) old new (sym same)
       (λ j e within. let f = fresh j e within in (f.pass, f.members, f.kept)) k d less in
       record { pass = is.0; members = is.1; kept = is.2 }
 
   -- the passes of a queue have the numbers of their places
-  pub place-numbers : (shared : Identity B) (n : ℕ) (desks : List (Desk B S)) → passes_at desks ≡ first_passes shared n → (w : ℕ) (d : Desk B S) → w < length desks
+  pub place-numbers : (shared : Identity B) (n : ℕ) (desks : List (Desk B S)) → passes_at desks ≡ first_passes shared n → (w : ℕ) (d : Desk B S)
+      → w < length desks
       → (slice_index_or desks w d).worker.pass.number ≡ w
   place-numbers shared n desks are w d less =
       let pass : Desk B S → PassStanding B = λ d. d.worker.pass in
@@ -85,7 +88,8 @@ module _ {B S : Type 0} where
       ap (λ (p : PassStanding B). p.number) is
 
   -- the values that are kept at the desks are those that the passes hold
-  held-own : (shared : Identity B) (desks : List (Desk B S)) → All (λ d. IfSome d.kept (λ h. h.queue ≡ shared)) desks → All (λ h. h.queue ≡ shared) (held_at desks)
+  held-own : (shared : Identity B) (desks : List (Desk B S)) → All (λ d. IfSome d.kept (λ h. h.queue ≡ shared)) desks
+      → All (λ h. h.queue ≡ shared) (held_at desks)
   held-own shared [] each = All-nil (λ (h : HeldStanding B). h.queue ≡ shared)
   held-own shared (d ∷ ds) each =
       All-append (λ (h : HeldStanding B). h.queue ≡ shared) (option_to_list d.kept) (held_at ds) (one d.kept (each zero d (omega arith)))
@@ -110,7 +114,8 @@ module _ {B S : Type 0} where
       one None = refl
       one (Some h) = refl
 
-  pub are-held : (shared : Identity B) (desks : List (Desk B S)) → All (λ d. IfSome d.kept (λ h. h.queue ≡ shared)) desks → All (λ d. d.worker.pass.held ≡ index_of d.kept) desks
+  pub are-held : (shared : Identity B) (desks : List (Desk B S)) → All (λ d. IfSome d.kept (λ h. h.queue ≡ shared)) desks
+      → All (λ d. d.worker.pass.held ≡ index_of d.kept) desks
       → AreTheHeld shared (passes_at desks) (held_at desks)
   are-held shared desks own held = record {
     queue_of = λ k h is. subst (λ (v : HeldStanding B). v.queue ≡ shared) (get_or_from_slice_get (held_at desks) k h h is)
@@ -122,11 +127,13 @@ module _ {B S : Type 0} where
 few-counted : (n : ℕ) → n ≤ 2 ^ 36 → min n (2 ^ 64 - 1) ≡ n
 few-counted n few = omega arith
 
-pub counts-exact : {B : Type 0} (passes : List (PassStanding B)) → All IsBounded passes → map (λ (p : PassStanding B). counts_of (lists_of p)) passes ≡ map lengths_of passes
+pub counts-exact : {B : Type 0} (passes : List (PassStanding B)) → All IsBounded passes
+    → map (λ (p : PassStanding B). counts_of (lists_of p)) passes ≡ map lengths_of passes
 counts-exact [] few = refl
 counts-exact {B} (p ∷ ps) few =
     let b = few zero p (omega arith) in
-    let here : counts_of (lists_of p) ≡ lengths_of p = λ i. record { sent = few-counted _ b.sends i; taken = few-counted _ b.takes i; full = few-counted _ b.fulls i } in
+    let here : counts_of (lists_of p) ≡ lengths_of p =
+    λ i. record { sent = few-counted _ b.sends i; taken = few-counted _ b.takes i; full = few-counted _ b.fulls i } in
     let rest = counts-exact ps (λ k q less. few (suc k) q (omega arith)) in
     ap (λ (c : Counts). c ∷ map (λ (q : PassStanding B). counts_of (lists_of q)) ps) here ∙ ap (λ (l : List Counts). lengths_of p ∷ l) rest
 

@@ -22,8 +22,14 @@ use Rattle.scq_work.specs.Members.{answered, is_taken, is_direct, AnswersSoFar, 
 use Rattle.scq_work.specs.Passing.{ArePassedOn, and_sent, and_answered, FollowsCalls, by_full}
 use Rattle.scq_work.specs.Together.{HasSwept}
 use Rattle.scq_work.specs.Working.{KnowsMore, HasTaken, HasSent, HasFoundFull, KnowsItsSends, IsProducing, IsSweeping, IsThrifty, HasListed, HasAnswered}
-use Rattle.scq_work.proofs.Blocks.{sends-append, takes-append, takes-no_send, takes-puts, takes-returns}
+use Rattle.scq_queue.proofs.Records.{sends-append, takes-append}
+use Rattle.scq_work.proofs.Blocks.{takes-no_send, takes-puts, takes-returns}
 use Rattle.scq_work.proofs.RecordSteps.{helps-sent, alone-sent, even-sent, helps-helped, alone-helped, even-helped, even-taken, alone-taken, helps-taken, helps-once, unspent-sent, unspent-full, unspent-taken, follows-sent, follows-taken}
+
+-- one put is at most one on a ring
+pub at_most : (b : Bool) → (if b then 1 else 0) + 0 ≤ 1
+at_most true = omega arith
+at_most false = omega arith
 
 module _ {B : Type 0} where
   -- the record, the sends and the takes of a pass that has taken
@@ -32,13 +38,15 @@ module _ {B : Type 0} where
 
   pub taken-sends : (p q : PassStanding B) → HasTaken p q → sends_of q.calls ≡ sends_of p.calls
   taken-sends p q h =
-      ap sends_of (taken-calls p q h) ∙ sends-append p.calls h.block ∙ ap (λ l. sends_of p.calls ++ l) (takes-no_send h.block h.are) ∙ append-nil (sends_of p.calls)
+      ap sends_of (taken-calls p q h) ∙ sends-append p.calls h.block ∙ ap (λ l. sends_of p.calls ++ l) (takes-no_send h.block h.are)
+      ∙ append-nil (sends_of p.calls)
 
   taken-takes : (p q : PassStanding B) (h : HasTaken p q) → takes_of q.calls ≡ takes_of p.calls ++ takes_of h.block
   taken-takes p q h = ap takes_of (taken-calls p q h) ∙ takes-append p.calls h.block
 
   -- those of one that has sent a message
-  sent-calls : (m : Message) (p q : PassStanding B) (h : HasSent m p q) → q.calls ≡ (p.calls ++ Got 0 h.from h.over ∷ []) ++ Done (suc m.topic) h.place h.bytes ∷ []
+  sent-calls : (m : Message) (p q : PassStanding B) (h : HasSent m p q)
+      → q.calls ≡ (p.calls ++ Got 0 h.from h.over ∷ []) ++ Done (suc m.topic) h.place h.bytes ∷ []
   sent-calls m p q h = ap (λ (x : PassStanding B). x.calls) h.pass
 
   abbrev placed : (m : Message) (p q : PassStanding B) → HasSent m p q → Placed
@@ -55,7 +63,8 @@ module _ {B : Type 0} where
   sent-takes m p q h =
       let got : List Ended = Got 0 h.from h.over ∷ [] in
       let put : List Ended = Done (suc m.topic) h.place h.bytes ∷ [] in
-      ap takes_of (sent-calls m p q h) ∙ takes-append (p.calls ++ got) put ∙ append-nil (takes_of (p.calls ++ got)) ∙ takes-append p.calls got ∙ append-nil (takes_of p.calls)
+      ap takes_of (sent-calls m p q h) ∙ takes-append (p.calls ++ got) put ∙ append-nil (takes_of (p.calls ++ got)) ∙ takes-append p.calls got
+      ∙ append-nil (takes_of p.calls)
 
   -- those of one that found no buffer free
   full-calls : (head : ℕ) (p q : PassStanding B) → HasFoundFull head p q → q.calls ≡ p.calls ++ Nothing 0 ∷ []
@@ -81,29 +90,33 @@ module _ {B : Type 0} where
       }
 
   -- a message was sent
-  pub producing-sent : (topics : ℕ) (m : Message) (p q : PassStanding B) → IsProducing topics p → suc m.topic < length p.numbers → HasSent m p q → IsProducing topics q
+  pub producing-sent : (topics : ℕ) (m : Message) (p q : PassStanding B) → IsProducing topics p → suc m.topic < length p.numbers → HasSent m p q
+      → IsProducing topics q
   producing-sent topics m p q was within h =
       let calls = sent-calls m p q h in
       record {
         helps = subst (HelpsOnceAfterEachFull topics) (sym calls) (helps-sent topics p.calls h.from (suc m.topic) h.place h.over h.bytes was.helps);
-        alone = subst HoldsNothingAtEachFull (sym calls) (alone-sent p.calls h.from (suc m.topic) h.place h.over h.bytes was.alone);
-        even = subst (λ (l : List Ended). count_by is_got l ≡ count_by is_put l) (sym calls) (even-sent p.calls h.from (suc m.topic) h.place h.over h.bytes was.even);
-        none = ap (λ (x : PassStanding B). x.held) h.pass ∙ was.none;
-        unspent = subst MeetsNoSpent (sym calls) (unspent-sent p.calls h.from (suc m.topic) h.place h.over h.bytes was.unspent);
-        knows = record {
-          sends = λ n has.
-              ⊎_elim (λ (old : Contains (sends_of p.calls) n).
-              let its = was.knows.sends n old in
-              let low = h.knows.finished n.topic in
-              let first = its.0 in
-              let place = its.1 in
-              let long = h.knows.rings in
-              (omega arith, omega arith))
-              (λ (new : placed m p q h ≡ n).
-              let P : Placed → Type 0 = λ x. (suc x.topic < length q.numbers) × (x.place ≤ (known_on x.topic q).finished) in
-              let long = h.knows.rings in
-              subst P new (omega arith, h.finished))
-              (Contains-push_cases (sends_of p.calls) (placed m p q h) n (subst (λ l. Contains l n) (sent-sends m p q h) has));
+        between = record {
+          alone = subst HoldsNothingAtEachFull (sym calls) (alone-sent p.calls h.from (suc m.topic) h.place h.over h.bytes was.between.alone);
+          even = subst (λ (l : List Ended). count_by is_got l ≡ count_by is_put l) (sym calls)
+              (even-sent p.calls h.from (suc m.topic) h.place h.over h.bytes was.between.even);
+          none = ap (λ (x : PassStanding B). x.held) h.pass ∙ was.between.none;
+          unspent = subst MeetsNoSpent (sym calls) (unspent-sent p.calls h.from (suc m.topic) h.place h.over h.bytes was.between.unspent);
+          knows = record {
+            sends = λ n has.
+                ⊎_elim (λ (old : Contains (sends_of p.calls) n).
+                let its = was.between.knows.sends n old in
+                let low = h.knows.finished n.topic in
+                let first = its.0 in
+                let place = its.1 in
+                let long = h.knows.rings in
+                (omega arith, omega arith))
+                (λ (new : placed m p q h ≡ n).
+                let P : Placed → Type 0 = λ x. (suc x.topic < length q.numbers) × (x.place ≤ (known_on x.topic q).finished) in
+                let long = h.knows.rings in
+                subst P new (omega arith, h.finished))
+                (Contains-push_cases (sends_of p.calls) (placed m p q h) n (subst (λ l. Contains l n) (sent-sends m p q h) has));
+          };
         };
       }
 
@@ -119,16 +132,18 @@ module _ {B : Type 0} where
       omega arith in
       record {
         helps = subst (HelpsOnceAfterEachFull topics) (sym calls) (helps-helped topics p.calls h.block h.are one was.helps);
-        alone = subst HoldsNothingAtEachFull (sym calls) (alone-helped p.calls h.block h.are was.even was.alone);
-        even = subst (λ (l : List Ended). count_by is_got l ≡ count_by is_put l) (sym calls) (even-helped p.calls h.block h.are was.even);
-        none = ap (λ (x : PassStanding B). x.held) h.pass ∙ ap (λ (x : PassStanding B). x.held) full.pass ∙ was.none;
-        unspent = subst MeetsNoSpent (sym calls) (unspent-taken (p.calls ++ Nothing 0 ∷ []) h.block h.are (unspent-full p.calls was.unspent));
-        knows = knows-still q r h.knows (taken-sends q r h) (knows-still p q full.knows (full-sends head p q full) was.knows);
+        between = record {
+          alone = subst HoldsNothingAtEachFull (sym calls) (alone-helped p.calls h.block h.are was.between.even was.between.alone);
+          even = subst (λ (l : List Ended). count_by is_got l ≡ count_by is_put l) (sym calls) (even-helped p.calls h.block h.are was.between.even);
+          none = ap (λ (x : PassStanding B). x.held) h.pass ∙ ap (λ (x : PassStanding B). x.held) full.pass ∙ was.between.none;
+          unspent = subst MeetsNoSpent (sym calls) (unspent-taken (p.calls ++ Nothing 0 ∷ []) h.block h.are (unspent-full p.calls was.between.unspent));
+          knows = knows-still q r h.knows (taken-sends q r h) (knows-still p q full.knows (full-sends head p q full) was.between.knows);
+        };
       }
 
   -- the files are read
   pub sweeping-first : (topics : ℕ) (p : PassStanding B) → IsProducing topics p → IsSweeping topics p
-  sweeping-first topics p was = record { helps = helps-once topics p.calls was.helps; alone = was.alone; even = was.even; none = was.none; unspent = was.unspent; knows = was.knows }
+  sweeping-first topics p was = record { helps = helps-once topics p.calls was.helps; between = was.between }
 
   -- topics were taken from
   pub sweeping-taken : (topics : ℕ) (p q : PassStanding B) → IsSweeping topics p → HasTaken p q → IsSweeping topics q
@@ -136,15 +151,18 @@ module _ {B : Type 0} where
       let calls = taken-calls p q h in
       record {
         helps = subst (HelpsAfterEachFull topics) (sym calls) (helps-taken topics p.calls h.block h.are was.helps);
-        alone = subst HoldsNothingAtEachFull (sym calls) (alone-taken p.calls h.block h.are was.alone);
-        even = subst (λ (l : List Ended). count_by is_got l ≡ count_by is_put l) (sym calls) (even-taken p.calls h.block h.are was.even);
-        none = ap (λ (x : PassStanding B). x.held) h.pass ∙ was.none;
-        unspent = subst MeetsNoSpent (sym calls) (unspent-taken p.calls h.block h.are was.unspent);
-        knows = knows-still p q h.knows (taken-sends p q h) was.knows;
+        between = record {
+          alone = subst HoldsNothingAtEachFull (sym calls) (alone-taken p.calls h.block h.are was.between.alone);
+          even = subst (λ (l : List Ended). count_by is_got l ≡ count_by is_put l) (sym calls) (even-taken p.calls h.block h.are was.between.even);
+          none = ap (λ (x : PassStanding B). x.held) h.pass ∙ was.between.none;
+          unspent = subst MeetsNoSpent (sym calls) (unspent-taken p.calls h.block h.are was.between.unspent);
+          knows = knows-still p q h.knows (taken-sends p q h) was.between.knows;
+        };
       }
 
   -- where each topic was found empty after the last send there, each send is passed
-  pub swept : (p : PassStanding B) → KnowsItsSends p → ((topic : ℕ) → suc topic < length p.numbers → (known_on topic p).finished < (known_on topic p).head) → HasSwept p
+  pub swept : (p : PassStanding B) → KnowsItsSends p → ((topic : ℕ) → suc topic < length p.numbers → (known_on topic p).finished < (known_on topic p).head)
+      → HasSwept p
   swept p knows empty m has =
       let its = knows.sends m has in
       let past = empty m.topic its.0 in
@@ -157,10 +175,12 @@ module _ {B : Type 0} where
       let got : List Ended = Got 0 h.from h.over ∷ [] in
       let put : List Ended = Done (suc m.topic) h.place h.bytes ∷ [] in
       let calls = sent-calls m p q h in
-      let sends : length (sends_of q.calls) ≡ length (sends_of p.calls) + 1 = ap length (sent-sends m p q h) ∙ length-append (sends_of p.calls) (placed m p q h ∷ []) in
+      let sends : length (sends_of q.calls) ≡ length (sends_of p.calls) + 1 =
+      ap length (sent-sends m p q h) ∙ length-append (sends_of p.calls) (placed m p q h ∷ []) in
       let fulls : q.fulls ≡ p.fulls = ap (λ (x : PassStanding B). x.fulls) h.pass in
       let all : (r : ℕ) → tally (was_put r) q.calls ≡ tally (was_put r) p.calls + tally (was_put r) put = λ r.
-      ap (tally (was_put r)) calls ∙ tally-append (was_put r) (p.calls ++ got) put ∙ ap (λ n. n + tally (was_put r) put) (tally-append (was_put r) p.calls got ∙ omega arith) in
+      ap (tally (was_put r)) calls ∙ tally-append (was_put r) (p.calls ++ got) put
+      ∙ ap (λ n. n + tally (was_put r) put) (tally-append (was_put r) p.calls got ∙ omega arith) in
       let few : (r : ℕ) → tally (was_put r) put ≤ 1 = λ r. at_most (suc m.topic == r) in
       let none_ : tally (was_put 0) put ≡ 0 = let other : (suc m.topic == 0) ≡ false = ne_eqb (suc m.topic) 0 (λ e. omega arith) in rw other (omega arith) in
       record {
@@ -168,10 +188,7 @@ module _ {B : Type 0} where
         fulls = let low = was.fulls in omega (arith, ap length fulls);
         puts = λ topic. let low = was.puts topic in let one = few (suc topic) in omega (arith, all (suc topic));
         returns = let low = was.returns in omega (arith, all 0, ap length (sent-takes m p q h));
-      } where
-        at_most : (b : Bool) → (if b then 1 else 0) + 0 ≤ 1
-        at_most true = omega arith
-        at_most false = omega arith
+      }
 
   pub thrifty-full : (messages head : ℕ) (p q : PassStanding B) → IsThrifty 0 messages p → HasFoundFull head p q → IsThrifty 0 (messages + 1) q
   thrifty-full messages head p q was h =
@@ -193,7 +210,8 @@ module _ {B : Type 0} where
         sends = let low = was.sends in omega (arith, ap length (taken-sends p q h));
         fulls = let low = was.fulls in omega (arith, ap (λ (x : PassStanding B). length x.fulls) h.pass);
         puts = λ topic. let low = was.puts topic in omega (arith, all (suc topic), takes-puts h.block topic h.are);
-        returns = let low = was.returns in omega (arith, all 0, takes-returns h.block h.are, ap length (taken-takes p q h), length-append (takes_of p.calls) (takes_of h.block));
+        returns = let low = was.returns in
+            omega (arith, all 0, takes-returns h.block h.are, ap length (taken-takes p q h), length-append (takes_of p.calls) (takes_of h.block));
       }
 
   -- the list
@@ -203,7 +221,8 @@ module _ {B : Type 0} where
       record {
         passed = subst (λ sends. ArePassedOn topics (messages ++ m ∷ []) sends (filter is_direct members)) (sym (sent-sends m p q h))
             (and_sent m (placed m p q h) was.passed h.sends);
-        follows = subst (FollowsCalls (messages ++ m ∷ [])) (sym (sent-calls m p q h)) (follows-sent messages m p.calls h.from h.place h.over h.bytes was.follows h.sends);
+        follows = subst (FollowsCalls (messages ++ m ∷ [])) (sym (sent-calls m p q h))
+            (follows-sent messages m p.calls h.from h.place h.over h.bytes was.follows h.sends);
         takes = subst (λ takes. AnswersSoFar topics takes (filter is_taken members)) (sym (sent-takes m p q h)) was.takes;
         fulls = subst (λ fulls. AnswersItsFulls fulls members) (sym (ap (λ (x : PassStanding B). x.fulls) h.pass)) was.fulls;
       }
@@ -213,7 +232,8 @@ module _ {B : Type 0} where
   listed-full topics messages m head p q members was h =
       let a = answered topics (Direct head) m in
       let directs : filter is_direct (members ++ a ∷ []) ≡ filter is_direct members ++ a ∷ [] = filter-append is_direct members (a ∷ []) in
-      let takens : filter is_taken (members ++ a ∷ []) ≡ filter is_taken members = filter-append is_taken members (a ∷ []) ∙ append-nil (filter is_taken members) in
+      let takens : filter is_taken (members ++ a ∷ []) ≡ filter is_taken members =
+      filter-append is_taken members (a ∷ []) ∙ append-nil (filter is_taken members) in
       let passed : ArePassedOn topics (messages ++ m ∷ []) (sends_of p.calls) (filter is_direct members ++ a ∷ []) =
       and_answered m a was.passed (record { head = head; answer = refl }) in
       let fulls : AllZip AnswersFull (p.fulls ++ head ∷ []) (filter is_direct members ++ a ∷ []) =
@@ -240,7 +260,8 @@ module _ {B : Type 0} where
             (subst (λ l. AllZip AnswersFull p.fulls l) (sym more.directs) listed.fulls);
       }
 
-  pub answered-along : (topics : List (List ℕ × Kind)) (p q r : PassStanding B) (xs ys zs : List Answered) → HasAnswered topics p q xs ys → HasAnswered topics q r ys zs
+  pub answered-along : (topics : List (List ℕ × Kind)) (p q r : PassStanding B) (xs ys zs : List Answered) → HasAnswered topics p q xs ys
+      → HasAnswered topics q r ys zs
       → HasAnswered topics p r xs zs
   answered-along topics p q r xs ys zs one more = record { takes = λ h. more.takes (one.takes h); directs = more.directs ∙ one.directs }
 

@@ -37,8 +37,8 @@ module _ {B : Type 0} where
       (w : ℕ) (p : PassStanding B) (list : Vec Answered Global) → slice_get passes w ≡ Some p → slice_get lists w ≡ Some list → P w p list.items
 
   -- the workers' lists, against the messages of files and the workers' passes
-  pub record HaveAnswered (topics : List (List ℕ × Kind)) (size workers : ℕ) (given : List (List Message)) (passes : List (PassStanding B)) (lists : List (Vec Answered Global))
-      : Type 0 where
+  pub record HaveAnswered (topics : List (List ℕ × Kind)) (size workers : ℕ) (given : List (List Message)) (passes : List (PassStanding B))
+      (lists : List (Vec Answered Global)) : Type 0 where
     pub each_pass : length passes ≡ workers
     pub each_list : length lists ≡ workers
     -- the answers in all lists are those to all messages, each once

@@ -1,7 +1,7 @@
 -- How the work on all files ended: the fault, its cause, and the messages that they gave. Files are numbered from 1.
 use Rattle.std.specs.Prelude.{◌≡◌, ◌⊎◌, ℕ, ◌+◌, ◌-◌, ◌<◌, ◌≤◌, Bool, true, false, List, [], ◌∷◌, ◌++◌, Option, Some, None, IfSome, option_and_then, length, map, slice_index_or, All}
 use Rattle.std.specs.Option.{option_map}
-use Rattle.scq_outside.specs.Faults.{Rose}
+use Rattle.scq_outside.specs.Counts.{Rose}
 use Rattle.scq_topics.specs.declared.kind.Kind.{Kind}
 use Rattle.scq_topics.specs.Topics.{topic_of}
 use Rattle.scq_frames.specs.declared.fault.FrameFault.{FrameFault}
@@ -10,17 +10,27 @@ use Rattle.scq_frames.specs.declared.message.Message.{Message}
 use Rattle.scq_frames.specs.Numbered.{numbered}
 use Rattle.scq_frames.specs.Text.{messages_of}
 use Rattle.scq_work.specs.Files.{OfEachFile}
-use Rattle.scq_work.specs.Reading.{AreOf, IsWhole, IsStopped}
+use Rattle.scq_work.specs.Reading.{AreOf, EndsSo, IsWhole, IsStopped}
 use Rattle.scq_work.specs.declared.own_file.FileEnd.{FileEnd}
 use Rattle.scq_work.specs.declared.own_file.FileEnd.TheVariants.{Unread, Whole, Stopped}
 use Rattle.scq_work.specs.declared.worked.WorkFault.{WorkFault}
 use Rattle.scq_work.specs.declared.worked.WorkFault.TheVariants.{Read, TooLong, TooLarge, NoMemory}
 
--- the fault of a file by how its reading ended. One that nobody read wants memory: its worker left it.
+-- the fault of a file by how its reading ended. One that nobody read counts as want of memory: its worker left it.
 abbrev pub end_fault : ℕ → FileEnd → Option (ℕ × FrameFault)
 end_fault file Unread = Some (file, frame.NoMemory)
 end_fault file Whole = None
 end_fault file (Stopped fault) = Some (file, fault)
+
+-- whether the reading of a file stopped for want of memory, or because its worker met a ticket past the limit, which counts as that.
+-- One that nobody read did not begin.
+abbrev pub wanted_memory : FileEnd → Bool
+wanted_memory Unread = false
+wanted_memory Whole = false
+wanted_memory (Stopped frame.ReadFault) = false
+wanted_memory (Stopped (frame.TooLong line len)) = false
+wanted_memory (Stopped (frame.TooLarge bytes)) = false
+wanted_memory (Stopped frame.NoMemory) = true
 
 -- the fault of several workers: want of memory where any met it, else that of the first file, in order,
 -- that has any
@@ -45,6 +55,25 @@ pub record StopsAt {S : Type 0} (size : ℕ) (faults : S → ℕ) (left : S → 
   pub before : (k : ℕ) (d : S) → k + 1 < file → IsWhole size faults left (slice_index_or olds k d) (slice_index_or news k d)
   pub cause : (d : S) → IsStopped size faults left (slice_index_or olds (file - 1) d) (slice_index_or news (file - 1) d) fault
 
+-- the source is as an unread one, or as one whose reading ended otherwise than for want of memory
+pub record EndsFed {S : Type 0} (size : ℕ) (faults : S → ℕ) (left : S → Option (List ℕ)) (old new : S) : Type 0 where
+  pub end : FileEnd
+  pub ends : EndsSo size faults left old new end
+  pub fed : wanted_memory end ≡ false
+
+-- so it is of each source
+abbrev pub AllEndFed : {S : Type 0} → ℕ → (S → ℕ) → (S → Option (List ℕ)) → List S → List S → Type 0
+AllEndFed {S} size faults left olds news =
+    (k : ℕ) (d : S) → k < length olds → EndsFed size faults left (slice_index_or olds k d) (slice_index_or news k d)
+
+-- want of memory comes before any other fault: where there is another, each source is as one whose reading didn't stop for want of
+-- memory. Of a source whose bytes aren't visible this says no more than `HasMoved`.
+abbrev pub MemoryIsFirst : {S : Type 0} → ℕ → (S → ℕ) → (S → Option (List ℕ)) → List S → List S → WorkFault → Type 0
+MemoryIsFirst size faults left olds news (Read file) = AllEndFed size faults left olds news
+MemoryIsFirst size faults left olds news (TooLong file line len) = AllEndFed size faults left olds news
+MemoryIsFirst size faults left olds news (TooLarge file bytes) = AllEndFed size faults left olds news
+MemoryIsFirst size faults left olds news NoMemory = Unit {0}
+
 -- the cause of each fault
 abbrev pub HasCause : {S : Type 0} → ℕ → (S → ℕ) → (S → Option (List ℕ)) → List S → List S → WorkFault → Type 0
 HasCause size faults left olds news (Read file) = StopsAt size faults left olds news file frame.ReadFault
@@ -59,7 +88,8 @@ all_left left (source ∷ sources) = option_and_then (λ content. option_map (λ
 
 -- the messages that a file gave: on known topics, in order, with payloads of at most `size` bytes, and all of its messages where its bytes
 -- are visible
-pub record FileGave {S : Type 0} (topics : List (List ℕ × Kind)) (size : ℕ) (left : S → Option (List ℕ)) (file : ℕ) (source : S) (given : List Message) : Type 0 where
+pub record FileGave {S : Type 0} (topics : List (List ℕ × Kind)) (size : ℕ)
+    (left : S → Option (List ℕ)) (file : ℕ) (source : S) (given : List Message) : Type 0 where
   pub of : AreOf (length topics) file 0 given
   pub short : All (λ m. length m.payload ≤ size) given
   pub all : IfSome (left source) (λ bytes. given ≡ map (numbered file (topic_of topics)) (messages_of bytes))

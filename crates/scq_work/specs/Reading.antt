@@ -2,7 +2,7 @@
 -- what they have left may be visible. A payload may have `size` bytes.
 use Rattle.std.specs.Prelude.{◌≡◌, ◌≢◌, ℕ, ◌+◌, ◌^◌, ◌<◌, ◌≤◌, List, [], ◌∷◌, Option, Some, None, IfSome, length, map, All}
 use Rattle.std.specs.Option.{option_map}
-use Rattle.scq_outside.specs.Faults.{Rose}
+use Rattle.scq_outside.specs.Counts.{Rose}
 use Rattle.scq_topics.specs.declared.kind.Kind.{Kind}
 use Rattle.scq_topics.specs.Topics.{topic_of}
 use Rattle.scq_frames.specs.declared.fault.FrameFault.{FrameFault}
@@ -50,8 +50,8 @@ AreOf known file line (m ∷ ms) = (m.file ≡ file) × (line < m.line) × (m.to
 
 -- what is known of a file by how it ended: its source before and after, and the messages that it gave. They are few: each adds at least
 -- two to the sum that its framer keeps below 2 ^ 30 + 2.
-pub record IsRead {S : Type 0} (topics : List (List ℕ × Kind)) (size : ℕ) (faults : S → ℕ) (left : S → Option (List ℕ)) (file : ℕ) (old new : S) (given : List Message) (end : FileEnd)
-    : Type 0 where
+pub record IsRead {S : Type 0} (topics : List (List ℕ × Kind)) (size : ℕ) (faults : S → ℕ) (left : S → Option (List ℕ)) (file : ℕ) (old new : S)
+    (given : List Message) (end : FileEnd) : Type 0 where
   pub ends : EndsSo size faults left old new end
   pub gave : GaveAll topics file (left old) end given
   pub all : AreOf (length topics) file 0 given

@@ -61,23 +61,24 @@ module _ {B : Type 0} where
   pub record KnowsItsSends (p : PassStanding B) : Type 0 where
     pub sends : (m : Placed) → Contains (sends_of p.calls) m → (suc m.topic < length p.numbers) × (m.place ≤ (known_on m.topic p).finished)
 
-  -- a worker that reads its files has passed on these messages: its pass, so far
-  pub record IsProducing (topics : ℕ) (p : PassStanding B) : Type 0 where
-    pub helps : HelpsOnceAfterEachFull topics p.calls
+  -- a pass between two messages: it holds nothing, now and at each Full, and has put as often as it got; it has met no Spent, and knows
+  -- each of its sends as finished
+  pub record IsBetweenMessages (p : PassStanding B) : Type 0 where
     pub alone : HoldsNothingAtEachFull p.calls
     pub even : count_by is_got p.calls ≡ count_by is_put p.calls
     pub none : p.held ≡ []
     pub unspent : MeetsNoSpent p.calls
     pub knows : KnowsItsSends p
 
-  -- a worker that sweeps: the same, but that it may have taken more since the last Full
+  -- the pass of a worker that reads its files, so far: it took just once from each topic after each Full
+  pub record IsProducing (topics : ℕ) (p : PassStanding B) : Type 0 where
+    pub helps : HelpsOnceAfterEachFull topics p.calls
+    pub between : IsBetweenMessages p
+
+  -- that of a worker that sweeps: the same, but that it may have taken more since the last Full
   pub record IsSweeping (topics : ℕ) (p : PassStanding B) : Type 0 where
     pub helps : HelpsAfterEachFull topics p.calls
-    pub alone : HoldsNothingAtEachFull p.calls
-    pub even : count_by is_got p.calls ≡ count_by is_put p.calls
-    pub none : p.held ≡ []
-    pub unspent : MeetsNoSpent p.calls
-    pub knows : KnowsItsSends p
+    pub between : IsBetweenMessages p
 
   -- how much it has begun: `late` is 1 for a pass that met Spent
   pub record IsThrifty (late messages : ℕ) (p : PassStanding B) : Type 0 where

@@ -4,7 +4,7 @@ ghost use Rattle.std.specs.List.{All};
 ghost use Rattle.std.specs.Option.{option_to_list};
 ghost use Rattle.scq_frames.specs.declared.fault.FrameFault.{FrameFault as TheFault};
 ghost use Rattle.scq_work.specs.Dealings.{AreDealt, without_files};
-ghost use Rattle.scq_work.specs.Ends.{HasMoved, StopsAt, end_fault};
+ghost use Rattle.scq_work.specs.Ends.{AllEndFed, HasMoved, StopsAt, end_fault, wanted_memory};
 ghost use Rattle.scq_work.specs.Given.{given_in};
 ghost use Rattle.scq_work.specs.Reading.{IsRead, IsWhole};
 
@@ -38,7 +38,7 @@ fn fault_of_end(file: u32, end: FileEnd) -> Option<(u32, FrameFault)>
 }
 
 impl<S> Gathered<S> {
-    ghost use Rattle.std.specs.Prelude.{◌≡◌, ◌+◌, ◌<◌, ◌++◌, ◌∷◌, [], false, vec_len, vec_capacity};
+    ghost use Rattle.std.specs.Prelude.{◌≡◌, ◌+◌, ◌<◌, ◌++◌, ◌∷◌, ◌||◌, [], vec_len, vec_capacity};
     ghost use Rattle.std.specs.Option.{option_or};
 
     /// Takes in a file behind the others.
@@ -48,7 +48,7 @@ impl<S> Gathered<S> {
         ensures len { vec_len self.new.sources ≡ vec_len self.old.sources + 1 }
         ensures capacity { vec_capacity self.new.sources ≡ vec_capacity self.old.sources }
         ensures fault { self.new.fault ≡ option_or self.old.fault (end_fault file.number file.end) }
-        ensures starved { self.new.starved ≡ false → self.old.starved ≡ false }
+        ensures starved { self.new.starved ≡ (self.old.starved || wanted_memory file.end) }
     {
         let OwnFile {
             number,
@@ -78,15 +78,19 @@ pub fn gather<B: Buffer, S: Source>(
     requires count { (count ≡ vec_len was.now.value) × (count < 2 ^ 32) }
     requires some { 0 < length desks.old }
     requires dealt { AreDealt 1 was.now.value.items desks.old }
-    requires read { All (λ d. All (λ f. IsRead job.now.topics job.now.size S.faults S.left f.number f.was.value f.source (given_in f.given.value) f.end) d.files.items) desks.old }
-    requires empty { (gathered.old.sources.items ≡ []) × (vec_len gathered.old.sources ≡ 0) × (count ≤ vec_capacity gathered.old.sources) × (gathered.old.fault ≡ None) }
+    requires read { All (λ d.
+        All (λ f. IsRead job.now.topics job.now.size S.faults S.left f.number f.was.value f.source (given_in f.given.value) f.end) d.files.items) desks.old }
+    requires empty { (gathered.old.sources.items ≡ []) × (vec_len gathered.old.sources ≡ 0) × (count ≤ vec_capacity gathered.old.sources)
+        × (gathered.old.fault ≡ None) }
     ensures count { length gathered.new.sources.items ≡ vec_len was.now.value }
-    ensures moved { (k : ℕ) (d : S) → k < vec_len was.now.value → HasMoved S.faults S.left (slice_index_or was.now.value.items k d) (slice_index_or gathered.new.sources.items k d) }
+    ensures moved { (k : ℕ) (d : S) → k < vec_len was.now.value
+        → HasMoved S.faults S.left (slice_index_or was.now.value.items k d) (slice_index_or gathered.new.sources.items k d) }
     ensures sound { gathered.new.fault ≡ None → (k : ℕ) (d : S) → k < vec_len was.now.value
         → IsWhole job.now.size S.faults S.left (slice_index_or was.now.value.items k d) (slice_index_or gathered.new.sources.items k d) }
     ensures whole { gathered.new.fault ≡ None → All (λ d. All (λ f. f.end ≡ FileEnd.Whole) d.files.items) desks.old }
     ensures cause { (file : ℕ) (fault : TheFault) → gathered.new.fault ≡ Some (file, fault) → fault ≢ FrameFault.NoMemory
         → StopsAt job.now.size S.faults S.left was.now.value.items gathered.new.sources.items file fault }
+    ensures fed { gathered.new.starved ≡ false → AllEndFed job.now.size S.faults S.left was.now.value.items gathered.new.sources.items }
     ensures same { map without_files desks.new ≡ map without_files desks.old }
 {
     let workers = desks.len();
@@ -159,7 +163,8 @@ impl<B: Buffer> Left<B> {
 /// Takes the desks apart. What the workers leave behind is put into empty lists with room.
 pub fn clear<B: Buffer, S: Source>(mut desks: Vec<Desk<B, S>>, left: &mut Left<B>)
     requires empty { (left.old.passes.items ≡ []) × (left.old.held.items ≡ []) × (left.old.lists.items ≡ []) }
-    requires room { (vec_len desks ≤ vec_capacity left.old.passes) × (vec_len desks ≤ vec_capacity left.old.held) × (vec_len desks ≤ vec_capacity left.old.lists) }
+    requires room { (vec_len desks ≤ vec_capacity left.old.passes) × (vec_len desks ≤ vec_capacity left.old.held)
+        × (vec_len desks ≤ vec_capacity left.old.lists) }
     ensures passes { left.new.passes.items ≡ map (λ d. d.worker.pass) desks.items }
     ensures held { left.new.held.items ≡ flat_map (λ d. option_to_list d.kept) desks.items }
     ensures lists { left.new.lists.items ≡ map (λ d. d.worker.members) desks.items }

@@ -89,7 +89,8 @@ impl<B: Buffer> Worker<B> {
         requires room { All (λ b. job.now.size + 16 ≤ length (B.contents b)) queue.now.given }
         requires unread { IsNew file.old }
         ensures same { (file.new.number ≡ file.old.number) × (file.new.was.value ≡ file.old.was.value) }
-        ensures read { IsRead job.now.topics job.now.size S.faults S.left file.new.number file.new.was.value file.new.source (given_in file.new.given.value) file.new.end }
+        ensures read { IsRead job.now.topics job.now.size S.faults S.left file.new.number file.new.was.value file.new.source
+            (given_in file.new.given.value) file.new.end }
         ensures suits { OnOk result (Suits queue.now (length job.now.topics) self.new.pass) }
         ensures stays { OnOk result (self.new.pass.retired ≡ None) }
         ensures work { OnOk result ((messages : List TheMessage)

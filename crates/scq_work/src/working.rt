@@ -1,5 +1,5 @@
 //! The work of all workers together.
-ghost use Rattle.std.specs.Prelude.{◌≡◌, Bool, ℕ, ◌+◌, ◌^◌, ◌<◌, ◌≤◌, List, [], None, Some, false, length, map, slice_index_or, vec_len, vec_capacity, IfOk, IfErr, IfSome, OnOk};
+ghost use Rattle.std.specs.Prelude.{◌≡◌, ℕ, ◌+◌, ◌^◌, ◌<◌, ◌≤◌, ◌||◌, List, [], None, Some, false, length, map, slice_index_or, vec_len, vec_capacity, IfOk, IfErr, IfSome, OnOk};
 ghost use Rattle.std.specs.List.{All};
 ghost use Rattle.std.specs.List.Sorted.{IsPermutation};
 ghost use Rattle.scq_block.specs.Blocks.{AreAllOf};
@@ -10,7 +10,7 @@ ghost use Rattle.scq_queue.specs.Passes.{first_passes};
 ghost use Rattle.scq_work.specs.AllWorkers.{HasWorked};
 ghost use Rattle.scq_work.specs.Dealings.{IsFresh};
 ghost use Rattle.scq_work.specs.Desks.{IsNew, HasRun, ids_of};
-ghost use Rattle.scq_work.specs.Ends.{AreGiven, HasCause, HasMoved, all_left, fault_of_workers, messages_in};
+ghost use Rattle.scq_work.specs.Ends.{AreGiven, HasCause, HasMoved, MemoryIsFirst, all_left, fault_of_workers, messages_in};
 ghost use Rattle.scq_work.specs.Reading.{IsWhole};
 
 use crate::dealing::{deal, make_desks};
@@ -161,9 +161,12 @@ fn run_all<R: Threads + Sync, S: Source, G: Gate>(
     requires room { All (λ b. job.now.size + 16 ≤ length b.bytes.items) queue.now.given }
     requires fresh { All (IsFresh queue.now) desks.old }
     requires unread { All (λ d. All IsNew d.files.items) desks.old }
-    ensures same { (w : ℕ) (d : _) → w < length desks.old → ids_of (slice_index_or desks.new w d).files.items ≡ ids_of (slice_index_or desks.old w d).files.items }
-    ensures numbers { (w : ℕ) (d : _) → w < length desks.old → (slice_index_or desks.new w d).worker.pass.number ≡ (slice_index_or desks.old w d).worker.pass.number }
-    ensures run { All (λ d. HasRun queue.now job.now.topics job.now.size S.faults S.left d.files.items d.worker.pass d.worker.members.items d.worker.starved d.kept) desks.new }
+    ensures same { (w : ℕ) (d : _) → w < length desks.old
+        → ids_of (slice_index_or desks.new w d).files.items ≡ ids_of (slice_index_or desks.old w d).files.items }
+    ensures numbers { (w : ℕ) (d : _) → w < length desks.old
+        → (slice_index_or desks.new w d).worker.pass.number ≡ (slice_index_or desks.old w d).worker.pass.number }
+    ensures run { All (λ d.
+        HasRun queue.now job.now.topics job.now.size S.faults S.left d.files.items d.worker.pass d.worker.members.items d.worker.starved d.kept) desks.new }
 {
     let threads = desks.len();
     let run = |_: usize, desk: &mut Desk<Frame, S>|
@@ -204,7 +207,8 @@ pub fn work<R: Threads + Sync, S: Source, G: Gate>(
 ) -> WorkEnd<S>
     requires { vec_len sources ≤ 64 }
     ensures count { length result.sources.items ≡ length sources.items }
-    ensures moved { (k : ℕ) (d : S) → k < length sources.items → HasMoved S.faults S.left (slice_index_or sources.items k d) (slice_index_or result.sources.items k d) }
+    ensures moved { (k : ℕ) (d : S) → k < length sources.items
+        → HasMoved S.faults S.left (slice_index_or sources.items k d) (slice_index_or result.sources.items k d) }
 
     // Each source was read to its end, and where the bytes of all are visible the answers are those of one thread.
     ensures whole { OnOk result.result ((k : ℕ) (d : S) → k < length sources.items
@@ -219,8 +223,10 @@ pub fn work<R: Threads + Sync, S: Source, G: Gate>(
     ensures worked { IfOk result.result (λ w. (given : List (List TheMessage)) × AreGiven job.now.topics job.now.size S.left 1 sources.items given
         × HasWorked job.now.topics job.now.order job.now.size job.now.workers given w) }
 
-    // A fault is that of its file, and those in front of it were read to their ends.
+    // A fault is that of its file, and those in front of it were read to their ends. Where there is one of a file, each source is as one
+    // whose reading didn't stop for want of memory.
     ensures cause { IfErr result.result (λ fault. HasCause job.now.size S.faults S.left sources.items result.sources.items fault) }
+    ensures memory_first { IfErr result.result (λ fault. MemoryIsFirst job.now.size S.faults S.left sources.items result.sources.items fault) }
 {
     let Ok(room) = make_room(alloc, job, sources.len()) else {
         return WorkEnd {
@@ -267,7 +273,8 @@ fn work_in<R: Threads + Sync, S: Source, G: Gate>(
     requires room { (job.now.workers ≤ vec_capacity room.left.passes) × (job.now.workers ≤ vec_capacity room.left.held)
         × (job.now.workers ≤ vec_capacity room.left.lists) }
     ensures count { length result.sources.items ≡ length sources.items }
-    ensures moved { (k : ℕ) (d : S) → k < length sources.items → HasMoved S.faults S.left (slice_index_or sources.items k d) (slice_index_or result.sources.items k d) }
+    ensures moved { (k : ℕ) (d : S) → k < length sources.items
+        → HasMoved S.faults S.left (slice_index_or sources.items k d) (slice_index_or result.sources.items k d) }
     ensures whole { OnOk result.result ((k : ℕ) (d : S) → k < length sources.items
         → IsWhole job.now.size S.faults S.left (slice_index_or sources.items k d) (slice_index_or result.sources.items k d)) }
     ensures answers { IfOk result.result (λ w. IfSome (all_left S.left sources.items) (λ contents.
@@ -277,6 +284,7 @@ fn work_in<R: Threads + Sync, S: Source, G: Gate>(
     ensures worked { IfOk result.result (λ w. (given : List (List TheMessage)) × AreGiven job.now.topics job.now.size S.left 1 sources.items given
         × HasWorked job.now.topics job.now.order job.now.size job.now.workers given w) }
     ensures cause { IfErr result.result (λ fault. HasCause job.now.size S.faults S.left sources.items result.sources.items fault) }
+    ensures memory_first { IfErr result.result (λ fault. MemoryIsFirst job.now.size S.faults S.left sources.items result.sources.items fault) }
 {
     let Room {
         files,
@@ -333,8 +341,8 @@ fn conclude(
     wants: bool,
     first: Option<(u32, FrameFault)>,
 ) -> Result<Worked, WorkFault>
-    ensures ok { IfOk result (λ w. (w ≡ worked) × (starved ≡ false) × (first ≡ None)) }
-    ensures err { IfErr result (λ f. (memory : Bool) × (fault_of_workers memory first ≡ Some f)) }
+    ensures ok { IfOk result (λ w. (w ≡ worked) × (starved ≡ false) × (wants ≡ false) × (first ≡ None)) }
+    ensures err { IfErr result (λ f. fault_of_workers (starved || wants) first ≡ Some f) }
 {
     match fault_of_all(starved || wants, first) {
         Some(fault) => Err(fault),

@@ -1,5 +1,5 @@
 use Rattle.std.proofs.Common.{[]}
-use Rattle.scq_queue.specs.Trials.{HoldsJust}
+use Rattle.scq_queue.specs.HoldsJust.{HoldsJust}
 use Rattle.example_queue.proofs.take_numbers.Given as goal
 
 abbrev pub invariant-looks : goal.invariant-looks

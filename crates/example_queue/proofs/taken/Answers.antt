@@ -10,5 +10,6 @@ returns-in-Err c =
       pass =
           holds_same c.args.queue.now c.args.pass.now c.take.new.pass _ c.requires.pass
           (take_refused 0 c.args.pass.now c.take.new.pass c.in-Err.field-0 (λ head is. c.in-Err.ensures.empty head (ap (λ (r : TakeRefusal). Err r) is))
-          (λ ticket is none. (c.in-Err.ensures.spent ticket (ap (λ (r : TakeRefusal). Err r) is) none).0) (λ ticket some. (c.in-Err.ensures.kept ticket some).1));
+          (λ ticket is none. (c.in-Err.ensures.spent ticket (ap (λ (r : TakeRefusal). Err r) is) none).0)
+          (λ ticket some. (c.in-Err.ensures.kept ticket some).1));
     }

@@ -17,7 +17,7 @@ use Rattle.scq_law.specs.declared.ordered.Ordered.{Ordered}
 use Rattle.scq_law.specs.declared.ordered.Ordered.TheVariants.{Opening, Call}
 use Rattle.scq_law.specs.Notes.{note_of, decisions_by}
 use Rattle.scq_law.specs.Order.{Key, key, IsBefore, HasKey, of_opening, of_nothing, of_put, of_get, IsOrderable, by_done, by_got, by_nothing, IsLinearization}
-use Rattle.scq_law.specs.Points.{IsDecidingStep, DecidesBefore, IsPutPoint, IsPointOfPlace, IsGetPoint}
+use Rattle.scq_law.specs.Points.{IsDecidingStep, IsPutPoint, IsPointOfPlace}
 use Rattle.scq_law.specs.Points as points
 use Rattle.scq_law.specs.RunSteps.{Run, IsFinishedRun, HasEnded, state_before, last_state}
 use Rattle.scq_law.proofs.Order.RunStates.{step_facts, ghost_before, traced}

@@ -1,8 +1,6 @@
 -- The members that were marked of a finished run, sorted, are its order.
-use Rattle.std.proofs.Common.{◌≡◌, ◌∙◌, ℕ, List, map, sym, subst}
-use Rattle.std.specs.Prelude.{Result, Ok, Err}
+use Rattle.std.proofs.Common.{◌≡◌, ℕ, List, map, sym, subst}
 use Rattle.std.specs.List.Sorted.{IsPermutation}
-use Rattle.std.specs.Result.{IsErrAnd}
 use Rattle.scq_word.specs.declared.setup.Setup.{Setup}
 use Rattle.scq_core.specs.declared.step.Step.{Step}
 use Rattle.scq_core.specs.Machine.{Machine}
@@ -15,11 +13,6 @@ use Rattle.scq_law.specs.Notes.{IsMarkedRun, HoldsOrder, AreInOrder}
 use Rattle.scq_law.specs.Order.{IsLinearization}
 use Rattle.scq_law.specs.RunSteps.{run_of, IsFinishedRun}
 use Rattle.scq_law.proofs.Order.Linear.{linear}
-
--- what `?` passes on is the fault
-pub passed_on : {T E : Type 0} (r : Result T E) (e given : E) → IsErrAnd r (λ passed. passed ≡ e) → r ≡ Err given → e ≡ given
-passed_on (Ok x) e given h is = absurd h
-passed_on (Err passed) e given h is = let same : passed ≡ given = cc in sym h ∙ same
 
 module _ (c : Setup) (opening : List (List ℕ)) (steps : List (ℕ × Step)) (r : ℕ) (v : Marking) (marked : IsMarkedRun c opening steps r v)
     (idle : AllIdle v.state.setup (machine_of v.state)) where

@@ -28,7 +28,8 @@ bring-requires-clause-may g c κs within =
     let i = c.in-Some.index in
     let out = map g.T.Lifted.pair c.loop-index.out.items in
     let may = subst (λ (l : List ℕ). MayLeave Same buffers me l out) c.in-Some.ensures.items c.loop-index.invariant.2 in
-    let l = leaves g.B.Buffer.contents Same buffers me others i out c.lay_back.new.token.me.1 (map g.T.Lifted.pair c.lay_back.new.out.items) may c.lay_back.ensures.laid in
+    let l = leaves g.B.Buffer.contents Same buffers me others i out c.lay_back.new.token.me.1 (map g.T.Lifted.pair c.lay_back.new.out.items) may
+    c.lay_back.ensures.laid in
     subst (λ (v : Known). MayBring (LiesIn g.B.Buffer.contents Same buffers) (v, c.lay_back.new.token.me.1)) (sym c.lay_back.ensures.view) l.bring
 
 pub loop-index-preserved : goal.loop-index-preserved
@@ -40,8 +41,10 @@ loop-index-preserved g c =
     let i = c.in-Some.index in
     let out = map g.T.Lifted.pair c.loop-index.out.items in
     let may = subst (λ (l : List ℕ). MayLeave Same buffers me l out) c.in-Some.ensures.items c.loop-index.invariant.2 in
-    let l = leaves g.B.Buffer.contents Same buffers me others i out c.lay_back.new.token.me.1 (map g.T.Lifted.pair c.lay_back.new.out.items) may c.lay_back.ensures.laid in
-    let n = goes_on g.B.Buffer.contents Same buffers me c.lay_back.new.token.me c.bring.new.token.me others i out (map g.T.Lifted.pair c.lay_back.new.out.items) l
+    let l = leaves g.B.Buffer.contents Same buffers me others i out c.lay_back.new.token.me.1 (map g.T.Lifted.pair c.lay_back.new.out.items) may
+    c.lay_back.ensures.laid in
+    let n = goes_on g.B.Buffer.contents Same buffers me c.lay_back.new.token.me c.bring.new.token.me others i out
+    (map g.T.Lifted.pair c.lay_back.new.out.items) l
     c.lay_back.ensures.view c.bring.ensures.home in (
       c.bring.ensures.own.0 ∙ c.lay_back.ensures.own.0 ∙ c.loop-index.invariant.0,
       c.bring.ensures.own.1 ∙ c.lay_back.ensures.own.1 ∙ c.loop-index.invariant.1,

@@ -25,7 +25,8 @@ loop-seat-init g c =
       e.own,
       bands.0,
       λ i.
-          out_less (λ (s : Standing g.row.B.Denot). times i (lifted_of s.hand)) c.args.seats.items left c.in-Some.last (times i (indices_of (map g.T.Lifted.pair c.args.out.items)))
+          out_less (λ (s : Standing g.row.B.Denot). times i (lifted_of s.hand)) c.args.seats.items left c.in-Some.last
+          (times i (indices_of (map g.T.Lifted.pair c.args.out.items)))
           (times i (indices_of (map g.T.Lifted.pair c.one_home-first.new.out.items))) (c.requires.lifted i) c.in-Some.ensures.items (e.less i),
       e.given,
       gathered_first c.args.words.now.key.setup.rings c.args.seats.items left c.in-Some.last w c.in-Some.ensures.items e.alone e.member e.numbers.0 e.numbers.1
@@ -71,7 +72,8 @@ loop-seat-preserved g c =
       c.join_seat.ensures.0 ∙ c.loop-seat.invariant.0,
       bands.0,
       λ i.
-          out_less (λ (s : Standing g.row.B.Denot). times i (lifted_of s.hand)) before left c.in-Some-pop.seat (times i (indices_of (map g.T.Lifted.pair c.loop-seat.out.items)))
+          out_less (λ (s : Standing g.row.B.Denot). times i (lifted_of s.hand)) before left c.in-Some-pop.seat
+          (times i (indices_of (map g.T.Lifted.pair c.loop-seat.out.items)))
           (times i (indices_of (map g.T.Lifted.pair c.one_home-token.new.out.items))) (c.loop-seat.invariant.2 i) c.in-Some-pop.ensures.items (e.less i),
       e.given,
       subst (λ (m : Me (Slot g.row.B.Denot) Known). AreGathered rings c.args.seats.items left m.0) (sym c.join_seat.ensures.2) more,

@@ -18,9 +18,11 @@ bring_all-requires-clause-may g c κs within =
     let buffers = c.args.words.now.key.given.value.items in
     let same : buffers ≡ s.key.value.given.value.items =
     sym (ap (λ (b : Identity g.row.B.Denot). b.given) (ap (λ (t : Standing g.row.B.Denot). t.band) c.seat.view_is ∙ c.requires.band)) in
-    may_leave Same s.key.value s.token.me s.hand.items (vec_capacity s.hand) s.numbers.items s.spent c.seat.invariant buffers (map g.T.Lifted.pair c.args.out.now.items) same
+    may_leave Same s.key.value s.token.me s.hand.items (vec_capacity s.hand) s.numbers.items s.spent c.seat.invariant buffers
+    (map g.T.Lifted.pair c.args.out.now.items) same
     c.requires.given
-    (λ i. subst (λ (t : Standing g.row.B.Denot). times i (lifted_of t.hand) ≤ times i (indices_of (map g.T.Lifted.pair c.args.out.now.items))) (sym c.seat.view_is)
+    (λ i. subst (λ (t : Standing g.row.B.Denot). times i (lifted_of t.hand) ≤ times i (indices_of (map g.T.Lifted.pair c.args.out.now.items)))
+    (sym c.seat.view_is)
     (c.requires.lifted i))
 
 pub returns-clause-member : goal.returns-clause-member

@@ -20,9 +20,11 @@ lift-lifted-requires-clause-laid g c κs =
     let Same : Heap → Heap → Type 0 = λ a b. length a.bytes.items ≡ length b.bytes.items in
     let one : c.in-Ok.seats.items ≡ first_standings c.in-Ok.band 1 = c.in-Ok.ensures.seats ∙ ap (first_standings c.in-Ok.band) c.in_ok-setup.ensures.made.2 in
     let empty = first_hand Contents Same c.in-Ok.band c.in-Ok.seats.items c.remove-seat.result one c.remove-seat.ensures.value in
-    let both = two Contents Same 0 0 c.in-Ok-deq.place c.in-Ok-deq-2.place c.in-Ok-deq.first c.in-Ok-deq-2.second c.remove-seat.result c.deq.new.seat c.deq-2.new.seat
+    let both = two Contents Same 0 0 c.in-Ok-deq.place c.in-Ok-deq-2.place c.in-Ok-deq.first c.in-Ok-deq-2.second c.remove-seat.result c.deq.new.seat
+    c.deq-2.new.seat
     empty c.in-Ok-deq.ensures.got c.in-Ok-deq-2.ensures.got in
-    let left = one_left Contents Same c.in-Ok-deq.first c.in-Ok-deq-2.second 1 c.in-Ok-enq.place _ c.deq-2.new.seat c.enq.new.seat both c.in-Ok-enq.ensures.put in
+    let left = one_left Contents Same c.in-Ok-deq.first c.in-Ok-deq-2.second 1 c.in-Ok-enq.place _ c.deq-2.new.seat c.enq.new.seat both
+    c.in-Ok-enq.ensures.put in
     (both.first, laid_first Contents Same c.in-Ok-deq.first both.first c.enq.new.seat left)
 
 pub close-closed-requires-clause-out : goal.close-closed-requires-clause-out
@@ -32,14 +34,17 @@ close-closed-requires-clause-out g c κs =
     let band = c.in-Ok.band in
     let one : c.in-Ok.seats.items ≡ first_standings band 1 = c.in-Ok.ensures.seats ∙ ap (first_standings band) c.in_ok-setup.ensures.made.2 in
     let empty = first_hand Contents Same band c.in-Ok.seats.items c.remove-seat.result one c.remove-seat.ensures.value in
-    let both = two Contents Same 0 0 c.in-Ok-deq.place c.in-Ok-deq-2.place c.in-Ok-deq.first c.in-Ok-deq-2.second c.remove-seat.result c.deq.new.seat c.deq-2.new.seat
+    let both = two Contents Same 0 0 c.in-Ok-deq.place c.in-Ok-deq-2.place c.in-Ok-deq.first c.in-Ok-deq-2.second c.remove-seat.result c.deq.new.seat
+    c.deq-2.new.seat
     empty c.in-Ok-deq.ensures.got c.in-Ok-deq-2.ensures.got in
-    let left = one_left Contents Same c.in-Ok-deq.first c.in-Ok-deq-2.second 1 c.in-Ok-enq.place _ c.deq-2.new.seat c.enq.new.seat both c.in-Ok-enq.ensures.put in
+    let left = one_left Contents Same c.in-Ok-deq.first c.in-Ok-deq-2.second 1 c.in-Ok-enq.place _ c.deq-2.new.seat c.enq.new.seat both
+    c.in-Ok-enq.ensures.put in
     let now : AreTheLifted Same band (c.lift-lifted.new.seat ∷ []) ((c.in-Ok-deq.first, c.lift-lifted.result) ∷ []) =
     the_lifted Contents Same band c.in-Ok-deq.first both.first c.lift-lifted.result c.enq.new.seat c.lift-lifted.new.seat left c.lift-lifted.ensures.lifted
     c.lift-lifted.ensures.given in
     let seats : c.push_reserved-2.new.self.items ≡ c.lift-lifted.new.seat ∷ [] = c.push_reserved-2.ensures.items
-    ∙ ap (λ (l : List (Standing Heap)). l ++ c.lift-lifted.new.seat ∷ []) (c.remove-seat.ensures.items ∙ none_behind Contents Same band c.in-Ok.seats.items one) in
+    ∙ ap (λ (l : List (Standing Heap)). l ++ c.lift-lifted.new.seat ∷ [])
+    (c.remove-seat.ensures.items ∙ none_behind Contents Same band c.in-Ok.seats.items one) in
     let out : c.push_reserved.new.self.items ≡ (c.in-Ok-deq.first, c.lift-lifted.result) ∷ [] = c.push_reserved.ensures.items
     ∙ ap (λ (l : List (ℕ × Heap)). l ++ (c.in-Ok-deq.first, c.lift-lifted.result) ∷ []) c.in_ok-out.ensures.items in
     let pair : ℕ × Heap → ℕ × Heap = λ o. o in

@@ -13,7 +13,8 @@ deeper-init g c =
 pub overflow_sub-len-in-deeper : goal.overflow_sub-len-in-deeper
 overflow_sub-len-in-deeper g c =
     let hand = c.args.hand.now in
-    let h = sought_hand c.args.index (vec_len hand) c.deeper.turns c.args.token.now.me.1 c.deeper.token.me.1 hand.items c.requires.order hand.ok.0 c.deeper.invariant.1 in
+    let h = sought_hand c.args.index (vec_len hand) c.deeper.turns c.args.token.now.me.1 c.deeper.token.me.1 hand.items c.requires.order hand.ok.0
+    c.deeper.invariant.1 in
     let low = h.low in
     let len = c.len.ensures in
     omega (arith, low, len)
@@ -21,7 +22,8 @@ overflow_sub-len-in-deeper g c =
 pub overflow_add-turns : goal.overflow_add-turns
 overflow_add-turns g c =
     let hand = c.args.hand.now in
-    let h = sought_hand c.args.index (vec_len hand) c.deeper.turns c.args.token.now.me.1 c.deeper.token.me.1 hand.items c.requires.order hand.ok.0 c.deeper.invariant.1 in
+    let h = sought_hand c.args.index (vec_len hand) c.deeper.turns c.args.token.now.me.1 c.deeper.token.me.1 hand.items c.requires.order hand.ok.0
+    c.deeper.invariant.1 in
     let low = h.low in
     let len = c.len.ensures in
     let fits = c.len.type_inv in
@@ -30,7 +32,8 @@ overflow_add-turns g c =
 pub deeper-smaller : goal.deeper-smaller
 deeper-smaller g c =
     let hand = c.args.hand.now in
-    let h = sought_hand c.args.index (vec_len hand) c.deeper.turns c.args.token.now.me.1 c.deeper.token.me.1 hand.items c.requires.order hand.ok.0 c.deeper.invariant.1 in
+    let h = sought_hand c.args.index (vec_len hand) c.deeper.turns c.args.token.now.me.1 c.deeper.token.me.1 hand.items c.requires.order hand.ok.0
+    c.deeper.invariant.1 in
     let low = h.low in
     omega (arith, low)
 
@@ -41,7 +44,8 @@ deeper-preserved g c =
     let own = c.deeper.invariant.0 in
     let h = sought_hand c.args.index (vec_len hand) c.deeper.turns c.args.token.now.me.1 c.deeper.token.me.1 hand.items c.requires.order hand.ok.0 s in
     let top : c.index.result.now ≡ s.first.0 =
-    c.index.ensures ∙ ap (λ n. slice_index_or hand.items (n - 1 - c.deeper.turns) c.index.result.now) c.len.ensures ∙ h.top c.index.result.now ∙ ap front_index s.now in
+    c.index.ensures ∙ ap (λ n. slice_index_or hand.items (n - 1 - c.deeper.turns) c.index.result.now) c.len.ensures ∙ h.top c.index.result.now
+    ∙ ap front_index s.now in
     let away : s.first.0 ≢ c.args.index = λ e. c.deeper-test.true (top ∙ e) in
     let now = ap (λ me. me.1) c.turn.ensures.2 in (
       (c.turn.ensures.0 ∙ own.0, c.turn.ensures.1 ∙ own.1, ap (λ me. me.0) c.turn.ensures.2 ∙ own.2),
@@ -52,20 +56,23 @@ deeper-preserved g c =
 pub rotate_right-requires : goal.rotate_right-requires
 rotate_right-requires g c =
     let hand = c.args.hand.now in
-    let h = sought_hand c.args.index (vec_len hand) c.deeper.turns c.args.token.now.me.1 c.deeper.token.me.1 hand.items c.requires.order hand.ok.0 c.deeper.invariant.1 in
+    let h = sought_hand c.args.index (vec_len hand) c.deeper.turns c.args.token.now.me.1 c.deeper.token.me.1 hand.items c.requires.order hand.ok.0
+    c.deeper.invariant.1 in
     let low = h.low in
     omega (arith, low)
 
-pub returns-clause-order : goal.returns-clause-order
-returns-clause-order g c =
+pub returns-then-turns-gt0-clause-order : goal.returns-then-turns-gt0-clause-order
+returns-then-turns-gt0-clause-order g c =
     let hand = c.args.hand.now in
-    let h = sought_hand c.args.index (vec_len hand) c.deeper.turns c.args.token.now.me.1 c.deeper.token.me.1 hand.items c.requires.order hand.ok.0 c.deeper.invariant.1 in
+    let h = sought_hand c.args.index (vec_len hand) c.deeper.turns c.args.token.now.me.1 c.deeper.token.me.1 hand.items c.requires.order hand.ok.0
+    c.deeper.invariant.1 in
     c.rotate_right.ensures.items ∙ h.rotated
 
-pub returns-clause-first : goal.returns-clause-first
-returns-clause-first g c =
+pub returns-then-turns-gt0-clause-first : goal.returns-then-turns-gt0-clause-first
+returns-then-turns-gt0-clause-first g c =
     let hand = c.args.hand.now in
-    let h = sought_hand c.args.index (vec_len hand) c.deeper.turns c.args.token.now.me.1 c.deeper.token.me.1 hand.items c.requires.order hand.ok.0 c.deeper.invariant.1 in
+    let h = sought_hand c.args.index (vec_len hand) c.deeper.turns c.args.token.now.me.1 c.deeper.token.me.1 hand.items c.requires.order hand.ok.0
+    c.deeper.invariant.1 in
     sym (h.top c.index.result.now)
     ∙ sym (c.index.ensures ∙ ap (λ n. slice_index_or hand.items (n - 1 - c.deeper.turns) c.index.result.now) c.len.ensures)
     ∙ c.deeper-test.false

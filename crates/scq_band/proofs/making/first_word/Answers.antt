@@ -16,7 +16,8 @@ pub returns : goal.returns
 returns c =
     let k = c.args.state.now.setup in
     let w = c.args.word in
-    let same : 3 + c.slots.result ≡ ring_words k = ap (λ s. 3 + s) (c.slots.ensures ∙ ap slots_of (c.shape.ensures ∙ ap (λ (s : Setup). s.order) c.setup-setup.ensures))
+    let same : 3 + c.slots.result ≡ ring_words k =
+    ap (λ s. 3 + s) (c.slots.ensures ∙ ap slots_of (c.shape.ensures ∙ ap (λ (s : Setup). s.order) c.setup-setup.ensures))
     ∙ three_more (slots_of k.order) in
     c.ring_word.ensures ∙ ap (λ n. read (start_cells k []) (location_in ((w - 1) / n) ((w - 1) % n))) same
     ∙ sym (first_word-past k w c.if-word-eq0.false)

@@ -14,7 +14,8 @@ fetch_sub-requires g c =
     let Lie = LiesIn g.B.Buffer.contents g.B.Buffer.IsSameBuffer k.given.value.items in (
       c.requires.own,
       c.requires.low,
-      moves_by Lie k.setup c.args.words.now.table_id.slots c.args.token.now.id c.args.token.now.me t c.args.word (λ n. (n + (2 ^ 64 - 1)) % 2 ^ 64) c.requires.may
+      moves_by Lie k.setup c.args.words.now.table_id.slots c.args.token.now.id c.args.token.now.me t c.args.word (λ n. (n + (2 ^ 64 - 1)) % 2 ^ 64)
+          c.requires.may
           (count_carries Lie t c.args.token.now.me.1 c.requires.kind) c.requires.word
           (λ m r b. count_says k.setup m.cells t (words_fit k.setup m r) c.requires.kind)
           (λ m seat s reach low e. ground k.setup m seat s t reach low e),

@@ -21,7 +21,8 @@ enq-requires-clause-held c κs =
 
 pub returns-in-Ok-enq-clause-laid : goal.returns-in-Ok-enq-clause-laid
 returns-in-Ok-enq-clause-laid c =
-    lent_after_put c.args.to c.in-Ok.index c.in-Ok-enq.field-0 (bytes_in_hand Contents c.deq.new.seat.hand c.in-Ok.index) c.deq.new.seat c.enq.new.seat c.in-Ok-enq.ensures.put
+    lent_after_put c.args.to c.in-Ok.index c.in-Ok-enq.field-0 (bytes_in_hand Contents c.deq.new.seat.hand c.in-Ok.index) c.deq.new.seat c.enq.new.seat
+    c.in-Ok-enq.ensures.put
     (lent_after_get Contents Same c.args.from c.in-Ok.field-0-0 c.in-Ok.index c.args.seat.now c.deq.new.seat c.in-Ok.ensures.got c.requires.laid)
 
 pub returns-in-Err-enq-clause-laid : goal.returns-in-Err-enq-clause-laid

@@ -13,7 +13,8 @@ returns-clause-text c =
     let lines : List Answered → List ℕ = λ members. flat_map (λ a. reply_line topics (without_way a)) members in
     let whole = take_all c.loop-member.member-index members (omega (arith, c.loop-member-test.false)) in
     c.from.ensures ∙ c.in_ok-push_totals.ensures
-    ∙ ap (λ (front : List ℕ). front ++ total_lines topics (map without_way members)) (c.loop-member.invariant ∙ ap lines whole ∙ sym (flat_map-map (reply_line topics) without_way members))
+    ∙ ap (λ (front : List ℕ). front ++ total_lines topics (map without_way members))
+    (c.loop-member.invariant ∙ ap lines whole ∙ sym (flat_map-map (reply_line topics) without_way members))
 
 pub returns-clause-one_thread : goal.returns-clause-one_thread
 returns-clause-one_thread c contents same = returns-clause-text c ∙ ap (text_of_answers c.args.topics.now) same

@@ -16,8 +16,10 @@ pub write_digits-start-requires : goal.write_digits-start-requires
 write_digits-start-requires c =
     let long : length c.write_digits-from.new.buf ≡ 22 = search rules in
     let first = short c.from.result (omega (arith, c.from.ensures, c.ranges.line.fits)) in
-    let second = short c.from-2.result (omega (arith, c.from-2.ensures, c.ranges.file.fits)) in
-    (omega (arith, c.write_digits-from.ensures.start, first, second), omega (arith, c.write_digits-from.ensures.start, length-set c.write_digits-from.new.buf (c.write_digits-from.result - 1) 58, long))
+    let second = short c.from-2.result (omega (arith, c.from-2.ensures, c.ranges.file.fits)) in (
+      omega (arith, c.write_digits-from.ensures.start, first, second),
+      omega (arith, c.write_digits-from.ensures.start, length-set c.write_digits-from.new.buf (c.write_digits-from.result - 1) 58, long),
+    )
 
 pub returns : goal.returns
 returns c =
@@ -29,12 +31,15 @@ returns c =
     let first = short c.from.result (omega (arith, c.from.ensures, c.ranges.line.fits)) in
     let digits : drop at line ≡ decimal c.args.line ++ codes " " = c.write_digits-from.ensures.written ∙ ap (λ n. decimal n ++ codes " ") c.from.ensures in
     let before : drop (at - 1) (set line (at - 1) 58) ≡ 58 ∷ (decimal c.args.line ++ codes " ") =
-    colon line at (omega (arith, c.write_digits-from.ensures.start, first)) (omega (arith, c.write_digits-from.ensures.start, long)) ∙ ap (λ (rest : List ℕ). 58 ∷ rest) digits in
+    colon line at (omega (arith, c.write_digits-from.ensures.start, first)) (omega (arith, c.write_digits-from.ensures.start, long))
+    ∙ ap (λ (rest : List ℕ). 58 ∷ rest) digits in
     let all : drop c.write_digits-start.result bytes ≡ decimal c.args.file ++ (58 ∷ (decimal c.args.line ++ codes " ")) =
-    c.write_digits-start.ensures.written ∙ ap (λ n. decimal n ++ drop (at - 1) (set line (at - 1) 58)) c.from-2.ensures ∙ ap (λ (rest : List ℕ). decimal c.args.file ++ rest) before in
+    c.write_digits-start.ensures.written ∙ ap (λ n. decimal n ++ drop (at - 1) (set line (at - 1) 58)) c.from-2.ensures
+    ∙ ap (λ (rest : List ℕ). decimal c.args.file ++ rest) before in
     let last = drop c.write_digits-start.result bytes in
     let full : length bytes ≡ 22 = search rules in
     let whole = take_all (22 - c.write_digits-start.result) last (omega (arith, length-drop c.write_digits-start.result bytes, full)) in
     let line_digits = decimal c.args.line in
-    let colon_first = append_assoc (decimal c.args.file ++ codes ":") line_digits (codes " ") ∙ append_assoc (decimal c.args.file) (codes ":") (line_digits ++ codes " ") in
+    let colon_first = append_assoc (decimal c.args.file ++ codes ":") line_digits (codes " ")
+    ∙ append_assoc (decimal c.args.file) (codes ":") (line_digits ++ codes " ") in
     c.in_ok-extend_from_slice.ensures.items ∙ ap (λ (pushed : List ℕ). old ++ pushed) (whole ∙ all ∙ sym colon_first)

@@ -10,7 +10,8 @@ loop-topic-preserved c =
     let line = total_line c.args.topics.now (map without_way c.args.answered.now) in
     let topic = c.loop-topic.topic in
     let small : topic < 17 = omega (arith, c.loop-topic-test.true, c.len-numbers.ensures.value, c.len-numbers.ensures.fits) in
-    c.in_ok-push_total.ensures (map without_way c.args.answered.now) (c.totals_of-totals.ensures.counts topic small) (c.totals_of-totals.ensures.bytes topic small)
+    c.in_ok-push_total.ensures (map without_way c.args.answered.now) (c.totals_of-totals.ensures.counts topic small)
+    (c.totals_of-totals.ensures.bytes topic small)
     ∙ ap (λ (text : List ℕ). text ++ line topic) c.loop-topic.invariant
     ∙ append_assoc c.args.text.now.items (flat_map line (range_with_len 0 topic)) (line topic)
     ∙ ap (λ (totals : List ℕ). c.args.text.now.items ++ totals) (sym (lines-more line topic))

@@ -7,7 +7,8 @@ use Rattle.scq_frames.specs.declared.encoded.View.{View}
 use Rattle.scq_frames.proofs.EncodedLemmas.{AreBytes, message_at-found, message_at-again}
 use Rattle.scq_frames.proofs.encoded.decode.Goals as goal
 
-found_if : (bytes : List ℕ) (r : Option View) → AreBytes bytes → option_map message_of_view r ≡ message_at bytes → IfSome r (λ view. BeginsWith bytes (message_of_view view))
+found_if : (bytes : List ℕ) (r : Option View) → AreBytes bytes → option_map message_of_view r ≡ message_at bytes
+    → IfSome r (λ view. BeginsWith bytes (message_of_view view))
 found_if bytes None small e = tt
 found_if bytes (Some view) small e = message_at-found bytes (message_of_view view) small (sym e)
 

@@ -1,14 +1,15 @@
 -- The marks of the run are sorted, and so are its order.
 use Rattle.std.proofs.Common.{Err, ap}
+use Rattle.scq_hist.proofs.HandedOn.{same_fault}
 use Rattle.scq_law.specs.RunSteps.{run_of}
 use Rattle.scq_law.proofs.Order.OrderLaw as law
-use Rattle.scq_law.proofs.Order.WholeRuns.{passed_on, finished, whole}
+use Rattle.scq_law.proofs.Order.WholeRuns.{finished, whole}
 use Rattle.scq_law.proofs.ordering.one_order.Goals as goal
 
 pub returns-in_err-marking-clause-not_enabled : goal.returns-in_err-marking-clause-not_enabled
 returns-in_err-marking-clause-not_enabled c at e =
     c.in_err-marking.ensures.not_enabled at
-    (ap Err (passed_on c.from_residual.result c.in_err-marking.field-0.0 _ c.from_residual.ensures.1 e))
+    (ap Err (same_fault c.from_residual.result c.in_err-marking.field-0.0 _ c.from_residual.ensures.1 e))
 
 pub returns-clause-order : goal.returns-clause-order
 returns-clause-order c =

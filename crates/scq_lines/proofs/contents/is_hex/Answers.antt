@@ -7,5 +7,6 @@ use Rattle.scq_lines.proofs.contents.is_hex.Goals as goal
 
 pub returns-then-field-most : goal.returns-then-field-most
 returns-then-field-most c =
-    let each = all_from_yields_List is_lower_digit _ _ c.all.result c.all.ensures.ran (YieldsList-from_slice c.args.field.now cc) (λ x b q k. search (rules, tests)) in
+    let each = all_from_yields_List is_lower_digit _ _ c.all.result c.all.ensures.ran (YieldsList-from_slice c.args.field.now cc)
+    (λ x b q k. search (rules, tests)) in
     grind (arith, nat_tests)

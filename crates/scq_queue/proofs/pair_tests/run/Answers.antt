@@ -15,8 +15,8 @@ close-requires-clause-held g c κs within =
     (ap (λ (ps : List (PassStanding g.row.B.Denot)). ps ++ c.in-Some.second ∷ []) (sym c.in-Some-pop.ensures.items) ∙ sym c.in-Some.ensures.items
     ∙ c.requires.passes) in
     let none : length c.sent-place.new.values.items ≡ 0 = search rules in
-    let sender : first.held ≡ [] = ap held c.closed-3.ensures.looked.1 ∙ ap held c.closed-2.ensures.looked.1 ∙ ap held c.retire.ensures ∙ ap held c.learn.ensures
-    ∙ ap held c.note-dropped.ensures.same ∙ ap held c.note-own.ensures.same ∙ ap held c.note-told.ensures.same
+    let sender : first.held ≡ [] = ap held c.closed-3.ensures.looked.1 ∙ ap held c.closed-2.ensures.looked.1 ∙ ap held c.retire.ensures
+    ∙ ap held c.learn.ensures ∙ ap held c.note-dropped.ensures.same ∙ ap held c.note-own.ensures.same ∙ ap held c.note-told.ensures.same
     ∙ none_held queue c.sent-place.new.pass c.sent-place.new.values.items c.sent-place.ensures.stack none in
     let taker : second.held ≡ c.took-place.new.pass.held = ap held c.closed-4.ensures.looked.1 ∙ ap held c.retire-2.ensures in
     let all : c.push_reserved-2.new.self.items ≡ first ∷ second ∷ [] = c.push_reserved-2.ensures.items

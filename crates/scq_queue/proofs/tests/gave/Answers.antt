@@ -1,6 +1,6 @@
 use Rattle.std.proofs.Common.{List, ◌∷◌, [], ◌++◌, sym, ◌∙◌, ap, subst}
 use Rattle.scq_queue.specs.Passes.{HeldStanding}
-use Rattle.scq_queue.specs.Trials.{HoldsJust}
+use Rattle.scq_queue.specs.HoldsJust.{HoldsJust}
 use Rattle.scq_queue.proofs.HeldOnce.{last_held, holds_less, holds_same, put_refused}
 use Rattle.scq_queue.proofs.tests.gave.Goals as goal
 

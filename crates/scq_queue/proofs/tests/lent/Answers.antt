@@ -2,7 +2,7 @@ use Rattle.std.proofs.Common.{List, sym, ap, subst}
 use Rattle.std.specs.Prelude.{Err}
 use Rattle.scq_queue.specs.declared.calls.LendRefusal.{LendRefusal}
 use Rattle.scq_queue.specs.Passes.{HeldStanding}
-use Rattle.scq_queue.specs.Trials.{HoldsJust}
+use Rattle.scq_queue.specs.HoldsJust.{HoldsJust}
 use Rattle.scq_queue.proofs.HeldOnce.{holds_more, holds_same, lend_refused}
 use Rattle.scq_queue.proofs.tests.lent.Goals as goal
 

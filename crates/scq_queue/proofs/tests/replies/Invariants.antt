@@ -1,6 +1,6 @@
 use Rattle.std.proofs.Common.{◌≡◌}
 use Rattle.std.specs.Prelude.{vec_capacity}
-use Rattle.scq_queue.specs.Trials.{HoldsJust}
+use Rattle.scq_queue.specs.HoldsJust.{HoldsJust}
 use Rattle.scq_queue.proofs.tests.replies.Given as goal
 
 abbrev pub invariant-loop-line : goal.invariant-loop-line

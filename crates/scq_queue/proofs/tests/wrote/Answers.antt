@@ -1,6 +1,6 @@
 use Rattle.std.proofs.Common.{List, refl, sym, subst}
 use Rattle.scq_queue.specs.Passes.{HeldStanding}
-use Rattle.scq_queue.specs.Trials.{HoldsJust}
+use Rattle.scq_queue.specs.HoldsJust.{HoldsJust}
 use Rattle.scq_queue.proofs.HeldOnce.{holds_written}
 use Rattle.scq_queue.proofs.tests.wrote.Goals as goal
 

@@ -1,14 +1,9 @@
 -- The history of a run has each aspect, so no event is the first that breaks it.
-use Rattle.std.proofs.Common.{◌≡◌, ℕ, List, Result, Ok, Err, sym, ◌∙◌, ap, subst}
-use Rattle.std.specs.Result.{IsErrAnd}
+use Rattle.std.proofs.Common.{◌≡◌, ◌∙◌, ℕ, List, Err, sym, ap, subst}
 use Rattle.scq_hist.specs.declared.events.Event.{Event}
 use Rattle.scq_hist.specs.Aspects.{IsFresh, IsOnce, IsInOrder, IsEmptyRight}
+use Rattle.scq_hist.proofs.HandedOn.{same_fault}
 use Rattle.scq_replay.proofs.judging.judge_run.Goals as goal
-
--- what `?` passes on is the fault
-passed_on : {T E : Type 0} (r : Result T E) (e given : E) → IsErrAnd r (λ passed. passed ≡ e) → r ≡ Err given → e ≡ given
-passed_on (Ok x) e given h is = absurd h
-passed_on (Err passed) e given h is = sym h ∙ (let same : passed ≡ given = cc in same)
 
 -- a fact of a history is one of equal tokens and events
 same_history : (P : List (List ℕ) → List Event → Type 0) (tokens opening : List (List ℕ)) (events recorded : List Event) → tokens ≡ opening → events ≡ recorded
@@ -18,7 +13,7 @@ same_history P tokens opening events recorded t e p = subst (λ ts. P ts events)
 pub returns-in_err-replayed-clause-not_enabled : goal.returns-in_err-replayed-clause-not_enabled
 returns-in_err-replayed-clause-not_enabled c at e =
     c.in_err-replayed.ensures.not_enabled at
-    (ap Err (passed_on c.from_residual-in_err-replayed.result c.in_err-replayed.field-0.0 _ c.from_residual-in_err-replayed.ensures.1 e))
+    (ap Err (same_fault c.from_residual-in_err-replayed.result c.in_err-replayed.field-0.0 _ c.from_residual-in_err-replayed.ensures.1 e))
 
 pub returns-clause-fresh : goal.returns-clause-fresh
 returns-clause-fresh c =

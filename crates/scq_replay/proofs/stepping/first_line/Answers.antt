@@ -10,7 +10,8 @@ use Rattle.scq_replay.proofs.stepping.first_line.Goals as goal
 no_line : (lines : List (List ℕ)) → lines ≡ [] → Gives lines (Err (BadLine 1))
 no_line lines none = no_setup (λ c steps has. let e = has.stands in absurd cc)
 
-no_setup_line : (lines : List (List ℕ)) (line : List ℕ) (more : List (List ℕ)) → lines ≡ line ∷ more → ((c : Setup) → ¬ IsSetupLine line c) → Gives lines (Err (BadLine 1))
+no_setup_line : (lines : List (List ℕ)) (line : List ℕ) (more : List (List ℕ)) → lines ≡ line ∷ more → ((c : Setup) → ¬ IsSetupLine line c)
+    → Gives lines (Err (BadLine 1))
 no_setup_line lines line more cut none =
     no_setup (λ c steps has. let e = has.stands in let same : has.first ≡ line = cc in none c (subst (λ l. IsSetupLine l c) same has.says))
 

@@ -1,4 +1,4 @@
-use Rattle.std.proofs.Common.{◌≡◌, ◌∙◌, refl, sym, ap, arith, map, length, get_or, ◌+◌, ◌<◌, [], ◌∷◌, ◌++◌, ℕ, length-append, Option}
+use Rattle.std.proofs.Common.{◌≡◌, ◌∙◌, sym, ap, arith, map, length, get_or, ◌+◌, ◌<◌, [], ◌∷◌, ℕ, length-append, Option}
 use Rattle.std.specs.Prelude.{string_bytes}
 use Rattle.std.proofs.lemmas.List.{get_or-map, length-map}
 use Rattle.scq_outside.specs.Table.{Table}

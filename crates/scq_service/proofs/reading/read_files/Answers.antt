@@ -1,7 +1,9 @@
-use Rattle.std.proofs.Common.{◌≡◌, ◌∙◌, ap, subst, map, length, ◌+◌, ◌<◌, ℕ, Bool, Option, Some, Result}
-use Rattle.std.specs.Prelude.{string_bytes, slice_index_or, OnOk, IfErr}
+use Rattle.std.proofs.Common.{◌≡◌, ◌∙◌, ap, subst, map, length, ◌+◌, ◌<◌, ℕ, Bool, List, Option, Some, Result}
+use Rattle.std.specs.Prelude.{string_bytes, slice_index_or, OnOk, IfOk, IfErr}
 use Rattle.scq_outside.specs.Table.{Table}
-use Rattle.scq_work.specs.Ends.{HasCause}
+use Rattle.scq_frames.specs.declared.message.Message.{Message}
+use Rattle.scq_work.specs.AllWorkers.{HasWorked}
+use Rattle.scq_work.specs.Ends.{AreGiven, HasCause}
 use Rattle.scq_work.specs.Reading.{IsWhole}
 use Rattle.scq_work.specs.declared.worked.Worked.{Worked}
 use Rattle.scq_work.specs.declared.worked.WorkFault.{WorkFault}
@@ -40,12 +42,33 @@ returns-then-all-clause-ends g c =
     let news = c.work-sources.result.sources.items in
     let faults = g.F.Src.Source.faults in
     let left = g.F.Src.Source.left in
-    let W : Result Worked WorkFault → Type 0 = λ r. OnOk r ((k : ℕ) (d : _) → k < length olds → IsWhole size faults left (slice_index_or olds k d) (slice_index_or news k d)) in
+    let W : Result Worked WorkFault → Type 0 =
+    λ r. OnOk r ((k : ℕ) (d : _) → k < length olds → IsWhole size faults left (slice_index_or olds k d) (slice_index_or news k d)) in
     let whole = subst W c.in-Ok-result.is did.whole in
     let A : Bool → Type 0 = λ all. HaveAllCome names (record { table = table; opens = opens; sources = olds; read = 0 }) all in
     let all = subst A c.if-all.true came.all in
     rw (end.read, ap (λ v. v.items) end.sources, end.fault)
     (ends-all size faults left names table opens olds news did.count came.come whole all.0)
+
+pub returns-then-all-clause-work : goal.returns-then-all-clause-work
+returns-then-all-clause-work g c =
+    let end = c.answered.ensures in
+    let came = c.get_sources-all.ensures in
+    let did = c.work-sources.ensures in
+    let job = c.args.job.now in
+    let olds = c.get_sources-all.new.sources.items in
+    let news = c.work-sources.result.sources.items in
+    let faults = g.F.Src.Source.faults in
+    let left = g.F.Src.Source.left in
+    let W : Result Worked WorkFault → Type 0 =
+    λ r. OnOk r ((k : ℕ) (d : _) → k < length olds → IsWhole job.size faults left (slice_index_or olds k d) (slice_index_or news k d)) in
+    let whole = subst W c.in-Ok-result.is did.whole in
+    let G : Result Worked WorkFault → Type 0 =
+    λ r. IfOk r (λ w. (given : List (List Message)) × AreGiven job.topics job.size left 1 olds given
+    × HasWorked job.topics job.order job.size job.workers given w) in
+    let gave = subst G c.in-Ok-result.is did.worked in
+    rw (end.worked, ap (λ v. v.items) end.sources)
+    (gave.0, record { sources = olds; come = came.come; count = did.count; whole = whole; gave = gave.1 }, gave.2)
 
 pub returns-else-all-clause-got : goal.returns-else-all-clause-got
 returns-else-all-clause-got g c =
@@ -76,7 +99,8 @@ returns-else-all-clause-ends g c =
     let news = c.work-sources.result.sources.items in
     let faults = g.F.Src.Source.faults in
     let left = g.F.Src.Source.left in
-    let W : Result Worked WorkFault → Type 0 = λ r. OnOk r ((k : ℕ) (d : _) → k < length olds → IsWhole size faults left (slice_index_or olds k d) (slice_index_or news k d)) in
+    let W : Result Worked WorkFault → Type 0 =
+    λ r. OnOk r ((k : ℕ) (d : _) → k < length olds → IsWhole size faults left (slice_index_or olds k d) (slice_index_or news k d)) in
     let whole = subst W c.in-Ok-result.is did.whole in
     let A : Bool → Type 0 = λ all. HaveAllCome names (record { table = table; opens = opens; sources = olds; read = 0 }) all in
     let next = subst A c.if-all.false came.all in

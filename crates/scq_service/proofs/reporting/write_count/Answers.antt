@@ -11,4 +11,5 @@ returns-in_err-write_all-clause-part g c =
 pub returns-clause-part : goal.returns-clause-part
 returns-clause-part g c =
     let P : List ℕ → Type 0 = λ bytes. g.K.Sink.written c.write_all.new.sink ≡ written_with (g.K.Sink.written c.args.sink.now) bytes in
-    part-second _ _ _ (decimal c.args.count) c.args.what.now (subst P (c.as_bytes.ensures.value ∙ c.format.ensures.text) c.in_ok-write_all.ensures.whole) c.write_all-2.ensures.part
+    part-second _ _ _ (decimal c.args.count) c.args.what.now (subst P (c.as_bytes.ensures.value ∙ c.format.ensures.text) c.in_ok-write_all.ensures.whole)
+    c.write_all-2.ensures.part

@@ -11,9 +11,12 @@ returns-in_err-write_count-clause-part g c =
 pub returns-clause-part : goal.returns-clause-part
 returns-clause-part g c =
     let P : ℕ → Type 0 = λ n. WrotePart (g.K.Sink.written c.write_count.new.sink) (g.K.Sink.written c.write_count-2.new.sink) (decimal n ++ codes "\n") in
-    part-second _ _ _ (decimal c.args.len ++ codes " bytes, limit ") (decimal c.args.limit ++ codes "\n") c.in_ok-write_count.ensures.whole (subst P c.from.ensures c.write_count-2.ensures.part)
+    part-second _ _ _ (decimal c.args.len ++ codes " bytes, limit ") (decimal c.args.limit ++ codes "\n") c.in_ok-write_count.ensures.whole
+    (subst P c.from.ensures c.write_count-2.ensures.part)
 
 pub returns-clause-whole : goal.returns-clause-whole
 returns-clause-whole g c =
-    let P : ℕ → Type 0 = λ n. OnOk c.write_count-2.result (g.K.Sink.written c.write_count-2.new.sink ≡ written_with (g.K.Sink.written c.write_count.new.sink) (decimal n ++ codes "\n")) in
-    whole-then _ _ _ c.write_count-2.result (decimal c.args.len ++ codes " bytes, limit ") (decimal c.args.limit ++ codes "\n") c.in_ok-write_count.ensures.whole (subst P c.from.ensures c.write_count-2.ensures.whole)
+    let P : ℕ → Type 0 = λ n. OnOk c.write_count-2.result
+    (g.K.Sink.written c.write_count-2.new.sink ≡ written_with (g.K.Sink.written c.write_count.new.sink) (decimal n ++ codes "\n")) in
+    whole-then _ _ _ c.write_count-2.result (decimal c.args.len ++ codes " bytes, limit ") (decimal c.args.limit ++ codes "\n")
+    c.in_ok-write_count.ensures.whole (subst P c.from.ensures c.write_count-2.ensures.whole)

@@ -12,9 +12,11 @@ returns-in_err-write_count-clause-part g c =
 pub returns-clause-part : goal.returns-clause-part
 returns-clause-part g c =
     let Q : ℕ → Type 0 = λ n. g.K.Sink.written c.write_count.new.sink ≡ written_with (g.K.Sink.written c.args.sink.now) (decimal n ++ codes ": payload of ") in
-    part-second _ _ _ (decimal c.args.line ++ codes ": payload of ") (limit_line c.args.len c.args.limit) (subst Q c.from.ensures c.in_ok-write_count.ensures.whole) c.write_limit.ensures.part
+    part-second _ _ _ (decimal c.args.line ++ codes ": payload of ") (limit_line c.args.len c.args.limit)
+    (subst Q c.from.ensures c.in_ok-write_count.ensures.whole) c.write_limit.ensures.part
 
 pub returns-clause-whole : goal.returns-clause-whole
 returns-clause-whole g c =
     let Q : ℕ → Type 0 = λ n. g.K.Sink.written c.write_count.new.sink ≡ written_with (g.K.Sink.written c.args.sink.now) (decimal n ++ codes ": payload of ") in
-    whole-then _ _ _ c.write_limit.result (decimal c.args.line ++ codes ": payload of ") (limit_line c.args.len c.args.limit) (subst Q c.from.ensures c.in_ok-write_count.ensures.whole) c.write_limit.ensures.whole
+    whole-then _ _ _ c.write_limit.result (decimal c.args.line ++ codes ": payload of ") (limit_line c.args.len c.args.limit)
+    (subst Q c.from.ensures c.in_ok-write_count.ensures.whole) c.write_limit.ensures.whole

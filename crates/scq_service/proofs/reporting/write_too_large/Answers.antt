@@ -9,8 +9,10 @@ returns-in_err-write_about-clause-part g c =
 
 pub returns-clause-part : goal.returns-clause-part
 returns-clause-part g c =
-    part-second _ _ _ (file_line c.args.file (codes ": more than ")) (decimal c.args.limit ++ codes " bytes\n") c.in_ok-write_about.ensures.whole c.write_count.ensures.part
+    part-second _ _ _ (file_line c.args.file (codes ": more than ")) (decimal c.args.limit ++ codes " bytes\n") c.in_ok-write_about.ensures.whole
+    c.write_count.ensures.part
 
 pub returns-clause-whole : goal.returns-clause-whole
 returns-clause-whole g c =
-    whole-then _ _ _ c.write_count.result (file_line c.args.file (codes ": more than ")) (decimal c.args.limit ++ codes " bytes\n") c.in_ok-write_about.ensures.whole c.write_count.ensures.whole
+    whole-then _ _ _ c.write_count.result (file_line c.args.file (codes ": more than ")) (decimal c.args.limit ++ codes " bytes\n")
+    c.in_ok-write_about.ensures.whole c.write_count.ensures.whole

@@ -2,7 +2,7 @@ use Rattle.std.proofs.Common.{◌≡◌, ◌∙◌, ◌⊎◌, inl, inr, sym, ap
 use Rattle.std.specs.Prelude.{OnOk, OnErr}
 use Rattle.scq_work.specs.declared.worked.Worked.{Worked}
 use Rattle.scq_service.specs.declared.fault.Fault.{Fault}
-use Rattle.scq_outside.specs.Faults.{Rose}
+use Rattle.scq_outside.specs.Counts.{Rose}
 use Rattle.scq_service.specs.Reports.{report_lines, reported}
 use Rattle.scq_service.specs.Writing.{written_with, WrotePart}
 use Rattle.scq_service.proofs.worker_report.report_run.Goals as goal
@@ -21,7 +21,8 @@ pub returns-then-asks-clause-reported : goal.returns-then-asks-clause-reported
 returns-then-asks-clause-reported g c =
     let is = lines c.args.asks c.args.fault.now c.args.worked.now c.in-Some-worked.worked c.in_default.is c.in-Some-worked.is c.if-asks.true in
     let text = ap report_lines c.as_slice.ensures.value ∙ sym is in
-    subst (λ (t : List ℕ). Rose (g.K.Sink.faults c.args.sink.now) (g.K.Sink.faults c.report_workers.new.sink) ⊎ (g.K.Sink.written c.report_workers.new.sink ≡ written_with (g.K.Sink.written c.args.sink.now) t)) text
+    subst (λ (t : List ℕ). Rose (g.K.Sink.faults c.args.sink.now) (g.K.Sink.faults c.report_workers.new.sink)
+    ⊎ (g.K.Sink.written c.report_workers.new.sink ≡ written_with (g.K.Sink.written c.args.sink.now) t)) text
     (either c.report_workers.result _ _ c.report_workers.ensures.whole c.report_workers.ensures.rose)
 
 pub returns-then-asks-clause-front : goal.returns-then-asks-clause-front

@@ -8,11 +8,13 @@ use Rattle.scq_service.proofs.worker_report.report_workers.Goals as goal
 
 pub returns-in_err-write_worker-clause-part : goal.returns-in_err-write_worker-clause-part
 returns-in_err-write_worker-clause-part g c =
-    part-worker _ _ _ c.args.counts.now c.workers.at (c.workers.at + 1) _ c.workers-test.true (omega arith) c.workers.invariant.lines c.write_worker.ensures.part
+    part-worker _ _ _ c.args.counts.now c.workers.at (c.workers.at + 1) _ c.workers-test.true (omega arith) c.workers.invariant.lines
+    c.write_worker.ensures.part
 
 pub workers-preserved : goal.workers-preserved
 workers-preserved g c = record {
-  lines = whole-worker _ _ _ c.args.counts.now c.workers.at (c.workers.at + 1) _ c.workers-test.true (omega arith) c.workers.invariant.lines c.in_ok-write_worker.ensures.whole;
+  lines = whole-worker _ _ _ c.args.counts.now c.workers.at (c.workers.at + 1) _ c.workers-test.true (omega arith) c.workers.invariant.lines
+      c.in_ok-write_worker.ensures.whole;
   kept = c.in_ok-write_worker.ensures.kept ∙ c.workers.invariant.kept;
 }
 

@@ -8,7 +8,8 @@ pub returns-in_err-write_named-clause-part : goal.returns-in_err-write_named-cla
 returns-in_err-write_named-clause-part g c =
     let counts = c.args.counts.now in
     let P : ℕ → Type 0 = λ n. WrotePart (g.K.Sink.written c.args.sink.now) (g.K.Sink.written c.write_named.new.sink) (codes "worker " ++ decimal n) in
-    part-first _ _ (codes "worker " ++ decimal c.args.number) (counts_line counts.sent counts.taken counts.full) (subst P c.wide.ensures.same c.write_named.ensures.part)
+    part-first _ _ (codes "worker " ++ decimal c.args.number) (counts_line counts.sent counts.taken counts.full)
+    (subst P c.wide.ensures.same c.write_named.ensures.part)
 
 pub returns-clause-part : goal.returns-clause-part
 returns-clause-part g c =

@@ -7,5 +7,6 @@ use Rattle.scq_topics.proofs.entry.is_name.Goals as goal
 
 pub returns-then-name-le-MOST_NAME : goal.returns-then-name-le-MOST_NAME
 returns-then-name-le-MOST_NAME c =
-    let each = all_from_yields_List is_name_byte _ _ c.all.result c.all.ensures.ran (YieldsList-from_slice c.args.name.now cc) (λ x b q k. search (rules, tests)) in
+    let each = all_from_yields_List is_name_byte _ _ c.all.result c.all.ensures.ran (YieldsList-from_slice c.args.name.now cc)
+    (λ x b q k. search (rules, tests)) in
     grind (arith, nat_tests)

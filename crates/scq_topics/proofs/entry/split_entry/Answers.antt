@@ -13,26 +13,30 @@ is_equals byte = eqb byte 61
 pub returns-in-Some-clause-name : goal.returns-in-Some-clause-name
 returns-in-Some-clause-name c =
     let entry = c.args.entry.now in
-    let found = position_from_yields_List is_equals _ _ c.position.result c.position.ensures.ran (YieldsList-from_slice entry cc) (λ x b q k. search (rules, tests)) in
+    let found = position_from_yields_List is_equals _ _ c.position.result c.position.ensures.ran (YieldsList-from_slice entry cc)
+    (λ x b q k. search (rules, tests)) in
     ap (λ end. take end entry) (at_position (position_or_len is_equals entry) (length entry) c.position.result c.in-Some.end found c.in-Some.is)
 
 pub returns-in-Some-clause-word : goal.returns-in-Some-clause-word
 returns-in-Some-clause-word c =
     let entry = c.args.entry.now in
-    let found = position_from_yields_List is_equals _ _ c.position.result c.position.ensures.ran (YieldsList-from_slice entry cc) (λ x b q k. search (rules, tests)) in
+    let found = position_from_yields_List is_equals _ _ c.position.result c.position.ensures.ran (YieldsList-from_slice entry cc)
+    (λ x b q k. search (rules, tests)) in
     let at = at_position (position_or_len is_equals entry) (length entry) c.position.result c.in-Some.end found c.in-Some.is in
     take_all _ (drop (c.in-Some.end + 1) entry) (omega (arith, length-drop (c.in-Some.end + 1) entry)) ∙ ap (λ end. drop (end + 1) entry) at
 
 pub returns-in-None-clause-name : goal.returns-in-None-clause-name
 returns-in-None-clause-name c =
     let entry = c.args.entry.now in
-    let found = position_from_yields_List is_equals _ _ c.position.result c.position.ensures.ran (YieldsList-from_slice entry cc) (λ x b q k. search (rules, tests)) in
+    let found = position_from_yields_List is_equals _ _ c.position.result c.position.ensures.ran (YieldsList-from_slice entry cc)
+    (λ x b q k. search (rules, tests)) in
     let past = nowhere (position_or_len is_equals entry) (length entry) c.position.result found c.in-None.is in
     sym (take_all (position_or_len is_equals entry) entry past)
 
 pub returns-in-None-clause-has_word : goal.returns-in-None-clause-has_word
 returns-in-None-clause-has_word c =
     let entry = c.args.entry.now in
-    let found = position_from_yields_List is_equals _ _ c.position.result c.position.ensures.ran (YieldsList-from_slice entry cc) (λ x b q k. search (rules, tests)) in
+    let found = position_from_yields_List is_equals _ _ c.position.result c.position.ensures.ran (YieldsList-from_slice entry cc)
+    (λ x b q k. search (rules, tests)) in
     let past = nowhere (position_or_len is_equals entry) (length entry) c.position.result found c.in-None.is in
     rw (list_any-position is_equals entry) (grind (arith, nat_tests, past))

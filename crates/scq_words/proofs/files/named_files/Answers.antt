@@ -8,10 +8,12 @@ use Rattle.scq_words.proofs.files.named_files.Goals as goal
 
 pub returns-in-Some-clause-refused : goal.returns-in-Some-clause-refused
 returns-in-Some-clause-refused c =
-    let found = position_from_yields_List (λ name. eqb (length name.now) 0) _ _ c.position.result c.position.ensures.ran (YieldsList-from_slice c.args.files.now cc) (λ x b q k. search (rules, tests)) in
+    let found = position_from_yields_List (λ name. eqb (length name.now) 0) _ _ c.position.result c.position.ensures.ran
+    (YieldsList-from_slice c.args.files.now cc) (λ x b q k. search (rules, tests)) in
     ap (option_map (λ at. NoName (at + 1))) (sym c.in-Some.is ∙ found ∙ position-names c.args.files.now)
 
 pub returns-in-None-clause-refused : goal.returns-in-None-clause-refused
 returns-in-None-clause-refused c =
-    let found = position_from_yields_List (λ name. eqb (length name.now) 0) _ _ c.position.result c.position.ensures.ran (YieldsList-from_slice c.args.files.now cc) (λ x b q k. search (rules, tests)) in
+    let found = position_from_yields_List (λ name. eqb (length name.now) 0) _ _ c.position.result c.position.ensures.ran
+    (YieldsList-from_slice c.args.files.now cc) (λ x b q k. search (rules, tests)) in
     ap (option_map (λ at. NoName (at + 1))) (sym c.in-None.is ∙ found ∙ position-names c.args.files.now)

@@ -19,7 +19,8 @@ returns-then-bytes-gt-MOST_DIGITS c =
           let long : leb (length text) 10 ≡ false = grind (arith, nat_tests, ap length same, w.if-bytes-gt-MOST_DIGITS.true) in
           sym (number-none text false (all_ascii_digits text) long refl refl)
       | then-bytes-gt-MOST_DIGITS-via-else-bytes-gt-MOST_DIGITS+then-not-all w ↦
-          let each = all_from_yields_List is_ascii_digit _ _ w.all.result w.all.ensures.ran (YieldsList-from_slice bytes cc) (λ x b q k. search (rules, tests)) in
+          let each = all_from_yields_List is_ascii_digit _ _ w.all.result w.all.ensures.ran (YieldsList-from_slice bytes cc)
+          (λ x b q k. search (rules, tests)) in
           let other : all_ascii_digits text ≡ false = sym (all-digits text) ∙ ap (list_all is_ascii_digit) (sym same) ∙ sym each ∙ w.if-not-all.true in
           sym (number-none text (leb (length text) 10) false refl other (and-false (leb (length text) 10)))
     ]

@@ -23,7 +23,8 @@ plain Order = refl
 pub returns-in-Err-clause-refused : goal.returns-in-Err-clause-refused
 returns-in-Err-clause-refused c = λ other.
     let said = c.error_of.ensures other in
-    let why = refused _ (text_app c.args.command) (map string_bytes c.args.words.now) c.in-Err.error c.in_ok-command.ensures (simple c.args.command) c.in-Err.ensures.kinds c.in-Err.ensures.passes said.1 in
+    let why = refused _ (text_app c.args.command) (map string_bytes c.args.words.now) c.in-Err.error c.in_ok-command.ensures (simple c.args.command)
+    c.in-Err.ensures.kinds c.in-Err.ensures.passes said.1 in
     (said.0, why.0, why.1)
 
 pub returns-in-Ok-clause-rows : goal.returns-in-Ok-clause-rows

@@ -16,5 +16,6 @@ returns-clause-ranges c =
       size = in-range c.in_ok-size.size 65536 1 65536 c.in_ok-size.ensures.within (omega arith) (omega arith);
       topics = c.in_ok-topics.ensures.few;
       files = omega (arith, length-map own string_bytes, c.in_ok-files.ensures.len, c.in_ok-few_files.ensures.few);
-      names = subst Named (sym c.in_ok-files.ensures.names) (All-map (λ name. 0 < length name) (λ name. name.now) c.args.files.now c.in_ok-named_files.ensures.named);
+      names = subst Named (sym c.in_ok-files.ensures.names)
+          (All-map (λ name. 0 < length name) (λ name. name.now) c.args.files.now c.in_ok-named_files.ensures.named);
     }

@@ -3,9 +3,7 @@ use Rattle.std.specs.Prelude.{string_bytes}
 use Rattle.clap.specs.Words.{found_of, matches_of}
 use Rattle.scq_words.specs.Commands.{self_app}
 use Rattle.scq_words.specs.Asked.{generated, self_of}
-use Rattle.scq_words.specs.declared.fault.WordsError.TheVariants.{Refused}
-use Rattle.scq_words.specs.declared.fault.WordsFault.TheVariants.{NotUnderstood}
-use Rattle.scq_words.proofs.Answering.{self-texts, self-answer, answer-ok, answer-err, asked-refused-self, handed-on, refused-same, refused-some}
+use Rattle.scq_words.proofs.Answering.{self-texts, self-answer, answer-ok, answer-err, asked-refused-self, refused-on}
 use Rattle.scq_words.proofs.self_words.read_self.Goals as goal
 
 pub returns-in-Ok-clause-request : goal.returns-in-Ok-clause-request
@@ -28,7 +26,5 @@ returns-clause-refused c = λ fault is.
 pub returns-in_err-matches-clause-refused : goal.returns-in_err-matches-clause-refused
 returns-in_err-matches-clause-refused c = λ fault is.
     let words = map string_bytes c.args.words.now in
-    let same = handed-on c.from_residual.result c.in_err-matches.field-0.0 (Refused fault) c.from_residual.ensures.1 is in
-    let said = c.in_err-matches.ensures.refused (refused-some _ fault same) in
-    let one : NotUnderstood ≡ fault = refused-same (sym said.0 ∙ same) in
-    asked-refused-self words fault (said.1 ∙ ap Some one)
+    asked-refused-self words fault
+    (refused-on self_app words c.from_residual.result c.in_err-matches.field-0.0 fault c.in_err-matches.ensures.refused c.from_residual.ensures.1 is)

@@ -3,18 +3,16 @@ use Rattle.std.specs.Prelude.{string_bytes}
 use Rattle.clap.specs.Words.{found_of, matches_of}
 use Rattle.scq_words.specs.Commands.{text_app}
 use Rattle.scq_words.specs.Asked.{whole, text_command, text_file, with_flag}
-use Rattle.scq_words.specs.declared.fault.WordsError.TheVariants.{Refused}
-use Rattle.scq_words.specs.declared.fault.WordsFault.TheVariants.{NotUnderstood, NoName}
-use Rattle.scq_words.proofs.Answering.{file-text, flag-text, text-answer, text_or_empty, name-missing, name-there, answer-ok, answer-err, asked-refused-text, handed-on, refused-same, refused-some}
+use Rattle.scq_words.specs.declared.fault.WordsFault.TheVariants.{NoName}
+use Rattle.scq_words.proofs.Answering.{file-text, flag-text, text-answer, text_or_empty, name-missing, name-there, answer-ok, answer-err, asked-refused-text, refused-on}
 use Rattle.scq_words.proofs.text_request.read_text.Goals as goal
 
 pub returns-in_err-matches-clause-refused : goal.returns-in_err-matches-clause-refused
 returns-in_err-matches-clause-refused c = λ fault is.
     let words = map string_bytes c.args.words.now in
-    let same = handed-on c.from_residual.result c.in_err-matches.field-0.0 (Refused fault) c.from_residual.ensures.1 is in
-    let said = c.in_err-matches.ensures.refused (refused-some _ fault same) in
-    let one : NotUnderstood ≡ fault = refused-same (sym said.0 ∙ same) in
-    asked-refused-text c.args.command words fault (said.1 ∙ ap Some one)
+    asked-refused-text c.args.command words fault
+    (refused-on (text_app c.args.command) words c.from_residual.result c.in_err-matches.field-0.0 fault c.in_err-matches.ensures.refused
+    c.from_residual.ensures.1 is)
 
 pub returns-then-is_empty-clause-refused : goal.returns-then-is_empty-clause-refused
 returns-then-is_empty-clause-refused c = λ fault is.

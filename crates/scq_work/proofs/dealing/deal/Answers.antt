@@ -39,10 +39,14 @@ sources-preserved g c =
     let mine : j ≡ at % workers = ap (λ m. at % m) (sym inv.long) in
     let dealt_here : ids_of new.files.items ≡ reverse (files_of workers j (at + 1) (x ∷ drop (at + 1) src)) =
     ap ids_of c.lay.ensures.files
-    ∙ laid workers j at (get_or desks j desk).files.items c.new-file.result x (drop (at + 1) src) (sym mine) (c.new-file.ensures.number ∙ ap (λ m. m + 1) refl) c.new-file.ensures.was (dealt_old j desk within) in
-    let dealt : (w : ℕ) (d : Desk B S) → w < length changed → ids_of (slice_index_or changed w d).files.items ≡ reverse (files_of workers w (at + 1) (x ∷ drop (at + 1) src)) =
-    λ w d less. set-each (λ v (e : Desk B S). ids_of e.files.items ≡ reverse (files_of workers v (at + 1) (x ∷ drop (at + 1) src))) desks j new d within dealt_here
-    (λ v below apart. dealt_old v d below ∙ ap reverse (sym (other-first workers v at x (drop (at + 1) src) (λ e. apart (sym e ∙ sym mine))))) w (omega (arith, less, long)) in
+    ∙ laid workers j at (get_or desks j desk).files.items c.new-file.result x (drop (at + 1) src) (sym mine)
+    (c.new-file.ensures.number ∙ ap (λ m. m + 1) refl) c.new-file.ensures.was (dealt_old j desk within) in
+    let dealt : (w : ℕ) (d : Desk B S) → w < length changed
+    → ids_of (slice_index_or changed w d).files.items ≡ reverse (files_of workers w (at + 1) (x ∷ drop (at + 1) src)) =
+    λ w d less. set-each (λ v (e : Desk B S). ids_of e.files.items ≡ reverse (files_of workers v (at + 1) (x ∷ drop (at + 1) src))) desks j new d
+    within dealt_here
+    (λ v below apart. dealt_old v d below ∙ ap reverse (sym (other-first workers v at x (drop (at + 1) src) (λ e. apart (sym e ∙ sym mine))))) w
+    (omega (arith, less, long)) in
     record {
       long = long ∙ inv.long;
       few = omega (arith, is_at, next, inv.few);

@@ -63,11 +63,12 @@ passes-preserved g c =
       lists = omega (arith, inv.lists, c.in-Some.ensures.cases, c.in-Some-pop.ensures.cases);
       count = omega (arith, inv.count, c.in-Some.ensures.cases, c.push_reserved.ensures.len);
       room = omega (arith, inv.room, c.in-Some.ensures.cases, c.push_reserved.ensures.len, c.push_reserved.ensures.capacity);
-      fresh = subst (λ (ds : List (Desk B S)). All (IsFresh queue) ds) (sym c.push_reserved.ensures.items) (All-push (IsFresh queue) desks desk inv.fresh (record {
-        pass = c.make_desk.ensures.pass ∙ at ∙ ap (first_pass queue) number;
-        members = c.make_desk.ensures.members;
-        kept = c.make_desk.ensures.kept;
-      }));
+      fresh = subst (λ (ds : List (Desk B S)). All (IsFresh queue) ds) (sym c.push_reserved.ensures.items)
+          (All-push (IsFresh queue) desks desk inv.fresh (record {
+            pass = c.make_desk.ensures.pass ∙ at ∙ ap (first_pass queue) number;
+            members = c.make_desk.ensures.members;
+            kept = c.make_desk.ensures.kept;
+          }));
       free = all-front IsFree c.pop-in-Some.new.self.items c.in-Some-pop.own free;
       empty = subst (All Empty) (sym c.push_reserved.ensures.items) (All-push Empty desks desk inv.empty (subst IsFree (sym c.make_desk.ensures.files) own));
     }

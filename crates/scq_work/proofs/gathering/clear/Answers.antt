@@ -38,11 +38,14 @@ desks-preserved g c =
     let took = c.take_in.ensures in
     record {
       passes = ap (λ (l : List (PassStanding B)). l ++ map (λ (d : Desk B S). d.worker.pass) (reverse rest)) took.passes
-          ∙ popped (λ (d : Desk B S). d.worker.pass) c.desks.left.passes.items (map (λ (d : Desk B S). d.worker.pass) c.args.desks.items) old rest desk inv.passes is;
+          ∙ popped (λ (d : Desk B S). d.worker.pass) c.desks.left.passes.items (map (λ (d : Desk B S). d.worker.pass) c.args.desks.items) old rest desk
+          inv.passes is;
       held = ap (λ (l : List (HeldStanding B)). l ++ flat_map (λ (d : Desk B S). option_to_list d.kept) (reverse rest)) took.held
-          ∙ popped-flat (λ (d : Desk B S). option_to_list d.kept) c.desks.left.held.items (flat_map (λ (d : Desk B S). option_to_list d.kept) c.args.desks.items) old rest desk inv.held is;
+          ∙ popped-flat (λ (d : Desk B S). option_to_list d.kept) c.desks.left.held.items
+          (flat_map (λ (d : Desk B S). option_to_list d.kept) c.args.desks.items) old rest desk inv.held is;
       lists = ap (λ l. l ++ map (λ (d : Desk B S). d.worker.members) (reverse rest)) took.lists
-          ∙ popped (λ (d : Desk B S). d.worker.members) c.desks.left.lists.items (map (λ (d : Desk B S). d.worker.members) c.args.desks.items) old rest desk inv.lists is;
+          ∙ popped (λ (d : Desk B S). d.worker.members) c.desks.left.lists.items (map (λ (d : Desk B S). d.worker.members) c.args.desks.items) old rest desk
+          inv.lists is;
       pass_room = omega (arith, inv.pass_room, took.passes_len.0, took.passes_len.1, c.in-Some.ensures.cases);
       held_room = omega (arith, inv.held_room, took.held_len.0, took.held_len.1, c.in-Some.ensures.cases);
       list_room = omega (arith, inv.list_room, took.lists_len.0, took.lists_len.1, c.in-Some.ensures.cases);
@@ -57,4 +60,5 @@ returns-clause-starved g c fed =
     let S = g.row.S.Denot in
     let none : c.desks.desks.items ≡ [] = nil_from_length c.desks.desks.items (omega (arith, c.in_default.ensures.cases, c.desks.desks.ok.0)) in
     let inv = c.desks.invariant in
-    inv.fed fed (subst (λ (ds : List (Desk B S)). All (λ d. d.worker.starved ≡ false) (reverse ds)) (sym none) (All-nil (λ (d : Desk B S). d.worker.starved ≡ false)))
+    inv.fed fed (subst (λ (ds : List (Desk B S)). All (λ d. d.worker.starved ≡ false) (reverse ds)) (sym none)
+    (All-nil (λ (d : Desk B S). d.worker.starved ≡ false)))

@@ -38,37 +38,47 @@ files-preserved g c =
     let changed = set desks j new in
     let long = length-set desks j new in
     let mine : j ≡ at % workers = ap (λ m. at % m) (sym inv.long) in
-    let IsOf : S → List (Desk B S) → Type 0 = λ x ds. (w : ℕ) (d : Desk B S) → w < length ds → ids_of (slice_index_or ds w d).files.items ≡ reverse (files_of (length ds) w (at + 1) (x ∷ drop (at + 1) was)) in
+    let IsOf : S → List (Desk B S) → Type 0 = λ x ds. (w : ℕ) (d : Desk B S) → w < length ds
+    → ids_of (slice_index_or ds w d).files.items ≡ reverse (files_of (length ds) w (at + 1) (x ∷ drop (at + 1) was)) in
     let first : (x : S) → slice_index_or was at x ≡ slice_index_or was at x = λ x. refl in
     elim c.match-lift.branch [
       | in-Some w ↦
           let file = w.in-Some.file in
           let x = get_or was at file.was.value in
           let split = drop-at was at file.was.value inside in
-          let dealt : (v : ℕ) (d : Desk B S) → v < length desks → ids_of (slice_index_or desks v d).files.items ≡ reverse (files_of workers v (at + 1) (x ∷ drop (at + 1) was)) =
-          subst (λ rest. (v : ℕ) (d : Desk B S) → v < length desks → ids_of (slice_index_or desks v d).files.items ≡ reverse (files_of workers v (at + 1) rest)) split inv.dealt in
+          let dealt : (v : ℕ) (d : Desk B S) → v < length desks
+          → ids_of (slice_index_or desks v d).files.items ≡ reverse (files_of workers v (at + 1) (x ∷ drop (at + 1) was)) =
+          subst (λ rest. (v : ℕ) (d : Desk B S) → v < length desks
+          → ids_of (slice_index_or desks v d).files.items ≡ reverse (files_of workers v (at + 1) rest)) split inv.dealt in
           let there = dealt j desk within in
           let is = w.in-Some.ensures.some in
-          let ends = sym (map-append (λ (f : OwnFile S). (f.number, f.was.value)) new.files.items (file ∷ [])) ∙ ap ids_of (sym is) ∙ there ∙ own-first workers j at x (drop (at + 1) was) (sym mine) in
-          let parts = snoc-parts (ids_of new.files.items) (reverse (files_of workers j (at + 1 + 1) (drop (at + 1) was))) (file.number, file.was.value) (at + 1, x) ends in
+          let ends = sym (map-append (λ (f : OwnFile S). (f.number, f.was.value)) new.files.items (file ∷ [])) ∙ ap ids_of (sym is) ∙ there
+          ∙ own-first workers j at x (drop (at + 1) was) (sym mine) in
+          let parts = snoc-parts (ids_of new.files.items) (reverse (files_of workers j (at + 1 + 1) (drop (at + 1) was))) (file.number, file.was.value)
+          (at + 1, x) ends in
           let number : file.number ≡ at + 1 = ap (λ (p : ℕ × S). p.0) parts.1 in
           let source : file.was.value ≡ x = ap (λ (p : ℕ × S). p.1) parts.1 in
-          let read_all = subst (λ (fs : List (OwnFile S)). All (λ f. IsRead topics size faults left f.number f.was.value f.source (given_in f.given.value) f.end) fs) is (inv.read j desk within) in
+          let read_all =
+          subst (λ (fs : List (OwnFile S)). All (λ f. IsRead topics size faults left f.number f.was.value f.source (given_in f.given.value) f.end) fs)
+          is (inv.read j desk within) in
           let IsReadOf : OwnFile S → Type 0 = λ f. IsRead topics size faults left f.number f.was.value f.source (given_in f.given.value) f.end in
-          let fed = w.take_in.ensures in
+          let took = w.take_in.ensures in
           rw w.gathered-is (record {
             long = long ∙ inv.long;
-            dealt = λ v d less. subst (λ m. ids_of (slice_index_or changed v d).files.items ≡ reverse (files_of m v (at + 1 + 1) (drop (at + 1) was))) (sym long)
-                (set-each (λ u (e : Desk B S). ids_of e.files.items ≡ reverse (files_of workers u (at + 1 + 1) (drop (at + 1) was))) desks j new d within parts.0
-                (λ u below apart. dealt u d below ∙ ap reverse (other-first workers u at x (drop (at + 1) was) (λ e. apart (sym e ∙ sym mine)))) v (omega (arith, less, long)));
+            dealt = λ v d less.
+                subst (λ m. ids_of (slice_index_or changed v d).files.items ≡ reverse (files_of m v (at + 1 + 1) (drop (at + 1) was))) (sym long)
+                (set-each (λ u (e : Desk B S). ids_of e.files.items ≡ reverse (files_of workers u (at + 1 + 1) (drop (at + 1) was))) desks j new d
+                within parts.0
+                (λ u below apart. dealt u d below ∙ ap reverse (other-first workers u at x (drop (at + 1) was) (λ e. apart (sym e ∙ sym mine)))) v
+                (omega (arith, less, long)));
             read = λ v d less. set-each (λ u (e : Desk B S). All IsReadOf e.files.items) desks j new d within (all-front IsReadOf new.files.items file read_all)
                 (λ u below apart. inv.read u d below) v (omega (arith, less, long));
-            count = omega (arith, inv.count, fed.len);
-            capacity = fed.capacity ∙ inv.capacity;
-            so_far = rw (fed.sources, fed.fault) (so-far-more size faults left was at c.files.gathered.sources.items c.files.gathered.fault
-                file.was.value file.source file.number file.end inv.so_far inside number
+            count = omega (arith, inv.count, took.len);
+            capacity = took.capacity ∙ inv.capacity;
+            so_far = rw (took.sources, took.fault, took.starved) (so-far-more size faults left was at c.files.gathered.sources.items c.files.gathered.fault
+                c.files.gathered.starved file.was.value file.source file.number file.end inv.so_far inside number
                 (λ d. get_or_default was at d file.was.value inside ∙ sym source) (all-last IsReadOf new.files.items file read_all).ends);
-            whole = λ none each. whole-more desks j new desk file c.files.gathered.fault within is (sym fed.fault ∙ none) inv.whole each;
+            whole = λ none each. whole-more desks j new desk file c.files.gathered.fault within is (sym took.fault ∙ none) inv.whole each;
             same = set-unseen without_files desks j new desk within (same-without new (get_or desks j desk) c.lift.ensures.same) ∙ inv.same;
           })
       | in_default w ↦

@@ -1,8 +1,9 @@
 -- The work of all workers, once there are room and a queue. A slice of the desks is lent three times, and written back whole each time.
 use Rattle.std.proofs.Common.{◌≡◌, ◌∙◌, refl, sym, ap, subst, arith, false, ℕ, ◌^◌, ◌<◌, ◌≤◌, List, length, map}
-use Rattle.std.specs.Prelude.{slice_index_or, flat_map}
+use Rattle.std.specs.Prelude.{slice_index_or, flat_map, ◌||◌}
 use Rattle.std.specs.List.{All}
 use Rattle.std.specs.Option.{option_to_list}
+use Rattle.std.proofs.lemmas.Bool.{or_parts}
 use Rattle.std.proofs.lemmas.List.Elements.{All-map}
 use Rattle.std.proofs.lemmas.Option.{slice_get-get_or}
 use Rattle.scq_block.specs.declared.frame.Frame.{Frame}
@@ -15,16 +16,17 @@ use Rattle.scq_collect.specs.Merging.{members_in}
 use Rattle.scq_work.specs.AllWorkers.{HaveAnswered, HasWorked, lengths_of}
 use Rattle.scq_work.specs.Dealings.{AreDealt, IsFresh, without_files}
 use Rattle.scq_work.specs.Desks.{IsNew}
-use Rattle.scq_work.specs.Ends.{AreGiven, HasCause, HasMoved, all_left}
+use Rattle.scq_work.specs.Ends.{AreGiven, HasCause, HasMoved, MemoryIsFirst, all_left}
 use Rattle.scq_work.specs.Given.{given_in}
 use Rattle.scq_work.specs.Reading.{IsRead, IsWhole}
 use Rattle.scq_work.specs.declared.desk.Desk.{Desk}
 use Rattle.scq_work.specs.declared.worked.WorkFault.{WorkFault}
 use Rattle.scq_work.specs.declared.worked.Worked.{Worked}
-use Rattle.scq_work.proofs.AllRun.{AllRan, HasClosed, given, is-given, have-answered, have-shared, passes_at, lists_at, held_at}
+use Rattle.scq_work.proofs.AllGave.{AllRan, given, is-given}
+use Rattle.scq_work.proofs.AllRun.{HasClosed, have-answered, have-shared, passes_at, lists_at, held_at}
 use Rattle.scq_work.proofs.Cleared.{AllWhole}
 use Rattle.scq_work.proofs.DeskLemmas.{still-dealt}
-use Rattle.scq_work.proofs.Faults.{caused, err-then}
+use Rattle.scq_work.proofs.Faults.{caused, memory-first, err-then}
 use Rattle.scq_work.proofs.Lists.{written-back, right-of}
 use Rattle.scq_work.proofs.Orders.{members-told, given-told}
 use Rattle.scq_work.proofs.Settled.{told-worked, ok-more, ok-on, same-passes, same-lists, same-held, same-fed, still-fresh, place-numbers, are-held, counts-exact}
@@ -37,7 +39,8 @@ run_all-requires-clause-fresh g c lifetimes lives =
     let second : c.as_mut_slice-2.result.now ≡ c.deal.new.desks =
     c.as_mut_slice-2.ensures.value ∙ written-back _ _ _ (omega (arith, c.deal.auto.desks, c.as_mut_slice.ensures.len)) in
     let P : List (Desk Frame S) → Type 0 = λ ds. All (IsFresh c.args.queue) ds in
-    subst P (sym second) (still-fresh c.args.queue c.deal.new.desks c.make_desks.new.desks.items (c.deal.ensures.same ∙ ap (map without_files) first) c.make_desks.ensures.fresh)
+    subst P (sym second) (still-fresh c.args.queue c.deal.new.desks c.make_desks.new.desks.items (c.deal.ensures.same ∙ ap (map without_files) first)
+    c.make_desks.ensures.fresh)
 
 pub run_all-requires-clause-unread : goal.run_all-requires-clause-unread
 run_all-requires-clause-unread g c lifetimes lives =
@@ -54,19 +57,23 @@ gather-requires-clause-dealt g c lifetimes lives =
     let second : c.as_mut_slice-2.result.now ≡ c.deal.new.desks =
     c.as_mut_slice-2.ensures.value ∙ written-back _ _ _ (omega (arith, c.deal.auto.desks, c.as_mut_slice.ensures.len)) in
     let third : c.as_mut_slice-3.result.now ≡ c.run_all.new.desks =
-    c.as_mut_slice-3.ensures.value ∙ written-back _ _ _ (omega (arith, c.run_all.auto.desks, c.as_mut_slice-2.ensures.len, c.deal.auto.desks, c.as_mut_slice.ensures.len)) in
+    c.as_mut_slice-3.ensures.value ∙ written-back _ _ _
+    (omega (arith, c.run_all.auto.desks, c.as_mut_slice-2.ensures.len, c.deal.auto.desks, c.as_mut_slice.ensures.len)) in
     let P : List (Desk Frame S) → Type 0 = λ ds. AreDealt 1 src ds in
     let before : AreDealt 1 src c.as_mut_slice-2.result.now = subst P (sym second) c.deal.ensures.dealt in
-    let after : AreDealt 1 src c.run_all.new.desks = still-dealt 1 src c.as_mut_slice-2.result.now c.run_all.new.desks c.run_all.auto.desks c.run_all.ensures.same before in
+    let after : AreDealt 1 src c.run_all.new.desks =
+    still-dealt 1 src c.as_mut_slice-2.result.now c.run_all.new.desks c.run_all.auto.desks c.run_all.ensures.same before in
     subst P (sym third) after
 
 pub gather-requires-clause-read : goal.gather-requires-clause-read
 gather-requires-clause-read g c lifetimes lives =
     let S = g.row.S.Denot in
     let third : c.as_mut_slice-3.result.now ≡ c.run_all.new.desks =
-    c.as_mut_slice-3.ensures.value ∙ written-back _ _ _ (omega (arith, c.run_all.auto.desks, c.as_mut_slice-2.ensures.len, c.deal.auto.desks, c.as_mut_slice.ensures.len)) in
+    c.as_mut_slice-3.ensures.value ∙ written-back _ _ _
+    (omega (arith, c.run_all.auto.desks, c.as_mut_slice-2.ensures.len, c.deal.auto.desks, c.as_mut_slice.ensures.len)) in
     let P : List (Desk Frame S) → Type 0 =
-    λ ds. All (λ d. All (λ f. IsRead c.args.job.now.topics c.args.job.now.size g.S.Source.faults g.S.Source.left f.number f.was.value f.source (given_in f.given.value) f.end) d.files.items) ds in
+    λ ds. All (λ d. All (λ f. IsRead c.args.job.now.topics c.args.job.now.size g.S.Source.faults g.S.Source.left
+    f.number f.was.value f.source (given_in f.given.value) f.end) d.files.items) ds in
     subst P (sym third) (λ w d less. (c.run_all.ensures.run w d less).read)
 
 pub close-buffers-requires-clause-passes : goal.close-buffers-requires-clause-passes
@@ -74,29 +81,51 @@ close-buffers-requires-clause-passes g c lifetimes =
     let S = g.row.S.Denot in
     let ran = c.run_all.new.desks in
     let third : c.as_mut_slice-3.result.now ≡ ran =
-    c.as_mut_slice-3.ensures.value ∙ written-back _ _ _ (omega (arith, c.run_all.auto.desks, c.as_mut_slice-2.ensures.len, c.deal.auto.desks, c.as_mut_slice.ensures.len)) in
+    c.as_mut_slice-3.ensures.value ∙ written-back _ _ _
+    (omega (arith, c.run_all.auto.desks, c.as_mut_slice-2.ensures.len, c.deal.auto.desks, c.as_mut_slice.ensures.len)) in
     let same : map without_files c.gather.new.desks ≡ map without_files ran = c.gather.ensures.same ∙ ap (map without_files) third in
     let passes : c.clear.new.left.passes.items ≡ passes_at ran =
     c.clear.ensures.passes
-    ∙ ap (map (λ (d : Desk Frame S). d.worker.pass)) (written-back _ _ _ (omega (arith, c.gather.auto.desks, c.as_mut_slice-3.ensures.len, c.run_all.auto.desks, c.as_mut_slice-2.ensures.len, c.deal.auto.desks, c.as_mut_slice.ensures.len)))
+    ∙ ap (map (λ (d : Desk Frame S). d.worker.pass))
+    (written-back _ _ _ (omega (
+      arith,
+      c.gather.auto.desks,
+      c.as_mut_slice-3.ensures.len,
+      c.run_all.auto.desks,
+      c.as_mut_slice-2.ensures.len,
+      c.deal.auto.desks,
+      c.as_mut_slice.ensures.len,
+    )))
     ∙ same-passes c.gather.new.desks ran same in
     let P : List (PassStanding Frame) → Type 0 = λ ps. All (λ p. p.queue ≡ c.args.queue) ps in
-    subst P (sym passes) (All-map (λ (p : PassStanding Frame). p.queue ≡ c.args.queue) (λ (d : Desk Frame S). d.worker.pass) ran (λ w d less. (c.run_all.ensures.run w d less).queue))
+    subst P (sym passes) (All-map (λ (p : PassStanding Frame). p.queue ≡ c.args.queue) (λ (d : Desk Frame S). d.worker.pass) ran
+    (λ w d less. (c.run_all.ensures.run w d less).queue))
 
 pub close-buffers-requires-clause-held : goal.close-buffers-requires-clause-held
 close-buffers-requires-clause-held g c lifetimes =
     let S = g.row.S.Denot in
     let ran = c.run_all.new.desks in
     let third : c.as_mut_slice-3.result.now ≡ ran =
-    c.as_mut_slice-3.ensures.value ∙ written-back _ _ _ (omega (arith, c.run_all.auto.desks, c.as_mut_slice-2.ensures.len, c.deal.auto.desks, c.as_mut_slice.ensures.len)) in
+    c.as_mut_slice-3.ensures.value ∙ written-back _ _ _
+    (omega (arith, c.run_all.auto.desks, c.as_mut_slice-2.ensures.len, c.deal.auto.desks, c.as_mut_slice.ensures.len)) in
     let same : map without_files c.gather.new.desks ≡ map without_files ran = c.gather.ensures.same ∙ ap (map without_files) third in
     let passes : c.clear.new.left.passes.items ≡ passes_at ran =
     c.clear.ensures.passes
-    ∙ ap (map (λ (d : Desk Frame S). d.worker.pass)) (written-back _ _ _ (omega (arith, c.gather.auto.desks, c.as_mut_slice-3.ensures.len, c.run_all.auto.desks, c.as_mut_slice-2.ensures.len, c.deal.auto.desks, c.as_mut_slice.ensures.len)))
+    ∙ ap (map (λ (d : Desk Frame S). d.worker.pass))
+    (written-back _ _ _ (omega (
+      arith,
+      c.gather.auto.desks,
+      c.as_mut_slice-3.ensures.len,
+      c.run_all.auto.desks,
+      c.as_mut_slice-2.ensures.len,
+      c.deal.auto.desks,
+      c.as_mut_slice.ensures.len,
+    )))
     ∙ same-passes c.gather.new.desks ran same in
     let held : c.clear.new.left.held.items ≡ held_at ran =
     c.clear.ensures.held
-    ∙ ap (flat_map (λ (d : Desk Frame S). option_to_list d.kept)) (written-back _ c.gather.new.desks (right-of c.as_mut_slice-3.ensures.value) (c.gather.auto.desks ∙ c.as_mut_slice-3.ensures.len))
+    ∙ ap (flat_map (λ (d : Desk Frame S). option_to_list d.kept))
+    (written-back _ c.gather.new.desks (right-of c.as_mut_slice-3.ensures.value) (c.gather.auto.desks ∙ c.as_mut_slice-3.ensures.len))
     ∙ same-held c.gather.new.desks ran same in
     let P : List (PassStanding Frame) → Type 0 = λ ps. AreTheHeld c.args.queue ps c.clear.new.left.held.items in
     let Q : List (HeldStanding Frame) → Type 0 = λ hs. AreTheHeld c.args.queue (passes_at ran) hs in
@@ -110,7 +139,8 @@ merge-requires g c =
     let back = c.close-buffers.result.buffers.items in
     let same = c.close-buffers.ensures.buffers in
     all_from_same c.args.block given back c.requires.all same.0
-    (λ k d less. same.1 k (slice_index_or given k d) (slice_index_or back k d) (slice_get-get_or given k d less) (slice_get-get_or back k d (omega (arith, less, same.0))))
+    (λ k d less. same.1 k (slice_index_or given k d) (slice_index_or back k d) (slice_get-get_or given k d less)
+    (slice_get-get_or back k d (omega (arith, less, same.0))))
 
 pub returns-clause-worked : goal.returns-clause-worked
 returns-clause-worked g c =
@@ -128,19 +158,39 @@ returns-clause-worked g c =
     let second : c.as_mut_slice-2.result.now ≡ c.deal.new.desks =
     c.as_mut_slice-2.ensures.value ∙ written-back _ _ _ (omega (arith, c.deal.auto.desks, c.as_mut_slice.ensures.len)) in
     let third : c.as_mut_slice-3.result.now ≡ ran =
-    c.as_mut_slice-3.ensures.value ∙ written-back _ _ _ (omega (arith, c.run_all.auto.desks, c.as_mut_slice-2.ensures.len, c.deal.auto.desks, c.as_mut_slice.ensures.len)) in
+    c.as_mut_slice-3.ensures.value ∙ written-back _ _ _
+    (omega (arith, c.run_all.auto.desks, c.as_mut_slice-2.ensures.len, c.deal.auto.desks, c.as_mut_slice.ensures.len)) in
     let same : map without_files c.gather.new.desks ≡ map without_files ran = c.gather.ensures.same ∙ ap (map without_files) third in
     let passes : c.clear.new.left.passes.items ≡ passes_at ran =
     c.clear.ensures.passes
-    ∙ ap (map (λ (d : Desk Frame S). d.worker.pass)) (written-back _ _ _ (omega (arith, c.gather.auto.desks, c.as_mut_slice-3.ensures.len, c.run_all.auto.desks, c.as_mut_slice-2.ensures.len, c.deal.auto.desks, c.as_mut_slice.ensures.len)))
+    ∙ ap (map (λ (d : Desk Frame S). d.worker.pass))
+    (written-back _ _ _ (omega (
+      arith,
+      c.gather.auto.desks,
+      c.as_mut_slice-3.ensures.len,
+      c.run_all.auto.desks,
+      c.as_mut_slice-2.ensures.len,
+      c.deal.auto.desks,
+      c.as_mut_slice.ensures.len,
+    )))
     ∙ same-passes c.gather.new.desks ran same in
     let lists : c.clear.new.left.lists.items ≡ lists_at ran =
     c.clear.ensures.lists
-    ∙ ap (map (λ (d : Desk Frame S). d.worker.members)) (written-back _ _ _ (omega (arith, c.gather.auto.desks, c.as_mut_slice-3.ensures.len, c.run_all.auto.desks, c.as_mut_slice-2.ensures.len, c.deal.auto.desks, c.as_mut_slice.ensures.len)))
+    ∙ ap (map (λ (d : Desk Frame S). d.worker.members))
+    (written-back _ _ _ (omega (
+      arith,
+      c.gather.auto.desks,
+      c.as_mut_slice-3.ensures.len,
+      c.run_all.auto.desks,
+      c.as_mut_slice-2.ensures.len,
+      c.deal.auto.desks,
+      c.as_mut_slice.ensures.len,
+    )))
     ∙ same-lists c.gather.new.desks ran same in
     let held : c.clear.new.left.held.items ≡ held_at ran =
     c.clear.ensures.held
-    ∙ ap (flat_map (λ (d : Desk Frame S). option_to_list d.kept)) (written-back _ c.gather.new.desks (right-of c.as_mut_slice-3.ensures.value) (c.gather.auto.desks ∙ c.as_mut_slice-3.ensures.len))
+    ∙ ap (flat_map (λ (d : Desk Frame S). option_to_list d.kept))
+    (written-back _ c.gather.new.desks (right-of c.as_mut_slice-3.ensures.value) (c.gather.auto.desks ∙ c.as_mut_slice-3.ensures.len))
     ∙ same-held c.gather.new.desks ran same in
     let Dealt : List (Desk Frame S) → Type 0 = λ ds. AreDealt 1 src ds in
     let before : AreDealt 1 src c.as_mut_slice-2.result.now = subst Dealt (sym second) c.deal.ensures.dealt in
@@ -149,11 +199,22 @@ returns-clause-worked g c =
     ap (map (λ (d : Desk Frame S). d.worker.pass)) second
     ∙ same-passes c.deal.new.desks c.make_desks.new.desks.items (c.deal.ensures.same ∙ ap (map without_files) first) in
     let count : length ran ≡ queue.setup.seats =
-    omega (arith, c.run_all.auto.desks, c.as_mut_slice-2.ensures.len, c.deal.auto.desks, c.as_mut_slice.ensures.len, c.make_desks.ensures.count, c.make_desks.new.desks.ok.0, ap length second, ap length first) in
+    omega (
+      arith,
+      c.run_all.auto.desks,
+      c.as_mut_slice-2.ensures.len,
+      c.deal.auto.desks,
+      c.as_mut_slice.ensures.len,
+      c.make_desks.ensures.count,
+      c.make_desks.new.desks.ok.0,
+      ap length second,
+      ap length first,
+    ) in
     let numbers : (w : ℕ) (d : Desk Frame S) → w < length ran → (slice_index_or ran w d).worker.pass.number ≡ w =
     λ w d less.
     let within : w < length c.as_mut_slice-2.result.now = omega (arith, less, c.run_all.auto.desks) in
-    c.run_all.ensures.numbers w d within ∙ place-numbers queue queue.setup.seats c.as_mut_slice-2.result.now (placed ∙ c.make_desks.ensures.passes) w d within in
+    c.run_all.ensures.numbers w d within ∙ place-numbers queue queue.setup.seats c.as_mut_slice-2.result.now (placed ∙ c.make_desks.ensures.passes) w
+    d within in
     let valid = c.args.job.now.valid in
     let setup = c.requires.setup in
     let Of : Worked → Type 0 = λ w. (given : List (List Message)) × AreGiven topics size left 1 sources given
@@ -162,9 +223,17 @@ returns-clause-worked g c =
     let fed : All (λ d. d.worker.starved ≡ false) ran =
     same-fed c.gather.new.desks ran same
     (subst (λ (ds : List (Desk Frame S)). All (λ d. d.worker.starved ≡ false) ds)
-    (written-back _ _ _ (omega (arith, c.gather.auto.desks, c.as_mut_slice-3.ensures.len, c.run_all.auto.desks, c.as_mut_slice-2.ensures.len, c.deal.auto.desks, c.as_mut_slice.ensures.len)))
+    (written-back _ _ _ (omega (
+      arith,
+      c.gather.auto.desks,
+      c.as_mut_slice-3.ensures.len,
+      c.run_all.auto.desks,
+      c.as_mut_slice-2.ensures.len,
+      c.deal.auto.desks,
+      c.as_mut_slice.ensures.len,
+    )))
     (c.clear.ensures.starved is.1)) in
-    let whole : AllWhole ran = subst (λ (ds : List (Desk Frame S)). AllWhole ds) third (c.gather.ensures.whole is.2) in
+    let whole : AllWhole ran = subst (λ (ds : List (Desk Frame S)). AllWhole ds) third (c.gather.ensures.whole is.3) in
     let all : AllRan queue.setup queue topics size faults left sources ran = record {
       some = omega (arith, count, setup.2, valid.some_workers);
       few = omega (arith, c.requires.few, c.args.sources.ok.0);
@@ -202,7 +271,9 @@ returns-clause-worked g c =
       given queue.setup queue topics size faults left sources ran all,
       is-given queue.setup queue topics size faults left sources ran all,
       record {
-        answered = rw (its_passes, lists) (subst (λ n. HaveAnswered topics size n (given queue.setup queue topics size faults left sources ran all) (passes_at ran) (lists_at ran)) workers answered);
+        answered = rw (its_passes, lists) (subst
+            (λ n. HaveAnswered topics size n (given queue.setup queue topics size faults left sources ran all) (passes_at ran) (lists_at ran))
+            workers answered);
         setup = queue.setup;
         of_job = record { buffers = setup.0; rings = omega (arith, setup.1); seats = setup.2; limit = setup.3 };
         shared = rw (its_passes, its_left) shared;
@@ -216,7 +287,8 @@ returns-clause-answers g c =
     let topics = c.args.job.now.topics in
     let size = c.args.job.now.size in
     let left = g.S.Source.left in
-    ok-more c.conclude.result _ _ (returns-clause-worked g c) (λ w has. members-told topics size left c.args.sources.items has.0 (members_in w.answered.items) has.1 has.2.answered.once)
+    ok-more c.conclude.result _ _ (returns-clause-worked g c)
+    (λ w has. members-told topics size left c.args.sources.items has.0 (members_in w.answered.items) has.1 has.2.answered.once)
 
 pub returns-clause-told : goal.returns-clause-told
 returns-clause-told g c =
@@ -246,7 +318,7 @@ returns-clause-whole g c =
     let left = g.S.Source.left in
     ok-on c.conclude.result _ _ c.conclude.ensures.ok (λ w why k d less.
     subst (λ (xs : List S). IsWhole size faults left (slice_index_or xs k d) (slice_index_or c.gather.new.gathered.sources.items k d)) is
-    (c.gather.ensures.sound why.2 k d (omega (arith, less, ap length is, c.of-was.result.value.ok.0))))
+    (c.gather.ensures.sound why.3 k d (omega (arith, less, ap length is, c.of-was.result.value.ok.0))))
 
 pub returns-clause-cause : goal.returns-clause-cause
 returns-clause-cause g c =
@@ -258,4 +330,20 @@ returns-clause-cause g c =
     let is = ap (λ v. v.items) c.of-was.ensures in
     err-then c.conclude.result _ _
     (λ (f : WorkFault) why. subst (λ (xs : List S). HasCause size faults left xs news f) is
-    (caused size faults left c.of-was.result.value.items news why.0 c.gather.new.gathered.fault f why.1 c.gather.ensures.cause)) c.conclude.ensures.err
+    (caused size faults left c.of-was.result.value.items news (c.clear.new.left.starved || c.gather.new.gathered.starved) c.gather.new.gathered.fault
+    f why c.gather.ensures.cause)) c.conclude.ensures.err
+
+pub returns-clause-memory_first : goal.returns-clause-memory_first
+returns-clause-memory_first g c =
+    let S = g.row.S.Denot in
+    let size = c.args.job.now.size in
+    let faults = g.S.Source.faults in
+    let left = g.S.Source.left in
+    let news = c.gather.new.gathered.sources.items in
+    let is = ap (λ v. v.items) c.of-was.ensures in
+    let starved = c.clear.new.left.starved in
+    let wants = c.gather.new.gathered.starved in
+    err-then c.conclude.result _ _
+    (λ (f : WorkFault) why. subst (λ (xs : List S). MemoryIsFirst size faults left xs news f) is
+    (memory-first size faults left c.of-was.result.value.items news (starved || wants) c.gather.new.gathered.fault f why
+    (λ none. c.gather.ensures.fed (or_parts starved wants none).1))) c.conclude.ensures.err

@@ -111,7 +111,8 @@ invariant_of-seat-in-Nothing g c =
     let found : (t : ℕ) → c.in-Nothing.drawn ≡ Some t → c.dequeue-found.result ≡ Err (without.Nothing (Some t)) =
     λ t is. c.in-Err.is ∙ ap (λ w. Err w) (c.in-Nothing.is ∙ ap without.Nothing is) in
     let seen = found_none r c.in-Nothing.drawn me.0 c.dequeue-found.new.token.me.0 there
-    (λ is. c.dequeue-found.ensures.nothing (c.in-Err.is ∙ ap (λ w. Err w) (c.in-Nothing.is ∙ ap without.Nothing is)) ∙ ap (λ n. nothing_at n me.0) c.ring.ensures.number)
+    (λ is. c.dequeue-found.ensures.nothing (c.in-Err.is ∙ ap (λ w. Err w) (c.in-Nothing.is ∙ ap without.Nothing is))
+    ∙ ap (λ n. nothing_at n me.0) c.ring.ensures.number)
     (λ t is. (c.dequeue-found.ensures.nothing_left t (found t is)).0 ∙ ap (λ n. nothing_at n (drew_head n t me.0)) c.ring.ensures.number) in
     let known = known_read numbers r c.index-known.result.now low c.index-known.ensures in
     let drawn = c.in-Nothing.drawn in
@@ -134,7 +135,8 @@ returns-in-Nothing-clause-empty g c head is =
     let found : (t : ℕ) → c.in-Nothing.drawn ≡ Some t → c.dequeue-found.result ≡ Err (without.Nothing (Some t)) =
     λ t is. c.in-Err.is ∙ ap (λ w. Err w) (c.in-Nothing.is ∙ ap without.Nothing is) in
     let seen = found_none r c.in-Nothing.drawn me.0 c.dequeue-found.new.token.me.0 there
-    (λ is. c.dequeue-found.ensures.nothing (c.in-Err.is ∙ ap (λ w. Err w) (c.in-Nothing.is ∙ ap without.Nothing is)) ∙ ap (λ n. nothing_at n me.0) c.ring.ensures.number)
+    (λ is. c.dequeue-found.ensures.nothing (c.in-Err.is ∙ ap (λ w. Err w) (c.in-Nothing.is ∙ ap without.Nothing is))
+    ∙ ap (λ n. nothing_at n me.0) c.ring.ensures.number)
     (λ t is. (c.dequeue-found.ensures.nothing_left t (found t is)).0 ∙ ap (λ n. nothing_at n (drew_head n t me.0)) c.ring.ensures.number) in
     let known = known_read numbers r c.index-known.result.now low c.index-known.ensures in
     let drawn = c.in-Nothing.drawn in

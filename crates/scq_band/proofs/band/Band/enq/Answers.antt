@@ -25,7 +25,8 @@ bring_to_front-requires-clause-held g c κs within =
     let key = c.seat.inside.key.value in
     let me = c.seat.inside.token.me in
     let buffer = c.requires.held.0 in
-    let is : in_hand _ c.args.index ≡ Some (Some buffer) = ap (λ (s : Standing g.row.B.Denot). in_hand s.hand c.args.index) c.seat.view_is ∙ c.requires.held.1 in
+    let is : in_hand _ c.args.index ≡ Some (Some buffer) =
+    ap (λ (s : Standing g.row.B.Denot). in_hand s.hand c.args.index) c.seat.view_is ∙ c.requires.held.1 in
     held Same key me c.seat.inside.hand.items _ _ _ c.args.index (Some buffer) c.seat.invariant is
 
 pub enqueue-requires-clause-held : goal.enqueue-requires-clause-held
@@ -34,7 +35,8 @@ enqueue-requires-clause-held g c κs within =
     let key = c.seat.inside.key.value in
     let me = c.seat.inside.token.me in
     let buffer = c.requires.held.0 in
-    let is : in_hand _ c.args.index ≡ Some (Some buffer) = ap (λ (s : Standing g.row.B.Denot). in_hand s.hand c.args.index) c.seat.view_is ∙ c.requires.held.1 in
+    let is : in_hand _ c.args.index ≡ Some (Some buffer) =
+    ap (λ (s : Standing g.row.B.Denot). in_hand s.hand c.args.index) c.seat.view_is ∙ c.requires.held.1 in
     let ident = ap (λ (s : Standing g.row.B.Denot). s.band) c.seat.view_is ∙ c.requires.seat ∙ sym c.self.view_is in
     let there = held Same key me c.seat.inside.hand.items _ _ _ c.args.index (Some buffer) c.seat.invariant is in
     let hand = (my me.0).part.hand in
@@ -49,7 +51,8 @@ enqueue-requires-clause-front g c κs within =
     let key = c.seat.inside.key.value in
     let me = c.seat.inside.token.me in
     let buffer = c.requires.held.0 in
-    let is : in_hand _ c.args.index ≡ Some (Some buffer) = ap (λ (s : Standing g.row.B.Denot). in_hand s.hand c.args.index) c.seat.view_is ∙ c.requires.held.1 in
+    let is : in_hand _ c.args.index ≡ Some (Some buffer) =
+    ap (λ (s : Standing g.row.B.Denot). in_hand s.hand c.args.index) c.seat.view_is ∙ c.requires.held.1 in
     let v = c.bring_to_front.new.token.me.0 in
     let ms = c.bring_to_front.new.token.me.1 in
     let turned = c.bring_to_front.ensures.turned in
@@ -63,7 +66,8 @@ invariant_of-seat g c =
     let key = c.seat.inside.key.value in
     let me = c.seat.inside.token.me in
     let buffer = c.requires.held.0 in
-    let is : in_hand _ c.args.index ≡ Some (Some buffer) = ap (λ (s : Standing g.row.B.Denot). in_hand s.hand c.args.index) c.seat.view_is ∙ c.requires.held.1 in
+    let is : in_hand _ c.args.index ≡ Some (Some buffer) =
+    ap (λ (s : Standing g.row.B.Denot). in_hand s.hand c.args.index) c.seat.view_is ∙ c.requires.held.1 in
     let v = c.bring_to_front.new.token.me.0 in
     let ms = c.bring_to_front.new.token.me.1 in
     let turned = c.bring_to_front.ensures.turned in
@@ -108,7 +112,8 @@ invariant_of-seat-in-Err g c =
     let key = c.seat.inside.key.value in
     let me = c.seat.inside.token.me in
     let buffer = c.requires.held.0 in
-    let is : in_hand _ c.args.index ≡ Some (Some buffer) = ap (λ (s : Standing g.row.B.Denot). in_hand s.hand c.args.index) c.seat.view_is ∙ c.requires.held.1 in
+    let is : in_hand _ c.args.index ≡ Some (Some buffer) =
+    ap (λ (s : Standing g.row.B.Denot). in_hand s.hand c.args.index) c.seat.view_is ∙ c.requires.held.1 in
     let v = c.bring_to_front.new.token.me.0 in
     let ms = c.bring_to_front.new.token.me.1 in
     let turned = c.bring_to_front.ensures.turned in
@@ -127,7 +132,8 @@ returns-in-Ok-clause-put g c =
     let key = c.seat.inside.key.value in
     let me = c.seat.inside.token.me in
     let buffer = c.requires.held.0 in
-    let is : in_hand _ c.args.index ≡ Some (Some buffer) = ap (λ (s : Standing g.row.B.Denot). in_hand s.hand c.args.index) c.seat.view_is ∙ c.requires.held.1 in
+    let is : in_hand _ c.args.index ≡ Some (Some buffer) =
+    ap (λ (s : Standing g.row.B.Denot). in_hand s.hand c.args.index) c.seat.view_is ∙ c.requires.held.1 in
     let v = c.bring_to_front.new.token.me.0 in
     let ms = c.bring_to_front.new.token.me.1 in
     let turned = c.bring_to_front.ensures.turned in
@@ -161,7 +167,8 @@ returns-in-Err-clause-spent g c fresh =
     let key = c.seat.inside.key.value in
     let me = c.seat.inside.token.me in
     let buffer = c.requires.held.0 in
-    let is : in_hand _ c.args.index ≡ Some (Some buffer) = ap (λ (s : Standing g.row.B.Denot). in_hand s.hand c.args.index) c.seat.view_is ∙ c.requires.held.1 in
+    let is : in_hand _ c.args.index ≡ Some (Some buffer) =
+    ap (λ (s : Standing g.row.B.Denot). in_hand s.hand c.args.index) c.seat.view_is ∙ c.requires.held.1 in
     let v = c.bring_to_front.new.token.me.0 in
     let ms = c.bring_to_front.new.token.me.1 in
     let turned = c.bring_to_front.ensures.turned in

@@ -50,8 +50,9 @@ invariant_of-seat g c =
     let ms = c.bring_to_front.new.token.me.1 in
     let turned = c.bring_to_front.ensures.turned in
     let b = brought Same key me ms c.seat.inside.hand.items _ _ _ c.args.index None c.seat.invariant turned c.bring_to_front.ensures.first is in
-    kept_lent Same key me c.exchange-hole.new.seat.me c.bring_to_front.new.token.me.0 ms c.seat.inside.hand.items c.bring_to_front.new.hand.items _ _ _ _ c.args.index None
-    (record { buffer = Some c.args.buffer }) c.seat.invariant c.bring_to_front.ensures.own.2 turned c.bring_to_front.ensures.order c.bring_to_front.ensures.room b (λ x same.
+    kept_lent Same key me c.exchange-hole.new.seat.me c.bring_to_front.new.token.me.0 ms c.seat.inside.hand.items c.bring_to_front.new.hand.items _ _ _ _
+    c.args.index None (record { buffer = Some c.args.buffer }) c.seat.invariant c.bring_to_front.ensures.own.2 turned c.bring_to_front.ensures.order
+    c.bring_to_front.ensures.room b (λ x same.
     let given : key.given.value.items ≡ c.args.self.now.given = ap (λ (i : Identity g.row.B.Denot). i.given)
     (ap (λ (s : Standing g.row.B.Denot). s.band) c.seat.view_is ∙ c.requires.seat) in
     let it : c.args.buffer ≡ x = cc in
@@ -69,7 +70,8 @@ returns g c =
     let b = brought Same key me ms c.seat.inside.hand.items _ _ _ c.args.index None c.seat.invariant turned c.bring_to_front.ensures.first is in
     record {
       laid =
-          lent_standing Same c.seat.inside.token.table_id c.exchange-hole.new.seat.table_id key me c.exchange-hole.new.seat.me c.bring_to_front.new.token.me.0 ms
+          lent_standing Same c.seat.inside.token.table_id c.exchange-hole.new.seat.table_id key me c.exchange-hole.new.seat.me
+          c.bring_to_front.new.token.me.0 ms
           key.given.value.items c.args.index None (record { buffer = Some c.args.buffer }) c.args.seat.now c.seat.view_is
           (c.exchange-hole.ensures.0 ∙ c.bring_to_front.ensures.own.0) c.bring_to_front.ensures.own.2 b c.exchange-hole.ensures.3;
     }

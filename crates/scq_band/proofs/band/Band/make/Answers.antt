@@ -22,7 +22,8 @@ new-requires g c =
     let all : length bs ≡ n_of k.order = let whole = c.args.buffers.ok in let many = c.requires in omega (arith, whole, many) in
     let memory = c.in-Ok.ensures in
     let base : Shown (LiesIn contents Same bs) (opening_of contents bs) k (opening c.in-Ok.memory.words.items (map full_slot bs) (first_view k)) =
-    opens (LiesIn contents Same bs) k c.in-Ok.memory.words.items (map full_slot bs) (map contents bs) memory.count memory.each_word (length-map contents full_slot bs ∙ all)
+    opens (LiesIn contents Same bs) k c.in-Ok.memory.words.items (map full_slot bs) (map contents bs) memory.count memory.each_word
+    (length-map contents full_slot bs ∙ all)
     (length-map contents contents bs ∙ all) (λ j low. stand_all contents Same itself bs j (omega (arith, all, low))) in
     rw (c.of.ensures, c.as_slice.ensures.value, c.lay_all.ensures.slots) base
 

@@ -10,15 +10,18 @@ use Rattle.scq_frames.proofs.framer.Framer.count_long.Goals as goal
 pub reads-init : goal.reads-init
 reads-init g c =
     let len = c.payload_len-len.ensures in (
-      Counts-start g.S.Source.left g.S.Source.faults c.args.self.now c.give_up_held.new.self c.args.source.now c.payload_len-len.result c.give_up_held.ensures.none c.requires.clear len.value
-          (omega (arith, c.requires.long, len.value)) len.within c.requires.going c.requires.within (subst (λ (f : Framing). f.most ≤ 2 ^ 30) c.self.view_is c.self.invariant.most),
+      Counts-start g.S.Source.left g.S.Source.faults c.args.self.now c.give_up_held.new.self c.args.source.now c.payload_len-len.result
+          c.give_up_held.ensures.none c.requires.clear len.value
+          (omega (arith, c.requires.long, len.value)) len.within c.requires.going c.requires.within
+          (subst (λ (f : Framing). f.most ≤ 2 ^ 30) c.self.view_is c.self.invariant.most),
       refl,
     )
 
 pub returns-in-Err-clause-found : goal.returns-in-Err-clause-found
 returns-in-Err-clause-found g c =
     let read = c.in-Err.ensures in
-    Counts-fault g.S.Source.left g.S.Source.faults c.args.self.now c.reads.self c.read.new.self c.args.source.now c.reads.source c.read.new.source c.reads.len c.reads.invariant.0 read.same read.fetched read.few
+    Counts-fault g.S.Source.left g.S.Source.faults c.args.self.now c.reads.self c.read.new.self c.args.source.now c.reads.source c.read.new.source
+    c.reads.len c.reads.invariant.0 read.same read.fetched read.few
     c.in-Err.fault (λ e. read.unread (ap Err e)) (λ n e. read.too_large n (ap Err e)) (λ at len e. read.long at len (ap Err e))
 
 pub returns-in-Err-clause-kept : goal.returns-in-Err-clause-kept
@@ -29,10 +32,13 @@ returns-in-Some-clause-found g c =
     let read = c.in_default.ensures in
     let left = g.S.Source.left in
     let first = c.args.self.now in
-    let found = Counts-ended left g.S.Source.faults first c.reads.self c.read.new.self c.args.source.now c.reads.source c.read.new.source c.reads.len c.reads.invariant.0 read.same read.fetched read.few
+    let found = Counts-ended left g.S.Source.faults first c.reads.self c.read.new.self c.args.source.now c.reads.source c.read.new.source c.reads.len
+    c.reads.invariant.0 read.same read.fetched read.few
     c.in-Some.more c.in-Some.ensures.found read.within in
-    subst (λ (f : Framing). Found first f (left c.args.source.now) (left c.read.new.source) (Err (TooLong (c.self.inside.line + 1) (c.reads.len + c.in-Some.more)))) (sym c.line_len.ensures.same)
-    (subst (λ (n : ℕ). Found first c.read.new.self (left c.args.source.now) (left c.read.new.source) (Err (TooLong (n + 1) (c.reads.len + c.in-Some.more)))) (sym (ap (λ (f : Framing). f.line) c.self.view_is)) found)
+    subst (λ (f : Framing). Found first f (left c.args.source.now) (left c.read.new.source)
+    (Err (TooLong (c.self.inside.line + 1) (c.reads.len + c.in-Some.more)))) (sym c.line_len.ensures.same)
+    (subst (λ (n : ℕ). Found first c.read.new.self (left c.args.source.now) (left c.read.new.source) (Err (TooLong (n + 1) (c.reads.len + c.in-Some.more))))
+    (sym (ap (λ (f : Framing). f.line) c.self.view_is)) found)
 
 pub returns-then-has_ended-clause-found : goal.returns-then-has_ended-clause-found
 returns-then-has_ended-clause-found g c =
@@ -43,12 +49,15 @@ returns-then-has_ended-clause-found g c =
     let after = left c.read.new.source in
     let empty = c.give_up_held-len.ensures.none ∙ ap (λ (f : Framing). holding f []) c.line_len.ensures.same in
     let ended = sym (ap (λ (f : Framing). f.ended) empty) ∙ sym c.has_ended.ensures ∙ c.if-has_ended.true in
-    let count : c.give_up_held-len.result ≡ length c.read.new.self.held = c.give_up_held-len.ensures.count ∙ ap (λ (f : Framing). length f.held) c.line_len.ensures.same in
-    let found = Counts-over left g.S.Source.faults first c.reads.self c.read.new.self c.args.source.now c.reads.source c.read.new.source c.reads.len c.reads.invariant.0 read.same read.fetched read.few
+    let count : c.give_up_held-len.result ≡ length c.read.new.self.held =
+    c.give_up_held-len.ensures.count ∙ ap (λ (f : Framing). length f.held) c.line_len.ensures.same in
+    let found = Counts-over left g.S.Source.faults first c.reads.self c.read.new.self c.args.source.now c.reads.source c.read.new.source c.reads.len
+    c.reads.invariant.0 read.same read.fetched read.few
     c.in-None.ensures.none ended read.within in
     subst (λ (f : Framing). Found first f before after (Err (TooLong (c.self.inside.line + 1) (c.reads.len + c.give_up_held-len.result)))) (sym empty)
     (subst (λ (n : ℕ). Found first (holding c.read.new.self []) before after (Err (TooLong (c.self.inside.line + 1) (c.reads.len + n)))) (sym count)
-    (subst (λ (n : ℕ). Found first (holding c.read.new.self []) before after (Err (TooLong (n + 1) (c.reads.len + length c.read.new.self.held)))) (sym (ap (λ (f : Framing). f.line) c.self.view_is))
+    (subst (λ (n : ℕ). Found first (holding c.read.new.self []) before after (Err (TooLong (n + 1) (c.reads.len + length c.read.new.self.held))))
+    (sym (ap (λ (f : Framing). f.line) c.self.view_is))
     (Found-dropped first c.read.new.self [] before after (TooLong (first.line + 1) (c.reads.len + length c.read.new.self.held)) found)))
 
 pub reads-preserved : goal.reads-preserved
@@ -59,9 +68,11 @@ reads-preserved g c =
     let first = c.args.self.now in
     let empty = c.give_up_held-len.ensures.none ∙ ap (λ (f : Framing). holding f []) c.line_len.ensures.same in
     let going = sym (ap (λ (f : Framing). f.ended) empty) ∙ sym c.has_ended.ensures ∙ c.if-has_ended.false in
-    let count : c.give_up_held-len.result ≡ length c.read.new.self.held = c.give_up_held-len.ensures.count ∙ ap (λ (f : Framing). length f.held) c.line_len.ensures.same in (
+    let count : c.give_up_held-len.result ≡ length c.read.new.self.held =
+    c.give_up_held-len.ensures.count ∙ ap (λ (f : Framing). length f.held) c.line_len.ensures.same in (
       subst (λ (n : ℕ). Counts left faults first c.give_up_held-len.new.self c.args.source.now c.read.new.source (c.reads.len + n)) (sym count)
-          (Counts-more left faults first c.reads.self c.read.new.self c.args.source.now c.reads.source c.read.new.source c.reads.len c.reads.invariant.0 read.same read.fetched read.few
+          (Counts-more left faults first c.reads.self c.read.new.self c.args.source.now c.reads.source c.read.new.source c.reads.len c.reads.invariant.0
+          read.same read.fetched read.few
           c.give_up_held-len.new.self empty c.in-None.ensures.none going read.within (read.kept (λ e. cc)) read.size),
       read.ends.going going ∙ c.reads.invariant.1,
     )

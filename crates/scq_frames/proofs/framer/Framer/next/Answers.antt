@@ -24,7 +24,8 @@ pub loop-len-init : goal.loop-len-init
 loop-len-init g c =
     let first = c.args.self.now in (
       Searches-start (topic_of c.args.topics.now) g.S.Source.left g.S.Source.faults first _ c.args.source.now
-          (ap (λ (f : Framing). record f { failed = true }) c.self.view_is) (subst (λ (f : Framing). f.read ≤ f.most) c.self.view_is (c.self.invariant.within (ap (λ (f : Framing). f.failed) c.self.view_is ∙ c.requires)))
+          (ap (λ (f : Framing). record f { failed = true }) c.self.view_is)
+          (subst (λ (f : Framing). f.read ≤ f.most) c.self.view_is (c.self.invariant.within (ap (λ (f : Framing). f.failed) c.self.view_is ∙ c.requires)))
           (subst (λ (f : Framing). length f.held ≤ f.size + 4130) c.self.view_is c.self.invariant.short),
       subst (λ (b : Bool). EndsOnce first.ended b (g.S.Source.ends c.args.source.now) (g.S.Source.ends c.args.source.now))
           (sym (ap (λ (f : Framing). f.ended) c.self.view_is)) (ends-start first.ended (g.S.Source.ends c.args.source.now)),
@@ -36,14 +37,16 @@ loop-len-preserved-in_default g c =
     let left = g.S.Source.left in
     let faults = g.S.Source.faults in
     let now = c.line_len.new.self in
-    let searches = subst (λ (f : Framing). Searches number left faults c.args.self.now f c.args.source.now c.loop-len.source) (sym c.line_len.ensures.same) c.loop-len.invariant.0 in
+    let searches = subst (λ (f : Framing). Searches number left faults c.args.self.now f c.args.source.now c.loop-len.source) (sym c.line_len.ensures.same)
+    c.loop-len.invariant.0 in
     let passed : Passed number now c.pass.new.self c.in-Some.len c.in_ok-message-in-Some.field-0 = record {
       ends = subst (λ (f : Framing). EndsAt f.held c.in-Some.len) (sym c.line_len.ensures.same) c.in-Some.ensures.found;
       fits = c.in_ok-message-in-Some.ensures.fits;
       gave = c.in_ok-message-in-Some.ensures.given;
       after = c.in_ok-message-in-Some.ensures.passed;
     } in (
-      Searches-line number left faults c.args.self.now now c.pass.new.self c.args.source.now c.loop-len.source c.in-Some.len c.in_ok-message-in-Some.field-0 searches passed c.in_default.is,
+      Searches-line number left faults c.args.self.now now c.pass.new.self c.args.source.now c.loop-len.source c.in-Some.len c.in_ok-message-in-Some.field-0
+          searches passed c.in_default.is,
       subst (λ (b : Bool). EndsOnce c.args.self.now.ended b (g.S.Source.ends c.args.source.now) (g.S.Source.ends c.loop-len.source))
           (sym (ap (λ (f : Framing). f.ended) (passed.after) ∙ ap (λ (f : Framing). f.ended) c.line_len.ensures.same)) c.loop-len.invariant.1,
     )
@@ -69,7 +72,8 @@ returns-clause-gives g c =
             after = w.in_ok-message-in-Some.ensures.passed;
           } in
           let line = gives-line number first now w.pass.new.self before after w.in-Some.len w.in_ok-message-in-Some.field-0 ahead passed in
-          gives-again number _ after w.pass.new.self c.match-line_len.self w.in_ok-message-in-Some.field-0 given w.self-is (w.given-is ∙ sym w.in-Some-2.is) line
+          gives-again number _ after w.pass.new.self c.match-line_len.self w.in_ok-message-in-Some.field-0 given w.self-is
+          (w.given-is ∙ sym w.in-Some-2.is) line
       | in-None+then-has_ended+in_ok-given-in-None w ↦
           let passed : PassedLast number now w.last_line.new.self w.in_ok-given-in-None.given = record {
             ended = sym w.has_ended.ensures ∙ w.if-has_ended.true;
@@ -113,14 +117,17 @@ returns-in_err-message-in-Some-clause-found g c =
     let left = g.S.Source.left in
     let first = c.args.self.now in
     let now = c.line_len.new.self in
-    let s = subst (λ (f : Framing). Searches number left g.S.Source.faults first f c.args.source.now c.loop-len.source) (sym c.line_len.ensures.same) c.loop-len.invariant.0 in
+    let s = subst (λ (f : Framing). Searches number left g.S.Source.faults first f c.args.source.now c.loop-len.source) (sym c.line_len.ensures.same)
+    c.loop-len.invariant.0 in
     let before = left c.args.source.now in
     let after = left c.loop-len.source in
     let ends = subst (λ (f : Framing). EndsAt f.held c.in-Some.len) (sym c.line_len.ensures.same) c.in-Some.ensures.found in
     let pass = c.in_err-message-in-Some.ensures in
-    Found-err first c.pass.new.self before after c.from_residual.result fault s.found.bytes (is.1 ∙ ap Err is.2) (ap (λ (f : Framing). f.read) pass.err ∙ s.found.count) s.found.moved s.found.idle s.quiet.needed
+    Found-err first c.pass.new.self before after c.from_residual.result fault s.found.bytes (is.1 ∙ ap Err is.2)
+    (ap (λ (f : Framing). f.read) pass.err ∙ s.found.count) s.found.moved s.found.idle s.quiet.needed
     (Finds-pass_err first now c.pass.new.self before after c.in-Some.len fault s.found ends s.within pass.faults (λ at count e. pass.long at count (ap Err e)))
-    (Comes-pass_err first now c.pass.new.self c.in-Some.len fault s.found.bytes s.quiet ends s.within pass.err pass.faults (λ at count e. pass.long at count (ap Err e)))
+    (Comes-pass_err first now c.pass.new.self c.in-Some.len fault s.found.bytes s.quiet ends s.within pass.err pass.faults
+    (λ at count e. pass.long at count (ap Err e)))
 
 pub returns-in_err-given-in-None-clause-found : goal.returns-in_err-given-in-None-clause-found
 returns-in_err-given-in-None-clause-found g c =
@@ -131,15 +138,18 @@ returns-in_err-given-in-None-clause-found g c =
     let left = g.S.Source.left in
     let first = c.args.self.now in
     let now = c.line_len.new.self in
-    let s = subst (λ (f : Framing). Searches number left g.S.Source.faults first f c.args.source.now c.loop-len.source) (sym c.line_len.ensures.same) c.loop-len.invariant.0 in
+    let s = subst (λ (f : Framing). Searches number left g.S.Source.faults first f c.args.source.now c.loop-len.source) (sym c.line_len.ensures.same)
+    c.loop-len.invariant.0 in
     let before = left c.args.source.now in
     let after = left c.loop-len.source in
     let clear = subst (λ (f : Framing). HasNoLineFeed f.held 0 (length f.held)) (sym c.line_len.ensures.same) c.in-None.ensures.none in
     let ended : IsTrue now.ended = sym c.has_ended.ensures ∙ c.if-has_ended.true in
     let last = c.in_err-given-in-None.ensures in
-    Found-err first c.last_line.new.self before after result fault s.found.bytes (is.1 ∙ ap Err is.2) (ap (λ (f : Framing). f.read) last.err ∙ s.found.count) s.found.moved s.found.idle s.quiet.needed
+    Found-err first c.last_line.new.self before after result fault s.found.bytes (is.1 ∙ ap Err is.2)
+    (ap (λ (f : Framing). f.read) last.err ∙ s.found.count) s.found.moved s.found.idle s.quiet.needed
     (Finds-last_err first now c.last_line.new.self before after fault s.found clear s.within last.faults (λ at count e. last.long at count (ap Err e)))
-    (Comes-last_err first now c.last_line.new.self fault s.found.bytes s.quiet clear s.within (ap (λ (f : Framing). f.ended) last.err ∙ ended) last.faults (λ at count e. last.long at count (ap Err e)))
+    (Comes-last_err first now c.last_line.new.self fault s.found.bytes s.quiet clear s.within (ap (λ (f : Framing). f.ended) last.err ∙ ended) last.faults
+    (λ at count e. last.long at count (ap Err e)))
 
 pub loop-len-preserved : goal.loop-len-preserved
 loop-len-preserved g c =
@@ -147,12 +157,14 @@ loop-len-preserved g c =
     let left = g.S.Source.left in
     let faults = g.S.Source.faults in
     let now = c.line_len.new.self in
-    let searches = subst (λ (f : Framing). Searches number left faults c.args.self.now f c.args.source.now c.loop-len.source) (sym c.line_len.ensures.same) c.loop-len.invariant.0 in
+    let searches = subst (λ (f : Framing). Searches number left faults c.args.self.now f c.args.source.now c.loop-len.source) (sym c.line_len.ensures.same)
+    c.loop-len.invariant.0 in
     let clear = subst (λ (f : Framing). HasNoLineFeed f.held 0 (length f.held)) (sym c.line_len.ensures.same) c.in-None.ensures.none in
     let going = sym c.has_ended.ensures ∙ c.if-has_ended.false in
     let cut = c.trim.new.self in
     let trim = c.trim.ensures in
-    let trimmed = Searches-trim number left faults c.args.self.now now cut c.args.source.now c.loop-len.source searches trim.trimmed clear going (names-overlook c.args.topics.now now.file trim.names) trim.same in
+    let trimmed = Searches-trim number left faults c.args.self.now now cut c.args.source.now c.loop-len.source searches trim.trimmed clear going
+    (names-overlook c.args.topics.now now.file trim.names) trim.same in
     let read = c.in_ok-read-in-None.ensures in
     let cut_going = ap (λ (f : Framing). f.ended) trim.same ∙ going in
     let cut_ends = subst (λ (b : Bool). EndsOnce c.args.self.now.ended b (g.S.Source.ends c.args.source.now) (g.S.Source.ends c.loop-len.source))
@@ -184,13 +196,16 @@ returns-then-trim-clause-found g c =
     let left = g.S.Source.left in
     let first = c.args.self.now in
     let now = c.line_len.new.self in
-    let searches = subst (λ (f : Framing). Searches number left g.S.Source.faults first f c.args.source.now c.loop-len.source) (sym c.line_len.ensures.same) c.loop-len.invariant.0 in
+    let searches = subst (λ (f : Framing). Searches number left g.S.Source.faults first f c.args.source.now c.loop-len.source) (sym c.line_len.ensures.same)
+    c.loop-len.invariant.0 in
     let clear = subst (λ (f : Framing). HasNoLineFeed f.held 0 (length f.held)) (sym c.line_len.ensures.same) c.in-None.ensures.none in
     let going = sym c.has_ended.ensures ∙ c.if-has_ended.false in
     let cut = c.trim.new.self in
     let trim = c.trim.ensures in
-    let s = Searches-trim number left g.S.Source.faults first now cut c.args.source.now c.loop-len.source searches trim.trimmed clear going (names-overlook c.args.topics.now now.file trim.names) trim.same in
-    Found-later first cut c.count_long.new.self (left c.args.source.now) (left c.loop-len.source) (left c.count_long.new.source) s.found s.quiet (ap (λ (f : Framing). f.ended) trim.same ∙ going)
+    let s = Searches-trim number left g.S.Source.faults first now cut c.args.source.now c.loop-len.source searches trim.trimmed clear going
+    (names-overlook c.args.topics.now now.file trim.names) trim.same in
+    Found-later first cut c.count_long.new.self (left c.args.source.now) (left c.loop-len.source) (left c.count_long.new.source) s.found s.quiet
+    (ap (λ (f : Framing). f.ended) trim.same ∙ going)
     c.count_long.result c.count_long.ensures.found (λ h. (s.ended h).1) (clear-trimmed 33 now.held cut.held trim.trimmed clear) s.within
 
 pub returns-in_err-read-in-None-clause-found : goal.returns-in_err-read-in-None-clause-found
@@ -202,12 +217,14 @@ returns-in_err-read-in-None-clause-found g c =
     let left = g.S.Source.left in
     let first = c.args.self.now in
     let now = c.line_len.new.self in
-    let searches = subst (λ (f : Framing). Searches number left g.S.Source.faults first f c.args.source.now c.loop-len.source) (sym c.line_len.ensures.same) c.loop-len.invariant.0 in
+    let searches = subst (λ (f : Framing). Searches number left g.S.Source.faults first f c.args.source.now c.loop-len.source) (sym c.line_len.ensures.same)
+    c.loop-len.invariant.0 in
     let clear = subst (λ (f : Framing). HasNoLineFeed f.held 0 (length f.held)) (sym c.line_len.ensures.same) c.in-None.ensures.none in
     let going = sym c.has_ended.ensures ∙ c.if-has_ended.false in
     let cut = c.trim.new.self in
     let trim = c.trim.ensures in
-    let s = Searches-trim number left g.S.Source.faults first now cut c.args.source.now c.loop-len.source searches trim.trimmed clear going (names-overlook c.args.topics.now now.file trim.names) trim.same in
+    let s = Searches-trim number left g.S.Source.faults first now cut c.args.source.now c.loop-len.source searches trim.trimmed clear going
+    (names-overlook c.args.topics.now now.file trim.names) trim.same in
     let clear_cut = clear-trimmed 33 now.held cut.held trim.trimmed clear in
     let going_cut = ap (λ (f : Framing). f.ended) trim.same ∙ going in
     let before = left c.args.source.now in
@@ -230,7 +247,8 @@ returns-clause-found g c =
     let left = g.S.Source.left in
     let first = c.args.self.now in
     let now = c.line_len.new.self in
-    let s = subst (λ (f : Framing). Searches number left g.S.Source.faults first f c.args.source.now c.loop-len.source) (sym c.line_len.ensures.same) c.loop-len.invariant.0 in
+    let s = subst (λ (f : Framing). Searches number left g.S.Source.faults first f c.args.source.now c.loop-len.source) (sym c.line_len.ensures.same)
+    c.loop-len.invariant.0 in
     let before = left c.args.source.now in
     let after = left c.loop-len.source in
     let given = c.match-line_len.given in
@@ -243,8 +261,10 @@ returns-clause-found g c =
             gave = w.in_ok-message-in-Some.ensures.given;
             after = w.in_ok-message-in-Some.ensures.passed;
           } in
-          let line = Found-line number first now w.pass.new.self before after w.in-Some.len w.in_ok-message-in-Some.field-0 w.in-Some-2.message s.found s.quiet passed s.within w.in-Some-2.is in
-          subst (λ (f : Framing). Found first f before after (Ok given)) (sym w.self-is) (subst (λ (o : Option Message). Found first w.pass.new.self before after (Ok o)) (sym w.given-is) line)
+          let line = Found-line number first now w.pass.new.self before after w.in-Some.len w.in_ok-message-in-Some.field-0 w.in-Some-2.message s.found
+          s.quiet passed s.within w.in-Some-2.is in
+          subst (λ (f : Framing). Found first f before after (Ok given)) (sym w.self-is)
+          (subst (λ (o : Option Message). Found first w.pass.new.self before after (Ok o)) (sym w.given-is) line)
       | in-None+then-has_ended+in_ok-given-in-None w ↦
           let last = w.in_ok-given-in-None.ensures in
           let passed : PassedLast number now w.last_line.new.self w.in_ok-given-in-None.given = record {
@@ -255,6 +275,8 @@ returns-clause-found g c =
             some = last.some;
           } in
           let line = Found-last number first now w.last_line.new.self before after w.in_ok-given-in-None.given s.found s.quiet passed s.within last.fits in
-          subst (λ (f : Framing). Found first f before after (Ok given)) (sym w.self-is) (subst (λ (o : Option Message). Found first w.last_line.new.self before after (Ok o)) (sym w.given-is) line)
+          subst (λ (f : Framing). Found first f before after (Ok given)) (sym w.self-is)
+          (subst (λ (o : Option Message). Found first w.last_line.new.self before after (Ok o)) (sym w.given-is) line)
     ] in
-    Found-done first (framing c.self-2.inside) before after given false (subst (λ (f : Framing). Found first f before after (Ok given)) (sym c.self-2.view_is) found)
+    Found-done first (framing c.self-2.inside) before after given false
+    (subst (λ (f : Framing). Found first f before after (Ok given)) (sym c.self-2.view_is) found)

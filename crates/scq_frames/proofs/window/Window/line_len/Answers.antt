@@ -36,9 +36,11 @@ returns-in-Some-clause-found c =
     let further = c.in-Some.further in
     let found = subst (λ (xs : List ℕ). IsFirstByte (is_byte 10) (slice_range xs w.searched w.end) (Some further)) c.deref.ensures.value c.in-Some.ensures in
     let within = found_within bytes w.searched w.end c.self.invariant.end further found in
-    let clear = clear-append bytes w.start w.searched (w.searched + further) c.self.invariant.clear (clear_from_some bytes w.searched w.end c.self.invariant.end further found) in
+    let clear = clear-append bytes w.start w.searched (w.searched + further) c.self.invariant.clear
+    (clear_from_some bytes w.searched w.end c.self.invariant.end further found) in
     let at = found_at bytes w.searched w.end c.self.invariant.end further found in
-    let ends : EndsAt _ (w.searched + further - w.start) = ends_part bytes w.start w.end c.self.invariant.end (w.searched + further) (omega arith) within clear at in
+    let ends : EndsAt _ (w.searched + further - w.start) =
+    ends_part bytes w.start w.end c.self.invariant.end (w.searched + further) (omega arith) within clear at in
     subst (λ (held : List ℕ). EndsAt held (w.searched + further - w.start)) c.self.view_is ends
 
 pub returns-in-None-clause-none : goal.returns-in-None-clause-none

@@ -63,7 +63,8 @@ invariant_of-pass-in-Spent g c =
     let heads = heads_of c.pass.inside.fulls.value in
     (refused_spent c.pass.inside.seat c.get.new.seat heads c.pass.inside.counts (Spent 0 c.in-Spent.ticket false) (spent_adds 0 c.in-Spent.ticket false)
     c.pass.invariant c.in-Err.ensures.lifted
-    (λ none. ap (λ (p : PassStanding g.row.B.Denot). p.calls) ((c.in-Err.ensures.spent c.in-Spent.ticket (ap (λ (r : DeqRefusal). Err r) c.in-Spent.is) none).0 heads))
+    (λ none. ap (λ (p : PassStanding g.row.B.Denot). p.calls)
+    ((c.in-Err.ensures.spent c.in-Spent.ticket (ap (λ (r : DeqRefusal). Err r) c.in-Spent.is) none).0 heads))
     (λ ticket some. (c.in-Err.ensures.kept ticket some).1)).0
 
 pub returns-in-Spent-clause-spent_lists : goal.returns-in-Spent-clause-spent_lists
@@ -71,7 +72,8 @@ returns-in-Spent-clause-spent_lists g c ticket is =
     let heads = heads_of c.pass.inside.fulls.value in
     (refused_spent c.pass.inside.seat c.get.new.seat heads c.pass.inside.counts (Spent 0 c.in-Spent.ticket false) (spent_adds 0 c.in-Spent.ticket false)
     c.pass.invariant c.in-Err.ensures.lifted
-    (λ none. ap (λ (p : PassStanding g.row.B.Denot). p.calls) ((c.in-Err.ensures.spent c.in-Spent.ticket (ap (λ (r : DeqRefusal). Err r) c.in-Spent.is) none).0 heads))
+    (λ none. ap (λ (p : PassStanding g.row.B.Denot). p.calls)
+    ((c.in-Err.ensures.spent c.in-Spent.ticket (ap (λ (r : DeqRefusal). Err r) c.in-Spent.is) none).0 heads))
     (λ kept some. (c.in-Err.ensures.kept kept some).1)).1
     ∙ ap (λ (p : PassStanding g.row.B.Denot). lists_of p) c.pass.view_is
 

@@ -13,7 +13,8 @@ passes_of-passes-requires-clause-new g c κs within =
 
 pub passes_of-passes-requires-clause-room : goal.passes_of-passes-requires-clause-room
 passes_of-passes-requires-clause-room g c κs within =
-    let many : length c.in-Ok-make.seats.items ≡ c.args.setup.seats = ap length c.in-Ok-make.ensures.seats ∙ as_many_seats c.in-Ok-make.band c.args.setup.seats in
+    let many : length c.in-Ok-make.seats.items ≡ c.args.setup.seats =
+    ap length c.in-Ok-make.ensures.seats ∙ as_many_seats c.in-Ok-make.band c.args.setup.seats in
     let whole = c.in-Ok-make.seats.ok in
     let room = c.in-Ok.ensures.capacity in
     let seats = c.seats.ensures in
@@ -21,7 +22,8 @@ passes_of-passes-requires-clause-room g c κs within =
 
 pub invariant_of-queue : goal.invariant_of-queue
 invariant_of-queue g c =
-    let many : length c.in-Ok-make.seats.items ≡ c.args.setup.seats = ap length c.in-Ok-make.ensures.seats ∙ as_many_seats c.in-Ok-make.band c.args.setup.seats in
+    let many : length c.in-Ok-make.seats.items ≡ c.args.setup.seats =
+    ap length c.in-Ok-make.ensures.seats ∙ as_many_seats c.in-Ok-make.band c.args.setup.seats in
     let whole = c.in-Ok-make.seats.ok in
     let kept = c.passes_of-passes.ensures.kept in
     let counts = c.in-Ok-with_capacity.ensures.capacity in

@@ -37,7 +37,8 @@ pub invariant_of-pass-in-Err : goal.invariant_of-pass-in-Err
 invariant_of-pass-in-Err g c =
     let heads = heads_of c.pass.inside.fulls.value in
     let ticket = c.in-Err.refused.1.ticket in
-    (refused_spent c.pass.inside.seat c.put.new.seat heads c.pass.inside.counts (Spent (c.args.topic + 1) ticket true) (spent_adds (c.args.topic + 1) ticket true)
+    (refused_spent c.pass.inside.seat c.put.new.seat heads c.pass.inside.counts (Spent (c.args.topic + 1) ticket true)
+    (spent_adds (c.args.topic + 1) ticket true)
     c.pass.invariant c.in-Err.ensures.lifted (λ none. ap (λ (p : PassStanding g.row.B.Denot). p.calls) ((c.in-Err.ensures.spent none).0 heads))
     (λ kept some. (c.in-Err.ensures.kept kept some).1)).0
 
@@ -45,7 +46,8 @@ pub returns-in-Err-clause-spent_lists : goal.returns-in-Err-clause-spent_lists
 returns-in-Err-clause-spent_lists g c =
     let heads = heads_of c.pass.inside.fulls.value in
     let ticket = c.in-Err.refused.1.ticket in
-    (refused_spent c.pass.inside.seat c.put.new.seat heads c.pass.inside.counts (Spent (c.args.topic + 1) ticket true) (spent_adds (c.args.topic + 1) ticket true)
+    (refused_spent c.pass.inside.seat c.put.new.seat heads c.pass.inside.counts (Spent (c.args.topic + 1) ticket true)
+    (spent_adds (c.args.topic + 1) ticket true)
     c.pass.invariant c.in-Err.ensures.lifted (λ none. ap (λ (p : PassStanding g.row.B.Denot). p.calls) ((c.in-Err.ensures.spent none).0 heads))
     (λ kept some. (c.in-Err.ensures.kept kept some).1)).1
     ∙ ap (λ (p : PassStanding g.row.B.Denot). lists_of p) c.pass.view_is

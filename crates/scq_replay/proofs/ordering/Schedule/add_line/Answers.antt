@@ -3,10 +3,10 @@ use Rattle.std.proofs.Common.{◌≡◌, ℕ, ◌<◌, ◌⊎◌, inl, inr, Some
 use Rattle.scq_word.specs.declared.setup.Setup.{Setup}
 use Rattle.scq_core.specs.StateLists.{machine_of}
 use Rattle.scq_core.specs.declared.step.Step.{Step}
+use Rattle.scq_hist.proofs.HandedOn.{handed_on}
 use Rattle.scq_replay.specs.Replay.{turn_of_line}
 use Rattle.scq_replay.specs.Steps.{IsRefused, bad_line, not_enabled}
 use Rattle.scq_replay.specs.declared.replaying.ScheduleFault.TheVariants.{NoMemory}
-use Rattle.scq_replay.proofs.StepsRun.{handed_on}
 use Rattle.scq_replay.proofs.ordering.Schedule.add_line.Goals as goal
 
 pub returns-in_err-seat-clause-refused : goal.returns-in_err-seat-clause-refused

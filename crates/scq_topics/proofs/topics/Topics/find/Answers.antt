@@ -8,6 +8,8 @@ use Rattle.scq_topics.proofs.topics.Topics.find.Goals as goal
 
 pub returns-clause-value : goal.returns-clause-value
 returns-clause-value c =
-    let found = position_from_yields_List (has_name c.args.name.now) _ _ c.position-found.result c.position-found.ensures.ran (YieldsList-from_slice c.args.self.now cc) (λ x b q k. search (rules, tests)) in
+    let found = position_from_yields_List (has_name c.args.name.now) _ _ c.position-found.result c.position-found.ensures.ran
+    (YieldsList-from_slice c.args.self.now cc) (λ x b q k. search (rules, tests)) in
     c.unwrap_or.ensures ∙ ap (unwrap_or c.position-found.result) (c.len.ensures.value ∙ ap length c.self.view_is)
-    ∙ place_or_len (topic_of c.args.self.now c.args.name.now) (length c.args.self.now) c.position-found.result (position_or_len-le (has_name c.args.name.now) c.args.self.now) found
+    ∙ place_or_len (topic_of c.args.self.now c.args.name.now) (length c.args.self.now) c.position-found.result
+    (position_or_len-le (has_name c.args.name.now) c.args.self.now) found

@@ -26,7 +26,8 @@ loop-entry-preserved c =
     let all = YieldsList-from_slice_split _ is_comma c.args.text.now (cc) (cc) (cc) (λ x b q k. search (rules, tests)) in
     let turn = YieldsList-turn all c.loop-entry.yielded _ c.loop-entry.yielded_by _ _ c.in-Some.entry c.in-Some.is c.next.ensures.steps in
     IsRead-more entries (first_fault [] entries) (length c.loop-entry.yielded) _ c.loop-entry.topics c.declare.new.self c.in-Some.entry.now
-    record { inside = turn.0; is = turn.1 } c.loop-entry.invariant (sym c.in_ok-declare.ensures.refused) c.in_ok-declare.ensures.declared (length_push c.loop-entry.yielded c.in-Some.entry)
+    record { inside = turn.0; is = turn.1 } c.loop-entry.invariant (sym c.in_ok-declare.ensures.refused) c.in_ok-declare.ensures.declared
+    (length_push c.loop-entry.yielded c.in-Some.entry)
 
 pub returns-in_err-declare-clause-refused : goal.returns-in_err-declare-clause-refused
 returns-in_err-declare-clause-refused c =

@@ -4,7 +4,7 @@ use Rattle.scq_work.specs.Desks.{all_given, HasRun}
 use Rattle.scq_work.specs.Working.{IsAtWork}
 use Rattle.scq_work.specs.declared.own_file.OwnFile.{OwnFile}
 use Rattle.scq_work.specs.declared.worker.Worker.{Worker}
-use Rattle.scq_work.proofs.FileLists.{written-whole}
+use Rattle.scq_work.proofs.Lists.{written-back}
 use Rattle.scq_work.proofs.RunLemmas.{suits-first, work-first, run-left, run-late, run-stopped}
 use Rattle.scq_work.proofs.desk.Desk.run.Goals as goal
 use Rattle.scq_work.proofs.desk.Desk.run.Goals.{After-read_files}
@@ -29,7 +29,7 @@ whole g c =
     let is = c.as_mut_slice-files.ensures.value in
     let long : length new ≡ length old = c.read_files.auto.files ∙ ap length is in
     let len : c.args.self.now.files.len ≡ length old = sym (c.as_mut_slice-files.ensures.len) ∙ ap length is in
-    written-whole c.args.self.now.files.len new old (omega (arith, long, len))
+    written-back c.args.self.now.files.len new old (omega (arith, long, len))
 
 pub retire-requires-clause-pass : goal.retire-requires-clause-pass
 retire-requires-clause-pass g c κs within = (c.in-Err.ensures.left (begun g (goal.at.retire-requires-clause-pass g c).After-read_files)).queue
@@ -50,9 +50,11 @@ returns-in-Err-leave-clause-run g c =
     let its = c.in-Ok.ensures in
     let same = c.keep.ensures.same in
     let files-are = ap (λ (v : _). v.items) same.1 ∙ whole g (goal.at.returns-in-Err-leave-clause-run g c).After-read_files in
-    subst (λ (w : Worker _). HasRun c.args.queue.now job.topics job.size faults left c.keep.new.self.files.items w.pass w.members.items w.starved kept) (sym same.0)
+    subst (λ (w : Worker _). HasRun c.args.queue.now job.topics job.size faults left c.keep.new.self.files.items w.pass w.members.items w.starved kept)
+    (sym same.0)
     (subst (λ (fs : List (OwnFile _)). HasRun c.args.queue.now job.topics job.size faults left fs now.pass now.members.items now.starved kept) (sym files-are)
-    (run-late c.args.queue.now job.topics job.size faults left files was.pass now.pass was.members.items now.members.items was.starved now.starved kept c.in-Err-leave.at_limit.held
+    (run-late c.args.queue.now job.topics job.size faults left files was.pass now.pass was.members.items now.members.items was.starved now.starved kept
+    c.in-Err-leave.at_limit.held
     its.read its.suits (its.work start) (c.in-Err-leave.ensures.left (length (all_given files))) c.keep.ensures.kept))
 
 pub returns-in-Err-leave-clause-number : goal.returns-in-Err-leave-clause-number
@@ -92,6 +94,8 @@ returns-in-Err-clause-run g c =
     let its = c.in-Err.ensures in
     let same = c.keep-in-Err.ensures.same in
     let files-are = ap (λ (v : _). v.items) same.1 ∙ whole g (goal.at.returns-in-Err-clause-run g c).After-read_files in
-    subst (λ (fs : List (OwnFile _)). HasRun c.args.queue.now job.topics job.size faults left fs now.worker.pass now.worker.members.items now.worker.starved now.kept) (sym files-are)
-    (run-stopped c.args.queue.now job.topics job.size faults left files was.pass now.worker.pass now.worker.members.items now.worker.starved now.kept c.in-Err.at_limit.held
+    subst (λ (fs : List (OwnFile _)). HasRun c.args.queue.now job.topics job.size faults left fs now.worker.pass now.worker.members.items now.worker.starved
+    now.kept) (sym files-are)
+    (run-stopped c.args.queue.now job.topics job.size faults left files was.pass now.worker.pass now.worker.members.items now.worker.starved now.kept
+    c.in-Err.at_limit.held
     its.read (its.left start) (ap (λ (w : Worker _). w.pass) same.0 ∙ c.retire.ensures) c.keep-in-Err.ensures.kept)

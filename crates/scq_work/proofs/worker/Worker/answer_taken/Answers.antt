@@ -2,7 +2,7 @@ use Rattle.std.proofs.Common.{◌≡◌, ap, arith, Some}
 use Rattle.scq_frames.specs.declared.message.Message.{Message}
 use Rattle.scq_frames.specs.Views.{message_of_view}
 use Rattle.scq_work.specs.Members.{and_passed_over}
-use Rattle.scq_work.proofs.ListLemmas.{so-far-answered}
+use Rattle.scq_work.proofs.MemberLemmas.{so-far-answered}
 use Rattle.scq_work.proofs.worker.Worker.answer_taken.Goals as goal
 
 -- what was decoded is the message of the bytes

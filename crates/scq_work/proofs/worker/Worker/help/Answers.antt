@@ -36,4 +36,5 @@ pub returns-in_err-take_one-clause-left : goal.returns-in_err-take_one-clause-le
 returns-in_err-take_one-clause-left g c =
     let is : c.from_residual.result ≡ Err c.in_err-take_one.field-0.0 = search rules in
     subst (λ (r : Result _ _). IfErr r (λ l. (messages : ℕ) → HasLeft messages messages c.args.self.now.pass c.take_one.new.self.pass l.held)) (sym is)
-    (λ messages. left-taken messages messages c.args.self.now.pass c.topics.self.pass c.take_one.new.self.pass _ c.topics.invariant.taken (c.in_err-take_one.ensures.left messages))
+    (λ messages. left-taken messages messages c.args.self.now.pass c.topics.self.pass c.take_one.new.self.pass _ c.topics.invariant.taken
+    (c.in_err-take_one.ensures.left messages))

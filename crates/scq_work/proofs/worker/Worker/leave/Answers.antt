@@ -15,7 +15,8 @@ sweeps-init g c =
     let xs = c.args.self.now.members.items in
     record {
       taken = subst (λ (q : PassStanding _). HasTaken (after_retire p) q) (sym c.retire.ensures) (taken-nothing (after_retire p));
-      answered = λ fed. subst (λ (q : PassStanding _). HasAnswered c.args.job.now.topics p q xs xs) (sym c.retire.ensures) (record { takes = λ h. h; directs = refl });
+      answered = λ fed. subst (λ (q : PassStanding _). HasAnswered c.args.job.now.topics p q xs xs) (sym c.retire.ensures)
+          (record { takes = λ h. h; directs = refl });
       starved = λ fed. fed;
       number = refl;
       idle = omega arith;
@@ -58,7 +59,8 @@ sweeps-preserved g c =
     let xs = c.sweeps.self.members.items in
     let said = c.closed-over.ensures.looked in
     let look : HasTaken at c.closed-over.new.pass = subst (λ (q : PassStanding _). HasTaken at q) (sym said.1) (looked at said.0) in
-    let same : HasAnswered topics at c.closed-over.new.pass xs xs = subst (λ (q : PassStanding _). HasAnswered topics at q xs xs) (sym said.1) (record { takes = λ h. h; directs = refl }) in
+    let same : HasAnswered topics at c.closed-over.new.pass xs xs =
+    subst (λ (q : PassStanding _). HasAnswered topics at q xs xs) (sym said.1) (record { takes = λ h. h; directs = refl }) in
     record {
       taken = taken-along (after_retire p) c.closed-over.new.pass c.sweep.new.self.pass (taken-along (after_retire p) at c.closed-over.new.pass inv.taken look)
           c.in_ok-some.ensures.taken;
@@ -76,7 +78,8 @@ returns-clause-taken g c =
     let at = c.sweeps.self.pass in
     let said = c.closed-over.ensures.looked in
     let look : HasTaken at c.closed-over.new.pass = subst (λ (q : PassStanding _). HasTaken at q) (sym said.1) (looked at said.0) in
-    taken-along (after_retire p) c.closed-over.new.pass c.sweep.new.self.pass (taken-along (after_retire p) at c.closed-over.new.pass c.sweeps.invariant.taken look)
+    taken-along (after_retire p) c.closed-over.new.pass c.sweep.new.self.pass
+    (taken-along (after_retire p) at c.closed-over.new.pass c.sweeps.invariant.taken look)
     c.in_ok-some.ensures.taken
 
 pub returns-clause-answered : goal.returns-clause-answered
@@ -86,7 +89,8 @@ returns-clause-answered g c fed =
     let topics = c.args.job.now.topics in
     let xs = c.sweeps.self.members.items in
     let said = c.closed-over.ensures.looked in
-    let same : HasAnswered topics at c.closed-over.new.pass xs xs = subst (λ (q : PassStanding _). HasAnswered topics at q xs xs) (sym said.1) (record { takes = λ h. h; directs = refl }) in
+    let same : HasAnswered topics at c.closed-over.new.pass xs xs =
+    subst (λ (q : PassStanding _). HasAnswered topics at q xs xs) (sym said.1) (record { takes = λ h. h; directs = refl }) in
     answered-along topics p c.closed-over.new.pass c.sweep.new.self.pass c.args.self.now.members.items xs c.sweep.new.self.members.items
     (answered-along topics p at c.closed-over.new.pass c.args.self.now.members.items xs xs (c.sweeps.invariant.answered (c.sweep.ensures.starved fed)) same)
     (c.in_ok-some.ensures.answered fed)

@@ -16,7 +16,8 @@ pub send_in-requires-clause-room : goal.send_in-requires-clause-room
 send_in-requires-clause-room g c κs within =
     let laws = g.met.B.Buffer g.world.𝓛 g.world.𝓜 g.world.𝓡 ((λ s x. x), (λ x. x), (λ x. x), (λ x. x)) in
     let given = c.in-Ok.ensures.given in
-    let room = one-of-all (λ b. c.args.job.now.size + 16 ≤ length (g.B.Buffer.contents b)) c.args.queue.now.given c.in-Ok.held.index given.first c.requires.room given.was in
+    let room = one-of-all (λ b. c.args.job.now.size + 16 ≤ length (g.B.Buffer.contents b)) c.args.queue.now.given c.in-Ok.held.index given.first
+    c.requires.room given.was in
     let same = laws.same_length given.first c.in-Ok.held.buffer given.same in
     omega (arith, room, same, c.requires.short)
 
@@ -27,12 +28,14 @@ returns-in_err-send_in-in-Ok-clause-left g c =
     let p = c.args.self.now.pass in
     let said = c.in_err-send_in-in-Ok.ensures in
     let is : c.from_residual.result ≡ Err c.in_err-send_in-in-Ok.field-0.0 = search rules in
-    subst (λ (r : Result _ _). IfErr r (λ l. (messages : List Message) → IsAtWork c.args.job.now.topics messages p c.args.self.now.members.items c.args.self.now.starved
+    subst (λ (r : Result _ _). IfErr r (λ l. (messages : List Message)
+    → IsAtWork c.args.job.now.topics messages p c.args.self.now.members.items c.args.self.now.starved
     → HasStopped c.args.queue.now (length (messages ++ m ∷ [])) c.send_in.new.self.pass l.held)) (sym is)
     (λ messages was.
     let kept = c.in_err-send_in-in-Ok.field-0.0.held in
     let left : HasLeft (length messages) (length messages + 1) p c.send_in.new.self.pass kept =
-    left-sent g.B.Buffer.contents (length messages) m.topic said.spent.0 p c.lend.new.pass c.send_in.new.self.pass c.in-Ok.held kept c.in-Ok.ensures.lent said.spent.1 said.kept said.back in
+    left-sent g.B.Buffer.contents (length messages) m.topic said.spent.0 p c.lend.new.pass c.send_in.new.self.pass c.in-Ok.held kept c.in-Ok.ensures.lent
+    said.spent.1 said.kept said.back in
     work-stopped c.args.queue.now c.args.job.now.topics messages m p c.send_in.new.self.pass c.args.self.now.members.items c.args.self.now.starved kept was
     c.requires.suits.queue c.requires.stays left)
 
@@ -56,7 +59,8 @@ pub returns-in-Err-Spent-clause-left : goal.returns-in-Err-Spent-clause-left
 returns-in-Err-Spent-clause-left g c messages was =
     let p = c.args.self.now.pass in
     let spent = (c.in-Err-Spent.ensures.spent c.in-Err-Spent.field-0-0 (cc) c.requires.suits.spent).0 in
-    work-stopped c.args.queue.now c.args.job.now.topics messages c.args.message.now p c.lend.new.pass c.args.self.now.members.items c.args.self.now.starved None was
+    work-stopped c.args.queue.now c.args.job.now.topics messages c.args.message.now p c.lend.new.pass c.args.self.now.members.items
+    c.args.self.now.starved None was
     c.requires.suits.queue c.requires.stays
     (left-more (length messages) p c.lend.new.pass None (left-at-get (length messages) 0 c.in-Err-Spent.field-0-0 p c.lend.new.pass spent))
 
@@ -81,13 +85,15 @@ returns-in_err-help-in-Err-Full-clause-left g c =
     let full = full-at g (goal.at.returns-in_err-help-in-Err-Full-clause-left g c).After-answer_directly in
     let kept = c.in_err-help-in-Err-Full.field-0.0.held in
     let is : c.from_residual-in_err-help-in-Err-Full.result ≡ Err c.in_err-help-in-Err-Full.field-0.0 = search rules in
-    subst (λ (x : Result _ _). IfErr x (λ l. (messages : List Message) → IsAtWork c.args.job.now.topics messages p c.args.self.now.members.items c.args.self.now.starved
+    subst (λ (x : Result _ _). IfErr x (λ l. (messages : List Message)
+    → IsAtWork c.args.job.now.topics messages p c.args.self.now.members.items c.args.self.now.starved
     → HasStopped c.args.queue.now (length (messages ++ m ∷ [])) r l.held)) (sym is)
     (λ messages was.
     let left : HasLeft (length messages + 1) (length messages + 1) c.lend.new.pass r kept =
     subst (λ (q : PassStanding _). HasLeft (length messages + 1) (length messages + 1) q r kept) c.answer_directly.ensures.same.0
     (c.in_err-help-in-Err-Full.ensures.left (length messages + 1)) in
-    work-stopped c.args.queue.now c.args.job.now.topics messages m p r c.args.self.now.members.items c.args.self.now.starved kept was c.requires.suits.queue c.requires.stays
+    work-stopped c.args.queue.now c.args.job.now.topics messages m p r c.args.self.now.members.items c.args.self.now.starved kept was c.requires.suits.queue
+    c.requires.stays
     (left-full (length messages) c.in-Err-Full.head p c.lend.new.pass r kept full left))
 
 -- it helped
@@ -121,7 +127,8 @@ returns-in_ok-help-in-Err-Full-clause-work g c messages was =
     let now = c.help.new.self in
     let mid = c.answer_directly.new.self in
     let same = c.answer_directly.ensures.same.0 in
-    work-helped topics messages c.args.message.now c.in-Err-Full.head c.args.self.now.pass c.lend.new.pass now.pass c.args.self.now.members.items mid.members.items now.members.items
+    work-helped topics messages c.args.message.now c.in-Err-Full.head c.args.self.now.pass c.lend.new.pass now.pass c.args.self.now.members.items
+    mid.members.items now.members.items
     c.args.self.now.starved now.starved was full (helped g c)
     (λ t low. said.each t low ∙ ap (λ (x : PassStanding _). count_by (is_take t) x.calls + 1) same)
     (λ fed. c.answer_directly.ensures.starved (c.help.ensures.starved fed))

@@ -5,7 +5,8 @@ use Rattle.scq_work.specs.Desks.{IsNew, ids_of, all_given}
 use Rattle.scq_work.specs.Given.{given_in}
 use Rattle.scq_work.specs.Reading.{IsRead}
 use Rattle.scq_work.specs.Working.{IsAtWork, HasStopped}
-use Rattle.scq_work.proofs.FileLists.{set-all, given-set, ids-set, given-none}
+use Rattle.scq_work.proofs.FileLists.{given-set, ids-set, given-none}
+use Rattle.scq_work.proofs.Lists.{set-each}
 use Rattle.scq_work.proofs.ReadLemmas.{reading-unread}
 use Rattle.scq_work.proofs.worker.Worker.read_files.Goals as goal
 use Rattle.scq_work.proofs.worker.Worker.read_files.Goals.{After-read_file}
@@ -19,30 +20,36 @@ same-after g c =
     ids-set c.files.files at c.read_file.new.file c.index-files-at.result within c.read_file.ensures.same.0 c.read_file.ensures.same.1 ∙ inv.same
 
 -- what is known of each file is what was read of it
-read-after : (g : _) (c : After-read_file g) → All (λ f. IsRead c.args.job.now.topics c.args.job.now.size g.S.Source.faults g.S.Source.left f.number f.was.value f.source
+read-after : (g : _) (c : After-read_file g)
+    → All (λ f. IsRead c.args.job.now.topics c.args.job.now.size g.S.Source.faults g.S.Source.left f.number f.was.value f.source
     (given_in f.given.value) f.end) (set c.files.files (c.files.at - 1) c.read_file.new.file)
 read-after g c k d less =
     let at = c.files.at - 1 in
     let inv = c.files.invariant in
     let within : at < length c.files.files = omega (arith, c.files-test.true, inv.within) in
-    set-all (λ j f. IsRead c.args.job.now.topics c.args.job.now.size g.S.Source.faults g.S.Source.left f.number f.was.value f.source (given_in f.given.value) f.end) c.files.files at
-    c.read_file.new.file d within c.read_file.ensures.read (λ j below apart. inv.read j d below) k (omega (arith, less, length-set c.files.files at c.read_file.new.file))
+    set-each (λ j f. IsRead c.args.job.now.topics c.args.job.now.size g.S.Source.faults g.S.Source.left f.number f.was.value f.source
+    (given_in f.given.value) f.end) c.files.files at
+    c.read_file.new.file d within c.read_file.ensures.read (λ j below apart. inv.read j d below) k
+    (omega (arith, less, length-set c.files.files at c.read_file.new.file))
 
 -- what all gave, with what this one gave
-given-after : (g : _) (c : After-read_file g) → all_given (set c.files.files (c.files.at - 1) c.read_file.new.file) ≡ all_given c.files.files ++ given_in c.read_file.new.file.given.value
+given-after : (g : _) (c : After-read_file g)
+    → all_given (set c.files.files (c.files.at - 1) c.read_file.new.file) ≡ all_given c.files.files ++ given_in c.read_file.new.file.given.value
 given-after g c =
     let at = c.files.at - 1 in
     let inv = c.files.invariant in
     let within : at < length c.files.files = omega (arith, c.files-test.true, inv.within) in
     let low : at < c.files.at = omega (arith, c.files-test.true) in
-    given-set c.files.files at c.read_file.new.file c.index-files-at.result within (λ k below. (inv.unread k c.index-files-at.result (omega (arith, below, low))).given)
+    given-set c.files.files at c.read_file.new.file c.index-files-at.result within
+    (λ k below. (inv.unread k c.index-files-at.result (omega (arith, below, low))).given)
 
 pub files-init : goal.files-init
 files-init g c = record {
   within = omega arith;
   unread = λ k d less. c.requires.unread k d less;
   same = refl;
-  read = λ k d less. reading-unread c.args.job.now.topics c.args.job.now.size g.S.Source.faults g.S.Source.left (slice_index_or c.args.files.now k d) (c.requires.unread k d less);
+  read = λ k d less. reading-unread c.args.job.now.topics c.args.job.now.size g.S.Source.faults g.S.Source.left (slice_index_or c.args.files.now k d)
+      (c.requires.unread k d less);
   suits = c.requires.suits;
   stays = c.requires.stays;
   work = λ was.
@@ -96,7 +103,7 @@ files-preserved g c =
     let its = c.in_ok-read_file.ensures in
     record {
       within = omega (arith, within, long);
-      unread = λ k d less. set-all (λ j f. j < at → IsNew f) c.files.files at c.read_file.new.file d within (λ h. absurd (omega arith))
+      unread = λ k d less. set-each (λ j f. j < at → IsNew f) c.files.files at c.read_file.new.file d within (λ h. absurd (omega arith))
           (λ j below apart h. inv.unread j d (omega (arith, h, low))) k (omega (arith, less, within)) less;
       same = same-after g (goal.at.files-preserved g c).After-read_file;
       read = read-after g (goal.at.files-preserved g c).After-read_file;
@@ -104,7 +111,8 @@ files-preserved g c =
       stays = its.stays;
       work = λ was.
           let all = given-after g (goal.at.files-preserved g c).After-read_file in
-          subst (λ (ms : List _). IsAtWork c.args.job.now.topics ms now.pass now.members.items now.starved) (sym all) (its.work (all_given c.files.files) (inv.work was));
+          subst (λ (ms : List _). IsAtWork c.args.job.now.topics ms now.pass now.members.items now.starved) (sym all)
+          (its.work (all_given c.files.files) (inv.work was));
       starved = λ fed. inv.starved (c.read_file.ensures.starved fed);
       number = c.read_file.ensures.number.0 ∙ inv.number;
       pass = c.read_file.ensures.number.1 ∙ inv.pass;

@@ -28,7 +28,8 @@ said g c =
     }
 
 -- with the message that it gave
-reading : (g : _) (c : After-pass_on g) → Answers g.S.Source.faults g.S.Source.left c.messages.source c.next.new.source c.messages.framer c.next.new.self → IsReading c.args.job.now.topics c.args.job.now.size g.S.Source.faults g.S.Source.left c.args.file c.args.source.now c.next.new.source
+reading : (g : _) (c : After-pass_on g) → Answers g.S.Source.faults g.S.Source.left c.messages.source c.next.new.source c.messages.framer c.next.new.self
+    → IsReading c.args.job.now.topics c.args.job.now.size g.S.Source.faults g.S.Source.left c.args.file c.args.source.now c.next.new.source
     c.next.new.self (given_in c.give.new.given.value)
 reading g c answer =
     let m = c.in-Ok-Some.message in
@@ -49,16 +50,20 @@ reading g c answer =
     let fits : length m.payload ≤ c.messages.framer.size = subst S is its.fits in
     let known : m.topic ≤ length topics = subst T is its.topic in
     let found : Found c.messages.framer c.next.new.self (left c.messages.source) (left c.next.new.source) (Ok (Some m)) = subst F is its.found in
-    reading-next c.args.job.now.topics c.args.job.now.size g.S.Source.faults g.S.Source.left c.args.file start c.messages.source c.next.new.source c.messages.framer c.next.new.self
+    reading-next c.args.job.now.topics c.args.job.now.size g.S.Source.faults g.S.Source.left c.args.file start c.messages.source c.next.new.source
+    c.messages.framer c.next.new.self
     (given_in c.messages.given.value) (given_in c.give.new.given.value) m c.messages.invariant.reading answer gives next known fits found its.failed
     (its.kept (λ e. absurd (cc))) c.give.ensures
 
 pub returns-in_err-pass_on-in-Ok-Some-clause-read : goal.returns-in_err-pass_on-in-Ok-Some-clause-read
 returns-in_err-pass_on-in-Ok-Some-clause-read g c =
-    let now = reading g (goal.at.returns-in_err-pass_on-in-Ok-Some-clause-read g c).After-pass_on (said g (goal.at.returns-in_err-pass_on-in-Ok-Some-clause-read g c).After-next) in
-    let P : FileEnd → Type 0 = λ end. IsRead c.args.job.now.topics c.args.job.now.size g.S.Source.faults g.S.Source.left c.args.file c.args.source.now c.next.new.source
+    let now = reading g (goal.at.returns-in_err-pass_on-in-Ok-Some-clause-read g c).After-pass_on
+    (said g (goal.at.returns-in_err-pass_on-in-Ok-Some-clause-read g c).After-next) in
+    let P : FileEnd → Type 0 =
+    λ end. IsRead c.args.job.now.topics c.args.job.now.size g.S.Source.faults g.S.Source.left c.args.file c.args.source.now c.next.new.source
     (given_in c.give.new.given.value) end in
-    subst P (sym c.messages.invariant.end) (reading-left c.args.job.now.topics c.args.job.now.size g.S.Source.faults g.S.Source.left c.args.file c.args.source.now c.next.new.source
+    subst P (sym c.messages.invariant.end) (reading-left c.args.job.now.topics c.args.job.now.size g.S.Source.faults g.S.Source.left c.args.file
+    c.args.source.now c.next.new.source
     c.next.new.self (given_in c.give.new.given.value) now)
 
 pub returns-in_err-pass_on-in-Ok-Some-clause-left : goal.returns-in_err-pass_on-in-Ok-Some-clause-left
@@ -77,9 +82,11 @@ returns-in_err-pass_on-in-Ok-Some-clause-left g c =
 pub returns-then-self-clause-read : goal.returns-then-self-clause-read
 returns-then-self-clause-read g c =
     let now = reading g (goal.at.returns-then-self-clause-read g c).After-pass_on (said g (goal.at.returns-then-self-clause-read g c).After-next) in
-    let P : FileEnd → Type 0 = λ end. IsRead c.args.job.now.topics c.args.job.now.size g.S.Source.faults g.S.Source.left c.args.file c.args.source.now c.next.new.source
+    let P : FileEnd → Type 0 =
+    λ end. IsRead c.args.job.now.topics c.args.job.now.size g.S.Source.faults g.S.Source.left c.args.file c.args.source.now c.next.new.source
     (given_in c.give.new.given.value) end in
-    subst P (sym c.messages.invariant.end) (reading-left c.args.job.now.topics c.args.job.now.size g.S.Source.faults g.S.Source.left c.args.file c.args.source.now c.next.new.source
+    subst P (sym c.messages.invariant.end) (reading-left c.args.job.now.topics c.args.job.now.size g.S.Source.faults g.S.Source.left c.args.file
+    c.args.source.now c.next.new.source
     c.next.new.self (given_in c.give.new.given.value) now)
 
 pub returns-then-self-clause-work : goal.returns-then-self-clause-work
@@ -122,8 +129,10 @@ returns-in-Ok-None-clause-read g c =
     let none_ : ahead ≡ option_map (λ _. []) (left c.messages.source) = subst N is its.none in
     let over : IsTrue c.next.new.self.ended × (c.next.new.self.held ≡ []) = subst O is its.over in
     let found : Found c.messages.framer c.next.new.self (left c.messages.source) (left c.next.new.source) (Ok None) = subst F is its.found in
-    reading-whole c.args.job.now.topics c.args.job.now.size g.S.Source.faults g.S.Source.left c.args.file c.args.source.now c.messages.source c.next.new.source c.messages.framer
-    c.next.new.self (given_in c.messages.given.value) c.messages.invariant.reading (said g (goal.at.returns-in-Ok-None-clause-read g c).After-next) none_ found over.0
+    reading-whole c.args.job.now.topics c.args.job.now.size g.S.Source.faults g.S.Source.left c.args.file c.args.source.now c.messages.source
+    c.next.new.source c.messages.framer
+    c.next.new.self (given_in c.messages.given.value) c.messages.invariant.reading (said g (goal.at.returns-in-Ok-None-clause-read g c).After-next) none_
+    found over.0
     (its.kept (λ e. absurd (cc)))
 
 pub returns-in-Err-clause-read : goal.returns-in-Err-clause-read
@@ -131,7 +140,9 @@ returns-in-Err-clause-read g c =
     let its = c.next.ensures in
     let fault = c.in-Err.fault in
     let is = c.in-Err.is in
-    reading-fault c.args.job.now.topics c.args.job.now.size g.S.Source.faults g.S.Source.left c.args.file c.args.source.now c.messages.source c.next.new.source c.messages.framer
-    c.next.new.self (given_in c.messages.given.value) fault c.messages.invariant.reading (said g (goal.at.returns-in-Err-clause-read g c).After-next) c.in-Err.ensures.found
+    reading-fault c.args.job.now.topics c.args.job.now.size g.S.Source.faults g.S.Source.left c.args.file c.args.source.now c.messages.source
+    c.next.new.source c.messages.framer
+    c.next.new.self (given_in c.messages.given.value) fault c.messages.invariant.reading (said g (goal.at.returns-in-Err-clause-read g c).After-next)
+    c.in-Err.ensures.found
     (λ e. its.read_fault (is ∙ ap Err e)) (λ e. its.going (is ∙ ap Err e)) (λ other. its.kept (λ e. other (cc)))
     (λ line len e. its.too_long line len (is ∙ ap Err e)) (λ n e. its.too_large n (is ∙ ap Err e))

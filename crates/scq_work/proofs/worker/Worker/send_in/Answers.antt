@@ -16,5 +16,9 @@ returns-in-Ok-clause-sent g c =
       c.in-Ok.field-0,
       bytes,
       sent ∙ ap (λ w. after_put (suc m.topic) c.args.held.index c.in-Ok.field-0 w c.args.self.now.pass) is,
-      record { topic = refl; fits = record { file = search rules; line = search rules; topic = search rules; payload = c.requires.short }; bytes = (drop (16 + length m.payload) c.bytes_mut.result.now, begins) },
+      record {
+        topic = refl;
+        fits = record { file = search rules; line = search rules; topic = search rules; payload = c.requires.short };
+        bytes = (drop (16 + length m.payload) c.bytes_mut.result.now, begins);
+      },
     )

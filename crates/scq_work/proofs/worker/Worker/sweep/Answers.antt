@@ -26,7 +26,8 @@ swept-preserved g c =
     record {
       taken = taken-along c.args.self.now.pass c.swept.self.pass c.sweep_topic.new.self.pass inv.taken more;
       answered = λ fed. answered-along c.args.job.now.topics c.args.self.now.pass c.swept.self.pass c.sweep_topic.new.self.pass c.args.self.now.members.items
-          c.swept.self.members.items c.sweep_topic.new.self.members.items (inv.answered (c.sweep_topic.ensures.starved fed)) (c.in_ok-more.ensures.answered fed);
+          c.swept.self.members.items c.sweep_topic.new.self.members.items (inv.answered (c.sweep_topic.ensures.starved fed))
+          (c.in_ok-more.ensures.answered fed);
       starved = λ fed. inv.starved (c.sweep_topic.ensures.starved fed);
       number = c.sweep_topic.ensures.number ∙ inv.number;
       empty = empty-more c.swept.topic c.swept.self.pass c.sweep_topic.new.self.pass more inv.empty c.in_ok-more.ensures.empty;
@@ -49,4 +50,5 @@ pub returns-in_err-more-clause-left : goal.returns-in_err-more-clause-left
 returns-in_err-more-clause-left g c =
     let is : c.from_residual.result ≡ Err c.in_err-more.field-0.0 = search rules in
     subst (λ (r : Result _ _). IfErr r (λ l. (messages : ℕ) → HasLeft messages messages c.args.self.now.pass c.sweep_topic.new.self.pass l.held)) (sym is)
-    (λ messages. left-taken messages messages c.args.self.now.pass c.swept.self.pass c.sweep_topic.new.self.pass _ c.swept.invariant.taken (c.in_err-more.ensures.left messages))
+    (λ messages. left-taken messages messages c.args.self.now.pass c.swept.self.pass c.sweep_topic.new.self.pass _ c.swept.invariant.taken
+    (c.in_err-more.ensures.left messages))

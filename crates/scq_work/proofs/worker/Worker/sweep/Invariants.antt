@@ -11,5 +11,6 @@ invariant-swept g l = record {
   starved : l.self.starved ≡ false → l.fn.self.starved ≡ false;
   number : l.self.number ≡ l.fn.self.number;
   empty : (t : ℕ) → t < l.topic → (known_on t l.self.pass).finished < (known_on t l.self.pass).head;
-  some : l.some ≡ true → takes_left l.queue.setup.limit (length l.job.topics + 1) l.self.pass < takes_left l.queue.setup.limit (length l.job.topics + 1) l.fn.self.pass;
+  some : l.some ≡ true → takes_left l.queue.setup.limit (length l.job.topics + 1) l.self.pass
+      < takes_left l.queue.setup.limit (length l.job.topics + 1) l.fn.self.pass;
 }

@@ -44,4 +44,5 @@ pub returns-in_err-more-clause-left : goal.returns-in_err-more-clause-left
 returns-in_err-more-clause-left g c =
     let is : c.from_residual.result ≡ Err c.in_err-more.field-0.0 = search rules in
     subst (λ (r : Result _ _). IfErr r (λ l. (messages : ℕ) → HasLeft messages messages c.args.self.now.pass c.take_one.new.self.pass l.held)) (sym is)
-    (λ messages. left-taken messages messages c.args.self.now.pass c.takes.self.pass c.take_one.new.self.pass _ c.takes.invariant.taken (c.in_err-more.ensures.left messages))
+    (λ messages. left-taken messages messages c.args.self.now.pass c.takes.self.pass c.take_one.new.self.pass _ c.takes.invariant.taken
+    (c.in_err-more.ensures.left messages))

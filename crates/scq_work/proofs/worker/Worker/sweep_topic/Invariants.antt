@@ -10,7 +10,8 @@ invariant-takes g l = record {
   answered : l.self.starved ≡ false → HasAnswered l.job.topics l.fn.self.pass l.self.pass l.fn.self.members.items l.self.members.items;
   starved : l.self.starved ≡ false → l.fn.self.starved ≡ false;
   number : l.self.number ≡ l.fn.self.number;
-  some : l.some ≡ true → ((known_on l.topic l.fn.self.pass).head < (known_on l.topic l.self.pass).head) × ((known_on l.topic l.fn.self.pass).head < l.queue.setup.limit);
+  some : l.some ≡ true → ((known_on l.topic l.fn.self.pass).head < (known_on l.topic l.self.pass).head)
+      × ((known_on l.topic l.fn.self.pass).head < l.queue.setup.limit);
 }
 
 -- each take that gets something has a place that is not below the head known, and below the limit

@@ -12,14 +12,16 @@ pub returns-in-Ok-give_back-clause-taken : goal.returns-in-Ok-give_back-clause-t
 returns-in-Ok-give_back-clause-taken g c =
     let low : suc c.args.topic < length c.args.self.now.pass.numbers = let n = c.requires.suits.numbers in omega arith in
     took-one g.B.Buffer.contents c.args.topic c.in-Ok.place c.args.self.now.pass c.take.new.pass c.give_back.new.pass c.in-Ok.held low c.in-Ok.ensures.took
-    (subst (λ (p : PassStanding _). WasGivenBack (g.B.Buffer.contents c.in-Ok.held.buffer) c.in-Ok.held.index p c.give_back.new.pass) c.answer_taken.ensures.same.0 c.in-Ok-give_back.ensures.given)
+    (subst (λ (p : PassStanding _). WasGivenBack (g.B.Buffer.contents c.in-Ok.held.buffer) c.in-Ok.held.index p c.give_back.new.pass)
+    c.answer_taken.ensures.same.0 c.in-Ok-give_back.ensures.given)
 
 pub returns-in-Err-clause-left : goal.returns-in-Err-clause-left
 returns-in-Err-clause-left g c messages =
     let fresh : c.answer_taken.new.self.pass.spent ≡ None =
     ap (λ (x : PassStanding _). x.spent) (c.answer_taken.ensures.same.0 ∙ c.in-Ok.ensures.took.pass) ∙ c.requires.suits.spent in
     let said = c.in-Err.ensures.spent fresh in
-    left-at-return g.B.Buffer.contents messages c.args.topic c.in-Ok.place c.in-Err.field-0-1.ticket c.args.self.now.pass c.take.new.pass c.give_back.new.pass c.in-Ok.held c.in-Err.held
+    left-at-return g.B.Buffer.contents messages c.args.topic c.in-Ok.place c.in-Err.field-0-1.ticket c.args.self.now.pass c.take.new.pass
+    c.give_back.new.pass c.in-Ok.held c.in-Err.held
     c.in-Ok.ensures.took (said.0 ∙ ap (after_spent_put 0 c.in-Err.field-0-1.ticket) c.answer_taken.ensures.same.0) c.in-Err.ensures.back
 
 pub returns-in-Err-Empty-clause-taken : goal.returns-in-Err-Empty-clause-taken

@@ -1,7 +1,6 @@
--- A worker's list when what was taken is answered, or is no message.
-use Rattle.std.proofs.Common.{◌≡◌, refl, sym, ◌∙◌, ap, subst, ℕ, ◌≤◌, List, [], ◌∷◌, ◌++◌, length}
+-- A worker's list when what was taken is answered.
+use Rattle.std.proofs.Common.{◌≡◌, refl, sym, ◌∙◌, ap, subst, ◌≤◌, List, [], ◌∷◌, ◌++◌, length, ℕ}
 use Rattle.std.specs.Prelude.{filter}
-use Rattle.std.proofs.lemmas.List.{append-nil}
 use Rattle.std.proofs.lemmas.List.Elements.{filter-append}
 use Rattle.scq_topics.specs.declared.kind.Kind.{Kind}
 use Rattle.scq_frames.specs.declared.message.Message.{Message}
@@ -9,7 +8,7 @@ use Rattle.scq_frames.specs.Encoded.{IsEncodable, BeginsWith}
 use Rattle.scq_collect.specs.declared.answered.Answered.{Answered}
 use Rattle.scq_collect.specs.declared.answered.Way.TheVariants.{Taken}
 use Rattle.scq_queue.specs.Lists.{Placed}
-use Rattle.scq_work.specs.Members.{answered, is_taken, is_direct, AnswersSoFar, and_answered, AnswersTake}
+use Rattle.scq_work.specs.Members.{answered, is_taken, AnswersSoFar, and_answered, AnswersTake}
 
 pub so-far-answered : (topics : List (List ℕ × Kind)) (takes : List Placed) (was is : List Answered) (take : Placed) (m : Message) → m.topic ≤ length topics
     → BeginsWith take.bytes m → ((other : Message) → IsEncodable other → BeginsWith take.bytes other → m ≡ other)
@@ -20,9 +19,3 @@ so-far-answered topics takes was is take m known begins only grown before =
     let list : filter is_taken is ≡ filter is_taken was ++ a ∷ [] = ap (filter is_taken) grown ∙ filter-append is_taken was (a ∷ []) in
     let answers : AnswersTake topics take a = record { message = m; decodes = record { begins = begins; only = only }; known = known; answer = refl } in
     subst (AnswersSoFar topics (takes ++ take ∷ [])) (sym list) (and_answered take a before answers)
-
-pub directs-stay : (topics : List (List ℕ × Kind)) (place : ℕ) (was is : List Answered) (m : Message) → is ≡ was ++ answered topics (Taken place) m ∷ []
-    → filter is_direct is ≡ filter is_direct was
-directs-stay topics place was is m grown =
-    let a = answered topics (Taken place) m in
-    ap (filter is_direct) grown ∙ filter-append is_direct was (a ∷ []) ∙ append-nil (filter is_direct was)

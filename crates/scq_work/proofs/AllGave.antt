@@ -1,0 +1,177 @@
+-- The files of all desks once their workers have left: they are those of the sources, each once. So what the workers passed on is what the
+-- sources gave, and that is little.
+use Rattle.std.proofs.Common.{◌≡◌, refl, sym, ◌∙◌, ap, subst, inl, inr, arith, false, zero, suc, ℕ, ◌+◌, ◌*◌, ◌^◌, ◌<◌, ◌≤◌, List, [], ◌∷◌, ◌++◌, length, map, reverse, get_or, Option, Some, None}
+use Rattle.std.specs.Prelude.{slice_index_or, slice_get, flat_map, sum_by}
+use Rattle.std.specs.List.{All, AllZip}
+use Rattle.std.specs.List.Sorted.{IsPermutation}
+use Rattle.std.proofs.lemmas.List.{length-append, reverse-reverse}
+use Rattle.std.proofs.lemmas.List.Concat.{length-flat_map}
+use Rattle.std.proofs.lemmas.List.Sorted.{All-permutation, IsPermutation-reverse, length_permutation}
+use Rattle.std.proofs.lemmas.Option.{slice_get-get_or, slice_get_within, slice_get_cases}
+use Rattle.scq_topics.specs.declared.kind.Kind.{Kind}
+use Rattle.scq_frames.specs.declared.message.Message.{Message}
+use Rattle.scq_word.specs.declared.setup.Setup.{Setup}
+use Rattle.scq_word.specs.Sizes.{n_of}
+use Rattle.scq_band.specs.Standing.{Identity}
+use Rattle.scq_work.specs.Dealings.{AreDealt}
+use Rattle.scq_work.specs.Desks.{HasRun, all_given, ids_of}
+use Rattle.scq_work.specs.Ends.{AreGiven, FileGave}
+use Rattle.scq_work.specs.Files.{files_of, own_of, OfEachFile}
+use Rattle.scq_work.specs.Given.{given_in}
+use Rattle.scq_work.specs.Reading.{IsRead, GaveAll}
+use Rattle.scq_work.specs.declared.desk.Desk.{Desk}
+use Rattle.scq_work.specs.declared.own_file.OwnFile.{OwnFile}
+use Rattle.scq_work.specs.declared.own_file.FileEnd.TheVariants.{Whole}
+use Rattle.scq_work.proofs.Cleared.{IsWholeFile, AllWhole}
+use Rattle.scq_work.proofs.Conclusion.{flat-of}
+use Rattle.scq_work.proofs.Dealt.{upto, seconds, all-dealt, collected}
+use Rattle.scq_work.proofs.Lists.{map-reverse}
+
+-- what a file gave, and that it is not much
+abbrev Gave : {S : Type 0} → List (List ℕ × Kind) → ℕ → (S → Option (List ℕ)) → ℕ × S → List Message → Type 0
+Gave topics size left f own = FileGave topics size left f.0 f.1 own × (length own ≤ 2 ^ 29)
+
+abbrev pub given_of : {S : Type 0} → OwnFile S → List Message
+given_of f = given_in f.given.value
+
+-- files that were read to their ends, with what they gave
+files-gave : {S : Type 0} (topics : List (List ℕ × Kind)) (size : ℕ) (faults : S → ℕ) (left : S → Option (List ℕ)) (files : List (OwnFile S))
+    → All (λ f. IsRead topics size faults left f.number f.was.value f.source (given_of f) f.end) files → All IsWholeFile files
+    → AllZip (Gave topics size left) (ids_of files) (map given_of files)
+files-gave topics size faults left [] read whole = tt
+files-gave {S} topics size faults left (f ∷ files) read whole =
+    let its = read zero f (omega arith) in
+    let end : f.end ≡ Whole = whole zero f (omega arith) in
+    let gave = subst (λ e. GaveAll topics f.number (left f.was.value) e (given_of f)) end its.gave in (
+      (record { of = its.all; short = its.short; all = gave }, its.few),
+      files-gave topics size faults left files (λ k d less. read (suc k) d (omega arith)) (λ k d less. whole (suc k) d (omega arith)),
+    )
+
+-- the lists of files, one behind the other
+flat-lists : {X A : Type 0} (f : X → List A) (xs : List X) → flat_map (λ l. l) (map f xs) ≡ flat_map f xs
+flat-lists f xs = flat-of (λ (l : List _). l) f xs
+
+-- what is made of each of several by its number
+by-number : {X A : Type 0} (f : X → List A) (m : ℕ → List A) (xs : List X) (from : ℕ) → ((k : ℕ) (d : X) → k < length xs → f (get_or xs k d) ≡ m (from + k))
+    → flat_map f xs ≡ flat_map m (upto from (length xs))
+by-number f m [] from each = refl
+by-number f m (x ∷ xs) from each =
+    let at : from + zero ≡ from = omega arith in
+    let here : f x ≡ m from = each zero x (omega arith) ∙ ap m at in
+    let rest = by-number f m xs (from + 1) (λ k d less. each (suc k) d (omega arith) ∙ ap m (next k)) in
+    ap (λ l. l ++ flat_map f xs) here ∙ ap (λ l. m from ++ l) rest
+  where
+    next : (k : ℕ) → from + suc k ≡ from + 1 + k
+    next k = omega arith
+
+-- few messages of each of few files are few
+few-given : {S : Type 0} (topics : List (List ℕ × Kind)) (size : ℕ) (left : S → Option (List ℕ)) (file : ℕ) (sources : List S) (given : List (List Message))
+    → OfEachFile (Gave topics size left) file sources given → length (flat_map (λ own. own) given) ≤ length sources * 2 ^ 29
+few-given topics size left file [] [] gave = omega arith
+few-given topics size left file [] (own ∷ more) gave = absurd gave
+few-given topics size left file (x ∷ xs) [] gave = absurd gave
+few-given topics size left file (x ∷ xs) (own ∷ more) gave =
+    let rest = few-given topics size left (file + 1) xs more gave.1 in
+    omega (arith, gave.0.1, length-append own (flat_map (λ own. own) more))
+
+all-gave : {S : Type 0} (topics : List (List ℕ × Kind)) (size : ℕ) (left : S → Option (List ℕ)) (file : ℕ) (sources : List S) (given : List (List Message))
+    → OfEachFile (Gave topics size left) file sources given → AreGiven topics size left file sources given
+all-gave topics size left file [] [] gave = tt
+all-gave topics size left file [] (own ∷ more) gave = absurd gave
+all-gave topics size left file (x ∷ xs) [] gave = absurd gave
+all-gave topics size left file (x ∷ xs) (own ∷ more) gave = (gave.0.0, all-gave topics size left (file + 1) xs more gave.1)
+
+module _ {B S : Type 0} where
+  -- the messages that a worker passed on
+  abbrev pub worker_messages : Desk B S → List Message
+  worker_messages d = all_given d.files.items
+
+  -- the workers of a queue have done their work: each had its own of the files, each file was read to its end, and none wanted memory
+  pub record AllRan (c : Setup) (shared : Identity B) (topics : List (List ℕ × Kind)) (size : ℕ) (faults : S → ℕ) (left : S → Option (List ℕ))
+      (sources : List S) (desks : List (Desk B S)) : Type 0 where
+    pub some : 0 < length desks
+    pub few : length sources ≤ 64
+    pub dealt : AreDealt 1 sources desks
+    pub run : All (λ d. HasRun shared topics size faults left d.files.items d.worker.pass d.worker.members.items d.worker.starved d.kept) desks
+    pub whole : AllWhole desks
+    pub fed : All (λ d. d.worker.starved ≡ false) desks
+    pub setup : shared.setup ≡ c
+    pub numbers : (w : ℕ) (d : Desk B S) → w < length desks → (slice_index_or desks w d).worker.pass.number ≡ w
+    pub order : c.order ≤ 12
+    pub rings : c.rings ≡ length topics + 2
+    pub seats : c.seats ≡ length desks
+    pub seats_fit : c.seats ≤ n_of c.order
+    pub limit : c.limit ≡ 2 ^ 60
+
+  module _ (c : Setup) (shared : Identity B) (topics : List (List ℕ × Kind)) (size : ℕ) (faults : S → ℕ) (left : S → Option (List ℕ)) (sources : List S)
+      (desks : List (Desk B S)) (ran : AllRan c shared topics size faults left sources desks) where
+    -- of a desk: its files in their order, and what they gave
+    abbrev files_in : Option (Desk B S) → List (OwnFile S)
+    files_in None = []
+    files_in (Some d) = reverse d.files.items
+
+    abbrev files_at : ℕ → List (OwnFile S)
+    files_at w = files_in (slice_get desks w)
+
+    abbrev given_at : ℕ → List (List Message)
+    given_at w = map given_of (files_at w)
+
+    desk-gave : (w : ℕ) → w < length desks → AllZip (Gave topics size left) (files_of (length desks) w 1 sources) (given_at w)
+    desk-gave w less = elim (slice_get_cases desks w).1 [
+      | inl (d, within, is, here) ↦
+          let its = subst (λ (e : Desk B S).
+          HasRun shared topics size faults left e.files.items e.worker.pass e.worker.members.items e.worker.starved e.kept) here (ran.run w d less) in
+          let whole = subst (λ (e : Desk B S). All IsWholeFile e.files.items) here (ran.whole w d less) in
+          let dealt = ap (λ (e : Desk B S). ids_of e.files.items) (sym here) ∙ ran.dealt w d less in
+          let files = d.files.items in
+          let turned = IsPermutation-reverse files in
+          let ids : ids_of (reverse files) ≡ files_of (length desks) w 1 sources =
+          map-reverse (λ (f : OwnFile S). (f.number, f.was.value)) files ∙ ap reverse dealt ∙ reverse-reverse (files_of (length desks) w 1 sources) in
+          let gave = files-gave topics size faults left (reverse files)
+          (All-permutation (λ (f : OwnFile S). IsRead topics size faults left f.number f.was.value f.source (given_of f) f.end)
+          files (reverse files) turned its.read)
+          (All-permutation IsWholeFile files (reverse files) turned whole) in
+          let mine : given_at w ≡ map given_of (reverse files) = ap (λ o. map given_of (files_in o)) is in
+          subst (λ l. AllZip (Gave topics size left) (files_of (length desks) w 1 sources) l) (sym mine)
+          (subst (λ l. AllZip (Gave topics size left) l (map given_of (reverse files))) ids gave)
+      | inr (past, none) ↦ absurd (omega arith)
+    ]
+
+    -- what the files gave, file by file
+    pub gathered : (given : List (List Message)) × OfEachFile (Gave topics size left) 1 sources given
+        × ((w : ℕ) → w < length desks → seconds (files_of (length desks) w 1 given) ≡ given_at w)
+    gathered = collected (Gave topics size left) (length desks) 1 sources given_at ran.some desk-gave
+
+    abbrev pub given : List (List Message)
+    given = gathered.0
+
+    pub is-given : AreGiven topics size left 1 sources given
+    is-given = all-gave topics size left 1 sources given gathered.1
+
+    -- a worker passed on what its files gave
+    pub own-given : (w : ℕ) (d : Desk B S) → slice_get desks w ≡ Some d → worker_messages d ≡ own_of (length desks) w 1 given
+    own-given w d is =
+        let less : w < length desks = slice_get_within desks w d is in
+        let lists : seconds (files_of (length desks) w 1 given) ≡ given_at w = gathered.2 w less in
+        let mine : given_at w ≡ map given_of (reverse d.files.items) = ap (λ o. map given_of (files_in o)) is in
+        sym (flat-lists given_of (reverse d.files.items)) ∙ ap (flat_map (λ l. l)) (sym mine) ∙ ap (flat_map (λ l. l)) (sym lists)
+        ∙ flat-lists (λ (f : ℕ × List Message). f.1) (files_of (length desks) w 1 given)
+
+    -- the messages of all workers are those of all files, in some order
+    pub all-messages : IsPermutation (flat_map (λ own. own) given) (flat_map worker_messages desks)
+    all-messages =
+        let each = by-number worker_messages (λ w. own_of (length desks) w 1 given) desks 0 (λ k d less.
+        own-given k (get_or desks k d) (slice_get-get_or desks k d less) ∙ ap (λ j. own_of (length desks) j 1 given) (plain k)) in
+        subst (IsPermutation (flat_map (λ own. own) given)) (sym each) (all-dealt (length desks) 1 given ran.some)
+      where
+        plain : (k : ℕ) → k ≡ 0 + k
+        plain k = omega arith
+
+    -- and they are few
+    pub few-in-all : sum_by (λ (d : Desk B S). length (worker_messages d)) desks ≤ 2 ^ 35
+    few-in-all =
+        let few = few-given topics size left 1 sources given gathered.1 in
+        let long = length_permutation (flat_map (λ own. own) given) (flat_map worker_messages desks) all-messages in
+        let sum = length-flat_map worker_messages desks in
+        let files = ran.few in
+        omega arith
