@@ -140,7 +140,7 @@ limit_low c = let l = c.limit_in_range in l.1
 
 -- seats are at most 4096
 pub few_seats : (c : Setup) → c.seats ≤ 4096
-few_seats c = let s = c.seats_in_range in let n = few_indices c in omega arith
+few_seats c = let s = c.seats_in_range in s.1
 
 pub some_seats : (c : Setup) → 1 ≤ c.seats
 some_seats c = let s = c.seats_in_range in s.0
@@ -155,10 +155,10 @@ pub reset_covers : (c : Setup) → n_of c.order + 1 ≤ reset_value c.order c.se
 reset_covers c = bounds.reset_covers c.order c.seats c.order_in_range.0
 
 pub reset_reaches : (c : Setup) → ring_slots c + c.seats ≤ reset_value c.order c.seats + 1
-reset_reaches c = bounds.reset_reaches c.order c.seats c.seats_in_range.1
+reset_reaches c = bounds.reset_reaches c.order c.seats
 
 pub reset_small : (c : Setup) → reset_value c.order c.seats < 2 ^ 16
-reset_small c = bounds.reset_small c.order c.seats c.order_in_range.1
+reset_small c = bounds.reset_small c.order c.seats c.order_in_range.1 (few_seats c)
 
 -- the cycle of a ticket below the limit, times the slots, is below the limit
 pub cycle_below_limit : (c : Setup) (t : ℕ) → t < c.limit → cycle c t * ring_slots c < c.limit

@@ -9,11 +9,11 @@ unfolding reset_value
 reset_covers order seats some = let low : 2 ^ 1 ≤ 2 ^ order = pow_mono some in omega arith
 
 -- and over every seat
-pub reset_reaches : (order seats : ℕ) → seats ≤ n_of order → slots_of order + seats ≤ reset_value order seats + 1
+pub reset_reaches : (order seats : ℕ) → slots_of order + seats ≤ reset_value order seats + 1
 unfolding reset_value
-reset_reaches order seats few = omega arith
+reset_reaches order seats = omega arith
 
 -- and is small
-pub reset_small : (order seats : ℕ) → order ≤ 12 → reset_value order seats < 2 ^ 16
+pub reset_small : (order seats : ℕ) → order ≤ 12 → seats ≤ 4096 → reset_value order seats < 2 ^ 16
 unfolding reset_value
-reset_small order seats few = let high : 2 ^ order ≤ 2 ^ 12 = pow_mono few in omega arith
+reset_small order seats few low = let high : 2 ^ order ≤ 2 ^ 12 = pow_mono few in omega arith

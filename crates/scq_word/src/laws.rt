@@ -25,9 +25,9 @@ pub fn slots_are_one_to_one()
 {}
 
 /// Three facts of the reset value, and all that the layers above use of it: it reaches over the window of a ring and
-/// over every seat, and it is small.
+/// over every seat, however many there are, and it is small.
 pub fn resets_reach()
     ensures covers { (order seats : ℕ) → 1 ≤ order → n_of order + 1 ≤ reset_value order seats }
-    ensures reaches { (order seats : ℕ) → seats ≤ n_of order → slots_of order + seats ≤ reset_value order seats + 1 }
-    ensures small { (order seats : ℕ) → order ≤ 12 → reset_value order seats < 2 ^ 16 }
+    ensures reaches { (order seats : ℕ) → slots_of order + seats ≤ reset_value order seats + 1 }
+    ensures small { (order seats : ℕ) → order ≤ 12 → seats ≤ 4096 → reset_value order seats < 2 ^ 16 }
 {}

@@ -4,6 +4,7 @@
 //! inverse, each change of an entry raises its rank, and want of memory is the one answer without a cause.
 #![tactic(auto)]
 
+mod bounds;
 mod buffer;
 mod bytes;
 mod entry;
@@ -14,6 +15,7 @@ mod shape;
 mod tests;
 mod words;
 
+pub use bounds::limit_for;
 pub use buffer::Buffer;
 pub use bytes::{Bytes, NoMemory};
 pub use entry::Entry;

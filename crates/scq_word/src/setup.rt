@@ -5,12 +5,13 @@ ghost use Rattle.scq_word.specs.Sizes.{n_of};
 ghost use Rattle.scq_word.specs.Bounds.{reset_value};
 ghost use Rattle.scq_word.specs.Ranges.{IsWithin, IsOutside};
 
+use crate::bounds;
 use crate::shape::Shape;
 use thiserror::Error;
 
 /// What rings are made with: `2^order` indices, so many rings, so many seats that make calls, and the limit of
-/// their tickets. Valid by its type: the order is in 1..=12, the rings in 1..=18, the seats in 1..=n, and the
-/// limit in `8n..=2^60`.
+/// their tickets. Valid by its type: the order is in 1..=12, the rings in 1..=18, the seats in 1..=4096 whatever the
+/// order is, and the limit in `8n..=2^60`.
 #[derive(Clone, Copy, Debug, PartialEq, Eq)]
 pub struct Setup {
     pub order: u32,
@@ -19,7 +20,7 @@ pub struct Setup {
     pub limit: u64,
     ghost order_in_range: { (1 ≤ order) × (order ≤ 12) },
     ghost rings_in_range: { (1 ≤ rings) × (rings ≤ 18) },
-    ghost seats_in_range: { (1 ≤ seats) × (seats ≤ n_of order) },
+    ghost seats_in_range: { (1 ≤ seats) × (seats ≤ 4096) },
     ghost limit_in_range: { (8 * n_of order ≤ limit) × (limit ≤ 2 ^ 60) },
 }
 
@@ -31,7 +32,7 @@ pub enum SetupFault {
     BadOrder,
     #[error("rings are not in 1..18")]
     BadRings,
-    #[error("seats are not in 1..n")]
+    #[error("seats are not in 1..4096")]
     BadSeats,
     #[error("limit is not in 8n..2^60")]
     BadLimit,
@@ -41,7 +42,7 @@ impl Setup {
     /// Tests the order, the rings, the seats and the limit, in this order, and answers the first that is out of
     /// range.
     pub fn new(order: u32, rings: u32, seats: u32, limit: u64) -> Result<Setup, SetupFault>
-        ensures ok { IsOk result ↔ (IsWithin 1 12 order × IsWithin 1 18 rings × IsWithin 1 (n_of order) seats
+        ensures ok { IsOk result ↔ (IsWithin 1 12 order × IsWithin 1 18 rings × IsWithin 1 4096 seats
             × IsWithin (8 * n_of order) (2 ^ 60) limit) }
         ensures made { IfOk result (λ setup. (setup.order ≡ order) × (setup.rings ≡ rings) × (setup.seats ≡ seats)
             × (setup.limit ≡ limit)) }
@@ -49,9 +50,9 @@ impl Setup {
         ensures bad_order { (result ≡ Err SetupFault.BadOrder) ↔ IsOutside 1 12 order }
         ensures bad_rings { (result ≡ Err SetupFault.BadRings) ↔ (IsWithin 1 12 order × IsOutside 1 18 rings) }
         ensures bad_seats { (result ≡ Err SetupFault.BadSeats) ↔ (IsWithin 1 12 order × IsWithin 1 18 rings
-            × IsOutside 1 (n_of order) seats) }
+            × IsOutside 1 4096 seats) }
         ensures bad_limit { (result ≡ Err SetupFault.BadLimit) ↔ (IsWithin 1 12 order × IsWithin 1 18 rings
-            × IsWithin 1 (n_of order) seats × IsOutside (8 * n_of order) (2 ^ 60) limit) }
+            × IsWithin 1 4096 seats × IsOutside (8 * n_of order) (2 ^ 60) limit) }
     {
         let Some(shape) = Shape::new(order) else {
             return Err(SetupFault::BadOrder);
@@ -59,11 +60,10 @@ impl Setup {
         if rings < 1 || rings > 18 {
             return Err(SetupFault::BadRings);
         }
-        let n = shape.n();
-        if seats < 1 || seats > n {
+        if seats < 1 || seats > 4096 {
             return Err(SetupFault::BadSeats);
         }
-        if limit < 8 * u64::from(n) || limit > 1 << 60 {
+        if limit < 8 * u64::from(shape.n()) || limit > 1 << 60 {
             return Err(SetupFault::BadLimit);
         }
         Ok(Setup {
@@ -88,7 +88,7 @@ impl Setup {
         self.rings
     }
 
-    /// The number of seats, 1 to n.
+    /// The number of seats, 1 to 4096.
     pub fn seats(&self) -> u32
         ensures { result ≡ self.now.seats }
     {
@@ -96,11 +96,10 @@ impl Setup {
     }
 
     /// What Threshold is reset to once an index was placed.
-    #[tactic(auto, unfolding(crate::specs::Bounds::reset_value))]
     pub fn reset_value(&self) -> u64
         ensures { result ≡ reset_value self.now.order self.now.seats }
     {
-        3 * u64::from(self.shape().n()) - 1
+        bounds::reset_value(self.shape(), self.seats)
     }
 
     /// The limit of tickets, `8n` to `2^60`.

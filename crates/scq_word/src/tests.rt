@@ -6,7 +6,8 @@ ghost use Rattle.std.specs.Vec.{with_items};
 ghost use Rattle.scq_word.specs.Written.{rewritten};
 
 use crate::{
-    Buffer, Bytes, Entry, NoMemory, Setup, SetupFault, Shape, cycle_of, pack, rank, slot_of, unpack,
+    Buffer, Bytes, Entry, NoMemory, Setup, SetupFault, Shape, cycle_of, limit_for, pack, rank,
+    slot_of, unpack,
 };
 use std::test::Fail;
 
@@ -159,7 +160,7 @@ fn faults_say_what_they_are(rt: HostRuntime) -> Result<(), Fail> {
     let rows = [
         (SetupFault::BadOrder, "order is not in 1..12"),
         (SetupFault::BadRings, "rings are not in 1..18"),
-        (SetupFault::BadSeats, "seats are not in 1..n"),
+        (SetupFault::BadSeats, "seats are not in 1..4096"),
         (SetupFault::BadLimit, "limit is not in 8n..2^60"),
     ];
     for (fault, want) in rows.iter() {
@@ -178,9 +179,10 @@ fn setups(rt: HostRuntime) -> Result<(), Fail> {
         ((13, 19, 0, 0), SetupFault::BadOrder),
         ((1, 0, 3, 15), SetupFault::BadRings),
         ((1, 19, 0, 15), SetupFault::BadRings),
-        ((1, 2, 3, 16), SetupFault::BadSeats),
+        ((1, 2, 4097, 16), SetupFault::BadSeats),
+        ((12, 2, 4097, 0), SetupFault::BadSeats),
         ((1, 2, 0, 15), SetupFault::BadSeats),
-        ((1, 2, 2, 15), SetupFault::BadLimit),
+        ((1, 2, 4096, 15), SetupFault::BadLimit),
         ((1, 2, 2, (1 << 60) + 1), SetupFault::BadLimit),
     ];
     for ((order, rings, seats, limit), fault) in faults {
@@ -190,7 +192,7 @@ fn setups(rt: HostRuntime) -> Result<(), Fail> {
             "order {order} rings {rings}"
         );
     }
-    let setup = Setup::new(1, 2, 2, 16)?;
+    let setup = Setup::new(1, 2, 3, 16)?;
     assert_eq!(rt;
         (
             setup.shape().n(),
@@ -198,8 +200,44 @@ fn setups(rt: HostRuntime) -> Result<(), Fail> {
             setup.seats(),
             setup.limit()
         ),
-        (2, 2, 2, 16)
+        (2, 2, 3, 16)
     );
+    Ok(())
+}
+
+// As many seats as indices or fewer: 3n - 1. With more of them each raises it by one.
+#[test]
+fn reset_values(rt: HostRuntime) -> Result<(), Fail> {
+    for (order, seats, level) in [
+        (1, 1, 5),
+        (1, 2, 5),
+        (1, 3, 6),
+        (1, 4096, 4099),
+        (12, 1, 12287),
+        (12, 4096, 12287),
+    ] {
+        let setup = Setup::new(order, 2, seats, 1 << 60)?;
+        assert_eq!(rt; setup.reset_value(), level, "order {order} seats {seats}");
+    }
+    Ok(())
+}
+
+#[test]
+fn limits_for_puts(rt: HostRuntime) -> Result<(), Fail> {
+    let table = [
+        (1, 1, 10, Some(100)),
+        (1, 1, 0, Some(30)),
+        (12, 4096, 1 << 40, Some((1 << 54) + 67_145_728)),
+        (12, 4096, 1 << 46, None),
+        (12, 4096, u64::MAX, None),
+    ];
+    for (order, seats, puts, limit) in table {
+        assert_eq!(rt;
+            limit_for(order, seats, puts),
+            limit,
+            "order {order} puts {puts}"
+        );
+    }
     Ok(())
 }
 

@@ -12,6 +12,7 @@ use Rattle.scq_core.specs.declared.ended.Ended.TheVariants.{Done}
 use Rattle.scq_core.specs.Machine.{Part, Machine}
 use Rattle.scq_core.specs.Reach.{IsReachable}
 use Rattle.scq_core.specs.Laws.{total, dequeues, dequeues_of, spent_of}
+use Rattle.scq_core.proofs.Entries.{some_indices}
 use Rattle.scq_core.proofs.Floor.{threshold_floor}
 use Rattle.scq_core.proofs.Limits.{counters_bounded}
 use Rattle.scq_law.specs.Bounds.{WithinWindow, ThresholdCovers, tally, was_put, is_putting, enqueues, TicketsBounded}
@@ -40,7 +41,7 @@ within_window c m reach =
             | inl some ↦
                 let last = window.within r (min (m.cells.tail r) c.limit - 1) (omega arith) (omega arith) in
                 omega arith
-            | inr none ↦ omega arith
+            | inr none ↦ omega (arith, some_indices c)
           ];
     }
 
