@@ -31,6 +31,7 @@ pub mod Gathering
 pub mod Unloading
 pub mod LeftWords
 pub mod Closes
+pub mod SpentLimits
 pub mod NewSeats
 pub mod TwoTaken
 pub mod OneLent

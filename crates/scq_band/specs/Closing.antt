@@ -1,10 +1,10 @@
 -- What the records of all seats say together once a band is closed, when no seat is in the middle of a call. The records stand in
 -- the order in which the seats were given. A call is told by its seat's number in that order and by its own in the record, from 0.
-use Rattle.std.specs.Prelude.{◌≡◌, ◌⊎◌, ℕ, ◌+◌, ◌<◌, ◌≤◌, Bool, if◌then◌else◌, is_none, List, [], ◌∷◌, map, length, Option, Some, slice_get, slice_index, slice_index_or, sum, sum_by}
+use Rattle.std.specs.Prelude.{◌≡◌, ◌⊎◌, ℕ, ◌+◌, ◌<◌, ◌≤◌, Bool, if◌then◌else◌, is_none, List, [], ◌∷◌, map, length, Option, Some, slice_get, slice_index, slice_index_or, sum, sum_by, All, None}
 use Rattle.std.specs.List.{Contains}
 use Rattle.scq_word.specs.declared.setup.Setup.{Setup}
 use Rattle.scq_word.specs.Sizes.{n_of}
-use Rattle.scq_word.specs.Bounds.{ticket_bound}
+use Rattle.scq_word.specs.Bounds.{ticket_bound, limit_for}
 use Rattle.scq_core.specs.declared.ended.Ended.{Ended}
 use Rattle.scq_core.specs.declared.ended.Ended.TheVariants.{Done, Got, Spent}
 use Rattle.scq_core.specs.Table.{ring_slots}
@@ -94,6 +94,13 @@ pub record IsPastTheBound (c : Setup) (records : List (List Ended)) (seat ticket
 abbrev pub EachSpentIsPastTheBound : Setup → List (List Ended) → List (Option ℕ) → Type 0
 EachSpentIsPastTheBound c records kept =
     (seat ticket : ℕ) → slice_get kept seat ≡ Some (Some ticket) → IsPastTheBound c records seat ticket
+
+-- where the limit is enough for so many puts, and on no ring more were begun by all calls together, those that met Spent among
+-- them, no seat keeps a spent ticket
+abbrev pub NoneIsSpentWithinTheLimit : Setup → List (List Ended) → List (Option ℕ) → Type 0
+NoneIsSpentWithinTheLimit c records kept =
+    (puts : ℕ) → limit_for c.order c.seats puts ≤ c.limit → ((r : ℕ) → r < c.rings → sum_by (tally (was_put r)) records ≤ puts)
+    → All (λ spent. spent ≡ None) kept
 
 -- the indices of a hand, or of buffers that are out; and those of a hand that are lifted
 abbrev pub indices_of : {A : Type 0} → List (ℕ × A) → List ℕ

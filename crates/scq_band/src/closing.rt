@@ -7,7 +7,7 @@ ghost use Rattle.scq_band.specs.declared.slot.Slot.{Slot};
 ghost use Rattle.scq_band.specs.Buffers.{LiesIn, opening_of};
 ghost use Rattle.scq_band.specs.Steps.{my, front_index};
 ghost use Rattle.scq_band.specs.Kept.{identity_of};
-ghost use Rattle.scq_band.specs.Closing.{indices_of, lifted_of, EachGetHasItsPut, NoneIsPutTwice, NoneIsGotTwice, EachPutPassedIsGot, IsBalance, IsAllThere, EachIsInOneHand, EachSpentIsPastTheBound, EachLeftIsItsPut, AreTheSame, AreTheLifted, AllRetiredWhereClosed, all_calls, all_hands, all_known, all_spent};
+ghost use Rattle.scq_band.specs.Closing.{indices_of, lifted_of, EachGetHasItsPut, NoneIsPutTwice, NoneIsGotTwice, EachPutPassedIsGot, IsBalance, IsAllThere, EachIsInOneHand, EachSpentIsPastTheBound, NoneIsSpentWithinTheLimit, EachLeftIsItsPut, AreTheSame, AreTheLifted, AllRetiredWhereClosed, all_calls, all_hands, all_known, all_spent};
 ghost use Rattle.scq_band.specs.Homes.{at_home, MayBring, IsLaidBack, times_lifted, AllOutGiven, MayLeave, IsMemberOf, HasAll};
 
 use crate::band::Band;
@@ -177,6 +177,7 @@ impl<B: Buffer> Band<B> {
             (map B.contents result.buffers.items) }
         ensures gate { AllRetiredWhereClosed seats.items }
         ensures spent { EachSpentIsPastTheBound self.setup (all_calls seats.items) (all_spent seats.items) }
+        ensures limits { NoneIsSpentWithinTheLimit self.setup (all_calls seats.items) (all_spent seats.items) }
     {
         let Band {
             table,

@@ -6,7 +6,7 @@ use Rattle.scq_word.specs.declared.setup.Setup.{Setup}
 use Rattle.scq_word.specs.Sizes.{n_of}
 use Rattle.scq_law.specs.Hands.{times}
 use Rattle.scq_band.specs.Standing.{Identity}
-use Rattle.scq_band.specs.Closing.{EachSpentIsPastTheBound}
+use Rattle.scq_band.specs.Closing.{EachSpentIsPastTheBound, NoneIsSpentWithinTheLimit}
 use Rattle.scq_queue.specs.Lists.{Placed, sends_of, takes_of, on_topic, fulls_in}
 use Rattle.scq_queue.specs.Passes.{PassStanding, HeldStanding, known_on}
 
@@ -79,6 +79,10 @@ module _ {B : Type 0} where
   -- where a pass keeps a spent ticket, the ticket bound of the ticket's ring is past the limit
   abbrev pub EachKeptIsPastTheBound : Setup → List (PassStanding B) → Type 0
   EachKeptIsPastTheBound c passes = EachSpentIsPastTheBound c (records_of passes) (map (λ p. p.spent) passes)
+
+  -- where the limit is enough for so many puts, and on no ring more were begun, none keeps one
+  abbrev pub NoneIsKeptWithinTheLimit : Setup → List (PassStanding B) → Type 0
+  NoneIsKeptWithinTheLimit c passes = NoneIsSpentWithinTheLimit c (records_of passes) (map (λ p. p.spent) passes)
 
   -- where some pass was told that all had retired, each has
   abbrev pub AllRetiredWhereTold : List (PassStanding B) → Type 0

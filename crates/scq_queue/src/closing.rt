@@ -4,7 +4,7 @@ ghost use Rattle.scq_band.specs.Closing.{AreTheSame, EachIsInOneHand, EachLeftIs
 ghost use Rattle.scq_band.specs.Buffers.{opening_of};
 ghost use Rattle.scq_queue.specs.Lists.{counts_of};
 ghost use Rattle.scq_queue.specs.Passes.{lists_of};
-ghost use Rattle.scq_queue.specs.Closing.{EachTakeIsASend, NoPlaceIsSentTwice, NoPlaceIsTakenTwice, IsBalance, EachSendPassedIsTaken, IsAllThere, AllFullsStand, EachKeptIsPastTheBound, AllRetiredWhereTold, AreTheHeld, records_of, all_held};
+ghost use Rattle.scq_queue.specs.Closing.{EachTakeIsASend, NoPlaceIsSentTwice, NoPlaceIsTakenTwice, IsBalance, EachSendPassedIsTaken, IsAllThere, AllFullsStand, EachKeptIsPastTheBound, NoneIsKeptWithinTheLimit, AllRetiredWhereTold, AreTheHeld, records_of, all_held};
 ghost use Rattle.scq_queue.specs.Kept.{seat_of, IsGiven};
 
 use crate::counts::Counts;
@@ -77,6 +77,7 @@ impl<B: Buffer> Queue<B> {
         ensures left { EachLeftIsItsPut self.setup (opening_of B.contents self.given) (records_of passes.items) (all_held passes.items)
             (map B.contents result.buffers.items) }
         ensures kept { EachKeptIsPastTheBound self.setup passes.items }
+        ensures limits { NoneIsKeptWithinTheLimit self.setup passes.items }
         ensures gate { AllRetiredWhereTold passes.items }
     {
         let Queue {

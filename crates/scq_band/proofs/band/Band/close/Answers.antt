@@ -8,7 +8,9 @@ use Rattle.scq_core.proofs.Indices.{HasIndices}
 use Rattle.scq_law.specs.Kept.{left_in}
 use Rattle.scq_band.specs.Shown.{ShowsWords}
 use Rattle.scq_band.specs.Standing.{Identity, IsAsGiven}
+use Rattle.scq_band.specs.Closing.{all_calls, all_spent}
 use Rattle.scq_band.proofs.Closes.{ended}
+use Rattle.scq_band.proofs.SpentLimits.{none_spent_within}
 use Rattle.scq_band.proofs.band.Band.close.Goals as goal
 
 pub gather-all-requires-clause-given : goal.gather-all-requires-clause-given
@@ -107,6 +109,10 @@ returns-clause-spent g c =
     let e = ended g.B.Buffer.contents g.B.Buffer.IsSameBuffer table.table_id table.key c.args.self c.gather-all.result.id c.gather-all.result.me.0
     c.args.seats.items words items c.self.view_is c.close_with-closed.ensures.values.2 c.gather-all.ensures.all seats c.self.invariant.given in
     e.spent
+
+pub returns-clause-limits : goal.returns-clause-limits
+returns-clause-limits g c =
+    none_spent_within c.args.self.setup (all_calls c.args.seats.items) (all_spent c.args.seats.items) (returns-clause-spent g c)
 
 pub returns-clause-gate : goal.returns-clause-gate
 returns-clause-gate g c =

@@ -9,6 +9,7 @@ use Rattle.scq_queue.specs.Passes.{PassStanding, HeldStanding}
 use Rattle.scq_queue.specs.Closing.{IsBalance, IsAllThere, records_of, all_held}
 use Rattle.scq_queue.specs.Kept.{seat_of, value_of, IsGiven}
 use Rattle.scq_queue.proofs.Ends.{calls_are, known_are, spent_are, hands_are, takes_are_sends, none_sent_twice, none_taken_twice, sends_passed, balance_of, retired_where_told, seats_own, are_lifted, all_is_there}
+use Rattle.scq_band.proofs.SpentLimits.{none_spent_within}
 use Rattle.scq_queue.proofs.queue.Queue.close.Goals as goal
 
 pub close-buffers-requires-clause-seats : goal.close-buffers-requires-clause-seats
@@ -110,6 +111,11 @@ returns-clause-kept g c =
     (subst (λ (ts : List (Option ℕ)). band.EachSpentIsPastTheBound k.setup (records_of c.args.passes.items) ts) spent
     (subst (λ (rs : List (List Ended)). band.EachSpentIsPastTheBound k.setup rs (band.all_spent c.unpack.new.seats.items)) calls
     c.close-buffers.ensures.spent))
+
+pub returns-clause-limits : goal.returns-clause-limits
+returns-clause-limits g c =
+    none_spent_within c.args.self.setup (records_of c.args.passes.items) (map (λ (p : PassStanding g.row.B.Denot). p.spent) c.args.passes.items)
+    (returns-clause-kept g c)
 
 pub returns-clause-gate : goal.returns-clause-gate
 returns-clause-gate g c =
