@@ -15,3 +15,6 @@ pub mod CoupledRuns
 pub mod ClaimedPuts
 pub mod InOrder
 pub mod EmptyRight
+pub mod RecordsShown
+pub mod CallPositions
+pub mod EmptyCalls

@@ -12,6 +12,7 @@ pub mod OrderLaw
 pub mod PutMarks
 pub mod NoteLemmas
 pub mod CallEnds
+pub mod CallSpans
 pub mod MarkFacts
 pub mod MarkedSteps
 pub mod MarkedRuns

@@ -6,3 +6,4 @@ pub mod RunLaws
 pub mod RisingWords
 pub mod LastingPlaces
 pub mod ReplayLaws
+pub mod RunPrefixes

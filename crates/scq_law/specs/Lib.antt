@@ -10,6 +10,9 @@ pub mod Names
 pub mod Replay
 pub mod Recording
 pub mod History
+pub mod Plain
+pub mod ShownCalls
+pub mod EmptyCalls
 pub mod Moments
 pub mod Sums
 pub mod Kept
@@ -19,7 +22,8 @@ pub mod Retries
 pub mod CallSteps
 pub mod Lasting
 pub mod RunSteps
+pub mod Prefixes
+pub mod Spans
 pub mod Points
-pub mod Plain
 pub mod Order
 pub mod Notes

@@ -1,12 +1,17 @@
 //! Laws of the history of every run, of any number of steps, where seats may stop for ever in the middle
 //! of a call. The functions do nothing: each stands for its contract.
 
-ghost use Rattle.std.specs.Prelude.{ℕ, List};
+ghost use Rattle.std.specs.Prelude.{ℕ, List, [], ◌∷◌, ◌++◌};
 ghost use Rattle.scq_word.specs.declared.setup.Setup.{Setup};
+ghost use Rattle.scq_core.specs.declared.ended.Ended.{Ended};
+ghost use Rattle.scq_core.specs.declared.ended.Ended.TheVariants.{Nothing};
 ghost use Rattle.scq_core.specs.declared.step.Step.{Step};
 ghost use Rattle.scq_hist.specs.Aspects.{IsLawful, IsFresh, IsOnce, IsInOrder, IsEmptyRight};
 ghost use Rattle.scq_law.specs.Run.{Recorded, IsRun};
 ghost use Rattle.scq_law.specs.History.{HistoryHasAspects};
+ghost use Rattle.scq_law.specs.ShownCalls.{HistoryShowsRecords};
+ghost use Rattle.scq_law.specs.Prefixes.{IsPrefix, IsPrefixOfRun, IsRecordAfter};
+ghost use Rattle.scq_law.specs.EmptyCalls.{IsEmptyAtCall};
 
 /// The events of each seat alternate, beginning with a Start, and each reply suits its call.
 pub fn histories_are_lawful()
@@ -45,4 +50,25 @@ pub fn empties_are_right()
 pub fn histories_have_aspects()
     ensures { (c : Setup) (opening : List (List ℕ)) (steps : List (ℕ × Step)) (recorded : Recorded)
         → IsRun c opening steps recorded → HistoryHasAspects opening recorded }
+{}
+
+/// The history of every run shows each seat's calls as its record has them, in order: ring, content, and how each ended, where a
+/// Got names the put that placed where it took.
+pub fn histories_show_records()
+    ensures { (c : Setup) (opening : List (List ℕ)) (steps : List (ℕ × Step)) (recorded : Recorded)
+        → IsRun c opening steps recorded → HistoryShowsRecords recorded }
+{}
+
+/// The first steps of every run are a run, and its history begins with theirs.
+pub fn prefixes_are_runs()
+    ensures { (c : Setup) (opening : List (List ℕ)) (short steps : List (ℕ × Step)) (recorded : Recorded)
+        → IsPrefix short steps → IsRun c opening steps recorded → IsPrefixOfRun c opening short recorded }
+{}
+
+/// Where one more call of a seat has ended with Nothing between two moments at which it rested, the history has this call between
+/// them, and a moment inside it at which each finished put of the ring is claimed; whether the other seats' calls have ended or not.
+pub fn empties_are_right_at_their_call()
+    ensures { (c : Setup) (opening : List (List ℕ)) (before after : List (ℕ × Step)) (seat r : ℕ) (calls : List Ended) → IsPrefix before after
+        → (was : IsRecordAfter c opening before seat calls) → (now : IsRecordAfter c opening after seat (calls ++ Nothing r ∷ []))
+        → IsEmptyAtCall opening was.recorded.events now.recorded.events seat r }
 {}

@@ -59,11 +59,11 @@ module _ (c : Setup) (x : ℕ) (y : List ℕ) (p : Part) where
 
 module _ (c : Setup) where
   -- the most steps of a call
-  abbrev most : ℕ
+  abbrev pub most : ℕ
   most = call_steps c
 
   -- the steps that the call under way may have taken
-  abbrev taken_by : Phase → ℕ
+  abbrev pub taken_by : Phase → ℕ
   taken_by Idle = 0
   taken_by phase = most - steps_left c phase
 
@@ -72,7 +72,7 @@ module _ (c : Setup) where
   taken_on phase awake = refl
 
   -- the steps that a seat may have made
-  abbrev made : Part → ℕ
+  abbrev pub made : Part → ℕ
   made p = length p.calls * most + taken_by p.phase
 
   -- at its turn a seat has made no more than what is left to the turn says
@@ -113,7 +113,7 @@ module _ (c : Setup) where
       omega arith
 
   -- a step of some seat
-  made_step : (r : Recorded) (k j : ℕ) (s : Step) (turn : Phase) → IsReachable c r.state → turn_of c (r.state.part j) s ≡ Some turn
+  pub made_step : (r : Recorded) (k j : ℕ) (s : Step) (turn : Phase) → IsReachable c r.state → turn_of c (r.state.part j) s ≡ Some turn
       → made (r.state.part k) + (if j == k then 1 else 0) ≤ made ((recorded_after c j turn r).state.part k)
   made_step r k j s turn reach enabled =
       let m = r.state in

@@ -1,0 +1,19 @@
+-- That a call which ended with Nothing was right about it, in the history of the run up to its end and of each longer one.
+use Rattle.std.specs.Prelude.{◌≡◌, ℕ, ◌≤◌, List, ◌++◌, length}
+use Rattle.scq_hist.specs.Aspects.{IsRightWithin}
+use Rattle.scq_hist.specs.Calls.{IsCall}
+use Rattle.scq_hist.specs.declared.events.Call.TheVariants.{Get}
+use Rattle.scq_hist.specs.declared.events.Event.{Event}
+use Rattle.scq_hist.specs.declared.events.Reply.TheVariants.{Nothing}
+
+-- the history goes on from what it was; a get of this seat and queue has since started, and has ended with Nothing; and at a moment inside
+-- this call each put of the queue that is finished is claimed: it is got by a call that started before, or a get that is still under way
+-- is to have it
+pub record IsEmptyAtCall (opening : List (List ℕ)) (was events : List Event) (seat queue : ℕ) : Type 0 where
+  pub later : List Event
+  pub goes_on : events ≡ was ++ later
+  pub start : ℕ
+  pub stop : ℕ
+  pub call : IsCall events seat (Get queue) start stop Nothing
+  pub since : length was ≤ start
+  pub right : IsRightWithin opening events queue start stop
