@@ -15,7 +15,7 @@ pub record IsPrefix (short steps : List (ℕ × Step)) : Type 0 where
 -- and with each of these
 abbrev pub AllPrefixes : List (List (ℕ × Step)) → List (ℕ × Step) → Type 0
 AllPrefixes [] steps = Unit {0}
-AllPrefixes (f ∷ fs) steps = IsPrefix f steps × AllPrefixes fs steps
+AllPrefixes (one ∷ others) steps = IsPrefix one steps × AllPrefixes others steps
 
 -- the steps are a run, after which this seat is in the middle of no call and has this record
 pub record IsRecordAfter (c : Setup) (opening : List (List ℕ)) (steps : List (ℕ × Step)) (seat : ℕ) (calls : List Ended) : Type 0 where

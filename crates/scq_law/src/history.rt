@@ -66,7 +66,7 @@ pub fn prefixes_are_runs()
 {}
 
 /// Where one more call of a seat has ended with Nothing between two moments at which it rested, the history has this call between
-/// them, and a moment inside it at which each finished put of the ring is claimed; whether the other seats' calls have ended or not.
+/// them, and a moment inside it at which each put of the ring that had ended is claimed; whether other seats' calls have ended or not.
 pub fn empties_are_right_at_their_call()
     ensures { (c : Setup) (opening : List (List ℕ)) (before after : List (ℕ × Step)) (seat r : ℕ) (calls : List Ended) → IsPrefix before after
         → (was : IsRecordAfter c opening before seat calls) → (now : IsRecordAfter c opening after seat (calls ++ Nothing r ∷ []))
