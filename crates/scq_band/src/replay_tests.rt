@@ -5,7 +5,7 @@ ghost use Rattle.std.specs.List.{All};
 ghost use Rattle.scq_word.specs.Sizes.{n_of};
 ghost use Rattle.scq_core.specs.declared.step.Step.{Step as StepOf};
 
-use crate::tests::{ONE_SEAT, SPENT, TWO_SEATS, number};
+use crate::tests::{ONE_SEAT, SPENT, THREE_SEATS, TWO_SEATS, number};
 use scq_core::{Ended, State, Step};
 use scq_law::{Replayed, replay};
 use scq_word::{Bytes, Setup};
@@ -162,8 +162,14 @@ fn both(
 #[test]
 fn the_machine_replies_as_the_tables_say(rt: HostRuntime) -> Result<(), Fail> {
     let alloc = rt.alloc();
-    for (limit, table) in [(1 << 60, ONE_SEAT), (1 << 60, TWO_SEATS), (16, SPENT)] {
-        let setup = Setup::new(1, 3, 2, limit)?;
+    let tables = [
+        (2, 1 << 60, ONE_SEAT),
+        (2, 1 << 60, TWO_SEATS),
+        (3, 1 << 60, THREE_SEATS),
+        (2, 16, SPENT),
+    ];
+    for (seats, limit, table) in tables {
+        let setup = Setup::new(1, 3, seats, limit)?;
         let mut steps = Vec::new(alloc);
         'lines: for line in table.lines() {
             let (told, machine) = both(alloc, setup, &mut steps, line)?;
@@ -215,5 +221,24 @@ fn an_index_passed_on_leaves_these_words(rt: HostRuntime) -> Result<(), Fail> {
     let end = played_out(alloc, setup, &mut steps, 1, Step::D1 { ring: 1 })?;
     assert_eq!(rt; words(alloc, &end.state, 0)?.as_str(), "5 6 5 15 13 7 7");
     assert_eq!(rt; words(alloc, &end.state, 1)?.as_str(), "5 5 5 15 7 7 7");
+    Ok(())
+}
+
+// Three seats over two indices: Threshold is reset to 6, and a round and seven gets of one seat leave it at -1.
+#[test]
+fn three_seats_over_two_indices_leave_these_words(rt: HostRuntime) -> Result<(), Fail> {
+    let alloc = rt.alloc();
+    let setup = Setup::new(1, 3, 3, 1 << 60)?;
+    let mut steps = Vec::new(alloc);
+    let start = replayed(alloc, setup, &steps)?;
+    assert_eq!(rt; words(alloc, &start.state, 0)?.as_str(), "4 6 6 12 13 7 7");
+    for line in THREE_SEATS.lines() {
+        both(alloc, setup, &mut steps, line)?;
+    }
+    let end = replayed(alloc, setup, &steps)?;
+    assert_eq!(rt;
+        words(alloc, &end.state, 1)?.as_str(),
+        "12 12 -1 23 23 23 23"
+    );
     Ok(())
 }

@@ -138,10 +138,10 @@ fn replies(
     Ok(got)
 }
 
-/// Runs a table of moves on three rings, and compares all replies.
-fn run(rt: &(impl Abort + AllocGlobal), order: u32, limit: u64, table: &str) -> Result<(), Fail> {
+/// Runs a table of moves of so many seats on three rings over two indices, and compares all replies.
+fn run(rt: &(impl Abort + AllocGlobal), seats: u32, limit: u64, table: &str) -> Result<(), Fail> {
     let alloc = rt.alloc();
-    let setup = Setup::new(order, 3, 2, limit)?;
+    let setup = Setup::new(1, 3, seats, limit)?;
     let (band, mut seats) = made(alloc, setup)?;
     let got = replies(alloc, &band, &mut seats, table)?;
     assert_eq!(rt; got.as_str(), table);
@@ -171,6 +171,20 @@ pub const TWO_SEATS: &str = "\
 0 2 0 = 5 1 7
 ";
 
+/// One of three seats, with more seats than indices: seven gets look and find nothing, and an eighth doesn't look any more.
+pub const THREE_SEATS: &str = "\
+0 0 1 = 4 0 4
+0 1 0 = 4 0 6
+0 1 2 = empty 6
+0 1 2 = empty 7
+0 1 2 = empty 8
+0 1 2 = empty 9
+0 1 2 = empty 10
+0 1 2 = empty 11
+0 1 2 = empty 12
+0 1 2 = empty 12
+";
+
 /// A small limit: the ticket that was at it is kept, and answered on every ring.
 pub const SPENT: &str = "\
 0 0 0 = 4 0 6
@@ -193,17 +207,22 @@ pub const SPENT: &str = "\
 
 #[test]
 fn one_seat_moves_indices(rt: HostRuntime) -> Result<(), Fail> {
-    run(&rt, 1, 1 << 60, ONE_SEAT)
+    run(&rt, 2, 1 << 60, ONE_SEAT)
 }
 
 #[test]
 fn two_seats_move_indices_in_turn(rt: HostRuntime) -> Result<(), Fail> {
-    run(&rt, 1, 1 << 60, TWO_SEATS)
+    run(&rt, 2, 1 << 60, TWO_SEATS)
 }
 
 #[test]
 fn a_spent_ticket_is_kept(rt: HostRuntime) -> Result<(), Fail> {
-    run(&rt, 1, 16, SPENT)
+    run(&rt, 2, 16, SPENT)
+}
+
+#[test]
+fn a_seat_of_three_moves_an_index_of_two(rt: HostRuntime) -> Result<(), Fail> {
+    run(&rt, 3, 1 << 60, THREE_SEATS)
 }
 
 /// A new band of order 1 with two rings and tagged buffers, and its two seats.

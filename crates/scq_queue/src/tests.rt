@@ -381,6 +381,48 @@ send 0 = spent 16
 give = spent 16
 ";
 
+/// A round through a topic, takes that find it empty until they look no further, another round, and takes up to the limit.
+const EMPTIED: &str = "\
+lend = 0
+write hi = ok
+send 0 = 4
+take 0 = 4 hi
+give = back
+take 0 = empty 6
+take 0 = empty 7
+take 0 = empty 8
+take 0 = empty 9
+take 0 = empty 10
+take 0 = empty 11
+take 0 = empty 11
+lend = 1
+write yo = ok
+send 0 = 11
+take 0 = 11 yo
+give = back
+take 0 = empty 13
+take 0 = empty 14
+take 0 = empty 15
+take 0 = empty 16
+take 0 = spent 16
+lend = spent 16
+take 0 = spent 16
+";
+
+/// Ten rounds through a topic, and an eleventh whose value can't be given back.
+fn rounds(alloc: Global) -> Result<String, Fail> {
+    let mut table = String::new(alloc);
+    for place in 4..14 {
+        let index = place % 2;
+        let round = format!(in alloc;
+            "lend = {index}\nwrite hi = ok\nsend 0 = {place}\ntake 0 = {place} hi\ngive = back\n"
+        )?;
+        table.push_str(round.as_str())?;
+    }
+    table.push_str("lend = 0\nsend 0 = 14\ntake 0 = 14 hi\ngive = spent 16\n")?;
+    Ok(table)
+}
+
 #[test]
 fn one_pass_holds_all_buffers(rt: HostRuntime) -> Result<(), Fail> {
     run_new(&rt, 1 << 60, ALL_LENT, [0, 0], [0, 0, 1])
@@ -398,5 +440,7 @@ fn a_queue_closes_with_what_is_left_and_held(rt: HostRuntime) -> Result<(), Fail
 
 #[test]
 fn a_spent_ticket_is_kept(rt: HostRuntime) -> Result<(), Fail> {
-    run_new(&rt, 16, SPENT, [1, 0], [0, 0, 0])
+    run_new(&rt, 16, SPENT, [1, 0], [0, 0, 0])?;
+    run_new(&rt, 16, rounds(rt.alloc())?.as_str(), [1, 0], [11, 11, 0])?;
+    run_new(&rt, 16, EMPTIED, [2, 0], [2, 2, 0])
 }
