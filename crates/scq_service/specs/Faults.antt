@@ -3,7 +3,7 @@ use Rattle.std.specs.Prelude.{ℕ, ◌^◌, List, ◌++◌, Option, Some, None, 
 use Rattle.scq_topics.specs.declared.topics.TopicFault.{TopicFault}
 use Rattle.scq_topics.specs.declared.topics.TopicFault.TheVariants.{TooMany, BadName, BadKind, Twice}
 use Rattle.scq_words.specs.declared.fault.WordsFault.{WordsFault}
-use Rattle.scq_words.specs.declared.fault.WordsFault.TheVariants.{NotUnderstood, Workers, Order, Size, Topics, TooManyFiles, NoName, MoreWorkers, Seed, Lines}
+use Rattle.scq_words.specs.declared.fault.WordsFault.TheVariants.{NotUnderstood, Workers, Order, Size, Topics, TooManyFiles, NoName, Seed, Lines}
 use Rattle.scq_work.specs.declared.worked.WorkFault.{WorkFault}
 use Rattle.scq_work.specs.declared.worked.WorkFault.TheVariants as work
 use Rattle.scq_service.specs.declared.fault.Fault.{Fault}
@@ -57,7 +57,6 @@ words_line Size = codes "size is not in 1..65536\n"
 words_line (Topics fault) = topics_line fault
 words_line TooManyFiles = codes "more than 64 files\n"
 words_line (NoName file) = file_line file (codes " has no name\n")
-words_line MoreWorkers = codes "more workers than buffers\n"
 words_line Seed = codes "seed is not in 0..2147483647\n"
 words_line Lines = codes "lines is not in 1..1000000\n"
 

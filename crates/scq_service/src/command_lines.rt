@@ -134,12 +134,11 @@ run  |file 1 has no name
 run f f f f f f f f f f f f f f f f f f f f f f f f f f f f f f f f f f f f f f f f f f f f f f f f f f f f f f f f f f f f f f f |file 64 has no name
 run --  f|file 1 has no name
 run --order 3 --workers 8 f|
-run --order 3 --workers 9 f|more workers than buffers
+run --order 3 --workers 9 f|
 run --workers 64 f|
-run --workers 65 f|more workers than buffers
-run --order 1 --workers 3 f|more workers than buffers
+run --workers 65 f|
+run --order 1 --workers 3 f|
 run --order 2 f|
-run --workers 4096 f|more workers than buffers
 run --workers 0|words not understood
 run --frob --workers 0 f|words not understood
 run --workers 0 --order 13 f|workers is not in 1..4096
@@ -191,7 +190,7 @@ self --seed 1 --seed 1 --lines 1|words not understood
 self --seed 1 --lines 1 --lines 1|words not understood
 self --seed 1 --lines 1 --workers 1|
 self --seed 1 --lines 1 --workers=64|
-self --seed 1 --lines 1 --workers 65|more workers than buffers
+self --seed 1 --lines 1 --workers 65|
 self --seed 1 --lines 1 --workers 0|workers is not in 1..4096
 self --seed 1 --lines 1 --workers 4097|workers is not in 1..4096
 self --seed 1 --lines 1 --workers 1 --workers 1|words not understood

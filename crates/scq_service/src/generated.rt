@@ -40,7 +40,7 @@ pub fn run_self<R: Threads + Sync, S, K: Sink, G: Gate>(
     gate: &G,
 ) -> Outcome<S>
     requires seed { seed < 2 ^ 31 }
-    requires workers { (0 < workers) × (workers ≤ 64) }
+    requires workers { (0 < workers) × (workers ≤ 4096) }
     ensures ends { EndsAlone (self_summary seed lines) (record {
       written = record { old = K.written out.old; new = K.written out.new };
       faults = record { old = K.faults out.old; new = K.faults out.new };
@@ -78,7 +78,7 @@ fn answer_file<R: Threads + Sync, G: Gate>(
     gate: &G,
 ) -> Result<Worked, NoMemory>
     requires seed { seed < 2 ^ 31 }
-    requires workers { (0 < workers) × (workers ≤ 64) }
+    requires workers { (0 < workers) × (workers ≤ 4096) }
     ensures known { IfOk result (λ w. All (λ a. a.topic ≤ length the_topics) (members_in w.answered.items)) }
     ensures answers { IfOk result (λ w. IsPermutation (map without_way (members_in w.answered.items)) (answers_to the_topics 1 (the_file seed lines ∷ []))) }
     ensures told { IfOk result (λ w. HasWorked the_topics 6 (2 ^ 16) workers (messages_in the_topics 1 (the_file seed lines ∷ [])) w) }

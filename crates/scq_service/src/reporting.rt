@@ -51,7 +51,6 @@ fn write_words<K: Sink>(sink: &mut K, fault: &WordsFault) -> Result<(), Failed>
         WordsFault::Topics(fault) => write_topics(sink, fault),
         WordsFault::TooManyFiles => write_all(sink, b"more than 64 files\n"),
         WordsFault::NoName { file } => write_about(sink, *file, b" has no name\n"),
-        WordsFault::MoreWorkers => write_all(sink, b"more workers than buffers\n"),
         WordsFault::Seed => write_all(sink, b"seed is not in 0..2147483647\n"),
         WordsFault::Lines => write_all(sink, b"lines is not in 1..1000000\n"),
     }

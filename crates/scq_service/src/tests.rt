@@ -112,6 +112,24 @@ pub(crate) static WORKED: [Row; 16] = [
     ),
 ];
 
+// More workers than buffers.
+static CROWDED: [Row; 2] = [
+    (
+        "run --order 1 --workers 64 --topics a=sum f g h",
+        "f:a 1\n|g:|h:a 2\nb\n",
+        0,
+        "1:1 a 1\n3:1 a 2\n3:2 - 0\ntotal a 2 2\ntotal - 1 0\n",
+        "",
+    ),
+    (
+        "run --order 3 --workers 9 --topics x=sum f",
+        "f:x 12",
+        0,
+        "1:1 x 12\ntotal x 1 2\ntotal - 0 0\n",
+        "",
+    ),
+];
+
 pub(crate) static SEVERAL: [Row; 8] = [
     ("run f g", "f:x 1\n", 3, "", "file 2: cannot open\n"),
     ("run f", "g:x 1\n", 3, "", "file 1: cannot open\n"),
@@ -189,6 +207,19 @@ pub(crate) fn all_end_so<R: Threads + Sync>(
 #[test]
 fn worked_rows_end_as_worked(rt: HostRuntime) -> Result<(), Fail> {
     assert!(rt; all_end_so(&rt, rt.alloc(), &WORKED)?);
+    Ok(())
+}
+
+#[test]
+fn more_workers_than_buffers_write_the_same(rt: HostRuntime) -> Result<(), Fail> {
+    for piece in [1, 4096] {
+        for row in &CROWDED {
+            assert!(rt;
+                ends_so(&rt, rt.alloc(), *row, (piece, None), (piece, None))?,
+                "by {piece}"
+            );
+        }
+    }
     Ok(())
 }
 

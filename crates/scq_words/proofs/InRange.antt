@@ -7,7 +7,7 @@ use Rattle.scq_topics.specs.Topics.{entries_of, first_fault}
 use Rattle.scq_words.specs.Asked.{RunTexts, first_of_tests, refused_if, refused_topics, run_tests}
 use Rattle.scq_words.specs.Numbers.{fault_outside, number_in, refused_outside}
 use Rattle.scq_words.specs.declared.fault.WordsFault.{WordsFault}
-use Rattle.scq_words.specs.declared.fault.WordsFault.TheVariants.{NotUnderstood, Workers, Order, Size, Topics, TooManyFiles, NoName, MoreWorkers}
+use Rattle.scq_words.specs.declared.fault.WordsFault.TheVariants.{NotUnderstood, Workers, Order, Size, Topics, TooManyFiles, NoName}
 
 -- a test that doesn't answer that the words aren't understood
 abbrev IsOther : Option WordsFault → Type 0
@@ -46,8 +46,7 @@ run-other t =
     (or-other _ _ (outside-other 1 65536 Size t.size (λ e. cc))
     (or-other _ _ (topics-other t.topics)
     (or-other _ _ (if-other (nat_lt 64 (length t.files)) TooManyFiles (λ e. cc))
-    (or-other _ _ (map-other (λ at. NoName (at + 1)) (position (λ name. length name == 0) t.files) (λ a e. cc))
-    (or-other _ None (if-other _ MoreWorkers (λ e. cc)) (λ e. cc)))))))
+    (or-other _ None (map-other (λ at. NoName (at + 1)) (position (λ name. length name == 0) t.files) (λ a e. cc)) (λ e. cc))))))
 
 -- a number that is the default or was tested is in its range
 pub in-range : (n default low high : ℕ) → (n ≡ default) ⊎ ((low ≤ n) × (n ≤ high)) → low ≤ default → default ≤ high → (low ≤ n) × (n ≤ high)

@@ -10,7 +10,7 @@ use Rattle.scq_topics.specs.Topics.{declared_by, entries_of, first_fault}
 use Rattle.scq_words.specs.Commands.{run_app, self_app, text_app}
 use Rattle.scq_words.specs.Numbers.{number_or, refused_outside}
 use Rattle.scq_words.specs.declared.fault.WordsFault.{WordsFault}
-use Rattle.scq_words.specs.declared.fault.WordsFault.TheVariants.{NotUnderstood, Workers, Order, Size, Topics, TooManyFiles, NoName, MoreWorkers, Seed, Lines}
+use Rattle.scq_words.specs.declared.fault.WordsFault.TheVariants.{NotUnderstood, Workers, Order, Size, Topics, TooManyFiles, NoName, Seed, Lines}
 use Rattle.scq_words.specs.declared.request.Request.{Request}
 use Rattle.scq_words.specs.declared.request.Request.TheVariants.{Run, SelfRun, Text}
 use Rattle.scq_words.specs.declared.request.RunRequest.{RunRequest}
@@ -48,10 +48,6 @@ refused_names files = option_map (λ at. NoName (at + 1)) (position (λ name. le
 -- how many workers there are: 4 or the number of buffers where none are given
 abbrev pub workers_or : ℕ → Option (List ℕ) → ℕ
 workers_or order text = number_or (min 4 (2 ^ order)) text
-
--- more workers than buffers
-abbrev pub refused_workers : ℕ → Option (List ℕ) → Option WordsFault
-refused_workers order workers = refused_if (nat_lt (2 ^ order) (workers_or order workers)) MoreWorkers
 
 -- whether a flag is given, whose text is then `true`
 abbrev pub is_given : Option (List ℕ) → Bool
@@ -122,7 +118,6 @@ run_tests t =
     ∷ refused_topics t.topics
     ∷ refused_if (nat_lt 64 (length t.files)) TooManyFiles
     ∷ refused_names t.files
-    ∷ refused_workers (number_or 6 t.order) t.workers
     ∷ []
 
 -- those of `self`, whose order is 6
@@ -131,7 +126,6 @@ self_tests t =
     refused_outside 0 2147483647 Seed t.seed
     ∷ refused_outside 1 1000000 Lines t.lines
     ∷ refused_outside 1 4096 Workers t.workers
-    ∷ refused_workers 6 t.workers
     ∷ []
 
 -- the settings, where no test refuses

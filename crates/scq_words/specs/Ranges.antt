@@ -1,5 +1,5 @@
 -- Which words `clap` takes, and in which ranges the settings are.
-use Rattle.std.specs.Prelude.{ℕ, ◌^◌, ◌<◌, ◌≤◌, Bool, false, List, [], ◌∷◌, length, codes, if◌then◌else◌}
+use Rattle.std.specs.Prelude.{ℕ, ◌<◌, ◌≤◌, Bool, false, List, [], ◌∷◌, length, codes, if◌then◌else◌}
 use Rattle.std.specs.List.{All}
 use Rattle.std.specs.Str.{bytes_eq}
 use Rattle.clap.specs.Words.{takes}
@@ -20,17 +20,17 @@ is_taken (command ∷ words) =
 -- the settings of a run are in their ranges, and each of its files has a name
 pub record IsRunInRange (a : RunAsked) : Type 0 where
   pub order : (1 ≤ a.order) × (a.order ≤ 12)
-  pub workers : (1 ≤ a.workers) × (a.workers ≤ 2 ^ a.order)
+  pub workers : (1 ≤ a.workers) × (a.workers ≤ 4096)
   pub size : (1 ≤ a.size) × (a.size ≤ 65536)
   pub topics : length a.topics ≤ 16
   pub files : length a.files ≤ 64
   pub names : All (λ name. 0 < length name) a.files
 
--- those of `self`, whose order is 6
+-- those of `self`
 pub record IsSelfInRange (a : SelfAsked) : Type 0 where
   pub seed : a.seed ≤ 2147483647
   pub lines : (1 ≤ a.lines) × (a.lines ≤ 1000000)
-  pub workers : (1 ≤ a.workers) × (a.workers ≤ 64)
+  pub workers : (1 ≤ a.workers) × (a.workers ≤ 4096)
 
 abbrev pub IsInRange : Asked → Type 0
 IsInRange (run a) = IsRunInRange a

@@ -23,9 +23,6 @@ pub enum WordsFault {
     /// This file, numbered from 1, is the empty text.
     #[error("file {file} has no name")]
     NoName { file: u32 },
-    /// There are more workers than `2^order` buffers.
-    #[error("more workers than buffers")]
-    MoreWorkers,
     #[error("seed is not in 0..2147483647")]
     Seed,
     #[error("lines is not in 1..1000000")]

@@ -3,7 +3,7 @@ ghost use Rattle.std.specs.Prelude.{◌^◌, ◌<◌, ◌≤◌, vec_len};
 use crate::TextRequest;
 use scq_topics::Topics;
 
-/// What is asked of files. Workers are in `1..=4096` and at most `2^order`, the order in `1..=12`, the
+/// What is asked of files. Workers are in `1..=4096`, the order in `1..=12`, the
 /// size of a payload in `1..=65536`, and there are 1 to 64 files, each with a name. `report` asks for
 /// what each worker did.
 #[derive(Debug, Drop)]
@@ -18,7 +18,7 @@ pub struct RunRequest {
 }
 
 /// What is asked of a generated file: the seed is in `0..=2147483647`, the lines in `1..=1000000`, the
-/// workers in `1..=64`.
+/// workers in `1..=4096`.
 #[derive(Clone, Copy, Debug, PartialEq, Eq)]
 pub struct SelfRequest {
     pub seed: u32,

@@ -58,7 +58,7 @@ fn check_run(
     let topics = topics_of(topics)?;
     few_files(files)?;
     named_files(files)?;
-    let workers = workers_of(workers, given, order)?;
+    let workers = workers_of(workers, given, order);
     let files = own_files(alloc, files)?;
     Ok(RunRequest {
         workers,

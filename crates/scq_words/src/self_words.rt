@@ -46,7 +46,7 @@ fn check_self(
     let seed = optional_number(seed, 0, 0, 2147483647, WordsFault::Seed)?;
     let lines = optional_number(lines, 1, 1, 1000000, WordsFault::Lines)?;
     let given = optional_number(workers, 0, 1, 4096, WordsFault::Workers)?;
-    let workers = workers_of(workers, given, ORDER)?;
+    let workers = workers_of(workers, given, ORDER);
     Ok(SelfRequest {
         seed,
         lines,

@@ -162,12 +162,12 @@ static TOPICS_AND_FILES: [(&str, &str); 30] = [
     ),
     ("run --  f", "file 1 has no name"),
     ("run --order 3 --workers 8 f", "run 8 3 65536 0 f"),
-    ("run --order 3 --workers 9 f", "more workers than buffers"),
+    ("run --order 3 --workers 9 f", "run 9 3 65536 0 f"),
     ("run --workers 64 f", "run 64 6 65536 0 f"),
-    ("run --workers 65 f", "more workers than buffers"),
-    ("run --order 1 --workers 3 f", "more workers than buffers"),
+    ("run --workers 65 f", "run 65 6 65536 0 f"),
+    ("run --order 1 --workers 3 f", "run 3 1 65536 0 f"),
     ("run --order 2 f", "run 4 2 65536 0 f"),
-    ("run --workers 4096 f", "more workers than buffers"),
+    ("run --workers 4096 f", "run 4096 6 65536 0 f"),
 ];
 
 static PAIRS: [(&str, &str); 21] = [
@@ -273,10 +273,7 @@ static SELVES: [(&str, &str); 41] = [
     ("self --seed 1 --lines 1 --lines 1", "words not understood"),
     ("self --seed 1 --lines 1 --workers 1", "self 1 1 1"),
     ("self --seed 1 --lines 1 --workers=64", "self 1 1 64"),
-    (
-        "self --seed 1 --lines 1 --workers 65",
-        "more workers than buffers",
-    ),
+    ("self --seed 1 --lines 1 --workers 4096", "self 1 1 4096"),
     (
         "self --seed 1 --lines 1 --workers 0",
         "workers is not in 1..4096",

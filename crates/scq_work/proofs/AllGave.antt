@@ -100,7 +100,6 @@ module _ {B S : Type 0} where
     pub order : c.order ≤ 12
     pub rings : c.rings ≡ length topics + 2
     pub seats : c.seats ≡ length desks
-    pub seats_fit : c.seats ≤ n_of c.order
     pub limit : c.limit ≡ 2 ^ 60
 
   module _ (c : Setup) (shared : Identity B) (topics : List (List ℕ × Kind)) (size : ℕ) (faults : S → ℕ) (left : S → Option (List ℕ)) (sources : List S)

@@ -20,7 +20,7 @@ use Rattle.scq_collect.specs.Merging.{members_in}
 use Rattle.scq_collect.specs.Output.{Answer, without_way}
 use Rattle.scq_band.specs.Standing.{Identity}
 use Rattle.scq_band.proofs.ClosedCounts.{sum_by-map}
-use Rattle.scq_queue.specs.Closing.{EachTakeIsASend, NoPlaceIsSentTwice, NoPlaceIsTakenTwice, IsBalance, EachSendPassedIsTaken, AllFullsStand, EachKeptIsPastTheBound, IsAllThere}
+use Rattle.scq_queue.specs.Closing.{EachTakeIsASend, NoPlaceIsSentTwice, NoPlaceIsTakenTwice, IsBalance, EachSendPassedIsTaken, AllFullsStand, NoneIsKeptWithinTheLimit, IsAllThere}
 use Rattle.scq_queue.specs.Lists.{sends_of, takes_of}
 use Rattle.scq_queue.specs.Passes.{PassStanding, HeldStanding}
 use Rattle.scq_work.specs.AllWorkers.{OfEachWorker, HaveAnswered, HaveShared}
@@ -49,7 +49,7 @@ pub record HasClosed {B : Type 0} (c : Setup) (passes : List (PassStanding B)) (
   pub balance : IsBalance c passes left
   pub passed : EachSendPassedIsTaken passes
   pub fulls : AllFullsStand passes
-  pub kept : EachKeptIsPastTheBound c passes
+  pub limits : NoneIsKeptWithinTheLimit c passes
   pub all_there : IsAllThere c held left
 
 -- where no value is held, all are left
@@ -123,10 +123,10 @@ module _ {B S : Type 0} where
       pub unspent : NoneSpent (passes_at desks)
       unspent =
           subst (λ (ps : List (PassStanding B)). NoneSpent ps) passes-same
-          (none-spent c works ran.order ran.seats_fit ran.limit (omega (arith, ran.seats, length-map desks counted)) few-messages all-thrifty
+          (none-spent c works ran.limit (omega (arith, ran.seats, length-map desks counted)) few-messages all-thrifty
           (subst (λ (ps : List (PassStanding B)). EachTakeIsASend ps) (sym passes-same) closed.takes)
           (subst (λ (ps : List (PassStanding B)). NoPlaceIsTakenTwice ps) (sym passes-same) closed.taken_once)
-          (subst (λ (ps : List (PassStanding B)). EachKeptIsPastTheBound c ps) (sym passes-same) closed.kept))
+          (subst (λ (ps : List (PassStanding B)). NoneIsKeptWithinTheLimit c ps) (sym passes-same) closed.limits))
 
       bounded : All IsBounded (passes_at desks)
       bounded = All-map IsBounded (λ (d : Desk B S). d.worker.pass) desks (λ k d less.

@@ -1,34 +1,34 @@
--- No pass kept a ticket: what the workers began is too little for the ticket bound of any ring to be past the limit.
-use Rattle.std.proofs.Common.{◌≡◌, refl, ◌∙◌, ap, arith, zero, suc, ℕ, ◌+◌, ◌*◌, ◌^◌, ◌<◌, ◌≤◌, List, [], ◌∷◌, length, map, get_or, pow_mono, Option, Some, None, Bool, true, false}
-use Rattle.std.specs.Prelude.{sum_by, slice_get, if◌then◌else◌, ◌==◌}
+-- No pass kept a ticket: what the workers began is too little for the limit of any ring.
+use Rattle.std.proofs.Common.{◌≡◌, refl, ◌∙◌, sym, arith, zero, suc, ℕ, ◌+◌, ◌*◌, ◌^◌, ◌<◌, ◌≤◌, List, [], ◌∷◌, length, map, get_or, pow_mono, None}
+use Rattle.std.specs.Prelude.{sum_by}
 use Rattle.std.specs.List.{All}
-use Rattle.std.specs.Option.{option_map}
 use Rattle.std.proofs.Math.Nat.{mul-le-mul}
+use Rattle.std.proofs.lemmas.List.{length-map, get_or-map}
 use Rattle.std.proofs.lemmas.List.Concat.{length-flat_map}
 use Rattle.std.proofs.lemmas.List.Sums.{sum_by-cons, get_or-le-sum_by}
-use Rattle.std.proofs.lemmas.Option.{slice_get-map, slice_get-get_or}
 use Rattle.scq_word.specs.declared.setup.Setup.{Setup}
 use Rattle.scq_word.specs.Sizes.{n_of}
-use Rattle.scq_word.specs.Bounds.{reset_value, ticket_bound}
+use Rattle.scq_word.specs.Bounds.{reset_value, limit_for}
 use Rattle.scq_word.proofs.BoundLemmas.{reset_small}
-use Rattle.scq_law.specs.Bounds.{tally, was_put, openings}
-use Rattle.scq_band.specs.Closing.{begun_on}
+use Rattle.scq_core.proofs.Entries.{few_seats}
+use Rattle.scq_law.specs.Bounds.{tally, was_put}
 use Rattle.scq_band.proofs.ClosedCounts.{sum_by-map}
 use Rattle.scq_queue.specs.Lists.{sends_of, takes_of}
 use Rattle.scq_queue.specs.Passes.{PassStanding}
-use Rattle.scq_queue.specs.Closing.{EachTakeIsASend, NoPlaceIsTakenTwice, EachKeptIsPastTheBound}
+use Rattle.scq_queue.specs.Closing.{EachTakeIsASend, NoPlaceIsTakenTwice, NoneIsKeptWithinTheLimit}
 use Rattle.scq_work.specs.Together.{all_sends, all_takes, NoneSpent, IsBounded}
 use Rattle.scq_work.specs.Working.{IsThrifty}
 use Rattle.scq_work.proofs.SendsAndTakes.{few-takes}
 
--- where so few enqueues were begun on a ring, its bound is within the limit
-few-tickets : (c : Setup) (begun : ℕ) → c.order ≤ 12 → c.seats ≤ n_of c.order → begun ≤ 2 ^ 36 → ticket_bound c.order c.seats begun ≤ 2 ^ 60
-few-tickets c begun small seats low =
-    let n_small : n_of c.order ≤ 2 ^ 12 = pow_mono small in
-    let reset : reset_value c.order c.seats < 2 ^ 16 = reset_small c.order c.seats small in
+-- the limit for so few puts is at most the greatest
+few-tickets : (c : Setup) (puts : ℕ) → puts ≤ 2 ^ 35 + 4096 → limit_for c.order c.seats puts ≤ 2 ^ 60
+few-tickets c puts low =
+    let n_small : n_of c.order ≤ 2 ^ 12 = pow_mono c.order_in_range.1 in
+    let few = few_seats c in
+    let reset : reset_value c.order c.seats < 2 ^ 16 = reset_small c.order c.seats c.order_in_range.1 few in
     let factor : reset_value c.order c.seats + 1 + c.seats ≤ 2 ^ 17 = omega arith in
-    let more : begun + 1 ≤ 2 ^ 36 + 1 = omega arith in
-    let times : (begun + 1) * (reset_value c.order c.seats + 1 + c.seats) ≤ (2 ^ 36 + 1) * 2 ^ 17 = mul-le-mul more factor in
+    let more : puts + n_of c.order + 1 ≤ 2 ^ 36 + 1 = omega arith in
+    let times : (puts + n_of c.order + 1) * (reset_value c.order c.seats + 1 + c.seats) ≤ (2 ^ 36 + 1) * 2 ^ 17 = mul-le-mul more factor in
     omega arith
 
 -- a sum of numbers, each at most one more than another
@@ -46,12 +46,6 @@ sums-le f g (x ∷ xs) each =
     let here : f x ≤ g x = each zero x (omega arith) in
     let rest = sums-le f g xs (λ k d less. each (suc k) d (omega arith)) in
     omega (arith, sum_by-cons f x xs, sum_by-cons g x xs)
-
-openings-few : (c : Setup) (r : ℕ) → openings c r ≤ n_of c.order
-openings-few c r = by (r == 0) where
-  by : (b : Bool) → (if b then n_of c.order else 0) ≤ n_of c.order
-  by true = omega arith
-  by false = omega arith
 
 module _ {B : Type 0} where
   -- the passes of workers, each with how many messages its worker has passed on
@@ -80,13 +74,12 @@ module _ {B : Type 0} where
       ∙ sum_by-map (λ (p : PassStanding B). length (takes_of p.calls)) (λ (w : ℕ × PassStanding B). w.1) works
 
   -- the puts that were begun on a ring
-  begun-few : (c : Setup) (works : List (ℕ × PassStanding B)) → AllThrifty works → length (all_takes (passes_of works)) ≤ messages_of works → (r : ℕ)
-      → begun_on c (map (λ (p : PassStanding B). p.calls) (passes_of works)) r ≤ messages_of works + length works + n_of c.order
-  begun-few c works each takes r =
+  begun-few : (works : List (ℕ × PassStanding B)) → AllThrifty works → length (all_takes (passes_of works)) ≤ messages_of works → (r : ℕ)
+      → sum_by (tally (was_put r)) (map (λ (p : PassStanding B). p.calls) (passes_of works)) ≤ messages_of works + length works
+  begun-few works each takes r =
       let first = sum_by-map (tally (was_put r)) (λ (p : PassStanding B). p.calls) (passes_of works) in
       let all = sum_by-map (λ (p : PassStanding B). tally (was_put r) p.calls) (λ (w : ℕ × PassStanding B). w.1) works in
       let few = by r in
-      let opening = openings-few c r in
       omega arith where
         by : (r : ℕ) → sum_by (λ (w : ℕ × PassStanding B). tally (was_put r) w.1.calls) works ≤ messages_of works + length works
         by zero =
@@ -97,27 +90,19 @@ module _ {B : Type 0} where
             (λ k d less. (each k d less).puts t)
 
   -- no pass met Spent
-  pub none-spent : (c : Setup) (works : List (ℕ × PassStanding B)) → c.order ≤ 12 → c.seats ≤ n_of c.order → c.limit ≡ 2 ^ 60 → length works ≤ c.seats
+  pub none-spent : (c : Setup) (works : List (ℕ × PassStanding B)) → c.limit ≡ 2 ^ 60 → length works ≤ c.seats
       → messages_of works ≤ 2 ^ 35 → AllThrifty works → EachTakeIsASend (passes_of works) → NoPlaceIsTakenTwice (passes_of works)
-      → EachKeptIsPastTheBound c (passes_of works) → NoneSpent (passes_of works)
-  none-spent c works small seats limit workers messages each sent once kept k d less = by (get_or (passes_of works) k d).spent refl where
-    n_small : n_of c.order ≤ 2 ^ 12
-    n_small = pow_mono small
-
-    takes : length (all_takes (passes_of works)) ≤ messages_of works
-    takes = let few = few-takes (passes_of works) sent once in let sends = few-sends works each in omega arith
-
-    by : (s : Option ℕ) → (get_or (passes_of works) k d).spent ≡ s → (get_or (passes_of works) k d).spent ≡ None
-    by None is = is
-    by (Some ticket) is =
-        let at : slice_get (map (λ (p : PassStanding B). p.spent) (passes_of works)) k ≡ Some (Some ticket) =
-        slice_get-map (λ (p : PassStanding B). p.spent) (passes_of works) k
-        ∙ ap (λ o. option_map (λ (p : PassStanding B). p.spent) o) (slice_get-get_or (passes_of works) k d less) ∙ ap Some is in
-        let past = kept k ticket at in
-        let begun = begun-few c works each takes past.ring in
-        let few = few-tickets c (begun_on c (map (λ (p : PassStanding B). p.calls) (passes_of works)) past.ring) small seats (omega (arith, n_small)) in
-        let over = past.past in
-        absurd (omega arith)
+      → NoneIsKeptWithinTheLimit c (passes_of works) → NoneSpent (passes_of works)
+  none-spent c works limit workers messages each sent once limits =
+      let few = few-takes (passes_of works) sent once in
+      let sends = few-sends works each in
+      let takes : length (all_takes (passes_of works)) ≤ messages_of works = omega arith in
+      let puts = messages_of works + length works in
+      let enough = few-tickets c puts (omega (arith, few_seats c)) in
+      let all = limits puts (omega (arith, enough, limit)) (λ r low. begun-few works each takes r) in
+      λ k d less.
+      let long = length-map (passes_of works) (λ (p : PassStanding B). p.spent) in
+      sym (get_or-map (λ (p : PassStanding B). p.spent) (passes_of works) k d d.spent less) ∙ all k d.spent (omega arith)
 
   -- each pass has few sends, takes and Full replies
   pub all-bounded : (works : List (ℕ × PassStanding B)) → messages_of works ≤ 2 ^ 35 → AllThrifty works → EachTakeIsASend (passes_of works)

@@ -17,7 +17,7 @@ impl Job {
     ghost use Rattle.std.specs.Prelude.{◌≡◌, ◌↔◌, IsNone, IfSome};
 
     /// None exactly where the order isn't in 1 to 12, the size isn't in 1 to 65,536, or the workers
-    /// aren't in 1 to the number of buffers.
+    /// aren't in 1 to 4,096.
     pub fn new(order: u32, size: u32, workers: u32, topics: Topics) -> Option<Job>
         ensures refused { IsNone result ↔ ¬ IsJob order size workers }
         ensures order { IfSome result (λ job. job.order ≡ order) }
@@ -28,7 +28,7 @@ impl Job {
         if !(1..=12).contains(&order) || !(1..=65_536).contains(&size) {
             return None;
         }
-        if workers == 0 || workers > 1 << order {
+        if !(1..=4096).contains(&workers) {
             return None;
         }
         Some(Job {

@@ -12,7 +12,7 @@ returns-clause-ranges c =
     let Named : List (List ℕ) → Type 0 = λ names. All (λ name. 0 < length name) names in
     record {
       order = in-range c.in_ok-order.order 6 1 12 c.in_ok-order.ensures.within (omega arith) (omega arith);
-      workers = c.in_ok-workers.ensures.within;
+      workers = c.workers_of-workers.ensures.within;
       size = in-range c.in_ok-size.size 65536 1 65536 c.in_ok-size.ensures.within (omega arith) (omega arith);
       topics = c.in_ok-topics.ensures.few;
       files = omega (arith, length-map own string_bytes, c.in_ok-files.ensures.len, c.in_ok-few_files.ensures.few);

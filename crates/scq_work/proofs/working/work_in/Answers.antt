@@ -246,7 +246,6 @@ returns-clause-worked g c =
       order = omega (arith, setup.0, valid.order_fits);
       rings = setup.1;
       seats = sym count;
-      seats_fit = subst (λ n. queue.setup.seats ≤ 2 ^ n) (sym setup.0) (omega (arith, setup.2, valid.workers_fit));
       limit = setup.3;
     } in
     let close = c.close-buffers.ensures in
@@ -259,7 +258,7 @@ returns-clause-worked g c =
       balance = close.balance;
       passed = close.passed;
       fulls = close.fulls;
-      kept = close.kept;
+      limits = close.limits;
       all_there = close.all_there;
     })) in
     let answered = have-answered queue.setup queue topics size faults left sources ran all c.close-buffers.result.left.items closed in
