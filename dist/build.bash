@@ -1,9 +1,11 @@
 # How ./scq and dist/make prove and build, who read this file behind sources.bash. `say` and `fail` are
-# theirs. What is proved stays in crates/*/out, and what is kept there isn't proved again.
+# theirs. All is done in folders of its own: nothing is written where rt works by hand.
 work=$top/crates/scq_main/out
 log=$work/scq.log
-# A folder for each crate that is at work.
-rooms=$work/scq.room
+# A folder for each crate that is at work, or was when a start was interrupted.
+rooms=$work/scq.rooms
+# For each crate what was made of it, packed, and the sum of what that was made of.
+kept=$work/scq.kept
 # How many lines first proofs go through in a minute: of a crate that has the machine, and of one processor
 # where many crates share it.
 pace_alone=2600
@@ -28,17 +30,19 @@ side_by_side() {
     echo $((free < processors ? free : processors))
 }
 
-# For each crate those below it; the crates by the lines of the longest chain that begins with each and goes
-# up; and in how many minutes first proofs of all are through.
+# For each crate those below it, and a sum of what it is made of; the crates by the lines of the longest chain
+# that begins with each and goes up; and in how many minutes first proofs of all are through.
 plan() {
     local crate under own at longest=0 lines=0
     local -A chain=()
     for ((at = ${#crates[@]} - 1; at >= 0; at--)); do
         crate=${crates[at]}
+        below[$crate]=$(crates_of "$crate" | grep -vx "$crate")
+        # shellcheck disable=SC2086
+        sums[$crate]=$(sum_with "$kit" "$(sources_of ${below[$crate]} "$crate")")
         own=$(files_of "$crate" | (cd "$top/crates" && xargs -0 cat) | wc -l)
         lines=$((lines + own))
         chain[$crate]=$((${chain[$crate]-0} + own))
-        below[$crate]=$(crates_of "$crate" | grep -vx "$crate")
         for under in ${below[$crate]}; do
             [ "${chain[$under]-0}" -ge "${chain[$crate]}" ] || chain[$under]=${chain[$crate]}
         done
@@ -51,76 +55,107 @@ plan() {
 
 so_far() { printf '%d:%02d' $((SECONDS / 60)) $((SECONDS % 60)); }
 
+# What is made of a crate stands here while the build goes on.
+made_of() { echo "$rooms/$1/crates/$1/out"; }
+
+is_kept() { [ "$(cat "$kept/$1/sum" 2>/dev/null)" = "${sums[$1]}" ]; }
+
+unpack() { tar -xzf "$kept/$1/$2.tar.gz" -C "$(made_of "$1")"; }
+
+# Takes a crate as it was proved.
+restore() {
+    rm -rf "$(made_of "$1")"
+    mkdir -p "$(made_of "$1")"
+    unpack "$1" rlib || {
+        rm -f "$kept/$1/sum"
+        return 1
+    }
+}
+
 # Makes a crate's room: its files and those of the crates below, the libraries that these were built to, and
-# what is kept of it. rt lets only one check be at work in a folder or above it, so that crates with one
-# below them could not be proved side by side where they lie.
+# what is kept of it. rt lets only one check be at work in a folder and in those of the crates below, so that
+# crates with one below them can't be proved side by side where they lie.
 make_room() {
-    local crate=$1 room=$rooms/$1 under part
+    local crate=$1 room=$rooms/$1 under part made
+    made=$(made_of "$crate")
+    mkdir -p "$made"
+    find "$room" -mindepth 1 -maxdepth 1 ! -name crates -exec rm -rf {} +
+    find "$room/crates" "$room/crates/$crate" -mindepth 1 -maxdepth 1 ! -name "$crate" ! -name out -exec rm -rf {} +
+    # shellcheck disable=SC2086
+    lines_of ${below[$crate]} "$crate" >"$room/crates.txt"
     for under in ${below[$crate]} "$crate"; do
         mkdir -p "$room/crates/$under/out"
-        grep -E "^$under( .*)?:" "$top/crates.txt" >>"$room/crates.txt"
         for part in src specs proofs; do
             [ ! -d "$top/crates/$under/$part" ] || cp -r "$top/crates/$under/$part" "$room/crates/$under"
         done
-        part=$([ "$under" = "$crate" ] && echo incremental || echo rlib)
-        [ ! -d "$top/crates/$under/out/$part" ] ||
-            cp -al "$top/crates/$under/out/$part" "$room/crates/$under/out" 2>/dev/null ||
-            cp -a "$top/crates/$under/out/$part" "$room/crates/$under/out"
+        # rt never writes into a library that is there, so a second name is enough.
+        [ "$under" = "$crate" ] || cp -al "$(made_of "$under")/rlib" "$room/crates/$under/out" 2>/dev/null ||
+            cp -r "$(made_of "$under")/rlib" "$room/crates/$under/out"
     done
+    part=$top/crates/$crate/out/incremental
+    [ -d "$made/incremental" ] || unpack "$crate" incremental 2>/dev/null || [ ! -d "$part" ] || cp -r "$part" "$made"
 }
 
-# Takes what was made in a crate's room to the crate, and fails while another rt is at work there.
-leave_room() {
-    local made=$rooms/$1/crates/$1/out part
-    (
-        flock -n 9 || exit
-        mkdir -p "$top/crates/$1/out"
-        for part in incremental rlib; do
-            [ -d "$made/$part" ] || continue
-            rm -rf "$top/crates/$1/out/$part"
-            mv "$made/$part" "$top/crates/$1/out"
-        done
-        rm -rf "${rooms:?}/$1"
-    ) 9<"$top/crates/$1"
-}
-
-leave_rooms() {
-    local room
-    for room in "$rooms"/*/crates; do
-        [ ! -d "$room" ] || leave_room "$(basename "$(dirname "$room")")"
+# Keeps what was made of a crate, while the build goes on.
+pack() {
+    local part to=$kept/$1 made
+    made=$(made_of "$1")
+    mkdir -p "$to"
+    rm -f "$to/sum"
+    for part in incremental rlib; do
+        [ -d "$made/$part" ] || continue
+        nice tar -C "$made" -czf "$to/new" "$part" && mv "$to/new" "$to/$part.tar.gz" || return
     done
-    rm -rf "$rooms"
+    echo "${sums[$1]}" >"$to/sum"
 }
 
-# Ends what is at work. What it has proved is kept.
+# Ends what is at work. What it has proved stays in its room.
 stop() {
-    local crate
-    for crate in "${!running[@]}"; do kill "${running[$crate]}" 2>/dev/null; done
+    local job
+    for job in "${running[@]}" "${packing[@]}"; do kill "$job" 2>/dev/null; done
     wait
-    leave_rooms
+}
+
+# Takes note that a crate is through.
+end() {
+    local crate=$1
+    unset "running[$crate]"
+    { echo "== $crate" && cat "$rooms/$crate.log"; } >>"$log"
+    is_kept "$crate" || {
+        pack "$crate" </dev/null >/dev/null 2>&1 {lock}<&- &
+        packing+=($!)
+    }
 }
 
 # Ends with what rt said last, and where the whole of it is.
 report_end() {
-    tail -n 20 "$1" >&2
-    cat "$1" >>"$log"
-    fail "$2; the whole of what rt said is in $log"
+    tail -n 20 "$rooms/$1.log" >&2
+    cat "$rooms/$1.log" >>"$log"
+    fail "$1 isn't $2; the whole of what rt said is in $log"
+}
+
+# Has these words at work for a crate.
+start() {
+    local crate=$1
+    shift
+    TMPDIR=$rooms "$@" </dev/null >"$rooms/$crate.log" 2>&1 {lock}<&- &
+    running[$crate]=$!
 }
 
 # Begins to prove a crate. One crate at a time, the leader, has a job for each processor, and the others take
 # what it leaves: a proof begins and ends with work for one processor.
 begin() {
     local crate=$1 words=(nice rt lib --jobs 1)
+    if is_kept "$crate"; then
+        start "$crate" restore "$crate"
+        return
+    fi
     make_room "$crate"
     if [ -z "$leader" ]; then
         leader=$crate
         words=(rt lib --jobs "$most")
     fi
-    (
-        cd "$rooms/$crate/crates/$crate" && exec 9<"$top/crates/$crate" && flock 9 &&
-            TMPDIR=$rooms exec "${words[@]}"
-    ) </dev/null >"$rooms/$crate.log" 2>&1 {lock}<&- &
-    running[$crate]=$!
+    start "$crate" env -C "$rooms/$crate/crates/$crate" "${words[@]}"
 }
 
 # Whether all crates below a crate are proved.
@@ -143,10 +178,8 @@ prove() {
         sleep 0.2
         for crate in "${!running[@]}"; do
             ! kill -0 "${running[$crate]}" 2>/dev/null || continue
-            wait "${running[$crate]}" || report_end "$rooms/$crate.log" "$crate isn't proved"
-            leave_room "$crate" || continue
-            { echo "== $crate" && cat "$rooms/$crate.log"; } >>"$log"
-            unset "running[$crate]"
+            wait "${running[$crate]}" || report_end "$crate" proved
+            end "$crate"
             proved[$crate]=1
             [ "$leader" != "$crate" ] || leader=
             say "through with $crate, ${#proved[@]} of $#, $(so_far) so far"
@@ -157,36 +190,42 @@ prove() {
 # Builds a proved program or static library. A program is run, with no words, since only so rt leaves it in
 # out/. Its status is the program's own, so what counts is that rt came to run it.
 build_one() {
-    local crate=$1 verb=lib
+    local crate=$1 verb=lib made
     [ ! -e "$top/crates/$crate/src/main.rt" ] || verb=run
     say "building $crate, $(so_far) so far"
-    (cd "$top/crates/$crate" && TMPDIR=$rooms exec rt "$verb") </dev/null >"$rooms/$crate.log" 2>&1 {lock}<&- &
-    running[$crate]=$!
-    wait "$!" || grep -q "^rt: running out/$crate;" "$rooms/$crate.log" ||
-        report_end "$rooms/$crate.log" "$crate isn't $(grep -q '^logic=proved' "$rooms/$crate.log" && echo built || echo proved)"
-    unset "running[$crate]"
-    { echo "== $crate" && cat "$rooms/$crate.log"; } >>"$log"
+    make_room "$crate"
+    start "$crate" env -C "$rooms/$crate/crates/$crate" rt "$verb"
+    wait "${running[$crate]}" || grep -q "^rt: running out/$crate;" "$rooms/$crate.log" ||
+        report_end "$crate" "$(grep -q '^logic=proved' "$rooms/$crate.log" && echo built || echo proved)"
+    end "$crate"
+    made=$top/crates/$crate/out/$(file_of "$crate")
+    mkdir -p "$(dirname "$made")"
+    # Never written into: whoever runs it keeps what he has.
+    cp "$(made_of "$crate")/$(file_of "$crate")" "$made.new" && mv "$made.new" "$made" || fail "can't write in $(dirname "$made")"
 }
 
-# Proves these crates and builds what they are: of a program out/NAME, of a static library out/libNAME.a.
+# The name of what a crate is built to.
+file_of() { [ -e "$top/crates/$1/src/main.rt" ] && echo "$1" || echo "lib$1.a"; }
+
+# Proves these crates and builds what they are: of a program out/NAME, of a static library out/libNAME.a. `kit`
+# is the kit's line.
 build() {
-    local crate minutes crates by_chain libraries=() processors
-    local -A below=() running=()
+    local crate minutes crates by_chain libraries=() processors packing=()
+    local -A below=() sums=() running=()
     mapfile -t crates < <(crates_of "$@")
-    processors=$(nproc)
-    plan
-    mkdir -p "$rooms" 2>/dev/null || fail "can't write in $work, and the program has to be built"
-    leave_rooms
-    mkdir -p "$rooms"
+    mkdir -p "$rooms" "$kept" 2>/dev/null || fail "can't write in $work, and the program has to be built"
     trap stop EXIT
     trap 'exit 130' INT
     trap 'exit 143' TERM
     trap 'exit 129' HUP
     : >"$log"
+    processors=$(nproc)
+    plan
     say "proving ${#crates[@]} crates, about $minutes minutes on $processors processors where nothing of them is kept"
     for crate in "${by_chain[@]}"; do [[ " $* " = *" $crate "* ]] || libraries+=("$crate"); done
     prove "${libraries[@]}"
     for crate; do build_one "$crate"; done
+    wait
     trap - EXIT INT TERM HUP
     rm -rf "$rooms"
 }

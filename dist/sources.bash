@@ -17,6 +17,9 @@ crates_of() {
     ' "$top/crates.txt"
 }
 
+# The lines of crates.txt of these crates.
+lines_of() { (IFS='|' && grep -E "^($*)( .*)?:" "$top/crates.txt" | LC_ALL=C sort); }
+
 # The files that these crates are proved and built of.
 files_of() {
     (cd "$top/crates" && find "${@/%//src}" "${@/%//specs}" "${@/%//proofs}" -type f -print0 2>/dev/null) | LC_ALL=C sort -z
@@ -24,8 +27,7 @@ files_of() {
 
 # The sums of all that is made of these crates but the kit: their lines of crates.txt and their files.
 sources_of() {
-    local crate
-    for crate; do grep -E "^$crate( .*)?:" "$top/crates.txt"; done
+    lines_of "$@"
     files_of "$@" | (cd "$top/crates" && xargs -0 sha256sum --)
 }
 
