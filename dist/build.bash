@@ -194,7 +194,7 @@ build_one() {
     [ ! -e "$top/crates/$crate/src/main.rt" ] || verb=run
     say "building $crate, $(so_far) so far"
     make_room "$crate"
-    start "$crate" env -C "$rooms/$crate/crates/$crate" rt "$verb"
+    start "$crate" env -C "$rooms/$crate/crates/$crate" rt "$verb" --jobs "$(side_by_side)"
     wait "${running[$crate]}" || grep -q "^rt: running out/$crate;" "$rooms/$crate.log" ||
         report_end "$crate" "$(grep -q '^logic=proved' "$rooms/$crate.log" && echo built || echo proved)"
     end "$crate"
