@@ -232,7 +232,7 @@ fn three_seats_over_two_indices_leave_these_words(rt: HostRuntime) -> Result<(),
     let mut steps = Vec::new(alloc);
     let start = replayed(alloc, setup, &steps)?;
     assert_eq!(rt; words(alloc, &start.state, 0)?.as_str(), "4 6 6 12 13 7 7");
-    for line in THREE_SEATS.lines() {
+    'lines: for line in THREE_SEATS.lines() {
         both(alloc, setup, &mut steps, line)?;
     }
     let end = replayed(alloc, setup, &steps)?;
