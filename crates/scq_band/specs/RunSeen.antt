@@ -1,0 +1,82 @@
+-- What a seat, a pass or a note has seen of the run of all seats, and where in that run a call was made. The run is one list of steps,
+-- in the order in which they were made; what was seen of it is a list of its prefixes.
+use Rattle.std.specs.Prelude.{◌≡◌, ℕ, ◌<◌, ◌≤◌, List, [], ◌∷◌, ◌++◌, length, Option, Some, None}
+use Rattle.std.specs.List.{Contains}
+use Rattle.scq_word.specs.declared.setup.Setup.{Setup}
+use Rattle.scq_core.specs.declared.ended.Ended.{Ended}
+use Rattle.scq_core.specs.declared.step.Step.{Step}
+use Rattle.scq_law.specs.EmptyCalls.{IsEmptyAtCall}
+use Rattle.scq_law.specs.Prefixes.{IsPrefix, AllPrefixes, IsRecordAfter}
+use Rattle.scq_law.specs.Run.{Recorded, IsRun}
+
+-- the last of these steps is this one
+pub record EndsWith (step : ℕ × Step) (steps : List (ℕ × Step)) : Type 0 where
+  pub others : List (ℕ × Step)
+  pub is : steps ≡ others ++ step ∷ []
+
+-- what a seat, a pass or a note has seen: prefixes of the run of all seats, and seats that had retired, each with how many calls it had
+-- made before
+pub record Seen : Type 0 where
+  pub runs : List (List (ℕ × Step))
+  pub retirees : List (ℕ × ℕ)
+
+-- what is seen at first: nothing; after a call, or at the gate: this run; by one who learns what another has seen: both
+abbrev pub nothing_seen : Seen
+nothing_seen = record { runs = []; retirees = [] }
+
+abbrev pub with_run : List (ℕ × Step) → Seen → Seen
+with_run steps seen = record seen { runs = steps ∷ [] }
+
+abbrev pub both_seen : Seen → Seen → Seen
+both_seen one other = record { runs = one.runs ++ other.runs; retirees = one.retirees ++ other.retirees }
+
+-- who makes a call: the number of the seat, its record, and what it has seen
+pub record Caller : Type 0 where
+  pub seat : ℕ
+  pub calls : List Ended
+  pub seen : Seen
+
+-- a call in the run. All that the caller had seen lies in the run `before` it. The call's first step is the next after `before`, its
+-- last step is the last of `after`, and `after` is what the caller has seen from then on
+pub record IsCallInRun (c : Setup) (opening : List (List ℕ)) (old new : Caller) : Type 0 where
+  pub before : List (ℕ × Step)
+  pub after : List (ℕ × Step)
+  pub had_seen : AllPrefixes old.seen.runs before
+  pub first : Step
+  pub begins : IsPrefix (before ++ (old.seat, first) ∷ []) after
+  pub last : Step
+  pub ends : EndsWith (old.seat, last) after
+  pub has_seen : new.seen ≡ with_run after old.seen
+  -- the record is that of the run, at both ends
+  pub was : IsRecordAfter c opening before old.seat old.calls
+  pub now : IsRecordAfter c opening after old.seat new.calls
+
+-- a get of ring r that found nothing, in the run: after the call's last step Head of the ring was at or past this number, and at some
+-- moment inside the call each finished put of the ring was claimed: a get that had begun got it, or gets of the ring that are still under
+-- way at the end of `after` are as many as those that none has got
+pub record WasEmptyInRun (c : Setup) (opening : List (List ℕ)) (r head : ℕ) (old new : Caller) : Type 0 where
+  pub call : IsCallInRun c opening old new
+  pub past : head ≤ call.now.recorded.state.cells.head r
+  pub moment : IsEmptyAtCall opening call.was.recorded.events call.now.recorded.events old.seat r
+
+-- a seat has seen these first calls of another to their end
+pub record HasSeenCalls (c : Setup) (opening : List (List ℕ)) (seen : Seen) (seat calls : ℕ) : Type 0 where
+  pub steps : List (ℕ × Step)
+  pub among : Contains seen.runs steps
+  pub recorded : Recorded
+  pub is_run : IsRun c opening steps recorded
+  pub made : calls ≤ length (recorded.state.part seat).calls
+
+-- a reading of the gate in the run, by a seat that had retired itself where `own` is how many calls it had made then. The reader has seen the
+-- whole run as it was, and all that had retired, those among them that it had seen retired before. The number read is 0 exactly where all had
+pub record IsReadingInRun (c : Setup) (opening : List (List ℕ)) (own : Option ℕ) (old new : Caller) (found : ℕ) : Type 0 where
+  pub after : List (ℕ × Step)
+  pub had_seen : AllPrefixes old.seen.runs after
+  pub has_seen : new.seen.runs ≡ after ∷ []
+  pub now : IsRecordAfter c opening after old.seat new.calls
+  pub still : (gone : ℕ × ℕ) → Contains old.seen.retirees gone → Contains new.seen.retirees gone
+  pub made : (gone : ℕ × ℕ) → Contains new.seen.retirees gone → HasSeenCalls c opening new.seen gone.0 gone.1
+  pub itself : (calls : ℕ) → own ≡ Some calls → Contains new.seen.retirees (old.seat, calls)
+  pub not_itself : own ≡ None → (calls : ℕ) → Contains new.seen.retirees (old.seat, calls) → ⊥
+  pub none_left : found ≡ 0 → (seat : ℕ) → seat < c.seats → (calls : ℕ) × Contains new.seen.retirees (seat, calls)
+  pub some_left : 0 < found → (seat : ℕ) × (seat < c.seats) × ((calls : ℕ) → Contains new.seen.retirees (seat, calls) → ⊥)
