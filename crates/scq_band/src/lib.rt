@@ -44,8 +44,6 @@ pub use slot::Slot;
 pub use view::View;
 
 #[cfg(test)]
-mod replay_tests;
-#[cfg(test)]
 mod tests;
 #[cfg(test)]
 mod thread_tests;

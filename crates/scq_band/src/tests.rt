@@ -94,7 +94,7 @@ fn moved(
     }
 }
 
-pub fn number(text: Option<&str>) -> Result<u32, Fail> {
+fn number(text: Option<&str>) -> Result<u32, Fail> {
     Ok(text.ok_or("a number is missing")?.parse::<u32>()?)
 }
 
@@ -149,7 +149,7 @@ fn run(rt: &(impl Abort + AllocGlobal), seats: u32, limit: u64, table: &str) -> 
 }
 
 /// Seat 0 moves the opening indices on, and finds rings empty: a put of its own raises the number that it answers.
-pub const ONE_SEAT: &str = "\
+const ONE_SEAT: &str = "\
 0 1 2 = empty 4
 0 0 1 = 4 0 4
 0 1 2 = 4 0 4
@@ -161,7 +161,7 @@ pub const ONE_SEAT: &str = "\
 ";
 
 /// Two seats in turn.
-pub const TWO_SEATS: &str = "\
+const TWO_SEATS: &str = "\
 0 0 1 = 4 0 4
 1 0 1 = 5 1 5
 1 1 2 = 4 0 4
@@ -172,7 +172,7 @@ pub const TWO_SEATS: &str = "\
 ";
 
 /// One of three seats, with more seats than indices: seven gets look and find nothing, and an eighth doesn't look any more.
-pub const THREE_SEATS: &str = "\
+const THREE_SEATS: &str = "\
 0 0 1 = 4 0 4
 0 1 0 = 4 0 6
 0 1 2 = empty 6
@@ -186,7 +186,7 @@ pub const THREE_SEATS: &str = "\
 ";
 
 /// A small limit: the ticket that was at it is kept, and answered on every ring.
-pub const SPENT: &str = "\
+const SPENT: &str = "\
 0 0 0 = 4 0 6
 0 0 0 = 5 1 7
 0 0 0 = 6 0 8

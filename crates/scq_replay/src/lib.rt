@@ -6,8 +6,6 @@
 #![tactic(auto)]
 
 mod judging;
-#[cfg(test)]
-mod order_tests;
 mod ordering;
 mod printing;
 mod replaying;

@@ -3,7 +3,6 @@ pub mod Completeness
 pub mod Files
 pub mod Merging
 pub mod OneFile
-pub mod Pieces
 pub mod ReportLines
 mod Rows
 pub mod Working

@@ -5,26 +5,16 @@
 //! holds.
 #![tactic(auto)]
 
-#[cfg(test)]
-mod command_lines;
 mod fault;
 mod generated;
-#[cfg(test)]
-mod harness;
 mod job;
 mod outcome;
 mod reading;
 mod reporting;
 mod run;
 mod serving;
-#[cfg(test)]
-mod tests;
-#[cfg(test)]
-mod text_commands;
 mod whole;
 mod worker_report;
-#[cfg(test)]
-mod worker_tests;
 mod writing;
 
 pub use fault::Fault;

@@ -10,8 +10,6 @@ mod job;
 mod own_file;
 mod passing;
 mod reading;
-#[cfg(test)]
-mod tests;
 mod worked;
 mod worker;
 mod working;

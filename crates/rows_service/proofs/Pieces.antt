@@ -1,4 +1,4 @@
--- Pieces of one size, as tests cut what they read and write.
+-- Pieces of one size, as rows cut what is read and written.
 use Rattle.std.proofs.Common.{◌≡◌, ◌∙◌, refl, ap, suc, zero, ℕ, ◌<◌, true}
 use Rattle.std.specs.Prelude.{replicate, ◌&&◌}
 use Rattle.std.proofs.lemmas.Bool.{lt-ltb}

@@ -1,0 +1,97 @@
+//! How the run of a row ended, and what of it isn't as wanted.
+
+use crate::files::RowFiles;
+use crate::row::Row;
+use scq_outside::MemSink;
+use scq_service::serve;
+use scq_word::NoMemory;
+use scq_work::FreeGate;
+use std::alloc::Global;
+use std::thread::Threads;
+
+/// What a run left.
+#[derive(Drop)]
+pub struct Ending {
+    status: u8,
+    output: MemSink,
+    errors: MemSink,
+}
+
+/// Runs a row.
+pub fn ending_of<R: Threads + Sync>(rt: &R, alloc: Global, row: &Row) -> Result<Ending, NoMemory> {
+    let mut files = RowFiles::new(alloc, row.files.as_slice(), row.reads)?;
+    let mut output = row.writes.sink(alloc, row.room)?;
+    let mut errors = row.error_writes.sink(alloc, row.room)?;
+    let words = row.words.as_slice();
+    let outcome = serve(
+        rt,
+        alloc,
+        words,
+        &mut files,
+        &mut output,
+        &mut errors,
+        &FreeGate,
+    );
+    Ok(Ending {
+        status: outcome.status,
+        output,
+        errors,
+    })
+}
+
+impl Ending {
+    /// The first thing that isn't as the row and its status want it.
+    pub fn difference(&self, row: &Row, status: u8) -> Option<&'static str> {
+        if self.status != status {
+            return Some("the status");
+        }
+        if self.output.bytes() != row.output.as_slice() {
+            return Some("the output");
+        }
+        let right = if row.reports {
+            adds_up(self.output.bytes(), self.errors.bytes())
+        } else {
+            self.errors.bytes() == row.errors.as_slice()
+        };
+        if right {
+            None
+        } else {
+            Some("what is written to the errors")
+        }
+    }
+}
+
+/// Whether the last line of a report tells as many taken as sent, and with those answered directly as many as the output answers.
+fn adds_up(output: &[u8], report: &[u8]) -> bool {
+    let Ok(report) = std::str::from_utf8(report) else {
+        return false;
+    };
+    let last = report.lines().last().unwrap_or("");
+    let sent = number_behind(last, "all sent ");
+    let taken = number_behind(last, " taken ");
+    let direct = number_behind(last, " direct ");
+    match (sent, taken, direct) {
+        (Some(sent), Some(taken), Some(direct)) => {
+            sent == taken && sent.saturating_add(direct) == answered(output)
+        }
+        _ => false,
+    }
+}
+
+/// How many messages an output answers: its lines but those of totals.
+fn answered(output: &[u8]) -> u64 {
+    let mut count = 0u64;
+    for line in output.split(|byte| *byte == b'\n') {
+        if line.first().is_some_and(|byte| byte.is_ascii_digit()) {
+            count = count.saturating_add(1);
+        }
+    }
+    count
+}
+
+/// The number behind a word of a line.
+fn number_behind(line: &str, word: &str) -> Option<u64> {
+    let (_, rest) = line.split_once(word)?;
+    let number = rest.split(' ').next()?;
+    number.trim().parse().ok()
+}

@@ -1,0 +1,142 @@
+//! Files of a row, and how reads and writes are cut.
+ghost use Rattle.std.specs.Prelude.{◌≡◌, IsTrue, IfOk, IfSome, None};
+ghost use Rattle.scq_outside.specs.Calls.{are_pieces};
+
+use anyhow::{Context, Result};
+use scq_outside::{Failed, Files, MemSink, MemSource};
+use scq_word::NoMemory;
+use std::alloc::Global;
+
+/// How the calls of an object go: the greatest piece that one moves, and the number of the one that fails, from 1. None is number 0.
+#[derive(Clone, Copy, Drop)]
+pub struct Cut {
+    piece: u32,
+    fails: u32,
+}
+
+impl Cut {
+    pub const WHOLE: Cut = Cut {
+        piece: 4096,
+        fails: 0,
+    };
+
+    /// A piece and the number of a call.
+    pub fn of(text: &str) -> Result<Cut> {
+        let (piece, fails) = text.split_once(' ').context("a piece and a call")?;
+        Ok(Cut {
+            piece: piece.parse::<u32>()?,
+            fails: fails.parse::<u32>()?,
+        })
+    }
+
+    /// A sink with so much room, whose writes are cut so.
+    pub fn sink(&self, alloc: Global, room: u64) -> Result<MemSink, NoMemory> {
+        MemSink::new(
+            alloc,
+            room,
+            self.pieces(alloc, room as usize)?,
+            self.failing(alloc)?,
+        )
+    }
+
+    /// A source of these bytes, whose reads are cut so.
+    fn source(&self, alloc: Global, content: &[u8]) -> Result<MemSource, NoMemory>
+        ensures { IfOk result (λ source. source.faults ≡ 0) }
+    {
+        let pieces = self.pieces(alloc, content.len())?;
+        let failing = self.failing(alloc)?;
+        Ok(MemSource::new(content.to_vec(alloc)?, pieces, failing))
+    }
+
+    #[tactic(auto, using(crate::proofs::Pieces::pieces_replicate))]
+    fn pieces(&self, alloc: Global, count: usize) -> Result<Vec<u32>, NoMemory>
+        ensures { IfOk result (λ pieces. IsTrue (are_pieces pieces.items)) }
+    {
+        // Where no call moves less than a buffer there is nothing to cut.
+        let count = if self.piece < Cut::WHOLE.piece {
+            count
+        } else {
+            0
+        };
+        Ok(vec![in alloc; self.piece.max(1); count]?)
+    }
+
+    fn failing(&self, alloc: Global) -> Result<Vec<u32>, NoMemory> {
+        let mut numbers = Vec::new(alloc);
+        if self.fails > 0 {
+            numbers.push(self.fails)?;
+        }
+        Ok(numbers)
+    }
+}
+
+/// A file of a row.
+#[derive(Drop)]
+pub struct RowFile {
+    name: String,
+    pub content: Vec<u8>,
+}
+
+impl RowFile {
+    /// An empty file.
+    pub fn new(alloc: Global, name: String) -> RowFile {
+        RowFile {
+            name,
+            content: Vec::new(alloc),
+        }
+    }
+}
+
+/// The files of a row, each of which is given once. Their sources are cut alike.
+#[derive(Drop)]
+pub struct RowFiles<'a> {
+    alloc: Global,
+    files: &'a [RowFile],
+    reads: Cut,
+    given: Vec<bool>,
+    faults: u64,
+}
+
+impl RowFiles<'_> {
+    pub fn new(alloc: Global, files: &[RowFile], reads: Cut) -> Result<RowFiles<'_>, NoMemory> {
+        Ok(RowFiles {
+            alloc,
+            files,
+            reads,
+            given: vec![in alloc; false; files.len()]?,
+            faults: 0,
+        })
+    }
+
+    /// The source of the first file of this name that isn't given yet.
+    fn next(&mut self, name: &str) -> Option<MemSource>
+        ensures faults { self.new.faults ≡ self.old.faults }
+        ensures fresh { IfSome result (λ source. source.faults ≡ 0) }
+    {
+        for (file, given) in self.files.iter().zip(self.given.iter_mut()) {
+            if file.name.as_str() == name && !*given {
+                *given = true;
+                return self.reads.source(self.alloc, file.content.as_slice()).ok();
+            }
+        }
+        None
+    }
+}
+
+impl Files for RowFiles<'_> {
+    type Src = MemSource;
+
+    ghost faults = { λ f. f.faults };
+
+    ghost table = { λ _. None };
+
+    fn source(&mut self, name: &str) -> Result<MemSource, Failed> {
+        match self.next(name) {
+            Some(source) => Ok(source),
+            None => {
+                self.faults = self.faults.saturating_add(1);
+                Err(Failed)
+            }
+        }
+    }
+}

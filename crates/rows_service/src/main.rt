@@ -1,0 +1,55 @@
+//! Runs the service over rows that stand in files: the words of a command line, the files that it names, and what
+//! is to come of it. It prints each row that ends otherwise, and how many rows of each file ran. `row.rt`
+//! has the form of a row.
+#![tactic(auto)]
+
+mod ending;
+mod files;
+mod row;
+#[cfg(test)]
+mod tests;
+
+use anyhow::{Context, Result, anyhow};
+use ending::ending_of;
+use row::Row;
+use std::alloc::Global;
+use std::thread::Threads;
+use std::{env, fs};
+
+fn main(rt: HostRuntime) -> Result<()> {
+    for name in env::args(&rt)?.skip(1) {
+        let text = fs::read_to_string(&rt, &name)?;
+        let rows = run_rows(&rt, rt.alloc(), &name, &text)?;
+        println!(rt; "{name}: {rows} rows")?;
+    }
+    Ok(())
+}
+
+/// Runs the rows of a file, prints those that end otherwise, and tells how many there are.
+fn run_rows<R: Threads + Sync + Print>(
+    rt: &R,
+    alloc: Global,
+    name: &str,
+    text: &str,
+) -> Result<u64> {
+    let mut rows = 0u64;
+    let mut row = Row::new(alloc);
+    for (at, line) in text.lines().enumerate() {
+        if line.is_empty() || line.starts_with('#') {
+            continue;
+        }
+        if let Some(status) = line.strip_prefix("= ") {
+            let status = status.parse::<u8>().context("a status")?;
+            let number = at.saturating_add(1);
+            let ending = ending_of(rt, alloc, &row)?;
+            if let Some(what) = ending.difference(&row, status) {
+                println!(rt; "{name} line {number}: {what} is not as wanted")?;
+            }
+            rows = rows.saturating_add(1);
+            row = Row::new(alloc);
+        } else if !row.add_line(alloc, line)? {
+            return Err(anyhow!("a line of no row"));
+        }
+    }
+    Ok(rows)
+}

@@ -1,0 +1,80 @@
+//! A row: what the service is given, and what is to come of it. Its lines, each a mark and, after a space, a text:
+//!
+//! - `$` words of the command line, with a space between them, and `+` more of the last of them;
+//! - `<` the name of a file, then for each line of its content a `|`;
+//! - `>` a line of the output, `!` a line of the errors; `?` in place of these where the errors are a report,
+//!   which has to add up;
+//! - `reads`, `writes`, `errors`: the greatest piece that a read or a write moves, and which call of each object fails, 0 for none;
+//! - `room`: how many bytes fit the output;
+//! - `=` the status, which ends the row.
+//!
+//! `rows_text` has what stands for bytes that aren't seen.
+
+use crate::files::{Cut, RowFile};
+use anyhow::{Context, Result};
+use rows_text::{add_line, word_of};
+use std::alloc::Global;
+
+/// As many bytes as a sink has room for.
+const ROOM: u64 = 1 << 17;
+
+#[derive(Drop)]
+pub struct Row {
+    pub words: Vec<String>,
+    pub files: Vec<RowFile>,
+    pub reads: Cut,
+    pub writes: Cut,
+    pub error_writes: Cut,
+    pub room: u64,
+    pub output: Vec<u8>,
+    pub errors: Vec<u8>,
+    /// The errors are a report of workers.
+    pub reports: bool,
+}
+
+impl Row {
+    /// No words, no files, and nothing written.
+    pub fn new(alloc: Global) -> Row {
+        Row {
+            words: Vec::new(alloc),
+            files: Vec::new(alloc),
+            reads: Cut::WHOLE,
+            writes: Cut::WHOLE,
+            error_writes: Cut::WHOLE,
+            room: ROOM,
+            output: Vec::new(alloc),
+            errors: Vec::new(alloc),
+            reports: false,
+        }
+    }
+
+    /// Adds what a line says. Whether it says anything.
+    pub fn add_line(&mut self, alloc: Global, line: &str) -> Result<bool> {
+        let (mark, text) = line.split_once(' ').unwrap_or((line, ""));
+        match mark {
+            "$" => {
+                for word in text.split(' ') {
+                    self.words.push(word_of(alloc, word)?)?;
+                }
+            }
+            "+" => {
+                let word = self.words.last_mut().context("more of no word")?;
+                word.push_str(word_of(alloc, text)?.as_str())?;
+            }
+            "<" => self.files.push(RowFile::new(alloc, word_of(alloc, text)?))?,
+            "|" => {
+                let file = self.files.last_mut().context("a line of no file")?;
+                add_line(&mut file.content, text)?;
+            }
+            ">" => add_line(&mut self.output, text)?,
+            "!" => add_line(&mut self.errors, text)?,
+            "?" => self.reports = true,
+            "reads" => self.reads = Cut::of(text)?,
+            "writes" => self.writes = Cut::of(text)?,
+            "errors" => self.error_writes = Cut::of(text)?,
+            "room" => self.room = text.parse::<u32>()?.into(),
+            _ => return Ok(false),
+        }
+        Ok(true)
+    }
+}
