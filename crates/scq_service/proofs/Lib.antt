@@ -5,6 +5,7 @@ pub mod Merging
 pub mod OneFile
 pub mod Pieces
 pub mod ReportLines
+pub mod Seen
 mod Rows
 pub mod Working
 pub mod Writings
