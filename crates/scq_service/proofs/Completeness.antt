@@ -1,5 +1,5 @@
 -- A run in whose way nothing stood ends with the output, or for want of memory.
-use Rattle.std.proofs.Common.{IfSome, ◌≤◌, ◌+◌, ◌∷◌, [], ◌≡◌, ◌⊎◌, ◌∙◌, refl, sym, subst, inl, inr, arith, false, ℕ, ◌-◌, ◌<◌, List, length, take, Option, Some, None, IsSome}
+use Rattle.std.proofs.Common.{IfSome, ◌≤◌, ◌+◌, ◌∷◌, [], ◌≡◌, ◌⊎◌, ◌∙◌, refl, sym, subst, inl, inr, arith, false, ℕ, ◌-◌, ◌<◌, List, length, Option, Some, None, IsSome}
 use Rattle.std.specs.Prelude.{IsSomeAnd, slice_get}
 use Rattle.std.specs.List.{All}
 use Rattle.std.proofs.lemmas.Option.{slice_get_within, get_or_from_slice_get}
@@ -9,7 +9,7 @@ use Rattle.scq_outside.specs.Table.{Table}
 use Rattle.std.specs.Option.{option_map}
 use Rattle.scq_words.specs.declared.text_request.TextCommand.{TextCommand}
 use Rattle.scq_service.specs.Causes.{IsTroubled}
-use Rattle.scq_service.specs.Contents.{contents_of, IfVisible}
+use Rattle.scq_work.specs.Ends.{all_left}
 use Rattle.scq_outside.specs.Counts.{Rose}
 use Rattle.scq_service.specs.Ends.{Left, Wrote, EndsAlone, EndsOver, EndsWhole, IsCalm, IsCalmText, IsOfTextAlone, most_text}
 use Rattle.scq_service.specs.declared.fault.Fault.{Fault}
@@ -25,18 +25,15 @@ all-at {X = X} P Q xs k all some = at (slice_get xs k) refl some where
       (x, subst P is (all k x (slice_get_within xs k x e)), q)
 
 -- no trouble and some trouble
-never : (size : ℕ) (trouble : Trouble) (table : Option Table) (names : List (List ℕ)) (file : ℕ) (P : List (List ℕ) → Type 0) → IsSome table
-    → IfVisible table names (λ contents. All (λ content. file_trouble size false content ≡ None) contents) → IfVisible table names P
+never : (size : ℕ) (trouble : Trouble) (told : Option (List (List ℕ))) (file : ℕ) (P : List (List ℕ) → Type 0) → IsSome told
+    → IfSome told (λ contents. All (λ content. file_trouble size false content ≡ None) contents) → IfSome told P
     → ((contents : List (List ℕ)) → P contents → IsTroubled size contents file trouble) → ⊥
-never size trouble None names file P some sound troubled get = cc
-never size trouble (Some table) names file P some sound troubled get = at (contents_of table names) sound troubled where
-  at : (o : Option (List (List ℕ))) → IsSomeAnd o (λ contents. All (λ content. file_trouble size false content ≡ None) contents) → IsSomeAnd o P → ⊥
-  at None sound troubled = sound
-  at (Some contents) sound troubled =
-      let found = all-at (λ content. file_trouble size false content ≡ None) (λ content. file_trouble size false content ≡ Some trouble) contents (file - 1)
-      sound (get contents troubled) in
-      let clash : None ≡ Some trouble = sym found.1 ∙ found.2 in
-      cc
+never size trouble None file P some sound troubled get = cc
+never size trouble (Some contents) file P some sound troubled get =
+    let found = all-at (λ content. file_trouble size false content ≡ None) (λ content. file_trouble size false content ≡ Some trouble) contents (file - 1)
+    sound (get contents troubled) in
+    let clash : None ≡ Some trouble = sym found.1 ∙ found.2 in
+    cc
 
 above-none : {S : Type 0} (faults : S → ℕ) (sources : List S) (k : ℕ) → All (λ source. faults source ≡ 0) sources
     → IsSomeAnd (slice_get sources k) (λ source. 0 < faults source) → ⊥
@@ -44,23 +41,23 @@ above-none faults sources k quiet some =
     let found = all-at (λ source. faults source ≡ 0) (λ source. 0 < faults source) sources k quiet some in
     omega (arith, found.1, found.2)
 
-pub complete : {S : Type 0} (size : ℕ) (text : List (List ℕ) → List ℕ) (faults : S → ℕ) (left : S → Option (List ℕ)) (names : List (List ℕ)) (r : Left S)
-    (w : Wrote) (end : Option Fault)
-    → EndsOver size text faults left names r w end → IsCalm size faults names r w → (end ≡ None) ⊎ (end ≡ Some NoMemory)
-complete size text faults left names r w None e calm = inl refl
-complete size text faults left names r w (Some NoMemory) e calm = inr refl
-complete size text faults left names r w (Some WriteFault) e calm = absurd (calm.writes e.1)
-complete size text faults left names r w (Some (OpenFault file)) e calm = absurd (calm.opens e.0.missed.rose)
-complete size text faults left names r w (Some (ReadFault file)) e calm = absurd (above-none faults r.sources (file - 1) calm.quiet e.0.2)
-complete size text faults left names r w (Some (TooLong file line len limit)) e calm =
-    absurd (never size (LongPayload line len) r.table.old (take (length r.sources) names) file _ calm.visible calm.sound e.0.5 (λ contents t. t))
-complete size text faults left names r w (Some (TooLarge file limit)) e calm =
-    absurd (never size ManyBytes r.table.old (take (length r.sources) names) file _ calm.visible calm.sound e.0.3 (λ contents t. t.0))
-complete size text faults left names r w (Some (Words fault)) e calm = absurd (e.0)
-complete size text faults left names r w (Some (BadLine line)) e calm = absurd (e.0)
-complete size text faults left names r w (Some (NotEnabled line)) e calm = absurd (e.0)
-complete size text faults left names r w (Some (Unlawful line)) e calm = absurd (e.0)
-complete size text faults left names r w (Some (Unfinished seat)) e calm = absurd (e.0)
+pub complete : {S : Type 0} (size : ℕ) (text : List (List ℕ) → List ℕ) (faults end_count : S → ℕ) (left : S → Option (List ℕ)) (names : List (List ℕ))
+    (got : List S) (r : Left S) (w : Wrote) (end : Option Fault)
+    → EndsOver size text faults end_count left names got r w end → IsCalm size faults left names got r w → (end ≡ None) ⊎ (end ≡ Some NoMemory)
+complete size text faults end_count left names got r w None e calm = inl refl
+complete size text faults end_count left names got r w (Some NoMemory) e calm = inr refl
+complete size text faults end_count left names got r w (Some WriteFault) e calm = absurd (calm.writes e.1)
+complete size text faults end_count left names got r w (Some (OpenFault file)) e calm = absurd (calm.opens e.0.missed.rose)
+complete size text faults end_count left names got r w (Some (ReadFault file)) e calm = absurd (above-none faults r.sources (file - 1) calm.quiet e.0.2)
+complete size text faults end_count left names got r w (Some (TooLong file line len limit)) e calm =
+    absurd (never size (LongPayload line len) (all_left left got) file _ calm.visible calm.sound e.0.5 (λ contents t. t))
+complete size text faults end_count left names got r w (Some (TooLarge file limit)) e calm =
+    absurd (never size ManyBytes (all_left left got) file _ calm.visible calm.sound e.0.3 (λ contents t. t.0))
+complete size text faults end_count left names got r w (Some (Words fault)) e calm = absurd (e.0)
+complete size text faults end_count left names got r w (Some (BadLine line)) e calm = absurd (e.0)
+complete size text faults end_count left names got r w (Some (NotEnabled line)) e calm = absurd (e.0)
+complete size text faults end_count left names got r w (Some (Unlawful line)) e calm = absurd (e.0)
+complete size text faults end_count left names got r w (Some (Unfinished seat)) e calm = absurd (e.0)
 
 -- a run over no file of the outside, none of whose writes failed, ends likewise
 pub complete-alone : (text : List ℕ) (w : Wrote) (end : Option Fault) → EndsAlone text w end → ¬ Rose w.faults.old w.faults.new

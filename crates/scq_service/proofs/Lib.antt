@@ -4,6 +4,7 @@ pub mod Files
 pub mod Merging
 pub mod OneFile
 pub mod ReportLines
+pub mod Seen
 mod Rows
 pub mod Working
 pub mod Writings

@@ -43,7 +43,7 @@ pub record Told (size : ℕ) (content bytes : List ℕ) (after : Option (List �
   pub whole : content ≡ bytes ++ rest
   pub judges : Judges size bytes rest (Some fault)
 
-module _ {S : Type 0} (size : ℕ) (faults : S → ℕ) (left : S → Option (List ℕ)) where
+module _ {S : Type 0} (size : ℕ) (faults end_count : S → ℕ) (left : S → Option (List ℕ)) where
   -- the fault of one source
   abbrev pub fault_of_one : ℕ → List ℕ → S → Option Fault
   fault_of_one file content source = let failed = nat_lt 0 (faults source) in
@@ -63,7 +63,7 @@ module _ {S : Type 0} (size : ℕ) (faults : S → ℕ) (left : S → Option (Li
   calm source none = ap (λ n. nat_lt 0 n) none
 
   -- one that was read to its end has none
-  pub one-whole : (file : ℕ) (content : List ℕ) (old new : S) → left old ≡ Some content → faults old ≡ 0 → reading.IsWhole size faults left old new
+  pub one-whole : (file : ℕ) (content : List ℕ) (old new : S) → left old ≡ Some content → faults old ≡ 0 → reading.IsWhole size faults end_count left old new
       → fault_of_one file content new ≡ None
   one-whole file content old new is fresh whole =
       let judged = whole.judged in

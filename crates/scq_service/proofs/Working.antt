@@ -15,25 +15,22 @@ use Rattle.scq_work.specs.declared.worked.WorkFault.{WorkFault}
 use Rattle.scq_work.specs.declared.worked.WorkFault.TheVariants as work
 use Rattle.scq_service.specs.Answers.{HaveAllCome, HaveCome}
 use Rattle.scq_service.specs.Causes.{given_of, first_file_fault, HaveRest}
-use Rattle.scq_service.specs.Contents.{contents_of, IfVisible, IsMissing, without_names}
-use Rattle.scq_service.specs.Ends.{Change, HasGot, HasMissed, IsRefused, IsUnchanged, ReadsOver}
+use Rattle.scq_service.specs.Contents.{IfVisible, IsMissing, without_names}
+use Rattle.scq_service.specs.Ends.{Change, HasGot, HasMissed, IfTold, IsRefused, IsUnchanged, ReadsOver}
 use Rattle.scq_service.specs.Faults.{bytes_of_large, fault_of_work}
 use Rattle.scq_service.specs.declared.fault.Fault.TheVariants.{OpenFault}
 use Rattle.scq_service.proofs.Files.{no-contents, parts}
 use Rattle.scq_service.proofs.OneFile.{fault_of_file, given-is, large-of, long-of, one-stopped, one-whole, rose-above, split-visible}
 
-pub visible-weaker : (table : Option Table) (names : List (List ℕ)) (P Q : List (List ℕ) → Type 0) → IfVisible table names P
-    → ((contents : List (List ℕ)) → P contents → Q contents) → IfVisible table names Q
-visible-weaker None names P Q seen more = tt
-visible-weaker (Some table) names P Q seen more = at (contents_of table names) seen where
-  at : (o : Option (List (List ℕ))) → IsSomeAnd o P → IsSomeAnd o Q
-  at None seen = absurd seen
-  at (Some contents) seen = more contents seen
+-- what follows of a value is so where it is there
+if-some : {X : Type 0} (o : Option X) (P : X → Type 0) → ((x : X) → o ≡ Some x → P x) → IfSome o P
+if-some None P more = tt
+if-some (Some x) P more = more x refl
 
 some-and : {X : Type 0} (o : Option X) (x : X) (P : X → Type 0) → o ≡ Some x → P x → IsSomeAnd o P
 some-and {X = X} o x P e p = let Q : Option X → Type 0 = λ o. IsSomeAnd o P in subst Q (sym e) p
 
-module _ {S : Type 0} (size : ℕ) (faults : S → ℕ) (left : S → Option (List ℕ)) where
+module _ {S : Type 0} (size : ℕ) (faults end_count : S → ℕ) (left : S → Option (List ℕ)) where
   -- each source has left what follows the bytes that it gave
   have-rest : (olds news : List S) (contents : List (List ℕ)) → length news ≡ length olds → all_left left olds ≡ Some contents
       → ((k : ℕ) (d : S) → k < length olds → HasMoved faults left (slice_index_or olds k d) (slice_index_or news k d)) → HaveRest left contents news
@@ -54,14 +51,14 @@ module _ {S : Type 0} (size : ℕ) (faults : S → ℕ) (left : S → Option (Li
   -- files that were read to their ends have no fault
   sound : (file : ℕ) (olds news : List S) (contents : List (List ℕ)) → length news ≡ length olds → all_left left olds ≡ Some contents
       → All (λ source. faults source ≡ 0) olds
-      → ((k : ℕ) (d : S) → k < length olds → reading.IsWhole size faults left (slice_index_or olds k d) (slice_index_or news k d))
+      → ((k : ℕ) (d : S) → k < length olds → reading.IsWhole size faults end_count left (slice_index_or olds k d) (slice_index_or news k d))
       → first_file_fault size faults left file contents news ≡ None
   sound file [] [] contents long all fresh whole = ap (λ (cs : List (List ℕ)). first_file_fault size faults left file cs []) (sym (no-contents all))
   sound file [] (new ∷ news) contents long all fresh whole = absurd (omega (arith, long))
   sound file (old ∷ olds) [] contents long all fresh whole = absurd (omega (arith, long))
   sound file (old ∷ olds) (new ∷ news) contents long all fresh whole =
       let p = parts (left old) (all_left left olds) contents all in
-      let one = one-whole size faults left file p.0 old new p.2 (fresh 0 old (omega arith)) (whole 0 old (omega arith)) in
+      let one = one-whole size faults end_count left file p.0 old new p.2 (fresh 0 old (omega arith)) (whole 0 old (omega arith)) in
       ap (λ (cs : List (List ℕ)). first_file_fault size faults left file cs (new ∷ news)) p.4
       ∙ ap (λ o. option_or o (first_file_fault size faults left (file + 1) p.1 news)) one
       ∙ sound (file + 1) olds news p.1 (omega (arith, long)) p.3 (λ k d less. fresh (suc k) d (omega (arith, less)))
@@ -71,21 +68,21 @@ module _ {S : Type 0} (size : ℕ) (faults : S → ℕ) (left : S → Option (Li
   first : (file k : ℕ) (olds news : List S) (contents : List (List ℕ)) (fault : FrameFault) → fault ≢ frame.NoMemory → length news ≡ length olds
       → k < length olds
       → all_left left olds ≡ Some contents → All (λ source. faults source ≡ 0) olds
-      → ((j : ℕ) (d : S) → j < k → reading.IsWhole size faults left (slice_index_or olds j d) (slice_index_or news j d))
+      → ((j : ℕ) (d : S) → j < k → reading.IsWhole size faults end_count left (slice_index_or olds j d) (slice_index_or news j d))
       → ((d : S) → reading.IsStopped size faults left (slice_index_or olds k d) (slice_index_or news k d) fault)
       → first_file_fault size faults left file contents news ≡ Some (fault_of_file size (file + k) fault)
   first file k [] news contents fault other long within all fresh before stop = absurd (omega (arith, within))
   first file k (old ∷ olds) [] contents fault other long within all fresh before stop = absurd (omega (arith, long))
   first file zero (old ∷ olds) (new ∷ news) contents fault other long within all fresh before stop =
       let p = parts (left old) (all_left left olds) contents all in
-      let one = one-stopped size faults left file p.0 old new fault other p.2 (fresh 0 old (omega arith)) (stop old) in
+      let one = one-stopped size faults end_count left file p.0 old new fault other p.2 (fresh 0 old (omega arith)) (stop old) in
       let same : file ≡ file + 0 = omega arith in
       ap (λ (cs : List (List ℕ)). first_file_fault size faults left file cs (new ∷ news)) p.4
       ∙ ap (λ o. option_or o (first_file_fault size faults left (file + 1) p.1 news)) one
       ∙ ap (λ n. Some (fault_of_file size n fault)) same
   first file (suc k) (old ∷ olds) (new ∷ news) contents fault other long within all fresh before stop =
       let p = parts (left old) (all_left left olds) contents all in
-      let one = one-whole size faults left file p.0 old new p.2 (fresh 0 old (omega arith)) (before 0 old (omega arith)) in
+      let one = one-whole size faults end_count left file p.0 old new p.2 (fresh 0 old (omega arith)) (before 0 old (omega arith)) in
       let next : file + 1 + k ≡ file + suc k = omega arith in
       ap (λ (cs : List (List ℕ)). first_file_fault size faults left file cs (new ∷ news)) p.4
       ∙ ap (λ o. option_or o (first_file_fault size faults left (file + 1) p.1 news)) one
@@ -113,12 +110,9 @@ module _ {S : Type 0} (size : ℕ) (faults : S → ℕ) (left : S → Option (Li
 
   module _ (names : List (List ℕ)) (table : Change (Option Table)) (opens : Change ℕ) (olds news : List S) (long : length news ≡ length olds)
       (come : HaveCome faults left names (record { table = table; opens = opens; sources = olds; read = 0 })) where
-    -- what follows from the contents is so where they are visible
-    pub if-got : (Q : List (List ℕ) → Type 0) → ((contents : List (List ℕ)) → all_left left olds ≡ Some contents → Q contents)
-        → IfVisible table.old (take (length news) names) Q
-    if-got Q more =
-        let V : ℕ → Type 0 = λ n. IfVisible table.old (take n names) Q in
-        subst V (sym long) (visible-weaker table.old (take (length olds) names) _ Q come.unread more)
+    -- what follows from the contents is so where they were told
+    pub if-got : (Q : List (List ℕ) → Type 0) → ((contents : List (List ℕ)) → all_left left olds ≡ Some contents → Q contents) → IfTold left olds Q
+    if-got Q more = if-some (all_left left olds) Q more
 
     next-missed : HasMissed names (record { table = table; opens = opens; sources = olds; read = 0 }) → (read : ℕ)
         → HasMissed names (record { table = table; opens = opens; sources = news; read = read })
@@ -138,49 +132,59 @@ module _ {S : Type 0} (size : ℕ) (faults : S → ℕ) (left : S → Option (Li
     missed-of false came less = came.1
 
     pub has-got : (read : ℕ) → ((k : ℕ) (d : S) → k < length olds → HasMoved faults left (slice_index_or olds k d) (slice_index_or news k d))
-        → (length olds ≡ length names → IsUnchanged opens) → HasGot left names (record { table = table; opens = opens; sources = news; read = read })
+        → (length olds ≡ length names → IsUnchanged opens) → HasGot faults left names olds
+        (record { table = table; opens = opens; sources = news; read = read })
     has-got read moved kept =
         let T : ℕ → Type 0 = λ n. table.new ≡ option_map (without_names (take n names)) table.old in
+        let V : ℕ → Type 0 = λ n. IfVisible table.old (take n names) (λ contents. all_left left olds ≡ Some contents) in
         record {
           within = omega (arith, long, come.within);
+          count = sym long;
           table = subst T (sym long) come.table;
           kept = λ all. kept (sym long ∙ all);
+          fresh = come.fresh;
+          told = subst V (sym long) come.unread;
+          moved = moved;
           rest = if-got _ (λ contents all. have-rest olds news contents long all moved);
         }
 
-    pub ends-all : ((k : ℕ) (d : S) → k < length olds → reading.IsWhole size faults left (slice_index_or olds k d) (slice_index_or news k d))
+    pub ends-all : ((k : ℕ) (d : S) → k < length olds → reading.IsWhole size faults end_count left (slice_index_or olds k d) (slice_index_or news k d))
         → length olds ≡ length names
-        → ReadsOver size faults left names (record { table = table; opens = opens; sources = news; read = 0 }) None
+        → ReadsOver size faults end_count left names olds (record { table = table; opens = opens; sources = news; read = 0 }) None
     ends-all whole all = record {
       all = long ∙ all;
       quiet = λ k d less. let within : k < length olds = omega (arith, less, long) in (whole k d within).kept ∙ come.fresh k d within;
       ended = λ k d less. (whole k d (omega (arith, less, long))).ended;
+      once = λ k d less. (whole k d (omega (arith, less, long))).once;
       sound = if-got _ (λ contents all. sound 1 olds news contents long all come.fresh whole);
       read = refl;
     }
 
-    pub ends-stopped : ((k : ℕ) (d : S) → k < length olds → reading.IsWhole size faults left (slice_index_or olds k d) (slice_index_or news k d))
+    pub ends-stopped : ((k : ℕ) (d : S) → k < length olds → reading.IsWhole size faults end_count left (slice_index_or olds k d) (slice_index_or news k d))
         → length olds < length names
         → HasMissed names (record { table = table; opens = opens; sources = olds; read = 0 })
-        → ReadsOver size faults left names (record { table = table; opens = opens; sources = news; read = 0 }) (Some (OpenFault (length olds + 1)))
+        → ReadsOver size faults end_count left names olds (record { table = table; opens = opens; sources = news; read = 0 })
+        (Some (OpenFault (length olds + 1)))
     ends-stopped whole more m = record {
       next = ap (λ n. n + 1) (sym long);
       within = omega (arith, long, more);
       missed = next-missed m 0;
       quiet = λ k d less. let within : k < length olds = omega (arith, less, long) in (whole k d within).kept ∙ come.fresh k d within;
       ended = λ k d less. (whole k d (omega (arith, less, long))).ended;
+      once = λ k d less. (whole k d (omega (arith, less, long))).once;
       sound = if-got _ (λ contents all. sound 1 olds news contents long all come.fresh whole);
       read = refl;
     }
 
     -- the file that has the first fault
-    refused : (read file : ℕ) (fault : FrameFault) → fault ≢ frame.NoMemory → StopsAt size faults left olds news file fault
+    refused : (read file : ℕ) (fault : FrameFault) → fault ≢ frame.NoMemory → StopsAt size faults end_count left olds news file fault
         → (length olds < length names → HasMissed names (record { table = table; opens = opens; sources = olds; read = 0 }))
-        → IsRefused size faults left names (record { table = table; opens = opens; sources = news; read = read }) file (fault_of_file size file fault)
+        → IsRefused size faults end_count left names olds (record { table = table; opens = opens; sources = news; read = read }) file
+        (fault_of_file size file fault)
     refused read file fault other stops missed =
         let within : file - 1 < length olds = omega (arith, stops.first, stops.last) in
         let number : 1 + (file - 1) ≡ file = omega (arith, stops.first) in
-        let before : (j : ℕ) (d : S) → j < file - 1 → reading.IsWhole size faults left (slice_index_or olds j d) (slice_index_or news j d) =
+        let before : (j : ℕ) (d : S) → j < file - 1 → reading.IsWhole size faults end_count left (slice_index_or olds j d) (slice_index_or news j d) =
         λ j d less. stops.before j d (omega (arith, less)) in
         record {
           first = stops.first;
@@ -189,6 +193,7 @@ module _ {S : Type 0} (size : ℕ) (faults : S → ℕ) (left : S → Option (Li
           quiet = front (λ source. faults source ≡ 0) news (file - 1) (omega (arith, within, long))
               (λ j d less. (before j d less).kept ∙ come.fresh j d (omega (arith, less, within)));
           ended = front (λ source. NothingLeft (left source)) news (file - 1) (omega (arith, within, long)) (λ j d less. (before j d less).ended);
+          once = λ k d less. (before k d less).once;
           cause = if-got _ (λ contents all. first 1 (file - 1) olds news contents fault other long within all come.fresh before stops.cause
               ∙ ap (λ n. Some (fault_of_file size n fault)) number);
         }
@@ -211,9 +216,9 @@ module _ {S : Type 0} (size : ℕ) (faults : S → ℕ) (left : S → Option (Li
         each d,
       )
 
-    pub ends-met : (fault : WorkFault) → HasCause size faults left olds news fault
+    pub ends-met : (fault : WorkFault) → HasCause size faults end_count left olds news fault
         → (length olds < length names → HasMissed names (record { table = table; opens = opens; sources = olds; read = 0 }))
-        → ReadsOver size faults left names (record { table = table; opens = opens; sources = news; read = bytes_of_large fault })
+        → ReadsOver size faults end_count left names olds (record { table = table; opens = opens; sources = news; read = bytes_of_large fault })
         (Some (fault_of_work size fault))
     ends-met (work.Read file) stops missed =
         let at = source-at file stops.first stops.last (λ old new. reading.IsStopped size faults left old new frame.ReadFault) stops.cause in (
@@ -230,7 +235,7 @@ module _ {S : Type 0} (size : ℕ) (faults : S → ℕ) (left : S → Option (Li
           above.0,
           above.1,
           if-got _ (λ contents all. let c = at.3 contents all in
-              some-and (slice_get contents (file - 1)) c.0 _ c.1 (long-of size faults left c.0 at.0 at.1 line len c.2 at.4)),
+              some-and (slice_get contents (file - 1)) c.0 _ c.1 (long-of size faults end_count left c.0 at.0 at.1 line len c.2 at.4)),
         )
     ends-met (work.TooLarge file bytes) stops missed =
         let at = source-at file stops.first stops.last (λ old new. reading.IsStopped size faults left old new (frame.TooLarge bytes)) stops.cause in
@@ -239,7 +244,7 @@ module _ {S : Type 0} (size : ℕ) (faults : S → ℕ) (left : S → Option (Li
           refl,
           above.0,
           if-got _ (λ contents all. let c = at.3 contents all in (
-            some-and (slice_get contents (file - 1)) c.0 _ c.1 (large-of size faults left c.0 at.0 at.1 bytes c.2 at.4),
+            some-and (slice_get contents (file - 1)) c.0 _ c.1 (large-of size faults end_count left c.0 at.0 at.1 bytes c.2 at.4),
             some-and (slice_get contents (file - 1)) c.0 _ c.1
                 (some-and (slice_get news (file - 1)) at.1 (λ source. Some (length c.0) ≡ option_map (λ b. bytes + length b) (left source)) at.2
                 (sym (ap (option_map length) c.2) ∙ above.1)),

@@ -1,8 +1,10 @@
--- What was got for the workers, and what they did with it.
-use Rattle.std.specs.Prelude.{◌≡◌, ℕ, ◌^◌, ◌<◌, ◌≤◌, Bool, true, false, List, [], ◌∷◌, map, Option, Some, None, IsSome, IfSome, Result, Ok, length, take, slice_index_or}
+-- What was got for the workers, what they did with it, and what they left.
+use Rattle.std.specs.Prelude.{◌≡◌, ℕ, ◌+◌, ◌^◌, ◌<◌, ◌≤◌, Bool, true, false, List, [], ◌∷◌, map, Option, Some, None, IsSome, IfSome, Result, Ok, length, take, slice_index_or}
 use Rattle.std.specs.List.{All}
 use Rattle.std.specs.Option.{option_map}
 use Rattle.std.specs.List.Sorted.{IsPermutation}
+use Rattle.scq_block.specs.declared.frame.Frame.{Frame}
+use Rattle.scq_queue.specs.Passes.{PassStanding}
 use Rattle.scq_frames.specs.declared.message.Message.{Message}
 use Rattle.scq_collect.specs.Merging.{members_in}
 use Rattle.scq_collect.specs.Output.{answers_to, without_way}
@@ -11,21 +13,21 @@ use Rattle.scq_topics.specs.declared.kind.Kind.{Kind}
 use Rattle.scq_words.specs.Asked.{Asked}
 use Rattle.scq_words.specs.Asked as asks
 use Rattle.scq_words.specs.declared.fault.WordsFault.{WordsFault}
-use Rattle.scq_work.specs.AllWorkers.{HasWorked}
+use Rattle.scq_work.specs.AllWorkers.{HasWorked, NothingIsStranded}
 use Rattle.scq_work.specs.Ends.{AreGiven, all_left, messages_in}
 use Rattle.scq_work.specs.Reading as reading
 use Rattle.scq_work.specs.declared.worked.Worked.{Worked}
-use Rattle.scq_service.specs.Contents.{without_names}
-use Rattle.scq_service.specs.Ends.{Left, IsUnchanged, IfGot, HasMissed}
+use Rattle.scq_service.specs.Contents.{IfVisible, without_names}
+use Rattle.scq_service.specs.Ends.{Left, IsUnchanged, IfTold, HasMissed}
 use Rattle.scq_service.specs.declared.fault.Fault.{Fault}
-use Rattle.scq_service.specs.declared.fault.Fault.TheVariants.{WriteFault}
+use Rattle.scq_service.specs.declared.fault.Fault.TheVariants.{WriteFault, NoMemory}
 
 -- the sources of the first of these names were got, in order, and none was read
 pub record HaveCome {S : Type 0} (faults : S → ℕ) (left : S → Option (List ℕ)) (names : List (List ℕ)) (r : Left S) : Type 0 where
   pub within : length r.sources ≤ length names
   pub table : r.table.new ≡ option_map (without_names (take (length r.sources) names)) r.table.old
   pub fresh : All (λ source. faults source ≡ 0) r.sources
-  pub unread : IfGot names r (λ contents. all_left left r.sources ≡ Some contents)
+  pub unread : IfVisible r.table.old (take (length r.sources) names) (λ contents. all_left left r.sources ≡ Some contents)
 
 -- those of all names, or the next was not got
 abbrev pub HaveAllCome : {S : Type 0} → List (List ℕ) → Left S → Bool → Type 0
@@ -38,38 +40,48 @@ WorkedAt None worked = IsSome worked
 WorkedAt (Some WriteFault) worked = IsSome worked
 WorkedAt (Some fault) worked = worked ≡ None
 
--- the workers did their work for a job of these numbers: on the contents, as far as these are visible
-abbrev pub IsWorkOf : {S : Type 0} → List (List ℕ × Kind) → ℕ → ℕ → ℕ → List (List ℕ) → Left S → Option Worked → Type 0
-IsWorkOf topics order size workers names r worked =
-    IfSome worked (λ w. IfGot names r (λ contents. HasWorked topics order size workers (messages_in topics 1 contents) w))
+-- the workers answered by so many: the contents, where each source told its own when it was got
+abbrev pub IsWorkOf : {S : Type 0} → List (List ℕ × Kind) → ℕ → ℕ → (S → Option (List ℕ)) → List S → Option Worked → Type 0
+IsWorkOf topics size workers left got worked =
+    IfSome worked (λ w. IfTold left got (λ contents. HasWorked topics size workers (messages_in topics 1 contents) w))
 
--- messages that the sources which `r` has may have given, a list for each: they came in order of these names, with no fault counted
--- then or since. Each that is visible had just these messages and was read to its end.
-pub record HaveGiven {S : Type 0} (topics : List (List ℕ × Kind)) (size : ℕ) (faults : S → ℕ) (left : S → Option (List ℕ)) (names : List (List ℕ))
+-- messages that the sources may have given, a list for each: each was read to its end since it was got, with no fault counted, and where it
+-- told its content had just these messages
+pub record HaveGiven {S : Type 0} (topics : List (List ℕ × Kind)) (size : ℕ) (faults end_count : S → ℕ) (left : S → Option (List ℕ)) (got : List S)
     (r : Left S) (given : List (List Message)) : Type 0 where
-  pub sources : List S
-  pub come : HaveCome faults left names (record { table = r.table; opens = r.opens; sources = sources; read = 0 })
-  pub count : length r.sources ≡ length sources
-  pub whole : (k : ℕ) (d : S) → k < length sources
-      → reading.IsWhole size faults left (slice_index_or sources k d) (slice_index_or r.sources k d)
-  pub gave : AreGiven topics size left 1 sources given
+  pub count : length r.sources ≡ length got
+  pub whole : (k : ℕ) (d : S) → k < length got
+      → reading.IsWhole size faults end_count left (slice_index_or got k d) (slice_index_or r.sources k d)
+  pub gave : AreGiven topics size left 1 got given
 
--- the workers did their work for a job of these numbers in every case: on such messages, which are those of the contents where these
--- are visible
-abbrev pub IsWork : {S : Type 0} → List (List ℕ × Kind) → ℕ → ℕ → ℕ → (S → ℕ) → (S → Option (List ℕ)) → List (List ℕ) → Left S → Option Worked → Type 0
-IsWork topics order size workers faults left names r worked =
-    IfSome worked (λ w. (given : List (List Message)) × HaveGiven topics size faults left names r given × HasWorked topics order size workers given w)
+-- so many workers answered such messages, which are those of the contents where these were told
+abbrev pub IsWork : {S : Type 0} → List (List ℕ × Kind) → ℕ → ℕ → (S → ℕ) → (S → ℕ) → (S → Option (List ℕ)) → List S → Left S → Option Worked → Type 0
+IsWork topics size workers faults end_count left got r worked =
+    IfSome worked (λ w. (given : List (List Message)) × HaveGiven topics size faults end_count left got r given × HasWorked topics size workers given w)
 
--- the answers in all lists are those of one thread to the contents, as far as these are visible
-abbrev pub IsOfOneThread : {S : Type 0} → List (List ℕ × Kind) → List (List ℕ) → Left S → Option Worked → Type 0
-IsOfOneThread topics names r worked =
-    IfSome worked (λ w. IfGot names r (λ contents. IsPermutation (map without_way (members_in w.answered.items)) (answers_to topics 1 contents)))
+-- the answers in all lists are those of one thread to the contents, where these were told
+abbrev pub IsOfOneThread : {S : Type 0} → List (List ℕ × Kind) → (S → Option (List ℕ)) → List S → Option Worked → Type 0
+IsOfOneThread topics left got worked =
+    IfSome worked (λ w. IfTold left got (λ contents. IsPermutation (map without_way (members_in w.answered.items)) (answers_to topics 1 contents)))
 
--- what workers did in a run that is asked for this; another run has no workers. A generated file has 2^6 buffers, and payloads of at most 2^16 bytes.
-abbrev pub WorkedAs : {S : Type 0} → (S → ℕ) → (S → Option (List ℕ)) → Result Asked WordsFault → Left S → Option Fault → Option Worked → Type 0
-WorkedAs faults left (Ok (asks.run a)) r end worked =
-    WorkedAt end worked × IsWorkOf a.topics a.order a.size a.workers a.files r worked
-    × IsWork a.topics a.order a.size a.workers faults left a.files r worked
-WorkedAs faults left (Ok (asks.generated a)) r end worked =
-    WorkedAt end worked × IfSome worked (λ w. HasWorked self_topics 6 (2 ^ 16) a.workers (messages_in self_topics 1 (generated a.seed a.lines ∷ [])) w)
-WorkedAs faults left asked r end worked = worked ≡ None
+-- what workers answered in a run that is asked for this; another run has no workers. A generated file has payloads of at most 2^16 bytes.
+abbrev pub WorkedAs : {S : Type 0} → (S → ℕ) → (S → ℕ) → (S → Option (List ℕ)) → Result Asked WordsFault → List S → Left S → Option Fault → Option Worked
+    → Type 0
+WorkedAs faults end_count left (Ok (asks.run a)) got r end worked =
+    WorkedAt end worked × IsWorkOf a.topics a.size a.workers left got worked × IsWork a.topics a.size a.workers faults end_count left got r worked
+WorkedAs faults end_count left (Ok (asks.generated a)) got r end worked =
+    WorkedAt end worked × IfSome worked (λ w. HasWorked self_topics (2 ^ 16) a.workers (messages_in self_topics 1 (generated a.seed a.lines ∷ [])) w)
+WorkedAs faults end_count left asked got r end worked = worked ≡ None
+
+-- what is seen of the queue of a run's workers once it was closed: these passes, and this much left in its rings. Nothing is stranded in it. A
+-- generated file is answered through 2^6 buffers.
+abbrev pub LeavesNothing : Result Asked WordsFault → List (PassStanding Frame) → List ℕ → Type 0
+LeavesNothing (Ok (asks.run a)) passes left = NothingIsStranded a.order (length a.topics + 1) a.workers passes left
+LeavesNothing (Ok (asks.generated a)) passes left = NothingIsStranded 6 (length self_topics + 1) a.workers passes left
+LeavesNothing asked passes left = ⊥
+
+-- it is seen of each run that has workers, unless the run ended for want of memory, and of no other run
+abbrev pub IsSeenAt : Result Asked WordsFault → Option Fault → Bool → Type 0
+IsSeenAt (Ok (asks.run a)) end seen = seen ≡ false → end ≡ Some NoMemory
+IsSeenAt (Ok (asks.generated a)) end seen = seen ≡ false → end ≡ Some NoMemory
+IsSeenAt asked end seen = seen ≡ false

@@ -1,6 +1,6 @@
 -- How a run ends, up to what is reported of it, case by case. It knows contents, topics and settings
 -- alone, and neither how the work is done nor by whom.
-use Rattle.std.specs.Prelude.{◌≡◌, ◌⊎◌, false, ℕ, ◌+◌, ◌-◌, ◌^◌, ◌<◌, ◌≤◌, List, [], Option, Some, None, IsSome, IfSome, IsSomeAnd, Result, Ok, Err, length, take, slice_get}
+use Rattle.std.specs.Prelude.{◌≡◌, ◌⊎◌, false, ℕ, ◌+◌, ◌-◌, ◌^◌, ◌<◌, ◌≤◌, List, [], Option, Some, None, IsSome, IfSome, IsSomeAnd, Result, Ok, Err, length, take, slice_get, slice_index_or}
 use Rattle.std.specs.List.{All}
 use Rattle.std.specs.Option.{option_map}
 use Rattle.scq_outside.specs.Counts.{Rose}
@@ -14,6 +14,7 @@ use Rattle.scq_self.specs.Summary.{self_summary}
 use Rattle.scq_words.specs.Asked.{Asked, run, generated, whole}
 use Rattle.scq_words.specs.declared.fault.WordsFault.{WordsFault}
 use Rattle.scq_words.specs.declared.text_request.TextCommand.{TextCommand}
+use Rattle.scq_work.specs.Ends.{HasMoved, all_left}
 use Rattle.scq_service.specs.Causes.{first_file_fault, IsTroubled, HaveRest}
 use Rattle.scq_service.specs.Contents.{IfVisible, IsMissing, without_names}
 use Rattle.scq_service.specs.Telling.{Tells, IsOfText}
@@ -47,27 +48,38 @@ IsUnchanged c = c.new ≡ c.old
 abbrev pub IsUnwritten : Wrote → Type 0
 IsUnwritten w = IsUnchanged w.written × IsUnchanged w.faults
 
--- the contents of the files that were got, where they are visible, meet P
-abbrev pub IfGot : {S : Type 0} → List (List ℕ) → Left S → (List (List ℕ) → Type 0) → Type 0
-IfGot names r P = IfVisible r.table.old (take (length r.sources) names) P
+-- the contents of the sources that were got, where each told its own then, meet P
+abbrev pub IfTold : {S : Type 0} → (S → Option (List ℕ)) → List S → (List (List ℕ) → Type 0) → Type 0
+IfTold left got P = IfSome (all_left left got) P
 
--- sources were got in order; where all were, the count of files was kept
-pub record HasGot {S : Type 0} (left : S → Option (List ℕ)) (names : List (List ℕ)) (r : Left S) : Type 0 where
+-- sources were got in order, with no fault counted. Where the table is visible each told its name's content, and each has left what follows
+-- the bytes that it gave. Where all were got, the count of files was kept
+pub record HasGot {S : Type 0} (faults : S → ℕ) (left : S → Option (List ℕ)) (names : List (List ℕ)) (got : List S) (r : Left S) : Type 0 where
   pub within : length r.sources ≤ length names
+  pub count : length got ≡ length r.sources
   pub table : r.table.new ≡ option_map (without_names (take (length r.sources) names)) r.table.old
   pub kept : length r.sources ≡ length names → IsUnchanged r.opens
-  pub rest : IfGot names r (λ contents. HaveRest left contents r.sources)
+  pub fresh : All (λ source. faults source ≡ 0) got
+  pub told : IfVisible r.table.old (take (length r.sources) names) (λ contents. all_left left got ≡ Some contents)
+  pub moved : (k : ℕ) (d : S) → k < length got → HasMoved faults left (slice_index_or got k d) (slice_index_or r.sources k d)
+  pub rest : IfTold left got (λ contents. HaveRest left contents r.sources)
 
 -- of the files that were got this is the first fault
-abbrev pub HasFault : {S : Type 0} → ℕ → (S → ℕ) → (S → Option (List ℕ)) → List (List ℕ) → Left S → Option Fault → Type 0
-HasFault size faults left names r fault = IfGot names r (λ contents. first_file_fault size faults left 1 contents r.sources ≡ fault)
+abbrev pub HasFault : {S : Type 0} → ℕ → (S → ℕ) → (S → Option (List ℕ)) → List S → Left S → Option Fault → Type 0
+HasFault size faults left got r fault = IfTold left got (λ contents. first_file_fault size faults left 1 contents r.sources ≡ fault)
+
+-- so many sources were read to their ends: each answered its end once since it was got, and just once
+abbrev pub AreReadOut : {S : Type 0} → (S → ℕ) → ℕ → List S → Left S → Type 0
+AreReadOut {S} end_count count got r = (k : ℕ) (d : S) → k < count → Rose (end_count (slice_index_or got k d)) (end_count (slice_index_or r.sources k d))
 
 -- every source was got and read to its end, and there is no fault
-pub record IsAllRead {S : Type 0} (size : ℕ) (faults : S → ℕ) (left : S → Option (List ℕ)) (names : List (List ℕ)) (r : Left S) : Type 0 where
+pub record IsAllRead {S : Type 0} (size : ℕ) (faults end_count : S → ℕ) (left : S → Option (List ℕ)) (names : List (List ℕ)) (got : List S)
+    (r : Left S) : Type 0 where
   pub all : length r.sources ≡ length names
   pub quiet : All (λ source. faults source ≡ 0) r.sources
   pub ended : All (λ source. NothingLeft (left source)) r.sources
-  pub sound : HasFault size faults left names r None
+  pub once : AreReadOut end_count (length r.sources) got r
+  pub sound : HasFault size faults left got r None
   pub read : r.read ≡ 0
 
 -- the next source was not got: its name is missing, and the count of files rose
@@ -76,25 +88,28 @@ pub record HasMissed {S : Type 0} (names : List (List ℕ)) (r : Left S) : Type 
   pub missing : IfSome r.table.old (λ files. IsMissing files names (length r.sources + 1))
 
 -- a source was not got, and those before it were read to their ends and have no fault
-pub record IsStopped {S : Type 0} (size : ℕ) (faults : S → ℕ) (left : S → Option (List ℕ)) (names : List (List ℕ)) (r : Left S) (file : ℕ) : Type 0 where
+pub record IsStopped {S : Type 0} (size : ℕ) (faults end_count : S → ℕ) (left : S → Option (List ℕ)) (names : List (List ℕ)) (got : List S)
+    (r : Left S) (file : ℕ) : Type 0 where
   pub next : file ≡ length r.sources + 1
   pub within : length r.sources < length names
   pub missed : HasMissed names r
   pub quiet : All (λ source. faults source ≡ 0) r.sources
   pub ended : All (λ source. NothingLeft (left source)) r.sources
-  pub sound : HasFault size faults left names r None
+  pub once : AreReadOut end_count (length r.sources) got r
+  pub sound : HasFault size faults left got r None
   pub read : r.read ≡ 0
 
 -- this file has the first fault, and those before it were read to their ends; where not all sources were got,
 -- the next one was not
-pub record IsRefused {S : Type 0} (size : ℕ) (faults : S → ℕ)
-    (left : S → Option (List ℕ)) (names : List (List ℕ)) (r : Left S) (file : ℕ) (fault : Fault) : Type 0 where
+pub record IsRefused {S : Type 0} (size : ℕ) (faults end_count : S → ℕ) (left : S → Option (List ℕ)) (names : List (List ℕ)) (got : List S)
+    (r : Left S) (file : ℕ) (fault : Fault) : Type 0 where
   pub first : 0 < file
   pub last : file ≤ length r.sources
   pub stopped : length r.sources < length names → HasMissed names r
   pub quiet : All (λ source. faults source ≡ 0) (take (file - 1) r.sources)
   pub ended : All (λ source. NothingLeft (left source)) (take (file - 1) r.sources)
-  pub cause : HasFault size faults left names r (Some fault)
+  pub once : AreReadOut end_count (file - 1) got r
+  pub cause : HasFault size faults left got r (Some fault)
 
 -- so many bytes of this file's content were read, and its source has the others left
 abbrev pub IsReadOf : {S : Type 0} → (S → Option (List ℕ)) → ℕ → List (List ℕ) → List S → ℕ → Type 0
@@ -103,36 +118,37 @@ IsReadOf left read contents sources file =
     IsSomeAnd (slice_get sources (file - 1)) (λ source. Some (length content) ≡ option_map (λ bytes. read + length bytes) (left source)))
 
 -- how the reading of files of these names ends
-abbrev pub ReadsOver : {S : Type 0} → ℕ → (S → ℕ) → (S → Option (List ℕ)) → List (List ℕ) → Left S → Option Fault → Type 0
-ReadsOver size faults left names r None = IsAllRead size faults left names r
-ReadsOver size faults left names r (Some (OpenFault file)) = IsStopped size faults left names r file
-ReadsOver size faults left names r (Some (ReadFault file)) =
-    IsRefused size faults left names r file (ReadFault file) × (r.read ≡ 0)
+abbrev pub ReadsOver : {S : Type 0} → ℕ → (S → ℕ) → (S → ℕ) → (S → Option (List ℕ)) → List (List ℕ) → List S → Left S → Option Fault → Type 0
+ReadsOver size faults end_count left names got r None = IsAllRead size faults end_count left names got r
+ReadsOver size faults end_count left names got r (Some (OpenFault file)) = IsStopped size faults end_count left names got r file
+ReadsOver size faults end_count left names got r (Some (ReadFault file)) =
+    IsRefused size faults end_count left names got r file (ReadFault file) × (r.read ≡ 0)
     × IsSomeAnd (slice_get r.sources (file - 1)) (λ source. 0 < faults source)
-ReadsOver size faults left names r (Some (TooLong file line len limit)) =
-    IsRefused size faults left names r file (TooLong file line len limit) × (r.read ≡ 0) × (limit ≡ size) × (0 < line) × (size < len)
-    × IfGot names r (λ contents. IsTroubled size contents file (LongPayload line len))
-ReadsOver size faults left names r (Some (TooLarge file limit)) =
-    IsRefused size faults left names r file (TooLarge file limit) × (limit ≡ 2 ^ 30) × (r.read ≡ 2 ^ 30 + 1)
-    × IfGot names r (λ contents. IsTroubled size contents file ManyBytes × IsReadOf left r.read contents r.sources file)
-ReadsOver size faults left names r (Some NoMemory) = r.read ≡ 0
-ReadsOver size faults left names r (Some WriteFault) = ⊥
-ReadsOver size faults left names r (Some (BadLine line)) = ⊥
-ReadsOver size faults left names r (Some (NotEnabled line)) = ⊥
-ReadsOver size faults left names r (Some (Unlawful line)) = ⊥
-ReadsOver size faults left names r (Some (Unfinished seat)) = ⊥
-ReadsOver size faults left names r (Some (Words fault)) = ⊥
+ReadsOver size faults end_count left names got r (Some (TooLong file line len limit)) =
+    IsRefused size faults end_count left names got r file (TooLong file line len limit) × (r.read ≡ 0) × (limit ≡ size) × (0 < line) × (size < len)
+    × IfTold left got (λ contents. IsTroubled size contents file (LongPayload line len))
+ReadsOver size faults end_count left names got r (Some (TooLarge file limit)) =
+    IsRefused size faults end_count left names got r file (TooLarge file limit) × (limit ≡ 2 ^ 30) × (r.read ≡ 2 ^ 30 + 1)
+    × IfTold left got (λ contents. IsTroubled size contents file ManyBytes × IsReadOf left r.read contents r.sources file)
+ReadsOver size faults end_count left names got r (Some NoMemory) = r.read ≡ 0
+ReadsOver size faults end_count left names got r (Some WriteFault) = ⊥
+ReadsOver size faults end_count left names got r (Some (BadLine line)) = ⊥
+ReadsOver size faults end_count left names got r (Some (NotEnabled line)) = ⊥
+ReadsOver size faults end_count left names got r (Some (Unlawful line)) = ⊥
+ReadsOver size faults end_count left names got r (Some (Unfinished seat)) = ⊥
+ReadsOver size faults end_count left names got r (Some (Words fault)) = ⊥
 
 -- how a run over files of these names ends: with the text written, with a front of it where out failed,
 -- or with nothing written
-abbrev pub EndsOver : {S : Type 0} → ℕ → (List (List ℕ) → List ℕ) → (S → ℕ) → (S → Option (List ℕ)) → List (List ℕ) → Left S → Wrote → Option Fault → Type 0
-EndsOver size text faults left names r w None =
-    IsAllRead size faults left names r × IsUnchanged w.faults
-    × IfGot names r (λ contents. w.written.new ≡ written_with w.written.old (text contents))
-EndsOver size text faults left names r w (Some WriteFault) =
-    IsAllRead size faults left names r × Rose w.faults.old w.faults.new
-    × IfGot names r (λ contents. WrotePart w.written.old w.written.new (text contents))
-EndsOver size text faults left names r w fault = ReadsOver size faults left names r fault × IsUnwritten w
+abbrev pub EndsOver : {S : Type 0} → ℕ → (List (List ℕ) → List ℕ) → (S → ℕ) → (S → ℕ) → (S → Option (List ℕ)) → List (List ℕ) → List S → Left S → Wrote
+    → Option Fault → Type 0
+EndsOver size text faults end_count left names got r w None =
+    IsAllRead size faults end_count left names got r × IsUnchanged w.faults
+    × IfTold left got (λ contents. w.written.new ≡ written_with w.written.old (text contents))
+EndsOver size text faults end_count left names got r w (Some WriteFault) =
+    IsAllRead size faults end_count left names got r × Rose w.faults.old w.faults.new
+    × IfTold left got (λ contents. WrotePart w.written.old w.written.new (text contents))
+EndsOver size text faults end_count left names got r w fault = ReadsOver size faults end_count left names got r fault × IsUnwritten w
 
 -- how a run over no file of the outside ends that is to write this text
 abbrev pub EndsAlone : List ℕ → Wrote → Option Fault → Type 0
@@ -209,21 +225,24 @@ EndsWhole command faults left name r w (Some fault) =
 abbrev pub IsClosed : {S : Type 0} → Left S → Type 0
 IsClosed r = IsUnchanged r.table × IsUnchanged r.opens × (r.sources ≡ []) × (r.read ≡ 0)
 
--- how a run ends that is asked for this: refused words, files, a generated file, or one whole file
-abbrev pub EndsAs : {S : Type 0} → (S → ℕ) → (S → Option (List ℕ)) → Result Asked WordsFault → Left S → Wrote → Option Fault → Type 0
-EndsAs faults left (Err fault) r w end = IsClosed r × IsUnwritten w × ((end ≡ Some (Words fault)) ⊎ (end ≡ Some NoMemory))
-EndsAs faults left (Ok (run a)) r w end = HasGot left a.files r × EndsOver a.size (one_thread_output a.topics) faults left a.files r w end
-EndsAs faults left (Ok (generated a)) r w end = IsClosed r × EndsAlone (self_summary a.seed a.lines) w end
-EndsAs faults left (Ok (whole a)) r w end = EndsWhole a.command faults left a.file r w end
+-- how a run ends that is asked for this: refused words, files, a generated file, or one whole file. The sources of files are told as they were
+-- when they were got
+abbrev pub EndsAs : {S : Type 0} → (S → ℕ) → (S → ℕ) → (S → Option (List ℕ)) → Result Asked WordsFault → List S → Left S → Wrote → Option Fault → Type 0
+EndsAs faults end_count left (Err fault) got r w end = IsClosed r × IsUnwritten w × ((end ≡ Some (Words fault)) ⊎ (end ≡ Some NoMemory))
+EndsAs faults end_count left (Ok (run a)) got r w end =
+    HasGot faults left a.files got r × EndsOver a.size (one_thread_output a.topics) faults end_count left a.files got r w end
+EndsAs faults end_count left (Ok (generated a)) got r w end = IsClosed r × EndsAlone (self_summary a.seed a.lines) w end
+EndsAs faults end_count left (Ok (whole a)) got r w end = EndsWhole a.command faults left a.file r w end
 
--- nothing stood in the way of a run over these files: each was got, no count rose, and no content has trouble
-pub record IsCalm {S : Type 0} (size : ℕ) (faults : S → ℕ) (names : List (List ℕ)) (r : Left S) (w : Wrote) : Type 0 where
+-- nothing stood in the way of a run over these files: each was got, no count rose, each told its content, and none has trouble
+pub record IsCalm {S : Type 0} (size : ℕ) (faults : S → ℕ) (left : S → Option (List ℕ)) (names : List (List ℕ)) (got : List S) (r : Left S)
+    (w : Wrote) : Type 0 where
   pub all : length r.sources ≡ length names
   pub opens : ¬ Rose r.opens.old r.opens.new
   pub writes : ¬ Rose w.faults.old w.faults.new
   pub quiet : All (λ source. faults source ≡ 0) r.sources
-  pub visible : IsSome r.table.old
-  pub sound : IfGot names r (λ contents. All (λ content. file_trouble size false content ≡ None) contents)
+  pub visible : IsSome (all_left left got)
+  pub sound : IfTold left got (λ contents. All (λ content. file_trouble size false content ≡ None) contents)
 
 -- nothing stood in the way of a run over one whole file: it was got, no count rose, and its content is not too large
 pub record IsCalmText {S : Type 0} (faults : S → ℕ) (name : List ℕ) (r : Left S) (w : Wrote) : Type 0 where

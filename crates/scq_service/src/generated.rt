@@ -1,11 +1,11 @@
-ghost use Rattle.std.specs.Prelude.{◌≡◌, ℕ, ◌<◌, ◌≤◌, ◌^◌, [], ◌∷◌, IfOk, IfSome, length, map};
+ghost use Rattle.std.specs.Prelude.{◌≡◌, ℕ, ◌+◌, ◌<◌, ◌≤◌, ◌^◌, [], ◌∷◌, Some, IfOk, IfSome, IsNone, IsSome, IsSomeAnd, length, map};
 ghost use Rattle.std.specs.List.{All};
 ghost use Rattle.std.specs.List.Sorted.{IsPermutation};
 ghost use Rattle.scq_collect.specs.Merging.{members_in};
 ghost use Rattle.scq_collect.specs.Output.{answers_to, without_way};
 ghost use Rattle.scq_self.specs.Generated.{generated as the_file, self_topics as the_topics};
 ghost use Rattle.scq_self.specs.Summary.{self_summary};
-ghost use Rattle.scq_work.specs.AllWorkers.{HasWorked};
+ghost use Rattle.scq_work.specs.AllWorkers.{HasWorked, NothingIsStranded};
 ghost use Rattle.scq_work.specs.Ends.{messages_in};
 ghost use Rattle.scq_service.specs.Answers.{WorkedAt};
 ghost use Rattle.scq_service.specs.Ends.{EndsAlone};
@@ -14,13 +14,16 @@ ghost use Rattle.scq_service.specs.Faults.{status_of};
 use crate::job::job_of;
 use crate::writing::write_all;
 use crate::{Fault, Outcome};
+use scq_block::Frame;
 use scq_collect::merge;
 use scq_outside::{Failed, PlainSource, Sink};
+use scq_queue::Pass;
 use scq_self::{generate, self_topics, summary_text};
 use scq_topics::Topics;
 use scq_word::{Bytes, NoMemory};
 use scq_work::{Gate, WorkEnd, Worked, work};
 use std::alloc::Global;
+use std::snapshot::Snapshot;
 use std::thread::Threads;
 
 /// There are 2^6 buffers.
@@ -49,22 +52,40 @@ pub fn run_self<R: Threads + Sync, S, K: Sink, G: Gate>(
     ensures read { result.read ≡ 0 }
     ensures status { result.status ≡ status_of result.fault }
     ensures worked { WorkedAt result.fault result.worked }
-    ensures told { IfSome result.worked (λ w. HasWorked the_topics 6 (2 ^ 16) workers (messages_in the_topics 1 (the_file seed lines ∷ [])) w) }
+    ensures told { IfSome result.worked (λ w. HasWorked the_topics (2 ^ 16) workers (messages_in the_topics 1 (the_file seed lines ∷ [])) w) }
+    ensures left { IfSome result.left (λ left. IsSomeAnd result.passes (λ passes.
+        NothingIsStranded 6 (length the_topics + 1) workers passes.value.items left.items)) }
+    ensures seen { IsNone result.left → result.fault ≡ Some Fault.NoMemory }
+    ensures same { IfSome result.worked (λ w. IsSomeAnd result.passes (λ passes. passes.value.items ≡ w.passes.value.items)) }
 {
-    let Ok(worked) = answer_file(rt, alloc, seed, lines, workers, gate) else {
+    let Ok(answers) = answer_file(rt, alloc, seed, lines, workers, gate) else {
         return Outcome::at(Vec::new(alloc), Fault::NoMemory);
     };
+    let Answers {
+        worked,
+        left,
+        passes,
+    } = answers;
     let topics = self_topics();
-    match summary_of(alloc, &topics, lines, &worked) {
-        Ok(text) => {
-            let outcome = Outcome::answered(Vec::new(alloc), worked);
-            match write_all(out, text.bytes()) {
-                Ok(()) => outcome,
-                Err(Failed) => outcome.unwritten(),
-            }
-        }
-        Err(NoMemory) => Outcome::at(Vec::new(alloc), Fault::NoMemory),
+    let text = summary_of(alloc, &topics, lines, &worked);
+    let sources = Vec::new(alloc);
+    let got = Snapshot::of(&sources);
+    let outcome = Outcome::answered(sources, worked).behind(got, left, passes);
+    match text {
+        Ok(text) => match write_all(out, text.bytes()) {
+            Ok(()) => outcome,
+            Err(Failed) => outcome.unwritten(),
+        },
+        Err(NoMemory) => outcome.starved(),
     }
+}
+
+/// The answers to the file, and what is seen of the workers' queue.
+#[derive(Drop)]
+struct Answers {
+    worked: Worked,
+    left: Option<Vec<u64>>,
+    passes: Option<Snapshot<Vec<Pass<Frame>>>>,
 }
 
 /// Makes the file of the seed and answers its messages. Its lines are short and its source never fails,
@@ -76,20 +97,34 @@ fn answer_file<R: Threads + Sync, G: Gate>(
     lines: u32,
     workers: u32,
     gate: &G,
-) -> Result<Worked, NoMemory>
+) -> Result<Answers, NoMemory>
     requires seed { seed < 2 ^ 31 }
     requires workers { (0 < workers) × (workers ≤ 4096) }
-    ensures known { IfOk result (λ w. All (λ a. a.topic ≤ length the_topics) (members_in w.answered.items)) }
-    ensures answers { IfOk result (λ w. IsPermutation (map without_way (members_in w.answered.items)) (answers_to the_topics 1 (the_file seed lines ∷ []))) }
-    ensures told { IfOk result (λ w. HasWorked the_topics 6 (2 ^ 16) workers (messages_in the_topics 1 (the_file seed lines ∷ [])) w) }
+    ensures known { IfOk result (λ a. All (λ m. m.topic ≤ length the_topics) (members_in a.worked.answered.items)) }
+    ensures answers { IfOk result (λ a.
+        IsPermutation (map without_way (members_in a.worked.answered.items)) (answers_to the_topics 1 (the_file seed lines ∷ []))) }
+    ensures told { IfOk result (λ a. HasWorked the_topics (2 ^ 16) workers (messages_in the_topics 1 (the_file seed lines ∷ [])) a.worked) }
+    ensures left { IfOk result (λ a. IfSome a.left (λ left. IsSomeAnd a.passes (λ passes.
+        NothingIsStranded 6 (length the_topics + 1) workers passes.value.items left.items))) }
+    ensures seen { IfOk result (λ a. IsSome a.left) }
+    ensures same { IfOk result (λ a. IsSomeAnd a.passes (λ passes. passes.value.items ≡ a.worked.passes.value.items)) }
 {
     let job = job_of(ORDER, SIZE, workers, self_topics());
     let source = PlainSource::new(generate(alloc, seed, lines)?);
     let mut sources = Vec::with_capacity(alloc, 1)?;
     sources.push_reserved(source);
-    let WorkEnd { sources: _, result } = work(rt, alloc, &job, sources, gate);
+    let WorkEnd {
+        sources: _,
+        result,
+        left,
+        passes,
+    } = work(rt, alloc, &job, sources, gate);
     match result {
-        Ok(worked) => Ok(worked),
+        Ok(worked) => Ok(Answers {
+            worked,
+            left,
+            passes,
+        }),
         Err(_) => Err(NoMemory),
     }
 }

@@ -4,8 +4,11 @@ ghost use Rattle.scq_service.specs.Answers.{WorkedAt};
 
 use crate::Fault;
 use crate::whole::MOST_TEXT;
+use scq_block::Frame;
 use scq_outside::ReadAllFault;
+use scq_queue::Pass;
 use scq_work::{WorkFault, Worked};
+use std::snapshot::Snapshot;
 
 /// The greatest number of bytes of a file.
 const MOST_BYTES: u64 = 1 << 30;
@@ -22,6 +25,13 @@ pub struct Outcome<S> {
     pub read: u64,
     /// What workers answered: there exactly where `run` or `self` ended with status 0 or 4.
     pub worked: Option<Worked>,
+    /// How many indices were left in each ring of the workers' queue when it was closed. Of `run` and `self` it is None only at status 2
+    /// and 5, and of other commands always.
+    pub left: Option<Vec<u64>>,
+    /// For contracts alone, and where `left` is there, the workers' passes as they were then.
+    pub passes: Option<Snapshot<Vec<Pass<Frame>>>>,
+    /// For contracts alone, the sources of `run` as they were when they were got.
+    pub got: Snapshot<Vec<S>>,
 }
 
 impl<S> Outcome<S> {
@@ -31,13 +41,18 @@ impl<S> Outcome<S> {
         ensures sources { result.sources ≡ sources }
         ensures read { result.read ≡ 0 }
         ensures worked { result.worked ≡ None }
+        ensures left { (result.left ≡ None) × (result.passes ≡ None) }
     {
+        let got = Snapshot::of(&sources);
         Outcome {
             status: 0,
             fault: None,
             sources,
             read: 0,
             worked: None,
+            left: None,
+            passes: None,
+            got,
         }
     }
 
@@ -62,10 +77,54 @@ impl<S> Outcome<S> {
         ensures sources { result.sources ≡ self.sources }
         ensures read { result.read ≡ self.read }
         ensures worked { result.worked ≡ self.worked }
+        ensures left { (result.left ≡ self.left) × (result.passes ≡ self.passes) }
+        ensures got { result.got ≡ self.got }
     {
         Outcome {
             status: 4,
             fault: Some(Fault::WriteFault),
+            ..self
+        }
+    }
+
+    /// The same end, but that memory was wanting once the messages were answered.
+    pub(crate) fn starved(self) -> Outcome<S>
+        ensures status { result.status ≡ 5 }
+        ensures fault { result.fault ≡ Some Fault.NoMemory }
+        ensures sources { result.sources ≡ self.sources }
+        ensures read { result.read ≡ 0 }
+        ensures worked { result.worked ≡ None }
+        ensures left { (result.left ≡ self.left) × (result.passes ≡ self.passes) }
+        ensures got { result.got ≡ self.got }
+    {
+        Outcome {
+            status: 5,
+            fault: Some(Fault::NoMemory),
+            read: 0,
+            worked: None,
+            ..self
+        }
+    }
+
+    /// The same end, with the sources as they were when they were got, and with what is seen of the workers' queue.
+    pub(crate) fn behind(
+        self,
+        got: Snapshot<Vec<S>>,
+        left: Option<Vec<u64>>,
+        passes: Option<Snapshot<Vec<Pass<Frame>>>>,
+    ) -> Outcome<S>
+        ensures status { result.status ≡ self.status }
+        ensures fault { result.fault ≡ self.fault }
+        ensures sources { result.sources ≡ self.sources }
+        ensures read { result.read ≡ self.read }
+        ensures worked { result.worked ≡ self.worked }
+        ensures left { (result.left ≡ left) × (result.passes ≡ passes) }
+        ensures got { result.got ≡ got }
+    {
+        Outcome {
+            left,
+            passes,
+            got,
             ..self
         }
     }
@@ -76,13 +135,19 @@ impl<S> Outcome<S> {
         ensures sources { result.sources ≡ sources }
         ensures read { result.read ≡ 0 }
         ensures worked { result.worked ≡ None }
+        ensures left { (result.left ≡ None) × (result.passes ≡ None) }
+        ensures got { result.got.value ≡ sources }
     {
+        let got = Snapshot::of(&sources);
         Outcome {
             status: fault.status(),
             fault: Some(fault),
             sources,
             read: 0,
             worked: None,
+            left: None,
+            passes: None,
+            got,
         }
     }
 
@@ -93,6 +158,7 @@ impl<S> Outcome<S> {
         ensures sources { result.sources ≡ sources }
         ensures read { result.read ≡ bytes_of_large fault }
         ensures worked { WorkedAt result.fault result.worked }
+        ensures none { result.worked ≡ None }
     {
         match fault {
             WorkFault::Read { file } => Outcome::at(sources, Fault::ReadFault { file }),
@@ -129,6 +195,7 @@ impl<S> Outcome<S> {
         ensures sources { result.sources ≡ sources }
         ensures read { result.read ≡ bytes_of_large_text fault }
         ensures worked { result.worked ≡ None }
+        ensures left { result.left ≡ None }
     {
         match fault {
             ReadAllFault::ReadFault => Outcome::at(sources, Fault::ReadFault { file: 1 }),

@@ -1,6 +1,7 @@
-ghost use Rattle.std.specs.Prelude.{◌≡◌, ◌≤◌, [], IfSome, length, map, string_bytes, vec_len, vec_capacity};
+ghost use Rattle.std.specs.Prelude.{◌≡◌, ◌+◌, ◌≤◌, [], Some, IfSome, IsNone, IsSome, IsSomeAnd, OnSome, length, map, string_bytes, vec_len, vec_capacity};
 ghost use Rattle.std.specs.List.{All};
 ghost use Rattle.scq_collect.specs.Merging.{members_in};
+ghost use Rattle.scq_work.specs.AllWorkers.{NothingIsStranded};
 ghost use Rattle.scq_service.specs.Answers.{HaveCome, HaveAllCome, IsOfOneThread, IsWork, IsWorkOf, WorkedAt};
 ghost use Rattle.scq_service.specs.Ends.{HasGot, ReadsOver};
 ghost use Rattle.scq_service.specs.Faults.{status_of};
@@ -9,6 +10,7 @@ use crate::{Fault, Outcome};
 use scq_outside::{Failed, Files};
 use scq_work::{Gate, Job, WorkEnd, work};
 use std::alloc::Global;
+use std::snapshot::Snapshot;
 use std::thread::Threads;
 
 /// Gets the sources of the files in order, up to the first that isn't got, and says whether all were got.
@@ -50,13 +52,13 @@ pub fn read_files<R: Threads + Sync, F: Files, G: Gate>(
     gate: &G,
 ) -> Outcome<F::Src>
     requires few { length names.now ≤ 64 }
-    ensures got { HasGot F.Src.left (map string_bytes names.now) (record {
+    ensures got { HasGot F.Src.faults F.Src.left (map string_bytes names.now) result.got.value.items (record {
       table = record { old = F.table files.old; new = F.table files.new };
       opens = record { old = F.faults files.old; new = F.faults files.new };
       sources = result.sources.items;
       read = result.read;
     }) }
-    ensures ends { ReadsOver job.now.size F.Src.faults F.Src.left (map string_bytes names.now) (record {
+    ensures ends { ReadsOver job.now.size F.Src.faults F.Src.ends F.Src.left (map string_bytes names.now) result.got.value.items (record {
       table = record { old = F.table files.old; new = F.table files.new };
       opens = record { old = F.faults files.old; new = F.faults files.new };
       sources = result.sources.items;
@@ -65,40 +67,41 @@ pub fn read_files<R: Threads + Sync, F: Files, G: Gate>(
     ensures status { result.status ≡ status_of result.fault }
     ensures worked { WorkedAt result.fault result.worked }
     ensures known { IfSome result.worked (λ w. All (λ a. a.topic ≤ length job.now.topics) (members_in w.answered.items)) }
-    ensures answers { IsOfOneThread job.now.topics (map string_bytes names.now) (record {
+    ensures answers { IsOfOneThread job.now.topics F.Src.left result.got.value.items result.worked }
+    ensures told { IsWorkOf job.now.topics job.now.size job.now.workers F.Src.left result.got.value.items result.worked }
+    ensures work { IsWork job.now.topics job.now.size job.now.workers F.Src.faults F.Src.ends F.Src.left result.got.value.items (record {
       table = record { old = F.table files.old; new = F.table files.new };
       opens = record { old = F.faults files.old; new = F.faults files.new };
       sources = result.sources.items;
       read = result.read;
     }) result.worked }
-    ensures told { IsWorkOf job.now.topics job.now.order job.now.size job.now.workers (map string_bytes names.now) (record {
-      table = record { old = F.table files.old; new = F.table files.new };
-      opens = record { old = F.faults files.old; new = F.faults files.new };
-      sources = result.sources.items;
-      read = result.read;
-    }) result.worked }
-    ensures work { IsWork job.now.topics job.now.order job.now.size job.now.workers F.Src.faults F.Src.left (map string_bytes names.now) (record {
-      table = record { old = F.table files.old; new = F.table files.new };
-      opens = record { old = F.faults files.old; new = F.faults files.new };
-      sources = result.sources.items;
-      read = result.read;
-    }) result.worked }
+    ensures left { IfSome result.left (λ left. IsSomeAnd result.passes (λ passes.
+        NothingIsStranded job.now.order (length job.now.topics + 1) job.now.workers passes.value.items left.items)) }
+    ensures there { OnSome result.worked (IsSome result.left) }
+    ensures seen { IsNone result.left → result.fault ≡ Some Fault.NoMemory }
+    ensures same { IfSome result.worked (λ w. IsSomeAnd result.passes (λ passes. passes.value.items ≡ w.passes.value.items)) }
 {
     let Ok(mut sources) = Vec::with_capacity(alloc, names.len()) else {
         return Outcome::at(Vec::new(alloc), Fault::NoMemory);
     };
     let all = get_sources(names, files, &mut sources);
-    let got = sources.len();
-    let WorkEnd { sources, result } = work(rt, alloc, job, sources, gate);
+    let count = sources.len();
+    let got = Snapshot::of(&sources);
+    let WorkEnd {
+        sources,
+        result,
+        left,
+        passes,
+    } = work(rt, alloc, job, sources, gate);
     match result {
         Ok(worked) => {
             if all {
-                Outcome::answered(sources, worked)
+                Outcome::answered(sources, worked).behind(got, left, passes)
             } else {
-                let file = got as u32 + 1;
-                Outcome::at(sources, Fault::OpenFault { file })
+                let file = count as u32 + 1;
+                Outcome::at(sources, Fault::OpenFault { file }).behind(got, left, passes)
             }
         }
-        Err(fault) => Outcome::of_work(sources, job.size, fault),
+        Err(fault) => Outcome::of_work(sources, job.size, fault).behind(got, left, passes),
     }
 }

@@ -1,7 +1,8 @@
-ghost use Rattle.std.specs.Prelude.{◌≡◌, ℕ, ◌≤◌, List, length, map, string_bytes, IfOk, All};
+ghost use Rattle.std.specs.Prelude.{◌≡◌, ℕ, ◌+◌, ◌≤◌, List, Some, length, map, string_bytes, IfOk, IfSome, IsNone, IsSome, IsSomeAnd, OnSome, All};
 ghost use Rattle.std.specs.List.Sorted.{IsPermutation};
 ghost use Rattle.scq_collect.specs.Merging.{members_in};
 ghost use Rattle.scq_collect.specs.Output.{answers_to, one_thread_output, without_way};
+ghost use Rattle.scq_work.specs.AllWorkers.{NothingIsStranded};
 ghost use Rattle.scq_service.specs.Answers.{IsWork, IsWorkOf, WorkedAt};
 ghost use Rattle.scq_service.specs.Ends.{EndsOver, HasGot};
 ghost use Rattle.scq_service.specs.Faults.{status_of};
@@ -28,13 +29,14 @@ pub fn run_files<R: Threads + Sync, F: Files, K: Sink, G: Gate>(
     gate: &G,
 ) -> Outcome<F::Src>
     requires { length names.now ≤ 64 }
-    ensures got { HasGot F.Src.left (map string_bytes names.now) (record {
+    ensures got { HasGot F.Src.faults F.Src.left (map string_bytes names.now) result.got.value.items (record {
       table = record { old = F.table files.old; new = F.table files.new };
       opens = record { old = F.faults files.old; new = F.faults files.new };
       sources = result.sources.items;
       read = result.read;
     }) }
-    ensures ends { EndsOver job.now.size (one_thread_output job.now.topics) F.Src.faults F.Src.left (map string_bytes names.now)
+    ensures ends { EndsOver job.now.size (one_thread_output job.now.topics) F.Src.faults F.Src.ends F.Src.left (map string_bytes names.now)
+        result.got.value.items
         (record {
           table = record { old = F.table files.old; new = F.table files.new };
           opens = record { old = F.faults files.old; new = F.faults files.new };
@@ -47,18 +49,18 @@ pub fn run_files<R: Threads + Sync, F: Files, K: Sink, G: Gate>(
         }) result.fault }
     ensures status { result.status ≡ status_of result.fault }
     ensures worked { WorkedAt result.fault result.worked }
-    ensures told { IsWorkOf job.now.topics job.now.order job.now.size job.now.workers (map string_bytes names.now) (record {
+    ensures told { IsWorkOf job.now.topics job.now.size job.now.workers F.Src.left result.got.value.items result.worked }
+    ensures work { IsWork job.now.topics job.now.size job.now.workers F.Src.faults F.Src.ends F.Src.left result.got.value.items (record {
       table = record { old = F.table files.old; new = F.table files.new };
       opens = record { old = F.faults files.old; new = F.faults files.new };
       sources = result.sources.items;
       read = result.read;
     }) result.worked }
-    ensures work { IsWork job.now.topics job.now.order job.now.size job.now.workers F.Src.faults F.Src.left (map string_bytes names.now) (record {
-      table = record { old = F.table files.old; new = F.table files.new };
-      opens = record { old = F.faults files.old; new = F.faults files.new };
-      sources = result.sources.items;
-      read = result.read;
-    }) result.worked }
+    ensures left { IfSome result.left (λ left. IsSomeAnd result.passes (λ passes.
+        NothingIsStranded job.now.order (length job.now.topics + 1) job.now.workers passes.value.items left.items)) }
+    ensures there { OnSome result.worked (IsSome result.left) }
+    ensures seen { IsNone result.left → result.fault ≡ Some Fault.NoMemory }
+    ensures same { IfSome result.worked (λ w. IsSomeAnd result.passes (λ passes. passes.value.items ≡ w.passes.value.items)) }
 {
     let outcome = read_files(rt, alloc, job, names, files, gate);
     let text = match &outcome.worked {
@@ -70,7 +72,7 @@ pub fn run_files<R: Threads + Sync, F: Files, K: Sink, G: Gate>(
             Ok(()) => outcome,
             Err(Failed) => outcome.unwritten(),
         },
-        Err(NoMemory) => Outcome::at(outcome.sources, Fault::NoMemory),
+        Err(NoMemory) => outcome.starved(),
     }
 }
 

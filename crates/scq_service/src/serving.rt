@@ -1,7 +1,8 @@
-ghost use Rattle.std.specs.Prelude.{◌≡◌, ◌⊎◌, Ok, None, Some, map, string_bytes};
+ghost use Rattle.std.specs.Prelude.{◌≡◌, ◌⊎◌, Ok, None, Some, false, is_some, IfSome, IsSomeAnd, map, string_bytes};
 ghost use Rattle.scq_outside.specs.Counts.{Rose};
 ghost use Rattle.scq_words.specs.Asked.{asked, generated, run, whole, RunAsked, SelfAsked, TextAsked};
-ghost use Rattle.scq_service.specs.Answers.{WorkedAs};
+ghost use Rattle.scq_words.specs.Ranges.{is_taken};
+ghost use Rattle.scq_service.specs.Answers.{IsSeenAt, LeavesNothing, WorkedAs};
 ghost use Rattle.scq_service.specs.Ends.{EndsAs, IsCalm, IsCalmText, IsOfTextAlone};
 ghost use Rattle.scq_service.specs.Faults.{status_of};
 ghost use Rattle.scq_service.specs.Reports.{asks_report, reported};
@@ -15,7 +16,7 @@ use crate::whole::run_text;
 use crate::worker_report::report_run;
 use crate::{Fault, Outcome};
 use scq_outside::{Files, Sink};
-use scq_words::{Request, SelfRequest, WordsError, read_words};
+use scq_words::{Request, SelfRequest, WordsError, WordsFault, read_words};
 use scq_work::Gate;
 use std::alloc::Global;
 use std::thread::Threads;
@@ -37,7 +38,7 @@ pub fn serve<R: Threads + Sync, F: Files, K: Sink, G: Gate>(
     ensures status { result.status ≡ status_of result.fault }
 
     // How it ended is one of the cases of `EndsAs`, each with what was got, read and written, and why.
-    ensures end { EndsAs F.Src.faults F.Src.left (asked (map string_bytes words.now))
+    ensures end { EndsAs F.Src.faults F.Src.ends F.Src.left (asked (map string_bytes words.now)) result.got.value.items
         (record {
           table = record { old = F.table files.old; new = F.table files.new };
           opens = record { old = F.faults files.old; new = F.faults files.new };
@@ -51,7 +52,7 @@ pub fn serve<R: Threads + Sync, F: Files, K: Sink, G: Gate>(
 
     // What workers answered is there exactly where the text of it was whole. It answers such messages as `IsWork` says, which are those
     // of the contents where these are visible.
-    ensures worked { WorkedAs F.Src.faults F.Src.left (asked (map string_bytes words.now))
+    ensures worked { WorkedAs F.Src.faults F.Src.ends F.Src.left (asked (map string_bytes words.now)) result.got.value.items
         (record {
           table = record { old = F.table files.old; new = F.table files.new };
           opens = record { old = F.faults files.old; new = F.faults files.new };
@@ -59,9 +60,19 @@ pub fn serve<R: Threads + Sync, F: Files, K: Sink, G: Gate>(
           read = result.read;
         }) result.fault result.worked }
 
+    // Whatever the answer is, where workers were at work nothing is stranded: their queue was closed with each buffer free, what was sent was taken,
+    // each pass has retired, and no call met a ticket past the limit.
+    ensures left { IfSome result.left (λ left. IsSomeAnd result.passes (λ passes.
+        LeavesNothing (asked (map string_bytes words.now)) passes.value.items left.items)) }
+    ensures seen { IsSeenAt (asked (map string_bytes words.now)) result.fault (is_some result.left) }
+    ensures same { IfSome result.worked (λ w. IsSomeAnd result.passes (λ passes. passes.value.items ≡ w.passes.value.items)) }
+
+    // `clap` refuses no words that it is said to take.
+    ensures taken { result.fault ≡ Some (Fault.Words WordsFault.NotUnderstood) → is_taken (map string_bytes words.now) ≡ false }
+
     // Where nothing stood in the way of a run over files, it ends with the output, or for want of memory.
     ensures complete { (a : RunAsked) → asked (map string_bytes words.now) ≡ Ok (run a)
-        → IsCalm a.size F.Src.faults a.files
+        → IsCalm a.size F.Src.faults F.Src.left a.files result.got.value.items
         (record {
           table = record { old = F.table files.old; new = F.table files.new };
           opens = record { old = F.faults files.old; new = F.faults files.new };
@@ -130,7 +141,7 @@ fn run<R: Threads + Sync, F: Files, K: Sink, G: Gate>(
     gate: &G,
 ) -> Ran<F::Src>
     ensures status { result.outcome.status ≡ status_of result.outcome.fault }
-    ensures end { EndsAs F.Src.faults F.Src.left (asked (map string_bytes words.now))
+    ensures end { EndsAs F.Src.faults F.Src.ends F.Src.left (asked (map string_bytes words.now)) result.outcome.got.value.items
         (record {
           table = record { old = F.table files.old; new = F.table files.new };
           opens = record { old = F.faults files.old; new = F.faults files.new };
@@ -141,13 +152,18 @@ fn run<R: Threads + Sync, F: Files, K: Sink, G: Gate>(
           written = record { old = K.written out.old; new = K.written out.new };
           faults = record { old = K.faults out.old; new = K.faults out.new };
         }) result.outcome.fault }
-    ensures worked { WorkedAs F.Src.faults F.Src.left (asked (map string_bytes words.now))
+    ensures worked { WorkedAs F.Src.faults F.Src.ends F.Src.left (asked (map string_bytes words.now)) result.outcome.got.value.items
         (record {
           table = record { old = F.table files.old; new = F.table files.new };
           opens = record { old = F.faults files.old; new = F.faults files.new };
           sources = result.outcome.sources.items;
           read = result.outcome.read;
         }) result.outcome.fault result.outcome.worked }
+    ensures left { IfSome result.outcome.left (λ left. IsSomeAnd result.outcome.passes (λ passes.
+        LeavesNothing (asked (map string_bytes words.now)) passes.value.items left.items)) }
+    ensures seen { IsSeenAt (asked (map string_bytes words.now)) result.outcome.fault (is_some result.outcome.left) }
+    ensures same { IfSome result.outcome.worked (λ w. IsSomeAnd result.outcome.passes (λ passes. passes.value.items ≡ w.passes.value.items)) }
+    ensures taken { result.outcome.fault ≡ Some (Fault.Words WordsFault.NotUnderstood) → is_taken (map string_bytes words.now) ≡ false }
     ensures report { result.outcome.fault ≡ None → result.report ≡ asks_report (asked (map string_bytes words.now)) }
 {
     match read_words(alloc, words) {

@@ -1,5 +1,5 @@
 -- The files of all desks once their workers have left: they are those of the sources, each once. So what the workers passed on is what the
--- sources gave, and that is little.
+-- sources gave, and that is little, however the reading of each ended.
 use Rattle.std.proofs.Common.{◌≡◌, refl, sym, ◌∙◌, ap, subst, inl, inr, arith, false, zero, suc, ℕ, ◌+◌, ◌*◌, ◌^◌, ◌<◌, ◌≤◌, List, [], ◌∷◌, ◌++◌, length, map, reverse, get_or, Option, Some, None}
 use Rattle.std.specs.Prelude.{slice_index_or, slice_get, flat_map, sum_by}
 use Rattle.std.specs.List.{All, AllZip}
@@ -27,24 +27,32 @@ use Rattle.scq_work.proofs.Conclusion.{flat-of}
 use Rattle.scq_work.proofs.Dealt.{upto, seconds, all-dealt, collected}
 use Rattle.scq_work.proofs.Lists.{map-reverse}
 
--- what a file gave, and that it is not much
-abbrev Gave : {S : Type 0} → List (List ℕ × Kind) → ℕ → (S → Option (List ℕ)) → ℕ × S → List Message → Type 0
-Gave topics size left f own = FileGave topics size left f.0 f.1 own × (length own ≤ 2 ^ 29)
+-- what a file gave, and that it is not much: all of its messages where W holds, which says that all files were read to their ends
+pub record Gave {S : Type 0} (topics : List (List ℕ × Kind)) (size : ℕ) (left : S → Option (List ℕ)) (W : Type 0) (f : ℕ × S) (own : List Message) : Type 0
+  where
+    pub whole : W → FileGave topics size left f.0 f.1 own
+    pub few : length own ≤ 2 ^ 29
 
 abbrev pub given_of : {S : Type 0} → OwnFile S → List Message
 given_of f = given_in f.given.value
 
--- files that were read to their ends, with what they gave
-files-gave : {S : Type 0} (topics : List (List ℕ × Kind)) (size : ℕ) (faults : S → ℕ) (left : S → Option (List ℕ)) (files : List (OwnFile S))
-    → All (λ f. IsRead topics size faults left f.number f.was.value f.source (given_of f) f.end) files → All IsWholeFile files
-    → AllZip (Gave topics size left) (ids_of files) (map given_of files)
-files-gave topics size faults left [] read whole = tt
-files-gave {S} topics size faults left (f ∷ files) read whole =
-    let its = read zero f (omega arith) in
-    let end : f.end ≡ Whole = whole zero f (omega arith) in
-    let gave = subst (λ e. GaveAll topics f.number (left f.was.value) e (given_of f)) end its.gave in (
-      (record { of = its.all; short = its.short; all = gave }, its.few),
-      files-gave topics size faults left files (λ k d less. read (suc k) d (omega arith)) (λ k d less. whole (suc k) d (omega arith)),
+-- files that were read, with what they gave
+files-gave : {S : Type 0} (topics : List (List ℕ × Kind)) (size : ℕ) (faults end_count : S → ℕ) (left : S → Option (List ℕ)) (W : Type 0)
+    (files : List (OwnFile S))
+    → All (λ f. IsRead topics size faults end_count left f.number f.was.value f.source (given_of f) f.end) files → (W → All IsWholeFile files)
+    → AllZip (Gave topics size left W) (ids_of files) (map given_of files)
+files-gave topics size faults end_count left W [] read whole = tt
+files-gave {S} topics size faults end_count left W (f ∷ files) read whole =
+    let its = read zero f (omega arith) in (
+      record {
+        whole = λ w. record {
+          of = its.all;
+          short = its.short;
+          all = subst (λ e. GaveAll topics f.number (left f.was.value) e (given_of f)) (whole w zero f (omega arith)) its.gave;
+        };
+        few = its.few;
+      },
+      files-gave topics size faults end_count left W files (λ k d less. read (suc k) d (omega arith)) (λ w k d less. whole w (suc k) d (omega arith)),
     )
 
 -- the lists of files, one behind the other
@@ -65,36 +73,36 @@ by-number f m (x ∷ xs) from each =
     next k = omega arith
 
 -- few messages of each of few files are few
-few-given : {S : Type 0} (topics : List (List ℕ × Kind)) (size : ℕ) (left : S → Option (List ℕ)) (file : ℕ) (sources : List S) (given : List (List Message))
-    → OfEachFile (Gave topics size left) file sources given → length (flat_map (λ own. own) given) ≤ length sources * 2 ^ 29
-few-given topics size left file [] [] gave = omega arith
-few-given topics size left file [] (own ∷ more) gave = absurd gave
-few-given topics size left file (x ∷ xs) [] gave = absurd gave
-few-given topics size left file (x ∷ xs) (own ∷ more) gave =
-    let rest = few-given topics size left (file + 1) xs more gave.1 in
-    omega (arith, gave.0.1, length-append own (flat_map (λ own. own) more))
+few-given : {S : Type 0} (topics : List (List ℕ × Kind)) (size : ℕ) (left : S → Option (List ℕ)) (W : Type 0) (file : ℕ) (sources : List S)
+    (given : List (List Message))
+    → OfEachFile (Gave topics size left W) file sources given → length (flat_map (λ own. own) given) ≤ length sources * 2 ^ 29
+few-given topics size left W file [] [] gave = omega arith
+few-given topics size left W file [] (own ∷ more) gave = absurd gave
+few-given topics size left W file (x ∷ xs) [] gave = absurd gave
+few-given topics size left W file (x ∷ xs) (own ∷ more) gave =
+    let rest = few-given topics size left W (file + 1) xs more gave.1 in
+    omega (arith, gave.0.few, length-append own (flat_map (λ own. own) more))
 
-all-gave : {S : Type 0} (topics : List (List ℕ × Kind)) (size : ℕ) (left : S → Option (List ℕ)) (file : ℕ) (sources : List S) (given : List (List Message))
-    → OfEachFile (Gave topics size left) file sources given → AreGiven topics size left file sources given
-all-gave topics size left file [] [] gave = tt
-all-gave topics size left file [] (own ∷ more) gave = absurd gave
-all-gave topics size left file (x ∷ xs) [] gave = absurd gave
-all-gave topics size left file (x ∷ xs) (own ∷ more) gave = (gave.0.0, all-gave topics size left (file + 1) xs more gave.1)
+all-gave : {S : Type 0} (topics : List (List ℕ × Kind)) (size : ℕ) (left : S → Option (List ℕ)) (W : Type 0) (file : ℕ) (sources : List S)
+    (given : List (List Message))
+    → OfEachFile (Gave topics size left W) file sources given → W → AreGiven topics size left file sources given
+all-gave topics size left W file [] [] gave w = tt
+all-gave topics size left W file [] (own ∷ more) gave w = absurd gave
+all-gave topics size left W file (x ∷ xs) [] gave w = absurd gave
+all-gave topics size left W file (x ∷ xs) (own ∷ more) gave w = (gave.0.whole w, all-gave topics size left W (file + 1) xs more gave.1 w)
 
 module _ {B S : Type 0} where
   -- the messages that a worker passed on
   abbrev pub worker_messages : Desk B S → List Message
   worker_messages d = all_given d.files.items
 
-  -- the workers of a queue have done their work: each had its own of the files, each file was read to its end, and none wanted memory
-  pub record AllRan (c : Setup) (shared : Identity B) (topics : List (List ℕ × Kind)) (size : ℕ) (faults : S → ℕ) (left : S → Option (List ℕ))
+  -- the workers of a queue have left: each had its own of the files, and did what `HasRun` says, however the reading of these ended
+  pub record AllRan (c : Setup) (shared : Identity B) (topics : List (List ℕ × Kind)) (size : ℕ) (faults end_count : S → ℕ) (left : S → Option (List ℕ))
       (sources : List S) (desks : List (Desk B S)) : Type 0 where
     pub some : 0 < length desks
     pub few : length sources ≤ 64
     pub dealt : AreDealt 1 sources desks
-    pub run : All (λ d. HasRun shared topics size faults left d.files.items d.worker.pass d.worker.members.items d.worker.starved d.kept) desks
-    pub whole : AllWhole desks
-    pub fed : All (λ d. d.worker.starved ≡ false) desks
+    pub run : All (λ d. HasRun shared topics size faults end_count left d.files.items d.worker.pass d.worker.members.items d.worker.starved d.kept) desks
     pub setup : shared.setup ≡ c
     pub numbers : (w : ℕ) (d : Desk B S) → w < length desks → (slice_index_or desks w d).worker.pass.number ≡ w
     pub order : c.order ≤ 12
@@ -102,8 +110,9 @@ module _ {B S : Type 0} where
     pub seats : c.seats ≡ length desks
     pub limit : c.limit ≡ 2 ^ 60
 
-  module _ (c : Setup) (shared : Identity B) (topics : List (List ℕ × Kind)) (size : ℕ) (faults : S → ℕ) (left : S → Option (List ℕ)) (sources : List S)
-      (desks : List (Desk B S)) (ran : AllRan c shared topics size faults left sources desks) where
+  module _ (c : Setup) (shared : Identity B) (topics : List (List ℕ × Kind)) (size : ℕ) (faults end_count : S → ℕ) (left : S → Option (List ℕ))
+      (sources : List S)
+      (desks : List (Desk B S)) (ran : AllRan c shared topics size faults end_count left sources desks) where
     -- of a desk: its files in their order, and what they gave
     abbrev files_in : Option (Desk B S) → List (OwnFile S)
     files_in None = []
@@ -115,37 +124,38 @@ module _ {B S : Type 0} where
     abbrev given_at : ℕ → List (List Message)
     given_at w = map given_of (files_at w)
 
-    desk-gave : (w : ℕ) → w < length desks → AllZip (Gave topics size left) (files_of (length desks) w 1 sources) (given_at w)
+    desk-gave : (w : ℕ) → w < length desks → AllZip (Gave topics size left (AllWhole desks)) (files_of (length desks) w 1 sources) (given_at w)
     desk-gave w less = elim (slice_get_cases desks w).1 [
       | inl (d, within, is, here) ↦
           let its = subst (λ (e : Desk B S).
-          HasRun shared topics size faults left e.files.items e.worker.pass e.worker.members.items e.worker.starved e.kept) here (ran.run w d less) in
-          let whole = subst (λ (e : Desk B S). All IsWholeFile e.files.items) here (ran.whole w d less) in
+          HasRun shared topics size faults end_count left e.files.items e.worker.pass e.worker.members.items e.worker.starved e.kept) here (ran.run w d less) in
+          let whole : (all : AllWhole desks) → All IsWholeFile d.files.items = λ all.
+          subst (λ (e : Desk B S). All IsWholeFile e.files.items) here (all w d less) in
           let dealt = ap (λ (e : Desk B S). ids_of e.files.items) (sym here) ∙ ran.dealt w d less in
           let files = d.files.items in
           let turned = IsPermutation-reverse files in
           let ids : ids_of (reverse files) ≡ files_of (length desks) w 1 sources =
           map-reverse (λ (f : OwnFile S). (f.number, f.was.value)) files ∙ ap reverse dealt ∙ reverse-reverse (files_of (length desks) w 1 sources) in
-          let gave = files-gave topics size faults left (reverse files)
-          (All-permutation (λ (f : OwnFile S). IsRead topics size faults left f.number f.was.value f.source (given_of f) f.end)
+          let gave = files-gave topics size faults end_count left (AllWhole desks) (reverse files)
+          (All-permutation (λ (f : OwnFile S). IsRead topics size faults end_count left f.number f.was.value f.source (given_of f) f.end)
           files (reverse files) turned its.read)
-          (All-permutation IsWholeFile files (reverse files) turned whole) in
+          (λ all. All-permutation IsWholeFile files (reverse files) turned (whole all)) in
           let mine : given_at w ≡ map given_of (reverse files) = ap (λ o. map given_of (files_in o)) is in
-          subst (λ l. AllZip (Gave topics size left) (files_of (length desks) w 1 sources) l) (sym mine)
-          (subst (λ l. AllZip (Gave topics size left) l (map given_of (reverse files))) ids gave)
+          subst (λ l. AllZip (Gave topics size left (AllWhole desks)) (files_of (length desks) w 1 sources) l) (sym mine)
+          (subst (λ l. AllZip (Gave topics size left (AllWhole desks)) l (map given_of (reverse files))) ids gave)
       | inr (past, none) ↦ absurd (omega arith)
     ]
 
     -- what the files gave, file by file
-    pub gathered : (given : List (List Message)) × OfEachFile (Gave topics size left) 1 sources given
+    pub gathered : (given : List (List Message)) × OfEachFile (Gave topics size left (AllWhole desks)) 1 sources given
         × ((w : ℕ) → w < length desks → seconds (files_of (length desks) w 1 given) ≡ given_at w)
-    gathered = collected (Gave topics size left) (length desks) 1 sources given_at ran.some desk-gave
+    gathered = collected (Gave topics size left (AllWhole desks)) (length desks) 1 sources given_at ran.some desk-gave
 
     abbrev pub given : List (List Message)
     given = gathered.0
 
-    pub is-given : AreGiven topics size left 1 sources given
-    is-given = all-gave topics size left 1 sources given gathered.1
+    pub is-given : AllWhole desks → AreGiven topics size left 1 sources given
+    is-given whole = all-gave topics size left (AllWhole desks) 1 sources given gathered.1 whole
 
     -- a worker passed on what its files gave
     pub own-given : (w : ℕ) (d : Desk B S) → slice_get desks w ≡ Some d → worker_messages d ≡ own_of (length desks) w 1 given
@@ -169,7 +179,7 @@ module _ {B S : Type 0} where
     -- and they are few
     pub few-in-all : sum_by (λ (d : Desk B S). length (worker_messages d)) desks ≤ 2 ^ 35
     few-in-all =
-        let few = few-given topics size left 1 sources given gathered.1 in
+        let few = few-given topics size left (AllWhole desks) 1 sources given gathered.1 in
         let long = length_permutation (flat_map (λ own. own) given) (flat_map worker_messages desks) all-messages in
         let sum = length-flat_map worker_messages desks in
         let files = ran.few in

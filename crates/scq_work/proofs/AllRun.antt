@@ -1,13 +1,15 @@
 -- All desks once their workers have left and the queue is closed. Plan: the messages are few (`AllGave`), so no pass met a
--- ticket past the limit; so each worker has swept and its list answers for its pass; and together they answer for all messages.
-use Rattle.std.proofs.Common.{◌≡◌, refl, sym, ◌∙◌, ap, subst, inl, inr, arith, zero, suc, ℕ, ◌+◌, ◌^◌, ◌<◌, ◌≤◌, List, [], ◌∷◌, length, map, reverse, get_or, Option, Some, None}
-use Rattle.std.specs.Prelude.{slice_get, flat_map, sum, Vec}
+-- ticket past the limit; so each worker has swept, and nothing is left behind. Where no file has a fault and no worker wanted memory, each list
+-- answers for its pass, and together they answer for all messages.
+use Rattle.std.proofs.Common.{◌≡◌, refl, sym, ◌∙◌, ap, subst, inl, inr, arith, false, zero, suc, ℕ, ◌+◌, ◌^◌, ◌<◌, ◌≤◌, List, [], ◌∷◌, length, map, reverse, get_or, Option, Some, None}
+use Rattle.std.specs.Prelude.{slice_get, slice_index, flat_map, sum, Vec}
 use Rattle.std.specs.Global.{Global}
 use Rattle.std.specs.List.{All}
 use Rattle.std.specs.List.Sorted.{IsPermutation}
 use Rattle.std.specs.Option.{option_map, option_to_list}
 use Rattle.std.proofs.lemmas.List.{length-map, get_or-map}
 use Rattle.std.proofs.lemmas.List.Elements.{All-map, All-append, All-nil}
+use Rattle.std.proofs.lemmas.List.Sums.{sum_by-cons}
 use Rattle.std.proofs.lemmas.List.Sorted.{All-permutation, IsPermutation-sym, IsPermutation-reverse, IsPermutation-map, IsPermutation-trans}
 use Rattle.std.proofs.lemmas.Option.{slice_get-map, slice_get_within, slice_get_cases, get_or_from_slice_get}
 use Rattle.scq_topics.specs.declared.kind.Kind.{Kind}
@@ -31,10 +33,11 @@ use Rattle.scq_work.specs.Members.{AnswersItsTakes, AnswersItsFulls}
 use Rattle.scq_work.specs.Passing.{HasPassedOn, FollowsCalls}
 use Rattle.scq_work.specs.Reading.{IsRead}
 use Rattle.scq_work.specs.Records.{HoldsNothingAtEachFull, HelpsAfterEachFull, MeetsNoSpent}
-use Rattle.scq_work.specs.Together.{SendsAreTakes, NoneSpent, IsBounded, HasRetired, HasSwept}
+use Rattle.scq_work.specs.Together.{SendsAreTakes, NothingIsLeft, NoneSpent, IsBounded, HasRetired, HasSwept}
 use Rattle.scq_work.specs.Working.{IsThrifty, HasListed, index_of}
 use Rattle.scq_work.specs.declared.desk.Desk.{Desk}
 use Rattle.scq_work.specs.declared.own_file.OwnFile.{OwnFile}
+use Rattle.scq_work.proofs.Cleared.{AllWhole}
 use Rattle.scq_work.proofs.AllGave.{given_of, worker_messages, AllRan, given, is-given, own-given, all-messages, few-in-all}
 use Rattle.scq_work.proofs.Conclusion.{Work, IsWork, passes_in, messages_in, members_of, flat-of, all-taken, all-answered}
 use Rattle.scq_work.proofs.Lists.{map-map}
@@ -53,6 +56,22 @@ pub record HasClosed {B : Type 0} (c : Setup) (passes : List (PassStanding B)) (
   pub fulls : AllFullsStand passes
   pub limits : NoneIsKeptWithinTheLimit c passes
   pub all_there : IsAllThere c held left
+
+-- numbers of which each is 0 have the sum 0, and where all others are, the first is the sum
+sum-none : (xs : List ℕ) → ((k : ℕ) → k < length xs → slice_index xs k ≡ 0) → sum xs ≡ 0
+sum-none [] each = refl
+sum-none (x ∷ xs) each =
+    let all : sum (x ∷ xs) ≡ x + sum xs = sum_by-cons (λ (n : ℕ). n) x xs in
+    let here : x ≡ 0 = each zero (omega arith) in
+    let rest = sum-none xs (λ k less. each (suc k) (omega arith)) in
+    omega (arith, all)
+
+first-alone : (left : List ℕ) (topics : ℕ) → length left ≡ topics + 1 → NothingIsLeft topics left → slice_index left 0 ≡ sum left
+first-alone [] topics long none = refl
+first-alone (x ∷ xs) topics long none =
+    let all : sum (x ∷ xs) ≡ x + sum xs = sum_by-cons (λ (n : ℕ). n) x xs in
+    let rest = sum-none xs (λ k less. none k (omega (arith, long, less))) in
+    omega (arith, all)
 
 -- where no value is held, all are left
 sum-alone : {H : Type 0} (left : List ℕ) (n : ℕ) (held : List H) → held ≡ [] → sum left + length held ≡ n → sum left ≡ n
@@ -94,17 +113,15 @@ module _ {B S : Type 0} where
         let its_list : d.worker.members ≡ list = cc in
         subst (λ q. P w q list.items) its_pass (subst (λ (l : Vec Answered Global). P w d.worker.pass l.items) its_list (each w d is))
 
-  module _ (c : Setup) (shared : Identity B) (topics : List (List ℕ × Kind)) (size : ℕ) (faults : S → ℕ) (left : S → Option (List ℕ)) (sources : List S)
-      (desks : List (Desk B S)) (ran : AllRan c shared topics size faults left sources desks) where
+  module _ (c : Setup) (shared : Identity B) (topics : List (List ℕ × Kind)) (size : ℕ) (faults end_count : S → ℕ) (left : S → Option (List ℕ))
+      (sources : List S)
+      (desks : List (Desk B S)) (ran : AllRan c shared topics size faults end_count left sources desks) where
     -- what `AllGave` says of these desks, by short names
     abbrev messages_given : List (List Message)
-    messages_given = given c shared topics size faults left sources desks ran
-
-    gave : AreGiven topics size left 1 sources messages_given
-    gave = is-given c shared topics size faults left sources desks ran
+    messages_given = given c shared topics size faults end_count left sources desks ran
 
     own-gave : (w : ℕ) (d : Desk B S) → slice_get desks w ≡ Some d → worker_messages d ≡ own_of (length desks) w 1 messages_given
-    own-gave = own-given c shared topics size faults left sources desks ran
+    own-gave = own-given c shared topics size faults end_count left sources desks ran
 
     abbrev works : List (ℕ × PassStanding B)
     works = map counted desks
@@ -115,7 +132,7 @@ module _ {B S : Type 0} where
     few-messages : messages_of works ≤ 2 ^ 35
     few-messages =
         let counts = sum_by-map (λ (w : ℕ × PassStanding B). w.0) counted desks in
-        let few = few-in-all c shared topics size faults left sources desks ran in
+        let few = few-in-all c shared topics size faults end_count left sources desks ran in
         omega arith
 
     all-thrifty : All (λ (w : ℕ × PassStanding B). IsThrifty 1 w.0 w.1) works
@@ -148,52 +165,21 @@ module _ {B S : Type 0} where
       pub same : SendsAreTakes (passes_at desks)
       same = sends-are-takes (passes_at desks) closed.takes closed.taken_once closed.sent_once closed.passed swept
 
-      listed : (k : ℕ) (d : Desk B S) → k < length desks
-          → HasListed topics (worker_messages (get_or desks k d)) (get_or desks k d).worker.pass (get_or desks k d).worker.members.items
-      listed k d less = (ran.run k d less).listed (spent-none k d less) (ran.fed k d less)
-
-      listed-at : (w : ℕ) (d : Desk B S) → slice_get desks w ≡ Some d → HasListed topics (worker_messages d) d.worker.pass d.worker.members.items
-      listed-at w d is =
-          subst (λ (e : Desk B S). HasListed topics (worker_messages e) e.worker.pass e.worker.members.items) (get_or_from_slice_get desks w d d is)
-          (listed w d (slice_get_within desks w d is))
-
       messages-known : (k : ℕ) (d : Desk B S) → k < length desks → All (λ m. m.topic ≤ length topics) (worker_messages (get_or desks k d))
       messages-known k d less =
           let files = (get_or desks k d).files.items in
-          flat-known (reverse files) (All-permutation (λ (f : OwnFile S). IsRead topics size faults left f.number f.was.value f.source (given_of f) f.end)
+          flat-known (reverse files) (All-permutation (λ (f : OwnFile S). IsRead topics size faults end_count left f.number f.was.value f.source (given_of f)
+          f.end)
           files (reverse files)
           (IsPermutation-reverse files) (ran.run k d less).read)
         where
-          flat-known : (fs : List (OwnFile S)) → All (λ f. IsRead topics size faults left f.number f.was.value f.source (given_of f) f.end) fs
+          flat-known : (fs : List (OwnFile S)) → All (λ f. IsRead topics size faults end_count left f.number f.was.value f.source (given_of f) f.end) fs
               → All (λ m. m.topic ≤ length topics) (flat_map given_of fs)
           flat-known [] read = All-nil (λ (m : Message). m.topic ≤ length topics)
           flat-known (f ∷ fs) read =
               All-append (λ (m : Message). m.topic ≤ length topics) (given_of f) (flat_map given_of fs)
               (of-known (length topics) f.number 0 (given_of f) (read zero f (omega arith)).all)
               (flat-known fs (λ k d less. read (suc k) d (omega arith)))
-
-      all-works : All (IsWork topics) (map work_of desks)
-      all-works = All-map (IsWork topics) work_of desks (λ k d less. record { listed = listed k d less; known = messages-known k d less })
-
-      work-passes : passes_in (map work_of desks) ≡ passes_at desks
-      work-passes = map-map (λ (w : Work B). w.pass) work_of desks
-
-      once : IsPermutation (map without_way (members_in (lists_at desks))) (map (answer_of topics) (flat_map (λ own. own) messages_given))
-      once =
-          let all = all-answered topics (map work_of desks) all-works
-          (subst (λ (ps : List (PassStanding B)). EachTakeIsASend ps) (sym work-passes) closed.takes)
-          (subst (λ (ps : List (PassStanding B)). SendsAreTakes ps) (sym work-passes) same) in
-          let members : members_of (map work_of desks) ≡ members_in (lists_at desks) =
-          flat-of (λ (w : Work B). w.members) work_of desks ∙ sym (flat-of (λ (l : Vec Answered Global). l.items) (λ (d : Desk B S). d.worker.members) desks) in
-          let messages : messages_in (map work_of desks) ≡ flat_map worker_messages desks = flat-of (λ (w : Work B). w.messages) work_of desks in
-          let answers : List Answer = map (answer_of topics) (flat_map (λ own. own) messages_given) in
-          let back : IsPermutation (map (answer_of topics) (flat_map worker_messages desks)) answers =
-          IsPermutation-map (answer_of topics) (flat_map worker_messages desks) (flat_map (λ own. own) messages_given)
-          (IsPermutation-sym (flat_map (λ own. own) messages_given) (flat_map worker_messages desks)
-          (all-messages c shared topics size faults left sources desks ran)) in
-          IsPermutation-trans (map without_way (members_in (lists_at desks))) (map (answer_of topics) (flat_map worker_messages desks)) answers
-          (subst (λ l. IsPermutation (map without_way (members_in (lists_at desks))) (map (answer_of topics) l)) messages
-          (subst (λ l. IsPermutation (map without_way l) (map (answer_of topics) (messages_in (map work_of desks)))) members all)) back
 
       -- no value is kept
       none-kept : held_at desks ≡ []
@@ -222,24 +208,8 @@ module _ {B S : Type 0} where
             | inr (past, none) ↦ absurd (omega arith)
           ]
 
-      pub have-answered : HaveAnswered topics size (length desks) messages_given (passes_at desks) (lists_at desks)
-      have-answered = record {
-        each_pass = length-map desks (λ (d : Desk B S). d.worker.pass);
-        each_list = length-map desks (λ (d : Desk B S). d.worker.members);
-        once = once;
-        apart = members-apart topics size left sources messages_given (members_in (lists_at desks)) gave once;
-        short = members-short topics size left sources messages_given (members_in (lists_at desks)) gave once;
-        known = members-known topics size left sources messages_given (members_in (lists_at desks)) gave once;
-        takes = of-each (λ w p list. AnswersItsTakes topics (takes_of p.calls) list) desks (λ w d is.
-            (all-taken topics (map work_of desks) all-works (subst (λ (ps : List (PassStanding B)). EachTakeIsASend ps) (sym work-passes) closed.takes)
-            (work_of d)
-            (stands-at (map work_of desks) (work_of d) w (slice_get-map work_of desks w ∙ ap (option_map work_of) is))).0);
-        fulls = of-each (λ w p list. AnswersItsFulls p.fulls list) desks (λ w d is. (listed-at w d is).fulls);
-        passed = of-each (λ w p list. HasPassedOn topics (own_of (length desks) w 1 messages_given) (sends_of p.calls) list) desks (λ w d is.
-            subst (λ ms. HasPassedOn topics ms (sends_of d.worker.pass.calls) d.worker.members.items) (own-gave w d is) (listed-at w d is).passed);
-        follows = of-each (λ w p list. FollowsCalls (own_of (length desks) w 1 messages_given) p.calls) desks (λ w d is.
-            subst (λ ms. FollowsCalls ms d.worker.pass.calls) (own-gave w d is) (listed-at w d is).follows);
-      }
+      nothing : NothingIsLeft (length topics + 1) left_in
+      nothing = nothing-is-left c (passes_at desks) (length topics + 1) left_in (omega (arith, ran.rings)) closed.balance same
 
       pub have-shared : HaveShared (length topics + 1) c (passes_at desks) left_in
       have-shared = record {
@@ -258,12 +228,70 @@ module _ {B S : Type 0} where
         fulls = closed.fulls;
         same = same;
         places = no-place-twice (passes_at desks) closed.sent_once;
-        none_left = nothing-is-left c (passes_at desks) (length topics + 1) left_in (omega (arith, ran.rings)) closed.balance same;
+        none_left = nothing;
         retired = All-map (HasRetired (length topics + 1)) (λ (d : Desk B S). d.worker.pass) desks (λ k d less. (ran.run k d less).ended (spent-none k d less));
         no_spent = All-map (λ (p : PassStanding B). MeetsNoSpent p.calls) (λ (d : Desk B S). d.worker.pass) desks
             (λ k d less. ((ran.run k d less).sweeping (spent-none k d less)).between.unspent);
         balance = closed.balance;
-        whole = sum-alone left_in (n_of c.order) (held_at desks) none-kept closed.all_there;
+        free = first-alone left_in (length topics + 1) (omega (arith, closed.balance.rings, ran.rings)) nothing
+            ∙ sum-alone left_in (n_of c.order) (held_at desks) none-kept closed.all_there;
         unspent = unspent;
         bounded = bounded;
       }
+
+      -- where each file was read to its end and no worker wanted memory
+      module _ (whole : AllWhole desks) (fed : All (λ d. d.worker.starved ≡ false) desks) where
+        gave : AreGiven topics size left 1 sources messages_given
+        gave = is-given c shared topics size faults end_count left sources desks ran whole
+
+        listed : (k : ℕ) (d : Desk B S) → k < length desks
+            → HasListed topics (worker_messages (get_or desks k d)) (get_or desks k d).worker.pass (get_or desks k d).worker.members.items
+        listed k d less = (ran.run k d less).listed (spent-none k d less) (fed k d less)
+
+        listed-at : (w : ℕ) (d : Desk B S) → slice_get desks w ≡ Some d → HasListed topics (worker_messages d) d.worker.pass d.worker.members.items
+        listed-at w d is =
+            subst (λ (e : Desk B S). HasListed topics (worker_messages e) e.worker.pass e.worker.members.items) (get_or_from_slice_get desks w d d is)
+            (listed w d (slice_get_within desks w d is))
+
+        all-works : All (IsWork topics) (map work_of desks)
+        all-works = All-map (IsWork topics) work_of desks (λ k d less. record { listed = listed k d less; known = messages-known k d less })
+
+        work-passes : passes_in (map work_of desks) ≡ passes_at desks
+        work-passes = map-map (λ (w : Work B). w.pass) work_of desks
+
+        once : IsPermutation (map without_way (members_in (lists_at desks))) (map (answer_of topics) (flat_map (λ own. own) messages_given))
+        once =
+            let all = all-answered topics (map work_of desks) all-works
+            (subst (λ (ps : List (PassStanding B)). EachTakeIsASend ps) (sym work-passes) closed.takes)
+            (subst (λ (ps : List (PassStanding B)). SendsAreTakes ps) (sym work-passes) same) in
+            let members : members_of (map work_of desks) ≡ members_in (lists_at desks) =
+            flat-of (λ (w : Work B). w.members) work_of desks ∙ sym
+            (flat-of (λ (l : Vec Answered Global). l.items) (λ (d : Desk B S). d.worker.members) desks) in
+            let messages : messages_in (map work_of desks) ≡ flat_map worker_messages desks = flat-of (λ (w : Work B). w.messages) work_of desks in
+            let answers : List Answer = map (answer_of topics) (flat_map (λ own. own) messages_given) in
+            let back : IsPermutation (map (answer_of topics) (flat_map worker_messages desks)) answers =
+            IsPermutation-map (answer_of topics) (flat_map worker_messages desks) (flat_map (λ own. own) messages_given)
+            (IsPermutation-sym (flat_map (λ own. own) messages_given) (flat_map worker_messages desks)
+            (all-messages c shared topics size faults end_count left sources desks ran)) in
+            IsPermutation-trans (map without_way (members_in (lists_at desks))) (map (answer_of topics) (flat_map worker_messages desks)) answers
+            (subst (λ l. IsPermutation (map without_way (members_in (lists_at desks))) (map (answer_of topics) l)) messages
+            (subst (λ l. IsPermutation (map without_way l) (map (answer_of topics) (messages_in (map work_of desks)))) members all)) back
+
+        pub have-answered : HaveAnswered topics size (length desks) messages_given (passes_at desks) (lists_at desks)
+        have-answered = record {
+          each_pass = length-map desks (λ (d : Desk B S). d.worker.pass);
+          each_list = length-map desks (λ (d : Desk B S). d.worker.members);
+          once = once;
+          apart = members-apart topics size left sources messages_given (members_in (lists_at desks)) gave once;
+          short = members-short topics size left sources messages_given (members_in (lists_at desks)) gave once;
+          known = members-known topics size left sources messages_given (members_in (lists_at desks)) gave once;
+          takes = of-each (λ w p list. AnswersItsTakes topics (takes_of p.calls) list) desks (λ w d is.
+              (all-taken topics (map work_of desks) all-works (subst (λ (ps : List (PassStanding B)). EachTakeIsASend ps) (sym work-passes) closed.takes)
+              (work_of d)
+              (stands-at (map work_of desks) (work_of d) w (slice_get-map work_of desks w ∙ ap (option_map work_of) is))).0);
+          fulls = of-each (λ w p list. AnswersItsFulls p.fulls list) desks (λ w d is. (listed-at w d is).fulls);
+          passed = of-each (λ w p list. HasPassedOn topics (own_of (length desks) w 1 messages_given) (sends_of p.calls) list) desks (λ w d is.
+              subst (λ ms. HasPassedOn topics ms (sends_of d.worker.pass.calls) d.worker.members.items) (own-gave w d is) (listed-at w d is).passed);
+          follows = of-each (λ w p list. FollowsCalls (own_of (length desks) w 1 messages_given) p.calls) desks (λ w d is.
+              subst (λ ms. FollowsCalls ms d.worker.pass.calls) (own-gave w d is) (listed-at w d is).follows);
+        }

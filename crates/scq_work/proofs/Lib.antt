@@ -6,6 +6,7 @@ mod KnownNumbers
 mod PassLemmas
 mod RecordSteps
 mod WorkerSteps
+mod Sweeps
 mod LeftLemmas
 mod MemberLemmas
 mod PassedOn

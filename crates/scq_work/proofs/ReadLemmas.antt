@@ -1,8 +1,9 @@
 -- How the answers of a framer add up to what is known of its file: the messages that it gave, and how its reading ended.
-use Rattle.std.proofs.Common.{◌≡◌, ◌≢◌, ◌∙◌, refl, sym, ap, subst, arith, false, ℕ, ◌+◌, ◌*◌, ◌<◌, ◌≤◌, ◌^◌, List, [], ◌∷◌, ◌++◌, Option, Some, None, Result, Ok, Err, length, map, append_assoc}
+use Rattle.std.proofs.Common.{◌≡◌, ◌≢◌, ◌∙◌, refl, sym, ap, subst, arith, Bool, true, false, ℕ, ◌+◌, ◌*◌, ◌<◌, ◌≤◌, ◌^◌, List, [], ◌∷◌, ◌++◌, Option, Some, None, Result, Ok, Err, length, map, append_assoc}
 use Rattle.std.specs.Prelude.{IfSome, IsTrue, All}
 use Rattle.std.proofs.lemmas.List.Elements.{All-nil, All-push}
 use Rattle.std.specs.Option.{option_map}
+use Rattle.std.proofs.lemmas.Bool.{true≢false}
 use Rattle.std.proofs.lemmas.List.{append-nil, length-append}
 use Rattle.scq_outside.specs.Counts.{Rose}
 use Rattle.scq_topics.specs.declared.kind.Kind.{Kind}
@@ -12,7 +13,7 @@ use Rattle.scq_frames.specs.Text.{messages_of}
 use Rattle.scq_frames.specs.Numbered.{numbered}
 use Rattle.scq_frames.specs.declared.fault.FrameFault.{FrameFault}
 use Rattle.scq_frames.specs.declared.fault.FrameFault.TheVariants.{ReadFault, TooLong, TooLarge, NoMemory}
-use Rattle.scq_frames.specs.Framing.{Framing, IsNext, NothingLeft, fresh, visible_ahead, visible_size}
+use Rattle.scq_frames.specs.Framing.{EndsOnce, Framing, IsNext, NothingLeft, fresh, visible_ahead, visible_size}
 use Rattle.scq_frames.specs.Coming.{Found}
 use Rattle.scq_frames.proofs.FindingLemmas.{Gave, Gave-found, Found-gave}
 use Rattle.scq_collect.proofs.Judging.{if-visible, judged-end, judged-fault, judged-long, sized}
@@ -71,8 +72,26 @@ pub of-more : (known file line last : ℕ) (ms : List Message) (m : Message) →
 of-more known file line last [] m of same above low = (same, omega (arith, of, above), low, omega arith)
 of-more known file line last (x ∷ ms) m of same above low = (of.0, of.1, of.2, of-more known file x.line last ms m of.3 same above low)
 
+-- the end of a source was answered at most once since its reading began, and so it is after one answer more of its framer
+once-along : (mid is : Bool) (start between after : ℕ) → (IsTrue mid → IsTrue is) → EndsOnce false mid start between → EndsOnce mid is between after
+    → EndsOnce false is start after
+once-along false is start between after stays one two =
+    let same : between ≡ start = one.going refl in
+    record {
+      rose = λ _ ended. subst (λ (n : ℕ). Rose n after) same (two.rose refl ended);
+      going = λ goes. two.going goes ∙ same;
+      over = λ over. absurd (cc);
+    }
+once-along true is start between after stays one two =
+    let same : after ≡ between = two.over refl in
+    record {
+      rose = λ _ _. subst (Rose start) (sym same) (one.rose refl refl);
+      going = λ goes. absurd (true≢false (sym (stays refl) ∙ goes));
+      over = λ over. absurd (cc);
+    }
+
 -- a file is being read: so far its source gave what the framer has, and that had no trouble
-pub record IsReading {S : Type 0} (topics : List (List ℕ × Kind)) (size : ℕ) (faults : S → ℕ) (left : S → Option (List ℕ)) (file : ℕ) (start now : S)
+pub record IsReading {S : Type 0} (topics : List (List ℕ × Kind)) (size : ℕ) (faults end_count : S → ℕ) (left : S → Option (List ℕ)) (file : ℕ) (start now : S)
     (framer : Framing) (given : List Message) : Type 0 where
   pub ahead : HasGiven (visible_ahead (topic_of topics) (fresh file size (2 ^ 30)) (left start)) (visible_ahead (topic_of topics) framer (left now)) given
   pub all : AreOfUpTo (length topics) file 0 framer.line given
@@ -86,10 +105,11 @@ pub record IsReading {S : Type 0} (topics : List (List ℕ × Kind)) (size : ℕ
   pub few : 2 * length given ≤ framer.weight
   pub end : IsTrue framer.ended → NothingLeft (left now)
   pub size_same : visible_size framer (left now) ≡ visible_size (fresh file size (2 ^ 30)) (left start)
+  pub once : EndsOnce false framer.ended (end_count start) (end_count now)
   pub kept : faults now ≡ faults start
 
 -- what each answer of a framer says of it and of its source
-pub record Answers {S : Type 0} (faults : S → ℕ) (left : S → Option (List ℕ)) (before now : S) (old new : Framing) : Type 0 where
+pub record Answers {S : Type 0} (faults end_count : S → ℕ) (left : S → Option (List ℕ)) (before now : S) (old new : Framing) : Type 0 where
   pub file : new.file ≡ old.file
   pub payload : new.size ≡ old.size
   pub most : new.most ≡ old.most
@@ -97,15 +117,17 @@ pub record Answers {S : Type 0} (faults : S → ℕ) (left : S → Option (List 
   pub end : (IsTrue old.ended → NothingLeft (left before)) → IsTrue new.ended → NothingLeft (left now)
   pub stays : IsTrue old.ended → IsTrue new.ended
   pub size_same : visible_size new (left now) ≡ visible_size old (left before)
+  pub once : EndsOnce old.ended new.ended (end_count before) (end_count now)
 
 -- it gave a message more
-pub reading-next : {S : Type 0} (topics : List (List ℕ × Kind)) (size : ℕ) (faults : S → ℕ) (left : S → Option (List ℕ)) (file : ℕ) (start before now : S)
-    (old new : Framing) (given given' : List Message) (m : Message) → IsReading topics size faults left file start before old given
-    → Answers faults left before now old new
+pub reading-next : {S : Type 0} (topics : List (List ℕ × Kind)) (size : ℕ) (faults end_count : S → ℕ) (left : S → Option (List ℕ)) (file : ℕ)
+    (start before now : S)
+    (old new : Framing) (given given' : List Message) (m : Message) → IsReading topics size faults end_count left file start before old given
+    → Answers faults end_count left before now old new
     → visible_ahead (topic_of topics) old (left before) ≡ option_map (λ rest. (m ∷ []) ++ rest) (visible_ahead (topic_of topics) new (left now))
     → IsNext old new m → m.topic ≤ length topics → length m.payload ≤ old.size → Found old new (left before) (left now) (Ok (Some m)) → new.failed ≡ false
-    → faults now ≡ faults before → given' ≡ given ++ m ∷ [] → IsReading topics size faults left file start now new given'
-reading-next topics size faults left file start before now old new given given' m r said gives next known fits found going kept grown =
+    → faults now ≡ faults before → given' ≡ given ++ m ∷ [] → IsReading topics size faults end_count left file start now new given'
+reading-next topics size faults end_count left file start before now old new given given' m r said gives next known fits found going kept grown =
     let first = fresh file size (2 ^ 30) in
     let all = Gave-found first old new (left start) (left before) (left now) (Ok (Some m)) r.gave found (λ h. absurd (cc)) said.stays (λ e. absurd (cc)) in
     let O : List Message → Type 0 = λ ms. AreOfUpTo (length topics) file 0 new.line ms in
@@ -125,6 +147,7 @@ reading-next topics size faults left file start before now old new given given' 
       few = omega (arith, r.few, next.weight, long);
       end = said.end r.end;
       size_same = said.size_same ∙ r.size_same;
+      once = once-along old.ended new.ended _ _ _ said.stays r.once said.once;
       kept = kept ∙ r.kept;
     }
 
@@ -133,16 +156,19 @@ few-given : (count weight : ℕ) → 2 * count ≤ weight → weight ≤ 2 ^ 30 
 few-given count weight few bounded = omega arith
 
 -- it was read to its end
-pub reading-whole : {S : Type 0} (topics : List (List ℕ × Kind)) (size : ℕ) (faults : S → ℕ) (left : S → Option (List ℕ)) (file : ℕ) (start before now : S)
-    (old new : Framing) (given : List Message) → IsReading topics size faults left file start before old given → Answers faults left before now old new
+pub reading-whole : {S : Type 0} (topics : List (List ℕ × Kind)) (size : ℕ) (faults end_count : S → ℕ) (left : S → Option (List ℕ)) (file : ℕ)
+    (start before now : S)
+    (old new : Framing) (given : List Message) → IsReading topics size faults end_count left file start before old given → Answers faults end_count left
+    before now old new
     → visible_ahead (topic_of topics) old (left before) ≡ option_map (λ _. []) (left before) → Found old new (left before) (left now) (Ok None)
-    → IsTrue new.ended → faults now ≡ faults before → IsRead topics size faults left file start now given Whole
-reading-whole topics size faults left file start before now old new given r said none found over kept = record {
+    → IsTrue new.ended → faults now ≡ faults before → IsRead topics size faults end_count left file start now given Whole
+reading-whole topics size faults end_count left file start before now old new given r said none found over kept = record {
   ends = record {
     judged = judged-end size file new (left start) (left now)
         (Gave-found (fresh file size (2 ^ 30)) old new (left start) (left before) (left now) (Ok None) r.gave found (λ h. absurd (cc)) said.stays
         (λ e. absurd (cc)));
     ended = said.end r.end over;
+    once = (once-along old.ended new.ended _ _ _ said.stays r.once said.once).rose refl over;
     kept = kept ∙ r.kept;
   };
   gave = given-all topics size file (left start) (left before) _ given r.ahead none;
@@ -152,13 +178,14 @@ reading-whole topics size faults left file start before now old new given r said
 }
 
 -- it was read up to a fault
-pub reading-fault : {S : Type 0} (topics : List (List ℕ × Kind)) (size : ℕ) (faults : S → ℕ) (left : S → Option (List ℕ)) (file : ℕ) (start before now : S)
-    (old new : Framing) (given : List Message) (fault : FrameFault) → IsReading topics size faults left file start before old given
-    → Answers faults left before now old new
+pub reading-fault : {S : Type 0} (topics : List (List ℕ × Kind)) (size : ℕ) (faults end_count : S → ℕ) (left : S → Option (List ℕ)) (file : ℕ)
+    (start before now : S)
+    (old new : Framing) (given : List Message) (fault : FrameFault) → IsReading topics size faults end_count left file start before old given
+    → Answers faults end_count left before now old new
     → Found old new (left before) (left now) (Err fault) → (fault ≡ ReadFault → Rose (faults before) (faults now)) → (fault ≡ ReadFault → old.ended ≡ false)
     → (fault ≢ ReadFault → faults now ≡ faults before) → ((line len : ℕ) → fault ≡ TooLong line len → (old.line < line) × (old.size < len))
-    → ((n : ℕ) → fault ≡ TooLarge n → (n ≡ new.most + 1) × (new.read ≡ n)) → IsRead topics size faults left file start now given (Stopped fault)
-reading-fault {S} topics size faults left file start before now old new given fault r said found rose going kept long large =
+    → ((n : ℕ) → fault ≡ TooLarge n → (n ≡ new.most + 1) × (new.read ≡ n)) → IsRead topics size faults end_count left file start now given (Stopped fault)
+reading-fault {S} topics size faults end_count left file start before now old new given fault r said found rose going kept long large =
     let all = Gave-found (fresh file size (2 ^ 30)) old new (left start) (left before) (left now) (Err fault) r.gave found (λ h. absurd (cc)) said.stays
     (λ e. going (fault-is fault (Err fault) refl e)) in
     let many : (n : ℕ) → fault ≡ TooLarge n → (n ≡ 2 ^ 30 + 1) × (option_map length (left start) ≡ option_map (λ rest. n + length rest) (left now)) = λ n e.
@@ -186,10 +213,10 @@ reading-fault {S} topics size faults left file start before now old new given fa
       fault-is x r is e = cc
 
 -- its worker leaves it
-pub reading-left : {S : Type 0} (topics : List (List ℕ × Kind)) (size : ℕ) (faults : S → ℕ) (left : S → Option (List ℕ)) (file : ℕ) (start now : S)
-    (framer : Framing) (given : List Message) → IsReading topics size faults left file start now framer given
-    → IsRead topics size faults left file start now given (Stopped NoMemory)
-reading-left topics size faults left file start now framer given r = record {
+pub reading-left : {S : Type 0} (topics : List (List ℕ × Kind)) (size : ℕ) (faults end_count : S → ℕ) (left : S → Option (List ℕ)) (file : ℕ) (start now : S)
+    (framer : Framing) (given : List Message) → IsReading topics size faults end_count left file start now framer given
+    → IsRead topics size faults end_count left file start now given (Stopped NoMemory)
+reading-left topics size faults end_count left file start now framer given r = record {
   ends = record {
     judged = record { bytes = r.gave.bytes; moved = r.gave.moved; judges = if-visible (left now) _ (λ rest e. tt) };
     rose = λ e. absurd (cc);
@@ -208,9 +235,9 @@ pub behind-all : (messages old new : List Message) (m : Message) → new ≡ old
 behind-all messages old new m grown = append_assoc messages old (m ∷ []) ∙ ap (λ l. messages ++ l) (sym grown)
 
 -- a file that isn't read yet
-pub reading-unread : {S : Type 0} (topics : List (List ℕ × Kind)) (size : ℕ) (faults : S → ℕ) (left : S → Option (List ℕ)) (f : OwnFile S) → IsNew f
-    → IsRead topics size faults left f.number f.was.value f.source (given_in f.given.value) f.end
-reading-unread topics size faults left f new =
-    subst (λ (end : FileEnd). IsRead topics size faults left f.number f.was.value f.source (given_in f.given.value) end) (sym new.end)
-    (subst (λ (ms : List Message). IsRead topics size faults left f.number f.was.value f.source ms Unread) (sym new.given)
+pub reading-unread : {S : Type 0} (topics : List (List ℕ × Kind)) (size : ℕ) (faults end_count : S → ℕ) (left : S → Option (List ℕ)) (f : OwnFile S) → IsNew f
+    → IsRead topics size faults end_count left f.number f.was.value f.source (given_in f.given.value) f.end
+reading-unread topics size faults end_count left f new =
+    subst (λ (end : FileEnd). IsRead topics size faults end_count left f.number f.was.value f.source (given_in f.given.value) end) (sym new.end)
+    (subst (λ (ms : List Message). IsRead topics size faults end_count left f.number f.was.value f.source ms Unread) (sym new.given)
     (record { ends = new.source; gave = refl; all = tt; short = All-nil (λ (m : Message). length m.payload ≤ size); few = omega arith }))

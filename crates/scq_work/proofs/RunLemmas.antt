@@ -31,8 +31,9 @@ no-call [] after call is = absurd (cc)
 no-call (x ∷ before) after call is = absurd (cc)
 
 -- what of files is read
-abbrev pub AllRead : {S : Type 0} → List (List ℕ × Kind) → ℕ → (S → ℕ) → (S → Option (List ℕ)) → List (OwnFile S) → Type 0
-AllRead topics size faults left files = All (λ f. IsRead topics size faults left f.number f.was.value f.source (given_in f.given.value) f.end) files
+abbrev pub AllRead : {S : Type 0} → List (List ℕ × Kind) → ℕ → (S → ℕ) → (S → ℕ) → (S → Option (List ℕ)) → List (OwnFile S) → Type 0
+AllRead topics size faults end_count left files = All
+    (λ f. IsRead topics size faults end_count left f.number f.was.value f.source (given_in f.given.value) f.end) files
 
 module _ {B : Type 0} where
   -- a new pass suits, and nothing is passed on yet
@@ -106,14 +107,14 @@ module _ {B : Type 0} where
       }
 
   -- it has read its files, swept and left
-  pub run-left : {S : Type 0} (shared : Identity B) (topics : List (List ℕ × Kind)) (size : ℕ) (faults : S → ℕ) (left : S → Option (List ℕ))
+  pub run-left : {S : Type 0} (shared : Identity B) (topics : List (List ℕ × Kind)) (size : ℕ) (faults end_count : S → ℕ) (left : S → Option (List ℕ))
       (files : List (OwnFile S))
       (p q : PassStanding B) (was is : List Answered) (before after : Bool) (kept : Option (HeldStanding B))
-      → AllRead topics size faults left files → Suits shared (length topics) p → IsAtWork topics (all_given files) p was before
+      → AllRead topics size faults end_count left files → Suits shared (length topics) p → IsAtWork topics (all_given files) p was before
       → HasTaken (after_retire p) q → ((t : ℕ) → t < length topics + 1 → (known_on t q).finished < (known_on t q).head)
       → (after ≡ false → before ≡ false) → (after ≡ false → HasAnswered topics p q was is) → kept ≡ None
-      → HasRun shared topics size faults left files q is after kept
-  run-left shared topics size faults left files p q was is before after kept read suits work taken empty fed_before more nothing =
+      → HasRun shared topics size faults end_count left files q is after kept
+  run-left shared topics size faults end_count left files p q was is before after kept read suits work taken empty fed_before more nothing =
       let sweeping = sweeping-taken (length topics + 1) (after_retire p) q
       (sweeping-retired (length topics + 1) p (sweeping-first (length topics + 1) p work.producing)) taken in
       let long : length q.numbers ≡ length topics + 2 = taken.knows.rings ∙ suits.numbers in
@@ -141,14 +142,14 @@ module _ {B : Type 0} where
   some-none p ticket is none_ = absurd (cc)
 
   -- it met Spent in a sweep
-  pub run-late : {S : Type 0} (shared : Identity B) (topics : List (List ℕ × Kind)) (size : ℕ) (faults : S → ℕ) (left : S → Option (List ℕ))
+  pub run-late : {S : Type 0} (shared : Identity B) (topics : List (List ℕ × Kind)) (size : ℕ) (faults end_count : S → ℕ) (left : S → Option (List ℕ))
       (files : List (OwnFile S))
       (p q : PassStanding B) (was is : List Answered) (before after : Bool) (kept held : Option (HeldStanding B))
-      → AllRead topics size faults left files → Suits shared (length topics) p → IsAtWork topics (all_given files) p was before
+      → AllRead topics size faults end_count left files → Suits shared (length topics) p → IsAtWork topics (all_given files) p was before
       → HasLeft (length (all_given files)) (length (all_given files)) (after_retire p) q held → kept ≡ held
-      → HasRun shared topics size faults left files q is after kept
-  run-late shared topics size faults left files p q was is before after kept held read suits work end same =
-      subst (λ k. HasRun shared topics size faults left files q is after k) (sym same)
+      → HasRun shared topics size faults end_count left files q is after kept
+  run-late shared topics size faults end_count left files p q was is before after kept held read suits work end same =
+      subst (λ k. HasRun shared topics size faults end_count left files q is after k) (sym same)
       (record {
         read = read;
         thrifty = end.thrifty (thrifty-retired 0 (length (all_given files)) p work.thrifty);
@@ -163,14 +164,14 @@ module _ {B : Type 0} where
       })
 
   -- it met Spent while it read its files, and then retired
-  pub run-stopped : {S : Type 0} (shared : Identity B) (topics : List (List ℕ × Kind)) (size : ℕ) (faults : S → ℕ) (left : S → Option (List ℕ))
+  pub run-stopped : {S : Type 0} (shared : Identity B) (topics : List (List ℕ × Kind)) (size : ℕ) (faults end_count : S → ℕ) (left : S → Option (List ℕ))
       (files : List (OwnFile S))
       (p q : PassStanding B) (is : List Answered) (after : Bool) (kept held : Option (HeldStanding B))
-      → AllRead topics size faults left files → HasStopped shared (length (all_given files)) p held → q ≡ after_retire p → kept ≡ held
-      → HasRun shared topics size faults left files q is after kept
-  run-stopped shared topics size faults left files p q is after kept held read end retired same =
-      subst (λ k. HasRun shared topics size faults left files q is after k) (sym same)
-      (subst (λ (x : PassStanding B). HasRun shared topics size faults left files x is after held) (sym retired)
+      → AllRead topics size faults end_count left files → HasStopped shared (length (all_given files)) p held → q ≡ after_retire p → kept ≡ held
+      → HasRun shared topics size faults end_count left files q is after kept
+  run-stopped shared topics size faults end_count left files p q is after kept held read end retired same =
+      subst (λ k. HasRun shared topics size faults end_count left files q is after k) (sym same)
+      (subst (λ (x : PassStanding B). HasRun shared topics size faults end_count left files x is after held) (sym retired)
       (record {
         read = read;
         thrifty = thrifty-retired 1 (length (all_given files)) p end.thrifty;

@@ -138,8 +138,8 @@ counts-exact {B} (p ∷ ps) few =
     ap (λ (c : Counts). c ∷ map (λ (q : PassStanding B). counts_of (lists_of q)) ps) here ∙ ap (λ (l : List Counts). lengths_of p ∷ l) rest
 
 -- where the bytes of all files are visible, the work is done on their contents
-pub told-worked : (topics : List (List ℕ × Kind)) (order size workers : ℕ) (given : List (List Message)) (w : Worked) (o : Option (List (List ℕ)))
-    → IfSome o (λ contents. given ≡ messages_in topics 1 contents) → HasWorked topics order size workers given w
-    → IfSome o (λ contents. HasWorked topics order size workers (messages_in topics 1 contents) w)
-told-worked topics order size workers given w None is has = tt
-told-worked topics order size workers given w (Some contents) is has = subst (λ g. HasWorked topics order size workers g w) is has
+pub told-worked : (topics : List (List ℕ × Kind)) (size workers : ℕ) (given : List (List Message)) (w : Worked) (o : Option (List (List ℕ)))
+    → IfSome o (λ contents. given ≡ messages_in topics 1 contents) → HasWorked topics size workers given w
+    → IfSome o (λ contents. HasWorked topics size workers (messages_in topics 1 contents) w)
+told-worked topics size workers given w None is has = tt
+told-worked topics size workers given w (Some contents) is has = subst (λ g. HasWorked topics size workers g w) is has

@@ -1,6 +1,6 @@
 -- What all workers did with the messages of files. `given` has the messages of each file, in the order of the files. A worker is told by
 -- its number, from 0: by it stand its pass among the passes, and its list among the lists.
-use Rattle.std.specs.Prelude.{◌≡◌, ℕ, ◌+◌, ◌^◌, ◌≤◌, List, length, map, flat_map, sum, Some, slice_get, All, Vec}
+use Rattle.std.specs.Prelude.{◌≡◌, ℕ, ◌+◌, ◌^◌, ◌≤◌, List, length, map, flat_map, Some, slice_get, slice_index, All, Vec}
 use Rattle.std.specs.Global.{Global}
 use Rattle.std.specs.List.Sorted.{IsPermutation}
 use Rattle.scq_topics.specs.declared.kind.Kind.{Kind}
@@ -76,21 +76,24 @@ module _ {B : Type 0} where
     -- the takes are the sends, and no place of a topic stands twice
     pub same : SendsAreTakes passes
     pub places : NoPlaceStandsTwice passes
-    -- on each topic the sends less the takes are what is left: nothing. All buffers are back in the first ring.
+    -- on each topic the sends less the takes are what is left: nothing. The ring of free buffers has all of them.
     pub balance : IsBalance c passes left
     pub none_left : NothingIsLeft topics left
-    pub whole : sum left ≡ n_of c.order
+    pub free : slice_index left 0 ≡ n_of c.order
     pub bounded : All IsBounded passes
+
+  -- the queue of a job with so many topics is closed, and nothing is stranded in it, whatever its workers met: they have retired and swept, and
+  -- all buffers are free
+  pub record NothingIsStranded (order topics workers : ℕ) (passes : List (PassStanding B)) (left : List ℕ) : Type 0 where
+    pub setup : Setup
+    pub of_job : IsSetup order topics workers setup
+    pub shared : HaveShared topics setup passes left
 
   -- how many sends, takes and Full replies a pass has. A queue's count of them stands still at the last value of 64 bits; these are few.
   abbrev pub lengths_of : PassStanding B → Counts
   lengths_of p = record { sent = length (sends_of p.calls); taken = length (takes_of p.calls); full = length p.fulls }
 
--- the work for a job is done on files that gave these messages: what the workers answered, what their passes did, and the lengths of the
--- passes' lists
-pub record HasWorked (topics : List (List ℕ × Kind)) (order size workers : ℕ) (given : List (List Message)) (w : Worked) : Type 0 where
+-- so many workers answered files that gave these messages: what they answered, by their passes, and the lengths of the passes' lists
+pub record HasWorked (topics : List (List ℕ × Kind)) (size workers : ℕ) (given : List (List Message)) (w : Worked) : Type 0 where
   pub answered : HaveAnswered topics size workers given w.passes.value.items w.answered.items
-  pub setup : Setup
-  pub of_job : IsSetup order (length topics + 1) workers setup
-  pub shared : HaveShared (length topics + 1) setup w.passes.value.items w.left.value.items
   pub counts : w.counts.items ≡ map lengths_of w.passes.value.items

@@ -1,6 +1,7 @@
 -- A desk: a worker, its files, and the value that it keeps where it met a ticket past the limit. What the worker's whole work makes of it.
-use Rattle.std.specs.Prelude.{◌≡◌, ℕ, ◌+◌, false, Bool, List, [], map, reverse, flat_map, length, Option, Some, None, IfSome, All}
+use Rattle.std.specs.Prelude.{◌≡◌, ℕ, ◌+◌, ◌<◌, false, Bool, List, [], map, reverse, flat_map, length, Option, Some, None, IfSome, All, slice_index_or}
 use Rattle.scq_topics.specs.declared.kind.Kind.{Kind}
+use Rattle.scq_frames.specs.declared.fault.FrameFault.{FrameFault}
 use Rattle.scq_frames.specs.declared.message.Message.{Message}
 use Rattle.scq_collect.specs.declared.answered.Answered.{Answered}
 use Rattle.scq_band.specs.Standing.{Identity}
@@ -10,7 +11,7 @@ use Rattle.scq_work.specs.Reading.{IsRead}
 use Rattle.scq_work.specs.Together.{HasRetired, HasSwept}
 use Rattle.scq_work.specs.Working.{IsSweeping, IsThrifty, HasListed, index_of}
 use Rattle.scq_work.specs.declared.own_file.OwnFile.{OwnFile}
-use Rattle.scq_work.specs.declared.own_file.FileEnd.TheVariants.{Unread}
+use Rattle.scq_work.specs.declared.own_file.FileEnd.TheVariants.{Unread, Stopped}
 
 -- the numbers of files, each with what its source was
 abbrev pub ids_of : {S : Type 0} → List (OwnFile S) → List (ℕ × S)
@@ -22,15 +23,21 @@ pub record IsNew {S : Type 0} (f : OwnFile S) : Type 0 where
   pub given : given_in f.given.value ≡ []
   pub end : f.end ≡ Unread
 
+-- of files that lie from the last to the first none was read behind one that has a fault
+abbrev pub StopsAtAFault : {S : Type 0} → List (OwnFile S) → Type 0
+StopsAtAFault {S} files =
+    (at before : ℕ) (d : OwnFile S) (fault : FrameFault) → at < length files → (slice_index_or files at d).end ≡ Stopped fault → before < at
+    → IsNew (slice_index_or files before d)
+
 -- the messages that files gave, which lie on the desk from the last to the first: in the order in which they were read
 abbrev pub all_given : {S : Type 0} → List (OwnFile S) → List Message
 all_given files = flat_map (λ f. given_in f.given.value) (reverse files)
 
 -- a worker has done its work: what its files gave it has passed on, it has retired, and it has left after a sweep, unless it met a ticket
--- past the limit. `kept` is the value that it then kept. `faults` and `left` are what sources tell.
-pub record HasRun {B S : Type 0} (shared : Identity B) (topics : List (List ℕ × Kind)) (size : ℕ) (faults : S → ℕ) (left : S → Option (List ℕ))
+-- past the limit. `kept` is the value that it then kept. `faults`, `end_count` and `left` are what sources tell.
+pub record HasRun {B S : Type 0} (shared : Identity B) (topics : List (List ℕ × Kind)) (size : ℕ) (faults end_count : S → ℕ) (left : S → Option (List ℕ))
     (files : List (OwnFile S)) (pass : PassStanding B) (members : List Answered) (starved : Bool) (kept : Option (HeldStanding B)) : Type 0 where
-  pub read : All (λ f. IsRead topics size faults left f.number f.was.value f.source (given_in f.given.value) f.end) files
+  pub read : All (λ f. IsRead topics size faults end_count left f.number f.was.value f.source (given_in f.given.value) f.end) files
   pub thrifty : IsThrifty 1 (length (all_given files)) pass
   pub queue : pass.queue ≡ shared
   pub retired : (calls : ℕ) × (pass.retired ≡ Some calls)

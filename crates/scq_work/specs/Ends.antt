@@ -49,37 +49,38 @@ pub record HasMoved {S : Type 0} (faults : S → ℕ) (left : S → Option (List
   pub counted : (faults new ≡ faults old) ⊎ Rose (faults old) (faults new)
 
 -- the files before this one were read to their ends, and the reading of this one stopped at the fault
-pub record StopsAt {S : Type 0} (size : ℕ) (faults : S → ℕ) (left : S → Option (List ℕ)) (olds news : List S) (file : ℕ) (fault : FrameFault) : Type 0 where
+pub record StopsAt {S : Type 0} (size : ℕ) (faults end_count : S → ℕ) (left : S → Option (List ℕ)) (olds news : List S) (file : ℕ) (fault : FrameFault)
+    : Type 0 where
   pub first : 0 < file
   pub last : file ≤ length olds
-  pub before : (k : ℕ) (d : S) → k + 1 < file → IsWhole size faults left (slice_index_or olds k d) (slice_index_or news k d)
+  pub before : (k : ℕ) (d : S) → k + 1 < file → IsWhole size faults end_count left (slice_index_or olds k d) (slice_index_or news k d)
   pub cause : (d : S) → IsStopped size faults left (slice_index_or olds (file - 1) d) (slice_index_or news (file - 1) d) fault
 
 -- the source is as an unread one, or as one whose reading ended otherwise than for want of memory
-pub record EndsFed {S : Type 0} (size : ℕ) (faults : S → ℕ) (left : S → Option (List ℕ)) (old new : S) : Type 0 where
+pub record EndsFed {S : Type 0} (size : ℕ) (faults end_count : S → ℕ) (left : S → Option (List ℕ)) (old new : S) : Type 0 where
   pub end : FileEnd
-  pub ends : EndsSo size faults left old new end
+  pub ends : EndsSo size faults end_count left old new end
   pub fed : wanted_memory end ≡ false
 
 -- so it is of each source
-abbrev pub AllEndFed : {S : Type 0} → ℕ → (S → ℕ) → (S → Option (List ℕ)) → List S → List S → Type 0
-AllEndFed {S} size faults left olds news =
-    (k : ℕ) (d : S) → k < length olds → EndsFed size faults left (slice_index_or olds k d) (slice_index_or news k d)
+abbrev pub AllEndFed : {S : Type 0} → ℕ → (S → ℕ) → (S → ℕ) → (S → Option (List ℕ)) → List S → List S → Type 0
+AllEndFed {S} size faults end_count left olds news =
+    (k : ℕ) (d : S) → k < length olds → EndsFed size faults end_count left (slice_index_or olds k d) (slice_index_or news k d)
 
 -- want of memory comes before any other fault: where there is another, each source is as one whose reading didn't stop for want of
 -- memory. Of a source whose bytes aren't visible this says no more than `HasMoved`.
-abbrev pub MemoryIsFirst : {S : Type 0} → ℕ → (S → ℕ) → (S → Option (List ℕ)) → List S → List S → WorkFault → Type 0
-MemoryIsFirst size faults left olds news (Read file) = AllEndFed size faults left olds news
-MemoryIsFirst size faults left olds news (TooLong file line len) = AllEndFed size faults left olds news
-MemoryIsFirst size faults left olds news (TooLarge file bytes) = AllEndFed size faults left olds news
-MemoryIsFirst size faults left olds news NoMemory = Unit {0}
+abbrev pub MemoryIsFirst : {S : Type 0} → ℕ → (S → ℕ) → (S → ℕ) → (S → Option (List ℕ)) → List S → List S → WorkFault → Type 0
+MemoryIsFirst size faults end_count left olds news (Read file) = AllEndFed size faults end_count left olds news
+MemoryIsFirst size faults end_count left olds news (TooLong file line len) = AllEndFed size faults end_count left olds news
+MemoryIsFirst size faults end_count left olds news (TooLarge file bytes) = AllEndFed size faults end_count left olds news
+MemoryIsFirst size faults end_count left olds news NoMemory = Unit {0}
 
 -- the cause of each fault
-abbrev pub HasCause : {S : Type 0} → ℕ → (S → ℕ) → (S → Option (List ℕ)) → List S → List S → WorkFault → Type 0
-HasCause size faults left olds news (Read file) = StopsAt size faults left olds news file frame.ReadFault
-HasCause size faults left olds news (TooLong file line len) = StopsAt size faults left olds news file (frame.TooLong line len)
-HasCause size faults left olds news (TooLarge file bytes) = StopsAt size faults left olds news file (frame.TooLarge bytes)
-HasCause size faults left olds news NoMemory = Unit {0}
+abbrev pub HasCause : {S : Type 0} → ℕ → (S → ℕ) → (S → ℕ) → (S → Option (List ℕ)) → List S → List S → WorkFault → Type 0
+HasCause size faults end_count left olds news (Read file) = StopsAt size faults end_count left olds news file frame.ReadFault
+HasCause size faults end_count left olds news (TooLong file line len) = StopsAt size faults end_count left olds news file (frame.TooLong line len)
+HasCause size faults end_count left olds news (TooLarge file bytes) = StopsAt size faults end_count left olds news file (frame.TooLarge bytes)
+HasCause size faults end_count left olds news NoMemory = Unit {0}
 
 -- what all sources have left, where that of each is visible
 abbrev pub all_left : {S : Type 0} → (S → Option (List ℕ)) → List S → Option (List (List ℕ))

@@ -5,6 +5,7 @@ pub mod Members
 pub mod Passing
 pub mod Together
 pub mod Working
+pub mod Leaving
 pub mod Given
 pub mod Reading
 pub mod Desks

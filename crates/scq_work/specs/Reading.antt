@@ -1,4 +1,4 @@
--- How the reading of a file ended, by its source before and after. Sources have a count of faults, and
+-- How the reading of a file ended, by its source before and after. Sources have a count of faults and one of the ends that they answered, and
 -- what they have left may be visible. A payload may have `size` bytes.
 use Rattle.std.specs.Prelude.{◌≡◌, ◌≢◌, ℕ, ◌+◌, ◌^◌, ◌<◌, ◌≤◌, List, [], ◌∷◌, Option, Some, None, IfSome, length, map, All}
 use Rattle.std.specs.Option.{option_map}
@@ -15,10 +15,11 @@ use Rattle.scq_collect.specs.Judged.{Judged}
 use Rattle.scq_work.specs.declared.own_file.FileEnd.{FileEnd}
 use Rattle.scq_work.specs.declared.own_file.FileEnd.TheVariants.{Unread, Whole, Stopped}
 
--- it was read to its end, and nothing is wrong with it
-pub record IsWhole {S : Type 0} (size : ℕ) (faults : S → ℕ) (left : S → Option (List ℕ)) (old new : S) : Type 0 where
+-- it was read to its end, which it answered just once, and nothing is wrong with it
+pub record IsWhole {S : Type 0} (size : ℕ) (faults end_count : S → ℕ) (left : S → Option (List ℕ)) (old new : S) : Type 0 where
   pub judged : Judged size (left old) (left new) None
   pub ended : NothingLeft (left new)
+  pub once : Rose (end_count old) (end_count new)
   pub kept : faults new ≡ faults old
 
 -- the reading stopped at this fault
@@ -31,10 +32,10 @@ pub record IsStopped {S : Type 0} (size : ℕ) (faults : S → ℕ) (left : S �
       → (bytes ≡ 2 ^ 30 + 1) × (option_map length (left old) ≡ option_map (λ rest. bytes + length rest) (left new))
 
 -- it ended so
-abbrev pub EndsSo : {S : Type 0} → ℕ → (S → ℕ) → (S → Option (List ℕ)) → S → S → FileEnd → Type 0
-EndsSo size faults left old new Unread = new ≡ old
-EndsSo size faults left old new Whole = IsWhole size faults left old new
-EndsSo size faults left old new (Stopped fault) = IsStopped size faults left old new fault
+abbrev pub EndsSo : {S : Type 0} → ℕ → (S → ℕ) → (S → ℕ) → (S → Option (List ℕ)) → S → S → FileEnd → Type 0
+EndsSo size faults end_count left old new Unread = new ≡ old
+EndsSo size faults end_count left old new Whole = IsWhole size faults end_count left old new
+EndsSo size faults end_count left old new (Stopped fault) = IsStopped size faults left old new fault
 
 -- the messages that were given of a file with this number: none of an unread one, and where its bytes are visible and all were read, all
 -- of them
@@ -50,9 +51,9 @@ AreOf known file line (m ∷ ms) = (m.file ≡ file) × (line < m.line) × (m.to
 
 -- what is known of a file by how it ended: its source before and after, and the messages that it gave. They are few: each adds at least
 -- two to the sum that its framer keeps below 2 ^ 30 + 2.
-pub record IsRead {S : Type 0} (topics : List (List ℕ × Kind)) (size : ℕ) (faults : S → ℕ) (left : S → Option (List ℕ)) (file : ℕ) (old new : S)
+pub record IsRead {S : Type 0} (topics : List (List ℕ × Kind)) (size : ℕ) (faults end_count : S → ℕ) (left : S → Option (List ℕ)) (file : ℕ) (old new : S)
     (given : List Message) (end : FileEnd) : Type 0 where
-  pub ends : EndsSo size faults left old new end
+  pub ends : EndsSo size faults end_count left old new end
   pub gave : GaveAll topics file (left old) end given
   pub all : AreOf (length topics) file 0 given
   pub short : All (λ m. length m.payload ≤ size) given

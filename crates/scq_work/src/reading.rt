@@ -1,7 +1,7 @@
 //! How a worker reads its files.
 ghost use Rattle.std.specs.Prelude.{◌≡◌, ◌≤◌, ◌+◌, ◌++◌, List, false, [], length, None, IfErr, OnOk, All};
 ghost use Rattle.scq_frames.specs.declared.message.Message.{Message as TheMessage};
-ghost use Rattle.scq_work.specs.Desks.{IsNew, ids_of, all_given};
+ghost use Rattle.scq_work.specs.Desks.{IsNew, StopsAtAFault, ids_of, all_given};
 ghost use Rattle.scq_work.specs.Given.{given_in};
 ghost use Rattle.scq_work.specs.Reading.{IsRead};
 ghost use Rattle.scq_work.specs.Working.{Suits, IsAtWork, HasStopped};
@@ -37,7 +37,7 @@ impl<B: Buffer> Worker<B> {
         requires stays { self.old.pass.retired ≡ None }
         requires room { All (λ b. job.now.size + 16 ≤ length (B.contents b)) queue.now.given }
         requires none { given_in given.old.value ≡ [] }
-        ensures read { IsRead job.now.topics job.now.size S.faults S.left file source.old source.new (given_in given.new.value) end.new }
+        ensures read { IsRead job.now.topics job.now.size S.faults S.ends S.left file source.old source.new (given_in given.new.value) end.new }
         ensures suits { OnOk result (Suits queue.now (length job.now.topics) self.new.pass) }
         ensures stays { OnOk result (self.new.pass.retired ≡ None) }
         ensures work { OnOk result ((messages : List TheMessage)
@@ -89,7 +89,7 @@ impl<B: Buffer> Worker<B> {
         requires room { All (λ b. job.now.size + 16 ≤ length (B.contents b)) queue.now.given }
         requires unread { IsNew file.old }
         ensures same { (file.new.number ≡ file.old.number) × (file.new.was.value ≡ file.old.was.value) }
-        ensures read { IsRead job.now.topics job.now.size S.faults S.left file.new.number file.new.was.value file.new.source
+        ensures read { IsRead job.now.topics job.now.size S.faults S.ends S.left file.new.number file.new.was.value file.new.source
             (given_in file.new.given.value) file.new.end }
         ensures suits { OnOk result (Suits queue.now (length job.now.topics) self.new.pass) }
         ensures stays { OnOk result (self.new.pass.retired ≡ None) }
@@ -129,7 +129,9 @@ impl<B: Buffer> Worker<B> {
         requires room { All (λ b. job.now.size + 16 ≤ length (B.contents b)) queue.now.given }
         requires unread { All IsNew files.old }
         ensures same { ids_of files.new ≡ ids_of files.old }
-        ensures read { All (λ f. IsRead job.now.topics job.now.size S.faults S.left f.number f.was.value f.source (given_in f.given.value) f.end) files.new }
+        ensures read { All (λ f. IsRead job.now.topics job.now.size S.faults S.ends S.left f.number f.was.value f.source (given_in f.given.value) f.end)
+            files.new }
+        ensures stops { StopsAtAFault files.new }
         ensures suits { OnOk result (Suits queue.now (length job.now.topics) self.new.pass) }
         ensures stays { OnOk result (self.new.pass.retired ≡ None) }
         ensures work { OnOk result (IsAtWork job.now.topics [] self.old.pass self.old.members.items self.old.starved

@@ -6,14 +6,12 @@ use std::snapshot::Snapshot;
 
 /// What workers answered, each the list of one worker in the order of their numbers, and how much each sent, took and answered directly.
 ///
-/// For contracts alone it has the workers' passes as they were when the queue was closed, and how much was left in each of the queue's
-/// rings: these have no bytes when the program runs.
+/// For contracts alone it has the workers' passes as they were when the queue was closed: they have no bytes when the program runs.
 #[derive(Drop)]
 pub struct Worked {
     pub counts: Vec<Counts>,
     pub answered: Vec<Vec<Answered>>,
     pub passes: Snapshot<Vec<Pass<Frame>>>,
-    pub left: Snapshot<Vec<u64>>,
 }
 
 /// Why workers answer nothing. Files and lines are numbered from 1.
@@ -33,4 +31,27 @@ pub enum WorkFault {
 pub struct WorkEnd<S> {
     pub sources: Vec<S>,
     pub result: Result<Worked, WorkFault>,
+    /// How many indices were left in each ring of the queue when it was closed, whatever the answer is. None only at want of memory, where
+    /// there was no queue.
+    pub left: Option<Vec<u64>>,
+    /// For contracts alone, and where `left` is there, the workers' passes as they were then.
+    pub passes: Option<Snapshot<Vec<Pass<Frame>>>>,
+}
+
+impl<S> WorkEnd<S> {
+    ghost use Rattle.std.specs.Prelude.{◌≡◌, None, Err};
+
+    /// The end where no memory was found for a queue.
+    pub(crate) fn starved(sources: Vec<S>) -> WorkEnd<S>
+        ensures sources { result.sources ≡ sources }
+        ensures fault { result.result ≡ Err WorkFault.NoMemory }
+        ensures left { (result.left ≡ None) × (result.passes ≡ None) }
+    {
+        WorkEnd {
+            sources,
+            result: Err(WorkFault::NoMemory),
+            left: None,
+            passes: None,
+        }
+    }
 }

@@ -6,6 +6,7 @@ ghost use Rattle.scq_queue.specs.Passes.{known_on, IsHeldBy, after_put, after_sp
 ghost use Rattle.scq_work.specs.Records.{is_take};
 ghost use Rattle.scq_work.specs.Members.{answered, is_taken, is_direct, AnswersSoFar};
 ghost use Rattle.scq_work.specs.Passing.{Sends};
+ghost use Rattle.scq_work.specs.Leaving.{FoundTopicEmpty, HasSweptLast, TookNothing};
 ghost use Rattle.scq_work.specs.Working.{Suits, HasTaken, HasAnswered, HasLeft, takes_left, after_retire};
 
 use crate::{Gate, Job, Point};
@@ -98,6 +99,8 @@ impl<B: Buffer> Worker<B> {
         ensures some { result ≡ Ok true → ((known_on topic self.old.pass).head < (known_on topic self.new.pass).head)
             × ((known_on topic self.old.pass).head < queue.now.setup.limit) }
         ensures empty { result ≡ Ok false → (known_on topic self.new.pass).finished < (known_on topic self.new.pass).head }
+        ensures found { result ≡ Ok false → FoundTopicEmpty topic self.old.pass self.new.pass }
+        ensures nothing { result ≡ Ok false → TookNothing self.old.pass self.new.pass }
         ensures left { IfErr result (λ l. (messages : ℕ) → HasLeft messages messages self.old.pass self.new.pass l.held) }
         ensures starved { self.new.starved ≡ false → self.old.starved ≡ false }
         ensures number { self.new.number ≡ self.old.number }
@@ -203,6 +206,8 @@ impl<B: Buffer> Worker<B> {
         requires topic { topic ≤ length job.now.topics }
         ensures taken { OnOk result (HasTaken self.old.pass self.new.pass) }
         ensures empty { OnOk result ((known_on topic self.new.pass).finished < (known_on topic self.new.pass).head) }
+        ensures found { OnOk result (FoundTopicEmpty topic self.old.pass self.new.pass) }
+        ensures nothing { result ≡ Ok false → TookNothing self.old.pass self.new.pass }
         ensures answered { OnOk result (self.new.starved ≡ false
             → HasAnswered job.now.topics self.old.pass self.new.pass self.old.members.items self.new.members.items) }
         ensures some { result ≡ Ok true → ((known_on topic self.old.pass).head < (known_on topic self.new.pass).head)
@@ -234,6 +239,8 @@ impl<B: Buffer> Worker<B> {
         ensures taken { OnOk result (HasTaken self.old.pass self.new.pass) }
         ensures empty { OnOk result ((t : ℕ) → t < length job.now.topics + 1
             → (known_on t self.new.pass).finished < (known_on t self.new.pass).head) }
+        ensures found { OnOk result ((t : ℕ) → t < length job.now.topics + 1 → FoundTopicEmpty t self.old.pass self.new.pass) }
+        ensures nothing { result ≡ Ok false → TookNothing self.old.pass self.new.pass }
         ensures answered { OnOk result (self.new.starved ≡ false
             → HasAnswered job.now.topics self.old.pass self.new.pass self.old.members.items self.new.members.items) }
         ensures some { result ≡ Ok true → takes_left queue.now.setup.limit (length job.now.topics + 1) self.new.pass
@@ -263,6 +270,7 @@ impl<B: Buffer> Worker<B> {
         ensures taken { OnOk result (HasTaken (after_retire self.old.pass) self.new.pass) }
         ensures empty { OnOk result ((t : ℕ) → t < length job.now.topics + 1
             → (known_on t self.new.pass).finished < (known_on t self.new.pass).head) }
+        ensures swept { OnOk result (HasSweptLast (length job.now.topics + 1) 64 (after_retire self.old.pass) self.new.pass) }
         ensures answered { OnOk result (self.new.starved ≡ false
             → HasAnswered job.now.topics self.old.pass self.new.pass self.old.members.items self.new.members.items) }
         ensures left { IfErr result (λ l. (messages : ℕ) → HasLeft messages messages (after_retire self.old.pass) self.new.pass l.held) }

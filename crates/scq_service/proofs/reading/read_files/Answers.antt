@@ -1,5 +1,5 @@
-use Rattle.std.proofs.Common.{◌≡◌, ◌∙◌, ap, subst, map, length, ◌+◌, ◌<◌, ℕ, Bool, List, Option, Some, Result}
-use Rattle.std.specs.Prelude.{string_bytes, slice_index_or, OnOk, IfOk, IfErr}
+use Rattle.std.proofs.Common.{◌≡◌, ◌∙◌, ap, subst, map, length, ◌+◌, ◌<◌, ℕ, Bool, List, Option, Some, Result, Err, sym}
+use Rattle.std.specs.Prelude.{string_bytes, slice_index_or, OnOk, IfOk, IfErr, IsSomeAnd}
 use Rattle.scq_outside.specs.Table.{Table}
 use Rattle.scq_frames.specs.declared.message.Message.{Message}
 use Rattle.scq_work.specs.AllWorkers.{HasWorked}
@@ -7,15 +7,20 @@ use Rattle.scq_work.specs.Ends.{AreGiven, HasCause}
 use Rattle.scq_work.specs.Reading.{IsWhole}
 use Rattle.scq_work.specs.declared.worked.Worked.{Worked}
 use Rattle.scq_work.specs.declared.worked.WorkFault.{WorkFault}
+use Rattle.scq_work.specs.declared.worked.WorkFault.TheVariants.{NoMemory}
+use Rattle.scq_service.specs.Faults.{fault_of_work}
 use Rattle.scq_service.specs.Answers.{HaveAllCome}
 use Rattle.scq_service.specs.Ends.{Change}
 use Rattle.scq_service.specs.declared.fault.Fault.TheVariants.{OpenFault}
+use Rattle.scq_service.proofs.Seen.{none-seen, some-seen}
 use Rattle.scq_service.proofs.Working.{ends-all, ends-met, ends-stopped, has-got, kept-of, missed-of}
 use Rattle.scq_service.proofs.reading.read_files.Goals as goal
 
 pub returns-then-all-clause-got : goal.returns-then-all-clause-got
 returns-then-all-clause-got g c =
     let end = c.answered.ensures in
+    let after = c.behind.ensures in
+    let come : c.behind.result.got.value.items ≡ c.get_sources-all.new.sources.items = ap (λ v. v.value.items) after.got ∙ ap (λ v. v.items) c.of-got.ensures in
     let came = c.get_sources-all.ensures in
     let did = c.work-sources.ensures in
     let names = map string_bytes c.args.names.now in
@@ -24,14 +29,17 @@ returns-then-all-clause-got g c =
     let olds = c.get_sources-all.new.sources.items in
     let news = c.work-sources.result.sources.items in
     let faults = g.F.Src.Source.faults in
+    let end_count = g.F.Src.Source.ends in
     let left = g.F.Src.Source.left in
-    rw (end.read, ap (λ v. v.items) end.sources)
-    (has-got c.args.job.now.size faults left names table opens olds news did.count came.come 0 did.moved
-    (kept-of c.args.job.now.size faults left names table opens olds news did.count came.come c.get_sources-all.result came.all))
+    rw (after.read ∙ end.read, come, ap (λ v. v.items) (after.sources ∙ end.sources))
+    (has-got c.args.job.now.size faults end_count left names table opens olds news did.count came.come 0 did.moved
+    (kept-of c.args.job.now.size faults end_count left names table opens olds news did.count came.come c.get_sources-all.result came.all))
 
 pub returns-then-all-clause-ends : goal.returns-then-all-clause-ends
 returns-then-all-clause-ends g c =
     let end = c.answered.ensures in
+    let after = c.behind.ensures in
+    let come : c.behind.result.got.value.items ≡ c.get_sources-all.new.sources.items = ap (λ v. v.value.items) after.got ∙ ap (λ v. v.items) c.of-got.ensures in
     let came = c.get_sources-all.ensures in
     let did = c.work-sources.ensures in
     let size = c.args.job.now.size in
@@ -41,38 +49,45 @@ returns-then-all-clause-ends g c =
     let olds = c.get_sources-all.new.sources.items in
     let news = c.work-sources.result.sources.items in
     let faults = g.F.Src.Source.faults in
+    let end_count = g.F.Src.Source.ends in
     let left = g.F.Src.Source.left in
     let W : Result Worked WorkFault → Type 0 =
-    λ r. OnOk r ((k : ℕ) (d : _) → k < length olds → IsWhole size faults left (slice_index_or olds k d) (slice_index_or news k d)) in
+    λ r. OnOk r ((k : ℕ) (d : _) → k < length olds → IsWhole size faults end_count left (slice_index_or olds k d) (slice_index_or news k d)) in
     let whole = subst W c.in-Ok-result.is did.whole in
     let A : Bool → Type 0 = λ all. HaveAllCome names (record { table = table; opens = opens; sources = olds; read = 0 }) all in
     let all = subst A c.if-all.true came.all in
-    rw (end.read, ap (λ v. v.items) end.sources, end.fault)
-    (ends-all size faults left names table opens olds news did.count came.come whole all.0)
+    rw (after.read ∙ end.read, come, ap (λ v. v.items) (after.sources ∙ end.sources), after.fault ∙ end.fault)
+    (ends-all size faults end_count left names table opens olds news did.count came.come whole all.0)
 
 pub returns-then-all-clause-work : goal.returns-then-all-clause-work
 returns-then-all-clause-work g c =
     let end = c.answered.ensures in
+    let after = c.behind.ensures in
+    let come : c.behind.result.got.value.items ≡ c.get_sources-all.new.sources.items = ap (λ v. v.value.items) after.got ∙ ap (λ v. v.items) c.of-got.ensures in
     let came = c.get_sources-all.ensures in
     let did = c.work-sources.ensures in
     let job = c.args.job.now in
     let olds = c.get_sources-all.new.sources.items in
     let news = c.work-sources.result.sources.items in
     let faults = g.F.Src.Source.faults in
+    let end_count = g.F.Src.Source.ends in
     let left = g.F.Src.Source.left in
     let W : Result Worked WorkFault → Type 0 =
-    λ r. OnOk r ((k : ℕ) (d : _) → k < length olds → IsWhole job.size faults left (slice_index_or olds k d) (slice_index_or news k d)) in
+    λ r. OnOk r ((k : ℕ) (d : _) → k < length olds → IsWhole job.size faults end_count left (slice_index_or olds k d) (slice_index_or news k d)) in
     let whole = subst W c.in-Ok-result.is did.whole in
     let G : Result Worked WorkFault → Type 0 =
     λ r. IfOk r (λ w. (given : List (List Message)) × AreGiven job.topics job.size left 1 olds given
-    × HasWorked job.topics job.order job.size job.workers given w) in
+    × HasWorked job.topics job.size job.workers given w) in
     let gave = subst G c.in-Ok-result.is did.worked in
-    rw (end.worked, ap (λ v. v.items) end.sources)
-    (gave.0, record { sources = olds; come = came.come; count = did.count; whole = whole; gave = gave.1 }, gave.2)
+    rw (after.worked ∙ end.worked, come, ap (λ v. v.items) (after.sources ∙ end.sources))
+    (gave.0, record { count = did.count; whole = whole; gave = gave.1 }, gave.2)
 
 pub returns-else-all-clause-got : goal.returns-else-all-clause-got
 returns-else-all-clause-got g c =
     let end = c.at-else-all.ensures in
+    let after = c.behind-else-all.ensures in
+    let come : c.behind-else-all.result.got.value.items ≡ c.get_sources-all.new.sources.items = ap (λ v. v.value.items) after.got ∙ ap (λ v. v.items)
+    c.of-got.ensures in
     let came = c.get_sources-all.ensures in
     let did = c.work-sources.ensures in
     let names = map string_bytes c.args.names.now in
@@ -81,14 +96,18 @@ returns-else-all-clause-got g c =
     let olds = c.get_sources-all.new.sources.items in
     let news = c.work-sources.result.sources.items in
     let faults = g.F.Src.Source.faults in
+    let end_count = g.F.Src.Source.ends in
     let left = g.F.Src.Source.left in
-    rw (end.read, ap (λ v. v.items) end.sources)
-    (has-got c.args.job.now.size faults left names table opens olds news did.count came.come 0 did.moved
-    (kept-of c.args.job.now.size faults left names table opens olds news did.count came.come c.get_sources-all.result came.all))
+    rw (after.read ∙ end.read, come, ap (λ v. v.items) (after.sources ∙ end.sources))
+    (has-got c.args.job.now.size faults end_count left names table opens olds news did.count came.come 0 did.moved
+    (kept-of c.args.job.now.size faults end_count left names table opens olds news did.count came.come c.get_sources-all.result came.all))
 
 pub returns-else-all-clause-ends : goal.returns-else-all-clause-ends
 returns-else-all-clause-ends g c =
     let end = c.at-else-all.ensures in
+    let after = c.behind-else-all.ensures in
+    let come : c.behind-else-all.result.got.value.items ≡ c.get_sources-all.new.sources.items = ap (λ v. v.value.items) after.got ∙ ap (λ v. v.items)
+    c.of-got.ensures in
     let came = c.get_sources-all.ensures in
     let did = c.work-sources.ensures in
     let size = c.args.job.now.size in
@@ -98,19 +117,23 @@ returns-else-all-clause-ends g c =
     let olds = c.get_sources-all.new.sources.items in
     let news = c.work-sources.result.sources.items in
     let faults = g.F.Src.Source.faults in
+    let end_count = g.F.Src.Source.ends in
     let left = g.F.Src.Source.left in
     let W : Result Worked WorkFault → Type 0 =
-    λ r. OnOk r ((k : ℕ) (d : _) → k < length olds → IsWhole size faults left (slice_index_or olds k d) (slice_index_or news k d)) in
+    λ r. OnOk r ((k : ℕ) (d : _) → k < length olds → IsWhole size faults end_count left (slice_index_or olds k d) (slice_index_or news k d)) in
     let whole = subst W c.in-Ok-result.is did.whole in
     let A : Bool → Type 0 = λ all. HaveAllCome names (record { table = table; opens = opens; sources = olds; read = 0 }) all in
     let next = subst A c.if-all.false came.all in
-    let count : c.len-got.result ≡ length olds = c.len-got.ensures ∙ came.count.0 in
-    rw (end.read, ap (λ v. v.items) end.sources, end.fault ∙ ap (λ n. Some (OpenFault (n + 1))) count)
-    (ends-stopped size faults left names table opens olds news did.count came.come whole next.0 next.1)
+    let count : c.len-count.result ≡ length olds = c.len-count.ensures ∙ came.count.0 in
+    rw (after.read ∙ end.read, come, ap (λ v. v.items) (after.sources ∙ end.sources), after.fault ∙ end.fault ∙ ap (λ n. Some (OpenFault (n + 1))) count)
+    (ends-stopped size faults end_count left names table opens olds news did.count came.come whole next.0 next.1)
 
 pub returns-in-Err-clause-got : goal.returns-in-Err-clause-got
 returns-in-Err-clause-got g c =
     let end = c.of_work.ensures in
+    let after = c.behind-in-Err.ensures in
+    let come : c.behind-in-Err.result.got.value.items ≡ c.get_sources-all.new.sources.items = ap (λ v. v.value.items) after.got ∙ ap (λ v. v.items)
+    c.of-got.ensures in
     let came = c.get_sources-all.ensures in
     let did = c.work-sources.ensures in
     let names = map string_bytes c.args.names.now in
@@ -119,14 +142,18 @@ returns-in-Err-clause-got g c =
     let olds = c.get_sources-all.new.sources.items in
     let news = c.work-sources.result.sources.items in
     let faults = g.F.Src.Source.faults in
+    let end_count = g.F.Src.Source.ends in
     let left = g.F.Src.Source.left in
-    rw (ap (λ v. v.items) end.sources)
-    (has-got c.args.job.now.size faults left names table opens olds news did.count came.come c.of_work.result.read did.moved
-    (kept-of c.args.job.now.size faults left names table opens olds news did.count came.come c.get_sources-all.result came.all))
+    rw (come, ap (λ v. v.items) (after.sources ∙ end.sources))
+    (has-got c.args.job.now.size faults end_count left names table opens olds news did.count came.come c.behind-in-Err.result.read did.moved
+    (kept-of c.args.job.now.size faults end_count left names table opens olds news did.count came.come c.get_sources-all.result came.all))
 
 pub returns-in-Err-clause-ends : goal.returns-in-Err-clause-ends
 returns-in-Err-clause-ends g c =
     let end = c.of_work.ensures in
+    let after = c.behind-in-Err.ensures in
+    let come : c.behind-in-Err.result.got.value.items ≡ c.get_sources-all.new.sources.items = ap (λ v. v.value.items) after.got ∙ ap (λ v. v.items)
+    c.of-got.ensures in
     let came = c.get_sources-all.ensures in
     let did = c.work-sources.ensures in
     let size = c.args.job.now.size in
@@ -136,9 +163,62 @@ returns-in-Err-clause-ends g c =
     let olds = c.get_sources-all.new.sources.items in
     let news = c.work-sources.result.sources.items in
     let faults = g.F.Src.Source.faults in
+    let end_count = g.F.Src.Source.ends in
     let left = g.F.Src.Source.left in
-    let W : Result Worked WorkFault → Type 0 = λ r. IfErr r (λ fault. HasCause size faults left olds news fault) in
+    let W : Result Worked WorkFault → Type 0 = λ r. IfErr r (λ fault. HasCause size faults end_count left olds news fault) in
     let cause = subst W c.in-Err.is did.cause in
-    rw (end.read, ap (λ v. v.items) end.sources, end.fault)
-    (ends-met size faults left names table opens olds news did.count came.come c.in-Err.fault cause
-    (missed-of size faults left names table opens olds news did.count came.come c.get_sources-all.result came.all))
+    rw (after.read ∙ end.read, come, ap (λ v. v.items) (after.sources ∙ end.sources), after.fault ∙ end.fault)
+    (ends-met size faults end_count left names table opens olds news did.count came.come c.in-Err.fault cause
+    (missed-of size faults end_count left names table opens olds news did.count came.come c.get_sources-all.result came.all))
+
+-- what is seen of the workers' queue is handed on
+pub returns-then-all-clause-left : goal.returns-then-all-clause-left
+returns-then-all-clause-left g c = rw (c.behind.ensures.left.0, c.behind.ensures.left.1) c.work-sources.ensures.left
+
+pub returns-else-all-clause-left : goal.returns-else-all-clause-left
+returns-else-all-clause-left g c = rw (c.behind-else-all.ensures.left.0, c.behind-else-all.ensures.left.1) c.work-sources.ensures.left
+
+pub returns-in-Err-clause-left : goal.returns-in-Err-clause-left
+returns-in-Err-clause-left g c = rw (c.behind-in-Err.ensures.left.0, c.behind-in-Err.ensures.left.1) c.work-sources.ensures.left
+
+pub returns-then-all-clause-seen : goal.returns-then-all-clause-seen
+returns-then-all-clause-seen g c none =
+    let err : c.work-sources.result.result ≡ Err NoMemory = c.work-sources.ensures.none (sym c.behind.ensures.left.0 ∙ none-seen _ none) in
+    absurd (cc (c.in-Ok-result.is, err))
+
+pub returns-else-all-clause-seen : goal.returns-else-all-clause-seen
+returns-else-all-clause-seen g c none =
+    let err : c.work-sources.result.result ≡ Err NoMemory = c.work-sources.ensures.none (sym c.behind-else-all.ensures.left.0 ∙ none-seen _ none) in
+    absurd (cc (c.in-Ok-result.is, err))
+
+pub returns-in-Err-clause-seen : goal.returns-in-Err-clause-seen
+returns-in-Err-clause-seen g c none =
+    let err : c.work-sources.result.result ≡ Err NoMemory = c.work-sources.ensures.none (sym c.behind-in-Err.ensures.left.0 ∙ none-seen _ none) in
+    let is : c.in-Err.fault ≡ NoMemory = cc (c.in-Err.is, err) in
+    c.behind-in-Err.ensures.fault ∙ c.of_work.ensures.fault ∙ ap (λ f. Some (fault_of_work c.args.job.now.size f)) is
+
+-- the answers are of those passes
+pub returns-then-all-clause-same : goal.returns-then-all-clause-same
+returns-then-all-clause-same g c =
+    let M : Result Worked WorkFault → Type 0 =
+    λ r. IfOk r (λ w. IsSomeAnd c.work-sources.result.passes (λ passes. passes.value.items ≡ w.passes.value.items)) in
+    rw (c.behind.ensures.worked ∙ c.answered.ensures.worked, c.behind.ensures.left.1) (subst M c.in-Ok-result.is c.work-sources.ensures.same)
+
+pub returns-else-all-clause-same : goal.returns-else-all-clause-same
+returns-else-all-clause-same g c = rw (c.behind-else-all.ensures.worked ∙ c.at-else-all.ensures.worked) tt
+
+pub returns-in-Err-clause-same : goal.returns-in-Err-clause-same
+returns-in-Err-clause-same g c = rw (c.behind-in-Err.ensures.worked ∙ c.of_work.ensures.none) tt
+
+-- where there are answers there was a queue
+pub returns-then-all-clause-there : goal.returns-then-all-clause-there
+returns-then-all-clause-there g c =
+    rw (c.behind.ensures.worked ∙ c.answered.ensures.worked, c.behind.ensures.left.0)
+    (some-seen c.work-sources.result.left (λ none. let err : c.work-sources.result.result ≡ Err NoMemory = c.work-sources.ensures.none none in
+    cc (c.in-Ok-result.is, err)))
+
+pub returns-else-all-clause-there : goal.returns-else-all-clause-there
+returns-else-all-clause-there g c = rw (c.behind-else-all.ensures.worked ∙ c.at-else-all.ensures.worked) tt
+
+pub returns-in-Err-clause-there : goal.returns-in-Err-clause-there
+returns-in-Err-clause-there g c = rw (c.behind-in-Err.ensures.worked ∙ c.of_work.ensures.none) tt

@@ -10,6 +10,7 @@ use Rattle.scq_service.proofs.serving.serve.Goals as goal
 pub returns-clause-complete : goal.returns-clause-complete
 returns-clause-complete g c = λ a is calm.
     let faults = g.F.Src.Source.faults in
+    let end_count = g.F.Src.Source.ends in
     let left = g.F.Src.Source.left in
     let outcome = c.run-outcome.result.outcome in
     let r : Left _ = record {
@@ -22,12 +23,14 @@ returns-clause-complete g c = λ a is calm.
       written = record { old = g.K.Sink.written c.args.out.now; new = g.K.Sink.written c.run-outcome.new.out };
       faults = record { old = g.K.Sink.faults c.args.out.now; new = g.K.Sink.faults c.run-outcome.new.out };
     } in
-    let E : Result Asked WordsFault → Type 0 = λ asked. EndsAs faults left asked r w outcome.fault in
-    complete a.size (one_thread_output a.topics) faults left a.files r w outcome.fault (subst E is c.run-outcome.ensures.end).1 calm
+    let E : Result Asked WordsFault → Type 0 = λ asked. EndsAs faults end_count left asked outcome.got.value.items r w outcome.fault in
+    complete a.size (one_thread_output a.topics) faults end_count left a.files outcome.got.value.items r w outcome.fault
+    (subst E is c.run-outcome.ensures.end).1 calm
 
 pub returns-clause-complete_self : goal.returns-clause-complete_self
 returns-clause-complete_self g c = λ a is calm.
     let faults = g.F.Src.Source.faults in
+    let end_count = g.F.Src.Source.ends in
     let left = g.F.Src.Source.left in
     let outcome = c.run-outcome.result.outcome in
     let r : Left _ = record {
@@ -40,12 +43,13 @@ returns-clause-complete_self g c = λ a is calm.
       written = record { old = g.K.Sink.written c.args.out.now; new = g.K.Sink.written c.run-outcome.new.out };
       faults = record { old = g.K.Sink.faults c.args.out.now; new = g.K.Sink.faults c.run-outcome.new.out };
     } in
-    let E : Result Asked WordsFault → Type 0 = λ asked. EndsAs faults left asked r w outcome.fault in
+    let E : Result Asked WordsFault → Type 0 = λ asked. EndsAs faults end_count left asked outcome.got.value.items r w outcome.fault in
     complete-alone (self_summary a.seed a.lines) w outcome.fault (subst E is c.run-outcome.ensures.end).1 calm
 
 pub returns-clause-complete_text : goal.returns-clause-complete_text
 returns-clause-complete_text g c = λ a is calm.
     let faults = g.F.Src.Source.faults in
+    let end_count = g.F.Src.Source.ends in
     let left = g.F.Src.Source.left in
     let outcome = c.run-outcome.result.outcome in
     let r : Left _ = record {
@@ -58,5 +62,5 @@ returns-clause-complete_text g c = λ a is calm.
       written = record { old = g.K.Sink.written c.args.out.now; new = g.K.Sink.written c.run-outcome.new.out };
       faults = record { old = g.K.Sink.faults c.args.out.now; new = g.K.Sink.faults c.run-outcome.new.out };
     } in
-    let E : Result Asked WordsFault → Type 0 = λ asked. EndsAs faults left asked r w outcome.fault in
+    let E : Result Asked WordsFault → Type 0 = λ asked. EndsAs faults end_count left asked outcome.got.value.items r w outcome.fault in
     complete-text a.command faults left a.file r w outcome.fault (subst E is c.run-outcome.ensures.end) calm

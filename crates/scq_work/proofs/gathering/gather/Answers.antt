@@ -22,6 +22,7 @@ files-preserved g c =
     let B = g.row.B.Denot in
     let inv = c.files.invariant in
     let faults = g.S.Source.faults in
+    let end_count = g.S.Source.ends in
     let left = g.S.Source.left in
     let topics = c.args.job.now.topics in
     let size = c.args.job.now.size in
@@ -59,9 +60,9 @@ files-preserved g c =
           let number : file.number ≡ at + 1 = ap (λ (p : ℕ × S). p.0) parts.1 in
           let source : file.was.value ≡ x = ap (λ (p : ℕ × S). p.1) parts.1 in
           let read_all =
-          subst (λ (fs : List (OwnFile S)). All (λ f. IsRead topics size faults left f.number f.was.value f.source (given_in f.given.value) f.end) fs)
+          subst (λ (fs : List (OwnFile S)). All (λ f. IsRead topics size faults end_count left f.number f.was.value f.source (given_in f.given.value) f.end) fs)
           is (inv.read j desk within) in
-          let IsReadOf : OwnFile S → Type 0 = λ f. IsRead topics size faults left f.number f.was.value f.source (given_in f.given.value) f.end in
+          let IsReadOf : OwnFile S → Type 0 = λ f. IsRead topics size faults end_count left f.number f.was.value f.source (given_in f.given.value) f.end in
           let took = w.take_in.ensures in
           rw w.gathered-is (record {
             long = long ∙ inv.long;
@@ -75,7 +76,8 @@ files-preserved g c =
                 (λ u below apart. inv.read u d below) v (omega (arith, less, long));
             count = omega (arith, inv.count, took.len);
             capacity = took.capacity ∙ inv.capacity;
-            so_far = rw (took.sources, took.fault, took.starved) (so-far-more size faults left was at c.files.gathered.sources.items c.files.gathered.fault
+            so_far = rw (took.sources, took.fault, took.starved)
+                (so-far-more size faults end_count left was at c.files.gathered.sources.items c.files.gathered.fault
                 c.files.gathered.starved file.was.value file.source file.number file.end inv.so_far inside number
                 (λ d. get_or_default was at d file.was.value inside ∙ sym source) (all-last IsReadOf new.files.items file read_all).ends);
             whole = λ none each. whole-more desks j new desk file c.files.gathered.fault within is (sym took.fault ∙ none) inv.whole each;

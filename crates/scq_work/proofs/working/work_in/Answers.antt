@@ -1,6 +1,7 @@
 -- The work of all workers, once there are room and a queue. A slice of the desks is lent three times, and written back whole each time.
-use Rattle.std.proofs.Common.{◌≡◌, ◌∙◌, refl, sym, ap, subst, arith, false, ℕ, ◌^◌, ◌<◌, ◌≤◌, List, length, map}
-use Rattle.std.specs.Prelude.{slice_index_or, flat_map, ◌||◌}
+use Rattle.std.proofs.Common.{◌≡◌, ◌∙◌, refl, sym, ap, subst, arith, false, ℕ, ◌+◌, ◌^◌, ◌<◌, ◌≤◌, List, Option, None, length, map}
+use Rattle.std.specs.Prelude.{slice_index_or, flat_map, Vec, ◌||◌}
+use Rattle.std.specs.Global.{Global}
 use Rattle.std.specs.List.{All}
 use Rattle.std.specs.Option.{option_to_list}
 use Rattle.std.proofs.lemmas.Bool.{or_parts}
@@ -8,12 +9,15 @@ use Rattle.std.proofs.lemmas.List.Elements.{All-map}
 use Rattle.std.proofs.lemmas.Option.{slice_get-get_or}
 use Rattle.scq_block.specs.declared.frame.Frame.{Frame}
 use Rattle.scq_block.proofs.BlockFrames.{all_from_same}
+use Rattle.scq_topics.specs.declared.kind.Kind.{Kind}
 use Rattle.scq_frames.specs.declared.message.Message.{Message}
+use Rattle.scq_collect.specs.declared.answered.Answered.{Answered}
+use Rattle.scq_band.specs.Standing.{Identity}
 use Rattle.scq_queue.specs.Closing.{AreTheHeld}
 use Rattle.scq_queue.specs.Lists.{counts_of}
 use Rattle.scq_queue.specs.Passes.{PassStanding, HeldStanding, lists_of}
 use Rattle.scq_collect.specs.Merging.{members_in}
-use Rattle.scq_work.specs.AllWorkers.{HaveAnswered, HasWorked, lengths_of}
+use Rattle.scq_work.specs.AllWorkers.{HaveAnswered, HasWorked, IsSetup, lengths_of}
 use Rattle.scq_work.specs.Dealings.{AreDealt, IsFresh, without_files}
 use Rattle.scq_work.specs.Desks.{IsNew}
 use Rattle.scq_work.specs.Ends.{AreGiven, HasCause, HasMoved, MemoryIsFirst, all_left}
@@ -31,6 +35,7 @@ use Rattle.scq_work.proofs.Lists.{written-back, right-of}
 use Rattle.scq_work.proofs.Orders.{members-told, given-told}
 use Rattle.scq_work.proofs.Settled.{told-worked, ok-more, ok-on, same-passes, same-lists, same-held, same-fed, still-fresh, place-numbers, are-held, counts-exact}
 use Rattle.scq_work.proofs.working.work_in.Goals as goal
+use Rattle.scq_work.proofs.working.work_in.Goals.{After-conclude}
 
 pub run_all-requires-clause-fresh : goal.run_all-requires-clause-fresh
 run_all-requires-clause-fresh g c lifetimes lives =
@@ -72,7 +77,7 @@ gather-requires-clause-read g c lifetimes lives =
     c.as_mut_slice-3.ensures.value ∙ written-back _ _ _
     (omega (arith, c.run_all.auto.desks, c.as_mut_slice-2.ensures.len, c.deal.auto.desks, c.as_mut_slice.ensures.len)) in
     let P : List (Desk Frame S) → Type 0 =
-    λ ds. All (λ d. All (λ f. IsRead c.args.job.now.topics c.args.job.now.size g.S.Source.faults g.S.Source.left
+    λ ds. All (λ d. All (λ f. IsRead c.args.job.now.topics c.args.job.now.size g.S.Source.faults g.S.Source.ends g.S.Source.left
     f.number f.was.value f.source (given_in f.given.value) f.end) d.files.items) ds in
     subst P (sym third) (λ w d less. (c.run_all.ensures.run w d less).read)
 
@@ -142,12 +147,26 @@ merge-requires g c =
     (λ k d less. same.1 k (slice_index_or given k d) (slice_index_or back k d) (slice_get-get_or given k d less)
     (slice_get-get_or back k d (omega (arith, less, same.0))))
 
-pub returns-clause-worked : goal.returns-clause-worked
-returns-clause-worked g c =
+-- what the workers did, and how the queue was closed
+record Facts {S : Type 0} (topics : List (List ℕ × Kind)) (order size workers : ℕ) (faults end_count : S → ℕ) (left : S → Option (List ℕ)) (sources : List S)
+    (queue : Identity Frame) (ran : List (Desk Frame S)) (their_passes : List (PassStanding Frame)) (their_lists : List (Vec Answered Global))
+    (left_in : List ℕ) : Type 0 where
+  of_job : IsSetup order (length topics + 1) workers queue.setup
+  count : length ran ≡ workers
+  passes : their_passes ≡ passes_at ran
+  lists : their_lists ≡ lists_at ran
+  all : AllRan queue.setup queue topics size faults end_count left sources ran
+  closed : HasClosed queue.setup (passes_at ran) (held_at ran) left_in
+
+facts : (g : _) (c : After-conclude g) → Facts c.args.job.now.topics c.args.job.now.order c.args.job.now.size c.args.job.now.workers
+    g.S.Source.faults g.S.Source.ends g.S.Source.left c.args.sources.items c.args.queue c.run_all.new.desks c.clear.new.left.passes.items
+    c.clear.new.left.lists.items c.close-buffers.result.left.items
+facts g c =
     let S = g.row.S.Denot in
     let topics = c.args.job.now.topics in
     let size = c.args.job.now.size in
     let faults = g.S.Source.faults in
+    let end_count = g.S.Source.ends in
     let left = g.S.Source.left in
     let queue = c.args.queue in
     let ran = c.run_all.new.desks in
@@ -217,12 +236,54 @@ returns-clause-worked g c =
     d within in
     let valid = c.args.job.now.valid in
     let setup = c.requires.setup in
-    let Of : Worked → Type 0 = λ w. (given : List (List Message)) × AreGiven topics size left 1 sources given
-    × HasWorked topics c.args.job.now.order size c.args.job.now.workers given w in
-    ok-more c.conclude.result _ Of c.conclude.ensures.ok (λ w is.
-    let fed : All (λ d. d.worker.starved ≡ false) ran =
-    same-fed c.gather.new.desks ran same
-    (subst (λ (ds : List (Desk Frame S)). All (λ d. d.worker.starved ≡ false) ds)
+    let close = c.close-buffers.ensures in
+    record {
+      of_job = record { buffers = setup.0; rings = omega (arith, setup.1); seats = setup.2; limit = setup.3 };
+      count = count ∙ setup.2;
+      passes = passes;
+      lists = lists;
+      all = record {
+        some = omega (arith, count, setup.2, valid.some_workers);
+        few = omega (arith, c.requires.few, c.args.sources.ok.0);
+        dealt = subst (λ (xs : List S). AreDealt 1 xs ran) is_src dealt;
+        run = c.run_all.ensures.run;
+        setup = refl;
+        numbers = numbers;
+        order = omega (arith, setup.0, valid.order_fits);
+        rings = setup.1;
+        seats = sym count;
+        limit = setup.3;
+      };
+      closed = subst (λ (hs : List (HeldStanding Frame)). HasClosed queue.setup (passes_at ran) hs c.close-buffers.result.left.items) held
+          (subst (λ (ps : List (PassStanding Frame)). HasClosed queue.setup ps c.clear.new.left.held.items c.close-buffers.result.left.items) passes (record {
+            run = (_, close.run.one);
+            takes = close.takes;
+            sent_once = close.sent_once;
+            taken_once = close.taken_once;
+            balance = close.balance;
+            passed = close.passed;
+            fulls = close.fulls;
+            limits = close.limits;
+            all_there = close.all_there;
+          }));
+    }
+
+-- each file was read to its end, where no file has a fault
+all-whole : (g : _) (c : After-conclude g) → c.gather.new.gathered.fault ≡ None → AllWhole c.run_all.new.desks
+all-whole g c none =
+    let third : c.as_mut_slice-3.result.now ≡ c.run_all.new.desks =
+    c.as_mut_slice-3.ensures.value ∙ written-back _ _ _
+    (omega (arith, c.run_all.auto.desks, c.as_mut_slice-2.ensures.len, c.deal.auto.desks, c.as_mut_slice.ensures.len)) in
+    subst (λ (ds : List (Desk Frame _)). AllWhole ds) third (c.gather.ensures.whole none)
+
+-- no worker wanted memory
+all-fed : (g : _) (c : After-conclude g) → c.clear.new.left.starved ≡ false → All (λ d. d.worker.starved ≡ false) c.run_all.new.desks
+all-fed g c fed =
+    let third : c.as_mut_slice-3.result.now ≡ c.run_all.new.desks =
+    c.as_mut_slice-3.ensures.value ∙ written-back _ _ _
+    (omega (arith, c.run_all.auto.desks, c.as_mut_slice-2.ensures.len, c.deal.auto.desks, c.as_mut_slice.ensures.len)) in
+    same-fed c.gather.new.desks c.run_all.new.desks (c.gather.ensures.same ∙ ap (map without_files) third)
+    (subst (λ (ds : List (Desk Frame _)). All (λ d. d.worker.starved ≡ false) ds)
     (written-back _ _ _ (omega (
       arith,
       c.gather.auto.desks,
@@ -232,53 +293,58 @@ returns-clause-worked g c =
       c.deal.auto.desks,
       c.as_mut_slice.ensures.len,
     )))
-    (c.clear.ensures.starved is.1)) in
-    let whole : AllWhole ran = subst (λ (ds : List (Desk Frame S)). AllWhole ds) third (c.gather.ensures.whole is.3) in
-    let all : AllRan queue.setup queue topics size faults left sources ran = record {
-      some = omega (arith, count, setup.2, valid.some_workers);
-      few = omega (arith, c.requires.few, c.args.sources.ok.0);
-      dealt = subst (λ (xs : List S). AreDealt 1 xs ran) is_src dealt;
-      run = c.run_all.ensures.run;
-      whole = whole;
-      fed = fed;
-      setup = refl;
-      numbers = numbers;
-      order = omega (arith, setup.0, valid.order_fits);
-      rings = setup.1;
-      seats = sym count;
-      limit = setup.3;
-    } in
-    let close = c.close-buffers.ensures in
-    let closed : HasClosed queue.setup (passes_at ran) (held_at ran) c.close-buffers.result.left.items =
-    subst (λ (hs : List (HeldStanding Frame)). HasClosed queue.setup (passes_at ran) hs c.close-buffers.result.left.items) held
-    (subst (λ (ps : List (PassStanding Frame)). HasClosed queue.setup ps c.clear.new.left.held.items c.close-buffers.result.left.items) passes (record {
-      run = (_, close.run.one);
-      takes = close.takes;
-      sent_once = close.sent_once;
-      taken_once = close.taken_once;
-      balance = close.balance;
-      passed = close.passed;
-      fulls = close.fulls;
-      limits = close.limits;
-      all_there = close.all_there;
-    })) in
-    let answered = have-answered queue.setup queue topics size faults left sources ran all c.close-buffers.result.left.items closed in
-    let shared = have-shared queue.setup queue topics size faults left sources ran all c.close-buffers.result.left.items closed in
-    let its_passes : c.close-buffers.result.passes.value.items ≡ passes_at ran = close.passes ∙ passes in
-    let its_left : c.of.result.value.items ≡ c.close-buffers.result.left.items = ap (λ v. v.items) c.of.ensures in
-    let workers : length ran ≡ c.args.job.now.workers = count ∙ setup.2 in
+    (c.clear.ensures.starved fed))
+
+-- whatever the workers met
+pub returns-clause-left : goal.returns-clause-left
+returns-clause-left g c =
+    let at = (goal.at.returns-clause-left g c).After-conclude in
+    let f = facts g at in
+    let gave : c.of-closing.result.value.items ≡ passes_at c.run_all.new.desks = ap (λ v. v.items) c.of-closing.ensures ∙ f.passes in
+    record {
+      setup = c.args.queue.setup;
+      of_job = f.of_job;
+      shared = rw gave (have-shared c.args.queue.setup c.args.queue c.args.job.now.topics c.args.job.now.size g.S.Source.faults g.S.Source.ends g.S.Source.left
+          c.args.sources.items c.run_all.new.desks f.all c.close-buffers.result.left.items f.closed);
+    }
+
+pub returns-clause-same : goal.returns-clause-same
+returns-clause-same g c =
+    ok-more c.conclude.result _ (λ w. c.of-closing.result.value.items ≡ w.passes.value.items) c.conclude.ensures.ok (λ w is.
+    ap (λ v. v.items) c.of-closing.ensures ∙ sym c.close-buffers.ensures.passes ∙ ap (λ (x : Worked). x.passes.value.items) (sym is.0))
+
+pub returns-clause-worked : goal.returns-clause-worked
+returns-clause-worked g c =
+    let topics = c.args.job.now.topics in
+    let size = c.args.job.now.size in
+    let faults = g.S.Source.faults in
+    let end_count = g.S.Source.ends in
+    let left = g.S.Source.left in
+    let queue = c.args.queue in
+    let ran = c.run_all.new.desks in
+    let sources = c.args.sources.items in
+    let left_in = c.close-buffers.result.left.items in
+    let at = (goal.at.returns-clause-worked g c).After-conclude in
+    let f = facts g at in
+    let Of : Worked → Type 0 = λ w. (given : List (List Message)) × AreGiven topics size left 1 sources given
+    × HasWorked topics size c.args.job.now.workers given w in
+    ok-more c.conclude.result _ Of c.conclude.ensures.ok (λ w is.
+    let whole = all-whole g at is.3 in
+    let fed = all-fed g at is.1 in
+    let answered = have-answered queue.setup queue topics size faults end_count left sources ran f.all left_in f.closed whole fed in
+    let shared = have-shared queue.setup queue topics size faults end_count left sources ran f.all left_in f.closed in
+    let its_passes : c.close-buffers.result.passes.value.items ≡ passes_at ran = c.close-buffers.ensures.passes ∙ f.passes in
+    let Are : List (PassStanding Frame) → List (Vec Answered Global) → ℕ → Type 0 = λ ps ls n.
+    HaveAnswered topics size n (given queue.setup queue topics size faults end_count left sources ran f.all) ps ls in
     subst Of (sym is.0) (
-      given queue.setup queue topics size faults left sources ran all,
-      is-given queue.setup queue topics size faults left sources ran all,
+      given queue.setup queue topics size faults end_count left sources ran f.all,
+      is-given queue.setup queue topics size faults end_count left sources ran f.all whole,
       record {
-        answered = rw (its_passes, lists) (subst
-            (λ n. HaveAnswered topics size n (given queue.setup queue topics size faults left sources ran all) (passes_at ran) (lists_at ran))
-            workers answered);
-        setup = queue.setup;
-        of_job = record { buffers = setup.0; rings = omega (arith, setup.1); seats = setup.2; limit = setup.3 };
-        shared = rw (its_passes, its_left) shared;
-        counts = close.counts ∙ ap (map (λ (p : PassStanding Frame). counts_of (lists_of p))) passes ∙ counts-exact (passes_at ran) shared.bounded
-            ∙ ap (map lengths_of) (sym its_passes);
+        answered = subst (λ (ps : List (PassStanding Frame)). Are ps c.clear.new.left.lists.items c.args.job.now.workers) (sym its_passes)
+            (subst (λ (ls : List (Vec Answered Global)). Are (passes_at ran) ls c.args.job.now.workers) (sym f.lists)
+            (subst (λ n. Are (passes_at ran) (lists_at ran) n) f.count answered));
+        counts = c.close-buffers.ensures.counts ∙ ap (map (λ (p : PassStanding Frame). counts_of (lists_of p))) f.passes
+            ∙ counts-exact (passes_at ran) shared.bounded ∙ ap (map lengths_of) (sym its_passes);
       },
     ))
 
@@ -296,7 +362,7 @@ returns-clause-told g c =
     let size = c.args.job.now.size in
     let left = g.S.Source.left in
     ok-more c.conclude.result _ _ (returns-clause-worked g c) (λ w has.
-    told-worked topics c.args.job.now.order size c.args.job.now.workers has.0 w (all_left left c.args.sources.items)
+    told-worked topics size c.args.job.now.workers has.0 w (all_left left c.args.sources.items)
     (given-told topics size left 1 c.args.sources.items has.0 has.1) has.2)
 
 pub returns-clause-moved : goal.returns-clause-moved
@@ -304,6 +370,7 @@ returns-clause-moved g c =
     let S = g.row.S.Denot in
     let is = ap (λ v. v.items) c.of-was.ensures in
     let faults = g.S.Source.faults in
+    let end_count = g.S.Source.ends in
     let left = g.S.Source.left in
     λ k d less.
     subst (λ (xs : List S). HasMoved faults left (slice_index_or xs k d) (slice_index_or c.gather.new.gathered.sources.items k d)) is
@@ -315,9 +382,10 @@ returns-clause-whole g c =
     let is = ap (λ v. v.items) c.of-was.ensures in
     let size = c.args.job.now.size in
     let faults = g.S.Source.faults in
+    let end_count = g.S.Source.ends in
     let left = g.S.Source.left in
     ok-on c.conclude.result _ _ c.conclude.ensures.ok (λ w why k d less.
-    subst (λ (xs : List S). IsWhole size faults left (slice_index_or xs k d) (slice_index_or c.gather.new.gathered.sources.items k d)) is
+    subst (λ (xs : List S). IsWhole size faults end_count left (slice_index_or xs k d) (slice_index_or c.gather.new.gathered.sources.items k d)) is
     (c.gather.ensures.sound why.3 k d (omega (arith, less, ap length is, c.of-was.result.value.ok.0))))
 
 pub returns-clause-cause : goal.returns-clause-cause
@@ -325,12 +393,13 @@ returns-clause-cause g c =
     let S = g.row.S.Denot in
     let size = c.args.job.now.size in
     let faults = g.S.Source.faults in
+    let end_count = g.S.Source.ends in
     let left = g.S.Source.left in
     let news = c.gather.new.gathered.sources.items in
     let is = ap (λ v. v.items) c.of-was.ensures in
     err-then c.conclude.result _ _
-    (λ (f : WorkFault) why. subst (λ (xs : List S). HasCause size faults left xs news f) is
-    (caused size faults left c.of-was.result.value.items news (c.clear.new.left.starved || c.gather.new.gathered.starved) c.gather.new.gathered.fault
+    (λ (f : WorkFault) why. subst (λ (xs : List S). HasCause size faults end_count left xs news f) is
+    (caused size faults end_count left c.of-was.result.value.items news (c.clear.new.left.starved || c.gather.new.gathered.starved) c.gather.new.gathered.fault
     f why c.gather.ensures.cause)) c.conclude.ensures.err
 
 pub returns-clause-memory_first : goal.returns-clause-memory_first
@@ -338,12 +407,13 @@ returns-clause-memory_first g c =
     let S = g.row.S.Denot in
     let size = c.args.job.now.size in
     let faults = g.S.Source.faults in
+    let end_count = g.S.Source.ends in
     let left = g.S.Source.left in
     let news = c.gather.new.gathered.sources.items in
     let is = ap (λ v. v.items) c.of-was.ensures in
     let starved = c.clear.new.left.starved in
     let wants = c.gather.new.gathered.starved in
     err-then c.conclude.result _ _
-    (λ (f : WorkFault) why. subst (λ (xs : List S). MemoryIsFirst size faults left xs news f) is
-    (memory-first size faults left c.of-was.result.value.items news (starved || wants) c.gather.new.gathered.fault f why
+    (λ (f : WorkFault) why. subst (λ (xs : List S). MemoryIsFirst size faults end_count left xs news f) is
+    (memory-first size faults end_count left c.of-was.result.value.items news (starved || wants) c.gather.new.gathered.fault f why
     (λ none. c.gather.ensures.fed (or_parts starved wants none).1))) c.conclude.ensures.err

@@ -1,9 +1,12 @@
-use Rattle.std.proofs.Common.{rules, ◌≡◌, ◌+◌, ◌∙◌, ap, sym, subst, arith, refl, ℕ, true, length, Ok}
+use Rattle.std.proofs.Common.{rules, ◌≡◌, ◌+◌, ◌∙◌, ap, sym, subst, arith, refl, inl, inr, ℕ, true, length, Ok}
 use Rattle.std.specs.Prelude.{IfErr, Result, Err}
+use Rattle.std.proofs.lemmas.Bool.{eqb-true}
 use Rattle.scq_queue.specs.Passes.{PassStanding}
+use Rattle.scq_work.specs.Leaving.{HasIdled, HasSweptLast}
 use Rattle.scq_work.specs.Working.{HasTaken, HasAnswered, HasLeft, after_retire}
 use Rattle.scq_work.proofs.PassLemmas.{taken-nothing, taken-along, left-falls, looked}
 use Rattle.scq_work.proofs.LeftLemmas.{left-taken}
+use Rattle.scq_work.proofs.Sweeps.{sweep-of, idle-more, idle-none}
 use Rattle.scq_work.proofs.WorkerSteps.{answered-along}
 use Rattle.scq_work.proofs.worker.Worker.leave.Goals as goal
 use Rattle.scq_work.proofs.worker.Worker.leave.Goals.{then-some, else-some}
@@ -20,6 +23,8 @@ sweeps-init g c =
       starved = λ fed. fed;
       number = refl;
       idle = omega arith;
+      idling = subst (λ (q : PassStanding _). HasIdled (length c.args.job.now.topics + 1) 0 (after_retire p) q) (sym c.retire.ensures)
+          (idle-none (length c.args.job.now.topics + 1) (after_retire p) (after_retire p) (taken-nothing (after_retire p)));
     }
 
 pub returns-in_err-some-clause-left : goal.returns-in_err-some-clause-left
@@ -61,6 +66,11 @@ sweeps-preserved g c =
     let look : HasTaken at c.closed-over.new.pass = subst (λ (q : PassStanding _). HasTaken at q) (sym said.1) (looked at said.0 c.closed-over.new.pass.seen) in
     let same : HasAnswered topics at c.closed-over.new.pass xs xs =
     subst (λ (q : PassStanding _). HasAnswered topics at q xs xs) (sym said.1) (record { takes = λ h. h; directs = refl }) in
+    let now = c.sweep.new.self.pass in
+    let all = length topics + 1 in
+    let taken = taken-along (after_retire p) c.closed-over.new.pass now (taken-along (after_retire p) at c.closed-over.new.pass inv.taken look)
+    c.in_ok-some.ensures.taken in
+    let sweep = sweep-of all said.0 at c.closed-over.new.pass now said.1 c.in_ok-some.ensures.taken c.in_ok-some.ensures.found in
     record {
       taken = taken-along (after_retire p) c.closed-over.new.pass c.sweep.new.self.pass (taken-along (after_retire p) at c.closed-over.new.pass inv.taken look)
           c.in_ok-some.ensures.taken;
@@ -70,6 +80,12 @@ sweeps-preserved g c =
       starved = λ fed. inv.starved (c.sweep.ensures.starved fed);
       number = c.sweep.ensures.number ∙ inv.number;
       idle = elim c.if-some.branch [ then-some w ↦ omega arith | else-some w ↦ omega arith ];
+      idling = elim c.if-some.branch [
+        | then-some w ↦ subst (λ n. HasIdled all n (after_retire p) now) (sym w.idle-is) (idle-none all (after_retire p) now taken)
+        | else-some w ↦ subst (λ n. HasIdled all n (after_retire p) now) (sym w.idle-is)
+            (idle-more all c.sweeps.idle said.0 (after_retire p) at c.closed-over.new.pass now inv.idling said.1 sweep
+            (c.in_ok-some.ensures.nothing (ap Ok w.if-some.false)))
+      ];
     }
 
 pub returns-clause-taken : goal.returns-clause-taken
@@ -81,6 +97,31 @@ returns-clause-taken g c =
     taken-along (after_retire p) c.closed-over.new.pass c.sweep.new.self.pass
     (taken-along (after_retire p) at c.closed-over.new.pass c.sweeps.invariant.taken look)
     c.in_ok-some.ensures.taken
+
+pub returns-clause-swept : goal.returns-clause-swept
+returns-clause-swept g c =
+    let p = c.args.self.now.pass in
+    let at = c.sweeps.self.pass in
+    let now = c.sweep.new.self.pass in
+    let all = length c.args.job.now.topics + 1 in
+    let said = c.closed-over.ensures.looked in
+    let sweep = sweep-of all said.0 at c.closed-over.new.pass now said.1 c.in_ok-some.ensures.taken c.in_ok-some.ensures.found in
+    record {
+      begun = at;
+      before = c.sweeps.invariant.taken;
+      found = said.0;
+      sweep = sweep;
+      why = elim c.then-over.either [
+        | inl over ↦ inl (eqb-true said.0 0 (sym said.2 ∙ over))
+        | inr (going, full) ↦ inr (elim c.if-some.branch [
+          | then-some w ↦ let none : c.if-some.idle ≡ 0 = w.idle-is in absurd (omega (arith, none, full))
+          | else-some w ↦
+              subst (λ n. HasIdled all n (after_retire p) now) (sym w.idle-is ∙ full)
+              (idle-more all c.sweeps.idle said.0 (after_retire p) at c.closed-over.new.pass now c.sweeps.invariant.idling said.1 sweep
+              (c.in_ok-some.ensures.nothing (ap Ok w.if-some.false)))
+        ])
+      ];
+    }
 
 pub returns-clause-answered : goal.returns-clause-answered
 returns-clause-answered g c fed =

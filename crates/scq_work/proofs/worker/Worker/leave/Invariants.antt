@@ -1,4 +1,5 @@
 use Rattle.std.proofs.Common.{◌≡◌, ◌<◌, ◌+◌, ◌-◌, ◌*◌, false, length}
+use Rattle.scq_work.specs.Leaving.{HasIdled}
 use Rattle.scq_work.specs.Working.{HasTaken, HasAnswered, takes_left, after_retire}
 use Rattle.scq_work.proofs.worker.Worker.leave.Given as goal
 
@@ -9,6 +10,7 @@ invariant-sweeps g l = record {
   starved : l.self.starved ≡ false → l.fn.self.starved ≡ false;
   number : l.self.number ≡ l.fn.self.number;
   idle : l.idle < 64;
+  idling : HasIdled (length l.job.topics + 1) l.idle (after_retire l.fn.self.pass) l.self.pass;
 }
 
 -- a sweep that takes something leaves less to take, and one that doesn't is one of at most 64 in a row

@@ -4,15 +4,18 @@ use Rattle.scq_work.specs.Desks.{IsNew, ids_of, all_given}
 use Rattle.scq_work.specs.Given.{given_in}
 use Rattle.scq_work.specs.Reading.{IsRead}
 use Rattle.scq_work.specs.Working.{Suits, IsAtWork}
+use Rattle.scq_work.specs.declared.own_file.FileEnd.TheVariants.{Stopped}
 use Rattle.scq_work.proofs.worker.Worker.read_files.Given as goal
 
--- the files in front of this place are unread, and what is known of each is what was read of it
+-- the files in front of this place are unread, those behind it have no fault, and what is known of each is what was read of it
 abbrev pub invariant-files : goal.invariant-files
 invariant-files g l = record {
   within : l.at ≤ length l.files;
   unread : (k : ℕ) (d : _) → k < l.at → IsNew (slice_index_or l.files k d);
+  sound : (k : ℕ) (d : _) (fault : _) → l.at ≤ k → k < length l.files → (slice_index_or l.files k d).end ≡ Stopped fault → ⊥;
   same : ids_of l.files ≡ ids_of l.fn.files;
-  read : All (λ f. IsRead l.job.topics l.job.size g.S.Source.faults g.S.Source.left f.number f.was.value f.source (given_in f.given.value) f.end) l.files;
+  read : All (λ f. IsRead l.job.topics l.job.size g.S.Source.faults g.S.Source.ends g.S.Source.left f.number f.was.value f.source (given_in f.given.value)
+      f.end) l.files;
   suits : Suits l.queue (length l.job.topics) l.self.pass;
   stays : l.self.pass.retired ≡ None;
   work : IsAtWork l.job.topics [] l.fn.self.pass l.fn.self.members.items l.fn.self.starved

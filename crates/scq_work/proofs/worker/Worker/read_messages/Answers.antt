@@ -14,7 +14,8 @@ use Rattle.scq_work.proofs.worker.Worker.read_messages.Goals as goal
 use Rattle.scq_work.proofs.worker.Worker.read_messages.Goals.{After-next, After-pass_on}
 
 -- what the framer's answer says, whichever it is
-said : (g : _) (c : After-next g) → Answers g.S.Source.faults g.S.Source.left c.messages.source c.next.new.source c.messages.framer c.next.new.self
+said : (g : _) (c : After-next g) → Answers g.S.Source.faults g.S.Source.ends g.S.Source.left c.messages.source c.next.new.source c.messages.framer
+    c.next.new.self
 said g c =
     let its = c.next.ensures in
     record {
@@ -25,11 +26,13 @@ said g c =
       end = its.end;
       stays = λ h. (its.ended h).1;
       size_same = its.size;
+      once = its.ends;
     }
 
 -- with the message that it gave
-reading : (g : _) (c : After-pass_on g) → Answers g.S.Source.faults g.S.Source.left c.messages.source c.next.new.source c.messages.framer c.next.new.self
-    → IsReading c.args.job.now.topics c.args.job.now.size g.S.Source.faults g.S.Source.left c.args.file c.args.source.now c.next.new.source
+reading : (g : _) (c : After-pass_on g) → Answers g.S.Source.faults g.S.Source.ends g.S.Source.left c.messages.source c.next.new.source c.messages.framer
+    c.next.new.self
+    → IsReading c.args.job.now.topics c.args.job.now.size g.S.Source.faults g.S.Source.ends g.S.Source.left c.args.file c.args.source.now c.next.new.source
     c.next.new.self (given_in c.give.new.given.value)
 reading g c answer =
     let m = c.in-Ok-Some.message in
@@ -50,7 +53,8 @@ reading g c answer =
     let fits : length m.payload ≤ c.messages.framer.size = subst S is its.fits in
     let known : m.topic ≤ length topics = subst T is its.topic in
     let found : Found c.messages.framer c.next.new.self (left c.messages.source) (left c.next.new.source) (Ok (Some m)) = subst F is its.found in
-    reading-next c.args.job.now.topics c.args.job.now.size g.S.Source.faults g.S.Source.left c.args.file start c.messages.source c.next.new.source
+    reading-next c.args.job.now.topics c.args.job.now.size g.S.Source.faults g.S.Source.ends g.S.Source.left c.args.file start c.messages.source
+    c.next.new.source
     c.messages.framer c.next.new.self
     (given_in c.messages.given.value) (given_in c.give.new.given.value) m c.messages.invariant.reading answer gives next known fits found its.failed
     (its.kept (λ e. absurd (cc))) c.give.ensures
@@ -60,9 +64,9 @@ returns-in_err-pass_on-in-Ok-Some-clause-read g c =
     let now = reading g (goal.at.returns-in_err-pass_on-in-Ok-Some-clause-read g c).After-pass_on
     (said g (goal.at.returns-in_err-pass_on-in-Ok-Some-clause-read g c).After-next) in
     let P : FileEnd → Type 0 =
-    λ end. IsRead c.args.job.now.topics c.args.job.now.size g.S.Source.faults g.S.Source.left c.args.file c.args.source.now c.next.new.source
+    λ end. IsRead c.args.job.now.topics c.args.job.now.size g.S.Source.faults g.S.Source.ends g.S.Source.left c.args.file c.args.source.now c.next.new.source
     (given_in c.give.new.given.value) end in
-    subst P (sym c.messages.invariant.end) (reading-left c.args.job.now.topics c.args.job.now.size g.S.Source.faults g.S.Source.left c.args.file
+    subst P (sym c.messages.invariant.end) (reading-left c.args.job.now.topics c.args.job.now.size g.S.Source.faults g.S.Source.ends g.S.Source.left c.args.file
     c.args.source.now c.next.new.source
     c.next.new.self (given_in c.give.new.given.value) now)
 
@@ -83,9 +87,9 @@ pub returns-then-self-clause-read : goal.returns-then-self-clause-read
 returns-then-self-clause-read g c =
     let now = reading g (goal.at.returns-then-self-clause-read g c).After-pass_on (said g (goal.at.returns-then-self-clause-read g c).After-next) in
     let P : FileEnd → Type 0 =
-    λ end. IsRead c.args.job.now.topics c.args.job.now.size g.S.Source.faults g.S.Source.left c.args.file c.args.source.now c.next.new.source
+    λ end. IsRead c.args.job.now.topics c.args.job.now.size g.S.Source.faults g.S.Source.ends g.S.Source.left c.args.file c.args.source.now c.next.new.source
     (given_in c.give.new.given.value) end in
-    subst P (sym c.messages.invariant.end) (reading-left c.args.job.now.topics c.args.job.now.size g.S.Source.faults g.S.Source.left c.args.file
+    subst P (sym c.messages.invariant.end) (reading-left c.args.job.now.topics c.args.job.now.size g.S.Source.faults g.S.Source.ends g.S.Source.left c.args.file
     c.args.source.now c.next.new.source
     c.next.new.self (given_in c.give.new.given.value) now)
 
@@ -129,7 +133,7 @@ returns-in-Ok-None-clause-read g c =
     let none_ : ahead ≡ option_map (λ _. []) (left c.messages.source) = subst N is its.none in
     let over : IsTrue c.next.new.self.ended × (c.next.new.self.held ≡ []) = subst O is its.over in
     let found : Found c.messages.framer c.next.new.self (left c.messages.source) (left c.next.new.source) (Ok None) = subst F is its.found in
-    reading-whole c.args.job.now.topics c.args.job.now.size g.S.Source.faults g.S.Source.left c.args.file c.args.source.now c.messages.source
+    reading-whole c.args.job.now.topics c.args.job.now.size g.S.Source.faults g.S.Source.ends g.S.Source.left c.args.file c.args.source.now c.messages.source
     c.next.new.source c.messages.framer
     c.next.new.self (given_in c.messages.given.value) c.messages.invariant.reading (said g (goal.at.returns-in-Ok-None-clause-read g c).After-next) none_
     found over.0
@@ -140,7 +144,7 @@ returns-in-Err-clause-read g c =
     let its = c.next.ensures in
     let fault = c.in-Err.fault in
     let is = c.in-Err.is in
-    reading-fault c.args.job.now.topics c.args.job.now.size g.S.Source.faults g.S.Source.left c.args.file c.args.source.now c.messages.source
+    reading-fault c.args.job.now.topics c.args.job.now.size g.S.Source.faults g.S.Source.ends g.S.Source.left c.args.file c.args.source.now c.messages.source
     c.next.new.source c.messages.framer
     c.next.new.self (given_in c.messages.given.value) fault c.messages.invariant.reading (said g (goal.at.returns-in-Err-clause-read g c).After-next)
     c.in-Err.ensures.found

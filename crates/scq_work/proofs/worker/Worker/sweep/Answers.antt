@@ -1,8 +1,11 @@
-use Rattle.std.proofs.Common.{rules, ◌≡◌, ◌+◌, ◌∙◌, ap, sym, subst, arith, refl, ℕ, true, length, Ok}
+use Rattle.std.proofs.Common.{rules, ◌≡◌, ◌+◌, ◌∙◌, ap, sym, subst, arith, refl, inl, inr, ℕ, true, false, length, Ok}
+use Rattle.std.proofs.lemmas.Bool.{cases_lt}
 use Rattle.std.specs.Prelude.{IfErr, Result, Err}
+use Rattle.scq_work.specs.Leaving.{FoundTopicEmpty}
 use Rattle.scq_work.specs.Working.{HasLeft}
 use Rattle.scq_work.proofs.PassLemmas.{taken-nothing, taken-along, left-falls, left-falls-at, empty-more}
 use Rattle.scq_work.proofs.LeftLemmas.{left-taken}
+use Rattle.scq_work.proofs.Sweeps.{found-earlier, found-later}
 use Rattle.scq_work.proofs.WorkerSteps.{answered-along, answered-nothing}
 use Rattle.scq_work.proofs.worker.Worker.sweep.Goals as goal
 use Rattle.scq_work.proofs.worker.Worker.sweep.Goals.{then-some, else-some}
@@ -14,6 +17,8 @@ swept-init g c = record {
   starved = λ fed. fed;
   number = refl;
   empty = λ t low. absurd (omega arith);
+  found = λ t low. absurd (omega arith);
+  nothing = λ none. refl;
   some = λ h. absurd (cc);
 }
 
@@ -31,6 +36,19 @@ swept-preserved g c =
       starved = λ fed. inv.starved (c.sweep_topic.ensures.starved fed);
       number = c.sweep_topic.ensures.number ∙ inv.number;
       empty = empty-more c.swept.topic c.swept.self.pass c.sweep_topic.new.self.pass more inv.empty c.in_ok-more.ensures.empty;
+      found = λ t low. elim (cases_lt t c.swept.topic) [
+        | inl before ↦ found-later t c.args.self.now.pass c.swept.self.pass c.sweep_topic.new.self.pass (inv.found t before) more
+        | inr from ↦
+            let same : c.swept.topic ≡ t = omega (arith, low, from) in
+            subst (λ u. FoundTopicEmpty u c.args.self.now.pass c.sweep_topic.new.self.pass) same
+            (found-earlier c.swept.topic c.args.self.now.pass c.swept.self.pass c.sweep_topic.new.self.pass inv.taken c.in_ok-more.ensures.found)
+      ];
+      nothing = λ none. elim c.if-some.branch [
+        | then-some w ↦ absurd (cc)
+        | else-some w ↦
+            let idle : c.in_ok-more.more ≡ false = cc in
+            c.in_ok-more.ensures.nothing (ap Ok idle) ∙ inv.nothing w.if-some.false
+      ];
       some = λ h.
           elim c.if-some.branch [
             | then-some w ↦

@@ -1,5 +1,6 @@
 use Rattle.std.proofs.Common.{◌≡◌, ◌<◌, ◌+◌, ℕ, true, false, length}
 use Rattle.scq_queue.specs.Passes.{known_on}
+use Rattle.scq_work.specs.Leaving.{FoundTopicEmpty, TookNothing}
 use Rattle.scq_work.specs.Working.{HasTaken, HasAnswered, takes_left}
 use Rattle.scq_work.proofs.worker.Worker.sweep.Given as goal
 
@@ -11,6 +12,8 @@ invariant-swept g l = record {
   starved : l.self.starved ≡ false → l.fn.self.starved ≡ false;
   number : l.self.number ≡ l.fn.self.number;
   empty : (t : ℕ) → t < l.topic → (known_on t l.self.pass).finished < (known_on t l.self.pass).head;
+  found : (t : ℕ) → t < l.topic → FoundTopicEmpty t l.fn.self.pass l.self.pass;
+  nothing : l.some ≡ false → TookNothing l.fn.self.pass l.self.pass;
   some : l.some ≡ true → takes_left l.queue.setup.limit (length l.job.topics + 1) l.self.pass
       < takes_left l.queue.setup.limit (length l.job.topics + 1) l.fn.self.pass;
 }

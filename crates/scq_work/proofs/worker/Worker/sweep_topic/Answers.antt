@@ -3,6 +3,7 @@ use Rattle.std.specs.Prelude.{IfErr, Result, Err}
 use Rattle.scq_work.specs.Working.{HasLeft}
 use Rattle.scq_work.proofs.PassLemmas.{taken-nothing, taken-along}
 use Rattle.scq_work.proofs.LeftLemmas.{left-taken}
+use Rattle.scq_work.proofs.Sweeps.{found-earlier}
 use Rattle.scq_work.proofs.WorkerSteps.{answered-along, answered-nothing}
 use Rattle.scq_work.proofs.worker.Worker.sweep_topic.Goals as goal
 
@@ -13,6 +14,7 @@ takes-init g c = record {
   starved = λ fed. fed;
   number = refl;
   some = λ h. absurd (cc);
+  nothing = λ none. refl;
 }
 
 pub takes-preserved : goal.takes-preserved
@@ -27,6 +29,7 @@ takes-preserved g c =
       starved = λ fed. inv.starved (c.take_one.ensures.starved fed);
       number = c.take_one.ensures.number ∙ inv.number;
       some = λ h. (let rises = said.0 in omega arith, let low = said.1 in omega arith);
+      nothing = λ none. absurd (cc);
     }
 
 pub takes-smaller : goal.takes-smaller
@@ -39,6 +42,13 @@ takes-smaller g c =
 pub returns-else-more-clause-taken : goal.returns-else-more-clause-taken
 returns-else-more-clause-taken g c =
     taken-along c.args.self.now.pass c.takes.self.pass c.take_one.new.self.pass c.takes.invariant.taken c.in_ok-more.ensures.taken
+
+pub returns-else-more-clause-found : goal.returns-else-more-clause-found
+returns-else-more-clause-found g c =
+    found-earlier c.args.topic c.args.self.now.pass c.takes.self.pass c.take_one.new.self.pass c.takes.invariant.taken (c.take_one.ensures.found (cc))
+
+pub returns-else-more-clause-nothing : goal.returns-else-more-clause-nothing
+returns-else-more-clause-nothing g c none = c.take_one.ensures.nothing (cc) ∙ c.takes.invariant.nothing (cc)
 
 pub returns-in_err-more-clause-left : goal.returns-in_err-more-clause-left
 returns-in_err-more-clause-left g c =

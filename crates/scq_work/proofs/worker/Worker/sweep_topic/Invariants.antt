@@ -1,5 +1,6 @@
 use Rattle.std.proofs.Common.{◌≡◌, ◌<◌, ◌-◌, true, false}
 use Rattle.scq_queue.specs.Passes.{known_on}
+use Rattle.scq_work.specs.Leaving.{TookNothing}
 use Rattle.scq_work.specs.Working.{HasTaken, HasAnswered}
 use Rattle.scq_work.proofs.worker.Worker.sweep_topic.Given as goal
 
@@ -12,6 +13,7 @@ invariant-takes g l = record {
   number : l.self.number ≡ l.fn.self.number;
   some : l.some ≡ true → ((known_on l.topic l.fn.self.pass).head < (known_on l.topic l.self.pass).head)
       × ((known_on l.topic l.fn.self.pass).head < l.queue.setup.limit);
+  nothing : l.some ≡ false → TookNothing l.fn.self.pass l.self.pass;
 }
 
 -- each take that gets something has a place that is not below the head known, and below the limit

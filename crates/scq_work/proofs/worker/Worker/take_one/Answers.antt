@@ -5,6 +5,7 @@ use Rattle.scq_core.specs.declared.ended.Ended.TheVariants.{Nothing}
 use Rattle.scq_queue.specs.Passes.{PassStanding, WasGivenBack, having_seen, after_spent_put}
 use Rattle.scq_work.specs.Records.{is_take}
 use Rattle.scq_work.proofs.PassLemmas.{took-one, found-none}
+use Rattle.scq_work.proofs.Sweeps.{found-now, found-takes}
 use Rattle.scq_work.proofs.LeftLemmas.{left-at-get, left-at-return}
 use Rattle.scq_work.proofs.worker.Worker.take_one.Goals as goal
 
@@ -41,6 +42,16 @@ pub returns-in-Err-Empty-clause-empty : goal.returns-in-Err-Empty-clause-empty
 returns-in-Err-Empty-clause-empty g c is =
     let low : suc c.args.topic < length c.args.self.now.pass.numbers = let n = c.requires.suits.numbers in omega arith in
     (found-none c.args.topic c.in-Err-Empty.field-0-0 c.args.self.now.pass c.take.new.pass low (c.in-Err-Empty.ensures.empty c.in-Err-Empty.field-0-0 (cc))).1
+
+pub returns-in-Err-Empty-clause-found : goal.returns-in-Err-Empty-clause-found
+returns-in-Err-Empty-clause-found g c is =
+    let found = c.in-Err-Empty.ensures.empty c.in-Err-Empty.field-0-0 (cc) in
+    found-now c.args.topic c.args.self.now.pass c.take.new.pass (ap (λ (x : PassStanding _). x.calls) found.pass)
+
+pub returns-in-Err-Empty-clause-nothing : goal.returns-in-Err-Empty-clause-nothing
+returns-in-Err-Empty-clause-nothing g c is =
+    let found = c.in-Err-Empty.ensures.empty c.in-Err-Empty.field-0-0 (cc) in
+    found-takes c.args.topic c.args.self.now.pass c.take.new.pass (ap (λ (x : PassStanding _). x.calls) found.pass)
 
 pub returns-in-Err-Spent-clause-left : goal.returns-in-Err-Spent-clause-left
 returns-in-Err-Spent-clause-left g c messages =

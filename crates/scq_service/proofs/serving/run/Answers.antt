@@ -1,0 +1,31 @@
+-- What is seen of the queue of a run's workers, by what was asked.
+use Rattle.std.proofs.Common.{refl, ap, ◌∙◌, Err}
+use Rattle.scq_service.proofs.Seen.{unseen}
+use Rattle.scq_service.proofs.serving.run.Goals as goal
+
+pub returns-in-Ok-Run-clause-seen : goal.returns-in-Ok-Run-clause-seen
+returns-in-Ok-Run-clause-seen g c = rw (c.in-Ok-Run.ensures.request, c.in-Ok-Run.field-0-is) c.run_files.ensures.seen
+
+pub returns-in-Ok-SelfRun-clause-seen : goal.returns-in-Ok-SelfRun-clause-seen
+returns-in-Ok-SelfRun-clause-seen g c =
+    rw (c.in-Ok-SelfRun.ensures.request, c.in-Ok-SelfRun.field-0-is, c.quiet.ensures.outcome) c.run_self.ensures.seen
+
+-- a run over one whole file has no workers
+pub returns-in-Ok-Text-clause-left : goal.returns-in-Ok-Text-clause-left
+returns-in-Ok-Text-clause-left g c = rw (c.quiet-in-Ok-Text.ensures.outcome, c.run_text.ensures.left) tt
+
+pub returns-in-Ok-Text-clause-seen : goal.returns-in-Ok-Text-clause-seen
+returns-in-Ok-Text-clause-seen g c =
+    rw (c.in-Ok-Text.ensures.request, c.in-Ok-Text.field-0-is, c.quiet-in-Ok-Text.ensures.outcome, c.run_text.ensures.left) refl
+
+pub returns-in-Err-Refused-clause-seen : goal.returns-in-Err-Refused-clause-seen
+returns-in-Err-Refused-clause-seen g c =
+    rw (
+      c.read_words.ensures.refused c.in-Err-Refused.fault (c.in-Err-Refused.is ∙ ap Err c.in-Err-Refused.field-0-is),
+      c.quiet-in-Err-Refused.ensures.outcome,
+      c.at.ensures.left.0,
+    ) refl
+
+pub returns-in-Err-NoMemory-clause-seen : goal.returns-in-Err-NoMemory-clause-seen
+returns-in-Err-NoMemory-clause-seen g c =
+    rw (c.quiet-in-Err-NoMemory.ensures.outcome, c.at-in-Err-NoMemory.ensures.fault, c.at-in-Err-NoMemory.ensures.left.0) (unseen _)
