@@ -6,3 +6,5 @@ mod GotLemmas
 mod TableLemmas
 mod QueueLemmas
 mod Saved
+mod FailureLemmas
+mod RefusedLemmas

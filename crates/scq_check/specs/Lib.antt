@@ -7,3 +7,5 @@ pub mod Puts
 pub mod Gots
 pub mod Tables
 pub mod Queues
+pub mod Failures
+pub mod Refused

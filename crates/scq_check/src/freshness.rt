@@ -1,12 +1,13 @@
-//! The first Got that isn't fresh, and the first that names the put of an earlier one.
+//! The Gots that aren't fresh, and those that name the put of an earlier one.
 
 ghost use Rattle.std.specs.Prelude.{◌≡◌, ◌<◌, ◌↔◌, ℕ, IsTrue, Some, length, slice_get, IfSome, MatchOption};
 ghost use Rattle.scq_hist.specs.Calls.{IsPut};
 ghost use Rattle.scq_hist.specs.Aspects.{IsLawful, IsBegun, IsFreshAt, IsOnceAt};
-ghost use Rattle.scq_hist.specs.First.{IsFirstFailing};
 ghost use Rattle.scq_check.specs.Tables.{IsTables};
 ghost use Rattle.scq_check.specs.Gots.{IsGotOf, IsNoGot};
+ghost use Rattle.scq_check.specs.Failures.{AreFailures};
 
+use crate::failures::Failures;
 use crate::gots::got_name;
 use crate::tables::Tables;
 use scq_hist::{Call, Event, PutName, Reply};
@@ -97,20 +98,18 @@ fn is_fresh_at(tables: &Tables, opening: &[Bytes], events: &[Event], e: usize) -
     }
 }
 
-/// The position of the first Got that isn't fresh. `opening` has the contents of the tokens that stand
-/// in queue 0 before the list.
-pub(crate) fn first_unfresh(tables: &Tables, opening: &[Bytes], events: &[Event]) -> Option<usize>
+/// The Gots that aren't fresh. `opening` has the contents of the tokens that stand in queue 0 before the list.
+pub(crate) fn unfresh(tables: &Tables, opening: &[Bytes], events: &[Event]) -> Failures
     requires tables { IsTables events.now tables.now }
     requires lawful { IsLawful events.now }
-    ensures first { IsFirstFailing (IsFreshAt opening.now events.now) result }
-    ensures within { IfSome result (λ e. e < length events.now) }
+    ensures failures { AreFailures (IsFreshAt opening.now events.now) result }
+    ensures within { IfSome result.first (λ e. e < length events.now) }
 {
+    let mut failures = Failures::none();
     for e in 0..events.len() {
-        if !is_fresh_at(tables, opening, events, e) {
-            return Some(e);
-        }
+        failures = failures.with(e, is_fresh_at(tables, opening, events, e));
     }
-    None
+    failures
 }
 
 // Whether no Got before this one names the same put, if one stands at this position.
@@ -125,16 +124,15 @@ fn is_once_at(tables: &Tables, events: &[Event], e: usize) -> bool
     }
 }
 
-/// The position of the first Got that names the put of an earlier one.
-pub(crate) fn first_repeated(tables: &Tables, events: &[Event]) -> Option<usize>
+/// The Gots that name the put of an earlier one.
+pub(crate) fn repeated(tables: &Tables, events: &[Event]) -> Failures
     requires { IsTables events.now tables.now }
-    ensures first { IsFirstFailing (IsOnceAt events.now) result }
-    ensures within { IfSome result (λ e. e < length events.now) }
+    ensures failures { AreFailures (IsOnceAt events.now) result }
+    ensures within { IfSome result.first (λ e. e < length events.now) }
 {
+    let mut failures = Failures::none();
     for e in 0..events.len() {
-        if !is_once_at(tables, events, e) {
-            return Some(e);
-        }
+        failures = failures.with(e, is_once_at(tables, events, e));
     }
-    None
+    failures
 }

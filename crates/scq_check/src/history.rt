@@ -7,7 +7,7 @@ ghost use Rattle.scq_check.specs.Line.{line_of};
 ghost use Rattle.scq_check.specs.HistoryText.{tokens_in, events_in, may_follow, IsHistory, IsBadLine, IsUnlawfulLine};
 ghost use Rattle.scq_check.specs.declared.line.Line.TheVariants.{Opening, Happens};
 
-use crate::line::{Line, read_line};
+use crate::line::{Line, SMALL, read_line};
 use scq_hist::{Event, is_lawful_at};
 use scq_lines::next_line;
 use scq_word::{Bytes, NoMemory};
@@ -102,7 +102,7 @@ fn add_line(
         → (at ≡ number) × (may_follow history.old.opening.items history.old.events.items (line_of line.now) ≡ true)
         × ¬ IsLawful (history.old.events.items ++ events_in (line.now ∷ [])) }
 {
-    match read_line(alloc, line)? {
+    match read_line(alloc, SMALL, line)? {
         Some(Line::Opening { content }) => add_token(history, number, content),
         Some(Line::Happens { event }) => add_event(history, number, event),
         None => Err(HistoryFault::BadLine { line: number }),

@@ -9,6 +9,7 @@
 
 mod by_name;
 mod calls;
+mod failures;
 mod freshness;
 mod gots;
 mod history;
@@ -17,11 +18,14 @@ mod line;
 mod order;
 mod puts;
 mod queues;
+mod refused;
 mod tables;
 #[cfg(test)]
 mod tests;
 mod verdicts;
 
+pub use failures::Failures;
 pub use history::{History, HistoryFault, read_history};
 pub use lawful::first_unlawful;
-pub use verdicts::{Verdict, judge, verdict_text};
+pub use line::{Bounds, Line, read_fields};
+pub use verdicts::{Breaches, Verdict, find_breaches, judge, verdict_text};

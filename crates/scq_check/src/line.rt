@@ -1,46 +1,71 @@
 //! The lines of a history's text, read one by one.
 
 ghost use Rattle.std.specs.Prelude.{◌≡◌, [], ◌∷◌, IfOk};
-ghost use Rattle.scq_lines.specs.Lines.{fields_after};
-ghost use Rattle.scq_check.specs.Line.{seat_in, content_in, name_of, call_of, bare_reply, reply_of, opened, started, ended, line_of};
+ghost use Rattle.scq_lines.specs.Lines.{fields_of, fields_after};
+ghost use Rattle.scq_check.specs.Line.{seat_in, content_in, name_of, call_of, bare_reply, reply_of, opened, started, ended, said};
 
 use scq_hist::{Call, Event, PutName, Reply};
-use scq_lines::{content, first_field, next_field, number, number_below};
+use scq_lines::{content, first_field, next_field, number, number_up_to};
 use scq_word::{Bytes, NoMemory};
 use std::alloc::Global;
 
-// Seats and the numbers of opening tokens are below this.
-const MOST_SEATS: u32 = 4096;
+/// The greatest seat, queue and number of an opening token that a line may name.
+#[derive(Clone, Copy, Debug, PartialEq, Eq)]
+pub struct Bounds {
+    pub seat: u32,
+    pub queue: u32,
+    pub token: u32,
+}
 
-// As many queues as a setup may have rings.
-const MOST_QUEUES: u32 = 18;
+/// The bounds of a history that is read whole: as many queues as a setup may have rings.
+pub(crate) const SMALL: Bounds = Bounds {
+    seat: 4095,
+    queue: 17,
+    token: 4095,
+};
 
 // The most bytes of a content.
 const MOST_CONTENT: u32 = 64;
 
 /// What a line says.
 #[derive(Debug, Drop)]
-pub(crate) enum Line {
+pub enum Line {
     /// `opening X`
     Opening { content: Bytes },
     /// `start S ..` or `end S ..`
     Happens { event: Event },
 }
 
-/// What a line says, where it is of the form.
-pub(crate) fn read_line(alloc: Global, text: &[u8]) -> Result<Option<Line>, NoMemory>
-    ensures { IfOk result (λ line. line ≡ line_of text.now) }
+/// What a line says within these bounds, where it is of the form.
+pub(crate) fn read_line(
+    alloc: Global,
+    bounds: Bounds,
+    text: &[u8],
+) -> Result<Option<Line>, NoMemory>
+    ensures { IfOk result (λ line. line ≡ said bounds (fields_of text.now)) }
 {
     let (word, rest) = first_field(text);
+    read_fields(alloc, bounds, word, rest)
+}
+
+/// What the fields of a line say within these bounds: its first word, and what follows that, from the space on.
+pub fn read_fields(
+    alloc: Global,
+    bounds: Bounds,
+    word: &[u8],
+    rest: &[u8],
+) -> Result<Option<Line>, NoMemory>
+    ensures { IfOk result (λ line. line ≡ said bounds (word.now ∷ fields_after rest.now)) }
+{
     let Some((field, rest)) = next_field(rest) else {
         return Ok(None);
     };
     if word == b"opening".as_slice() {
         opening(alloc, field, rest)
     } else if word == b"start".as_slice() {
-        start(alloc, field, rest)
+        start(alloc, bounds, field, rest)
     } else if word == b"end".as_slice() {
-        end(alloc, field, rest)
+        end(alloc, bounds, field, rest)
     } else {
         Ok(None)
     }
@@ -57,10 +82,10 @@ fn opening(alloc: Global, field: &[u8], rest: &[u8]) -> Result<Option<Line>, NoM
 }
 
 // `start S CALL`, from S on.
-fn start(alloc: Global, field: &[u8], rest: &[u8]) -> Result<Option<Line>, NoMemory>
-    ensures { IfOk result (λ line. line ≡ started (seat_in field.now) (call_of (fields_after rest.now))) }
+fn start(alloc: Global, bounds: Bounds, field: &[u8], rest: &[u8]) -> Result<Option<Line>, NoMemory>
+    ensures { IfOk result (λ line. line ≡ started (seat_in bounds field.now) (call_of bounds (fields_after rest.now))) }
 {
-    match (number_below(MOST_SEATS, field), call(alloc, rest)?) {
+    match (number_up_to(bounds.seat, field), call(alloc, bounds, rest)?) {
         (Some(seat), Some(call)) => Ok(Some(Line::Happens {
             event: Event::Start { seat, call },
         })),
@@ -69,10 +94,13 @@ fn start(alloc: Global, field: &[u8], rest: &[u8]) -> Result<Option<Line>, NoMem
 }
 
 // `end S REPLY`, from S on.
-fn end(alloc: Global, field: &[u8], rest: &[u8]) -> Result<Option<Line>, NoMemory>
-    ensures { IfOk result (λ line. line ≡ ended (seat_in field.now) (reply_of (fields_after rest.now))) }
+fn end(alloc: Global, bounds: Bounds, field: &[u8], rest: &[u8]) -> Result<Option<Line>, NoMemory>
+    ensures { IfOk result (λ line. line ≡ ended (seat_in bounds field.now) (reply_of bounds (fields_after rest.now))) }
 {
-    match (number_below(MOST_SEATS, field), reply(alloc, rest)?) {
+    match (
+        number_up_to(bounds.seat, field),
+        reply(alloc, bounds, rest)?,
+    ) {
         (Some(seat), Some(reply)) => Ok(Some(Line::Happens {
             event: Event::End { seat, reply },
         })),
@@ -81,8 +109,8 @@ fn end(alloc: Global, field: &[u8], rest: &[u8]) -> Result<Option<Line>, NoMemor
 }
 
 // `put Q X` or `get Q`.
-fn call(alloc: Global, rest: &[u8]) -> Result<Option<Call>, NoMemory>
-    ensures { IfOk result (λ call. call ≡ call_of (fields_after rest.now)) }
+fn call(alloc: Global, bounds: Bounds, rest: &[u8]) -> Result<Option<Call>, NoMemory>
+    ensures { IfOk result (λ call. call ≡ call_of bounds (fields_after rest.now)) }
 {
     let Some((word, rest)) = next_field(rest) else {
         return Ok(None);
@@ -91,15 +119,15 @@ fn call(alloc: Global, rest: &[u8]) -> Result<Option<Call>, NoMemory>
         return Ok(None);
     };
     match next_field(rest) {
-        None => Ok(get(word, queue)),
-        Some((field, rest)) => put(alloc, word, queue, field, rest),
+        None => Ok(get(bounds, word, queue)),
+        Some((field, rest)) => put(alloc, bounds, word, queue, field, rest),
     }
 }
 
-fn get(word: &[u8], queue: &[u8]) -> Option<Call>
-    ensures { result ≡ call_of (word.now ∷ queue.now ∷ []) }
+fn get(bounds: Bounds, word: &[u8], queue: &[u8]) -> Option<Call>
+    ensures { result ≡ call_of bounds (word.now ∷ queue.now ∷ []) }
 {
-    match number_below(MOST_QUEUES, queue) {
+    match number_up_to(bounds.queue, queue) {
         Some(queue) if word == b"get".as_slice() => Some(Call::Get { queue }),
         _ => None,
     }
@@ -107,18 +135,19 @@ fn get(word: &[u8], queue: &[u8]) -> Option<Call>
 
 fn put(
     alloc: Global,
+    bounds: Bounds,
     word: &[u8],
     queue: &[u8],
     field: &[u8],
     rest: &[u8],
 ) -> Result<Option<Call>, NoMemory>
-    ensures { IfOk result (λ call. call ≡ call_of (word.now ∷ queue.now ∷ field.now ∷ fields_after rest.now)) }
+    ensures { IfOk result (λ call. call ≡ call_of bounds (word.now ∷ queue.now ∷ field.now ∷ fields_after rest.now)) }
 {
     if word != b"put".as_slice() || next_field(rest).is_some() {
         return Ok(None);
     }
     match (
-        number_below(MOST_QUEUES, queue),
+        number_up_to(bounds.queue, queue),
         content(alloc, MOST_CONTENT, field)?,
     ) {
         (Some(queue), Some(content)) => Ok(Some(Call::Put { queue, content })),
@@ -127,15 +156,15 @@ fn put(
 }
 
 // `done`, `nothing`, `spent` or `got NAME X`.
-fn reply(alloc: Global, rest: &[u8]) -> Result<Option<Reply>, NoMemory>
-    ensures { IfOk result (λ reply. reply ≡ reply_of (fields_after rest.now)) }
+fn reply(alloc: Global, bounds: Bounds, rest: &[u8]) -> Result<Option<Reply>, NoMemory>
+    ensures { IfOk result (λ reply. reply ≡ reply_of bounds (fields_after rest.now)) }
 {
     let Some((word, rest)) = next_field(rest) else {
         return Ok(None);
     };
     match next_field(rest) {
         None => Ok(bare_reply(word)),
-        Some((by, rest)) => got(alloc, word, by, rest),
+        Some((by, rest)) => got(alloc, bounds, word, by, rest),
     }
 }
 
@@ -153,8 +182,14 @@ fn bare_reply(word: &[u8]) -> Option<Reply>
     }
 }
 
-fn got(alloc: Global, word: &[u8], by: &[u8], rest: &[u8]) -> Result<Option<Reply>, NoMemory>
-    ensures { IfOk result (λ reply. reply ≡ reply_of (word.now ∷ by.now ∷ fields_after rest.now)) }
+fn got(
+    alloc: Global,
+    bounds: Bounds,
+    word: &[u8],
+    by: &[u8],
+    rest: &[u8],
+) -> Result<Option<Reply>, NoMemory>
+    ensures { IfOk result (λ reply. reply ≡ reply_of bounds (word.now ∷ by.now ∷ fields_after rest.now)) }
 {
     let Some((number, rest)) = next_field(rest) else {
         return Ok(None);
@@ -165,21 +200,24 @@ fn got(alloc: Global, word: &[u8], by: &[u8], rest: &[u8]) -> Result<Option<Repl
     if word != b"got".as_slice() || next_field(rest).is_some() {
         return Ok(None);
     }
-    match (name(by, number), content(alloc, MOST_CONTENT, field)?) {
+    match (
+        name(bounds, by, number),
+        content(alloc, MOST_CONTENT, field)?,
+    ) {
         (Some(name), Some(content)) => Ok(Some(Reply::Got { name, content })),
         _ => Ok(None),
     }
 }
 
 // `o J` for an opening token, `S2 N` for a put of a seat.
-fn name(by: &[u8], field: &[u8]) -> Option<PutName>
-    ensures { result ≡ name_of by.now field.now }
+fn name(bounds: Bounds, by: &[u8], field: &[u8]) -> Option<PutName>
+    ensures { result ≡ name_of bounds by.now field.now }
 {
     if by == b"o".as_slice() {
-        let number = number_below(MOST_SEATS, field)?;
+        let number = number_up_to(bounds.token, field)?;
         return Some(PutName::Opening { number });
     }
-    let seat = number_below(MOST_SEATS, by)?;
+    let seat = number_up_to(bounds.seat, by)?;
     let number = number(field)?;
     Some(PutName::Of { seat, number })
 }

@@ -1,12 +1,13 @@
-//! The first Got that overtakes, and the first wrong Empty.
+//! The Gots that overtake, and the wrong Empties.
 
 ghost use Rattle.std.specs.Prelude.{◌≡◌, ◌+◌, ◌<◌, ◌≤◌, ◌^◌, ◌↔◌, ℕ, List, IsTrue, MatchOption, length, IfOk, IfSome};
 ghost use Rattle.scq_hist.specs.Aspects.{IsLawful, IsInOrderAt, IsEmptyRightAt};
-ghost use Rattle.scq_hist.specs.First.{IsFirstFailing};
 ghost use Rattle.scq_hist.specs.Tallies.{IsPutGotAt, NoPutGotAt, IsEmptyAt, NoEmptyAt};
+ghost use Rattle.scq_check.specs.Failures.{AreFailures};
 ghost use Rattle.scq_check.specs.Tables.{IsTables};
 ghost use Rattle.scq_check.specs.Queues.{AreQueuesAt, AreTallies};
 
+use crate::failures::Failures;
 use crate::queues::{Queue, Queues, Tally};
 use crate::tables::Tables;
 use scq_hist::{Call, Event, PutName, Reply};
@@ -81,28 +82,26 @@ fn is_in_order_at(
     }
 }
 
-/// The position of the first Got that is the get of a put before which others had to be claimed, and
-/// weren't.
-pub(crate) fn first_out_of_order(
+/// The Gots that are the gets of puts before which others had to be claimed, and weren't.
+pub(crate) fn out_of_order(
     alloc: Global,
     tables: &Tables,
     opening: &[Bytes],
     events: &[Event],
-) -> Result<Option<usize>, NoMemory>
+) -> Result<Failures, NoMemory>
     requires tables { IsTables events.now tables.now }
     requires lawful { IsLawful events.now }
-    ensures first { IfOk result (IsFirstFailing (IsInOrderAt opening.now events.now)) }
-    ensures within { IfOk result (λ first. IfSome first (λ e. e < length events.now)) }
+    ensures failures { IfOk result (AreFailures (IsInOrderAt opening.now events.now)) }
+    ensures within { IfOk result (λ failures. IfSome failures.first (λ e. e < length events.now)) }
 {
     let tallies = tallies_before(alloc, tables, opening, events)?;
     let mut queues = Queues::new(alloc, tables, opening, events);
+    let mut failures = Failures::none();
     for e in 0..events.len() {
-        if !is_in_order_at(tables, events, &tallies, &queues, e) {
-            return Ok(Some(e));
-        }
+        failures = failures.with(e, is_in_order_at(tables, events, &tallies, &queues, e));
         queues.add(tables, events, e)?;
     }
-    Ok(None)
+    Ok(failures)
 }
 
 // The get that ends with Nothing at this position: the position of its Start, and its queue.
@@ -139,24 +138,23 @@ fn is_empty_right_at(tables: &Tables, events: &[Event], queues: &Queues, e: usiz
     }
 }
 
-/// The position of the first Empty that isn't right.
-pub(crate) fn first_wrong_empty(
+/// The Empties that aren't right.
+pub(crate) fn wrong_empties(
     alloc: Global,
     tables: &Tables,
     opening: &[Bytes],
     events: &[Event],
-) -> Result<Option<usize>, NoMemory>
+) -> Result<Failures, NoMemory>
     requires tables { IsTables events.now tables.now }
     requires lawful { IsLawful events.now }
-    ensures first { IfOk result (IsFirstFailing (IsEmptyRightAt opening.now events.now)) }
-    ensures within { IfOk result (λ first. IfSome first (λ e. e < length events.now)) }
+    ensures failures { IfOk result (AreFailures (IsEmptyRightAt opening.now events.now)) }
+    ensures within { IfOk result (λ failures. IfSome failures.first (λ e. e < length events.now)) }
 {
     let mut queues = Queues::new(alloc, tables, opening, events);
+    let mut failures = Failures::none();
     for e in 0..events.len() {
-        if !is_empty_right_at(tables, events, &queues, e) {
-            return Ok(Some(e));
-        }
+        failures = failures.with(e, is_empty_right_at(tables, events, &queues, e));
         queues.add(tables, events, e)?;
     }
-    Ok(None)
+    Ok(failures)
 }

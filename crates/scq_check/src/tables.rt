@@ -1,9 +1,10 @@
 //! What stands where in a history, looked up in tables that are made once.
 
-ghost use Rattle.std.specs.Prelude.{◌≡◌, ◌<◌, ◌↔◌, ℕ, suc, IsTrue, length, IfOk, MatchOption};
+ghost use Rattle.std.specs.Prelude.{◌≡◌, ◌<◌, ◌↔◌, ℕ, suc, IsTrue, length, slice_get, IfOk, MatchOption};
 ghost use Rattle.scq_hist.specs.Aspects.{IsLawful};
 ghost use Rattle.scq_hist.specs.Calls.{IsPut, IsGot, IsGetOf, IsPending};
 ghost use Rattle.scq_hist.specs.Lookups.{IsFirstNamed, EndsNoGet, NoPutBefore, EndsDone, NoDoneAt};
+ghost use Rattle.scq_check.specs.Puts.{put_number};
 ghost use Rattle.scq_check.specs.Tables.{IsCallOf, IsQueueOf, IsTables};
 
 use crate::calls::Calls;
@@ -81,6 +82,15 @@ impl Tables {
         }
     }
 
+    /// The number of the put that starts at this position, else 0.
+    pub(crate) fn number(&self, events: &[Event], e: usize) -> u64
+        requires tables { IsTables events.now self.now }
+        requires within { e < length events.now }
+        ensures { result ≡ put_number events.now e (slice_get events.now e) }
+    {
+        self.puts.number(events, e)
+    }
+
     /// The put of this queue that ends with Done at this position.
     pub(crate) fn done_put(&self, events: &[Event], queue: u32, e: usize) -> Option<PutName>
         requires tables { IsTables events.now self.now }
@@ -94,7 +104,7 @@ impl Tables {
                 reply: Reply::Done,
             } => match self.call_of(events, e) {
                 (start, Call::Put { queue: of, .. }) if *of == queue => {
-                    let number = self.puts.number(events, start);
+                    let number = self.number(events, start);
                     Some(PutName::Of {
                         seat: *seat,
                         number,

@@ -1,12 +1,16 @@
 //! The four aspects of a history judged, and the verdict printed.
 
-ghost use Rattle.std.specs.Prelude.{◌≡◌, ◌+◌, ◌++◌, ◌<◌, ◌^◌, ◌↔◌, None, IfOk, IfSome, OnOk, is_some};
+ghost use Rattle.std.specs.Prelude.{◌≡◌, ◌+◌, ◌++◌, ◌<◌, ◌^◌, ◌↔◌, None, length, IfOk, IfSome, OnOk, is_some};
 ghost use Rattle.std.specs.Option.{option_map};
 ghost use Rattle.scq_hist.specs.Aspects.{IsLawful, IsFreshAt, IsFresh, IsOnceAt, IsOnce, IsInOrderAt, IsInOrder, IsEmptyRightAt, IsEmptyRight};
-ghost use Rattle.scq_check.specs.Verdicts.{IsVerdict, aspect_line, verdict_lines};
+ghost use Rattle.scq_check.specs.Failures.{AreFailures};
+ghost use Rattle.scq_check.specs.Refused.{IsAcceptedAt};
+ghost use Rattle.scq_check.specs.Verdicts.{AreWithin, IsVerdict, aspect_line, verdict_lines};
 
-use crate::freshness::{first_repeated, first_unfresh};
-use crate::order::{first_out_of_order, first_wrong_empty};
+use crate::failures::Failures;
+use crate::freshness::{repeated, unfresh};
+use crate::order::{out_of_order, wrong_empties};
+use crate::refused::refused_gots;
 use crate::tables::Tables;
 use itoa::Buffer;
 use scq_hist::Event;
@@ -25,6 +29,46 @@ pub struct Verdict {
     pub in_order: Option<u64>,
     /// The first Empty in whose call there is no moment at which all finished puts were claimed.
     pub empty_right: Option<u64>,
+}
+
+/// What breaks each aspect of a history, and the events that name refused puts.
+#[derive(Clone, Copy, Debug, PartialEq, Eq)]
+pub struct Breaches {
+    /// The Gots that name no put of their queue and content that is an opening token or began before.
+    pub fresh: Failures,
+    /// The Gots that name the put of an earlier one.
+    pub once: Failures,
+    /// The Gots that are the gets of puts before which others had to be claimed, and weren't.
+    pub in_order: Failures,
+    /// The Empties in whose calls there is no moment at which all finished puts were claimed.
+    pub empty_right: Failures,
+    /// The Gots that name puts which ended with Spent.
+    pub accepted: Failures,
+}
+
+/// Of a lawful history the events that break each aspect. `opening` has the contents of the tokens that stand in queue 0
+/// before it. Time grows little faster than the history's length.
+pub fn find_breaches(
+    alloc: Global,
+    opening: &[Bytes],
+    events: &[Event],
+) -> Result<Breaches, NoMemory>
+    requires { IsLawful events.now }
+    ensures fresh { IfOk result (λ breaches. AreFailures (IsFreshAt opening.now events.now) breaches.fresh) }
+    ensures once { IfOk result (λ breaches. AreFailures (IsOnceAt events.now) breaches.once) }
+    ensures in_order { IfOk result (λ breaches. AreFailures (IsInOrderAt opening.now events.now) breaches.in_order) }
+    ensures empty_right { IfOk result (λ breaches. AreFailures (IsEmptyRightAt opening.now events.now) breaches.empty_right) }
+    ensures accepted { IfOk result (λ breaches. AreFailures (IsAcceptedAt events.now) breaches.accepted) }
+    ensures within { IfOk result (λ breaches. AreWithin (length events.now) breaches) }
+{
+    let tables = Tables::new(alloc, events)?;
+    Ok(Breaches {
+        fresh: unfresh(&tables, opening, events),
+        once: repeated(&tables, events),
+        in_order: out_of_order(alloc, &tables, opening, events)?,
+        empty_right: wrong_empties(alloc, &tables, opening, events)?,
+        accepted: refused_gots(alloc, &tables, events)?,
+    })
 }
 
 /// Judges a lawful history. `opening` has the contents of the tokens that stand in queue 0 before it. It
@@ -46,13 +90,13 @@ pub fn judge(alloc: Global, opening: &[Bytes], events: &[Event]) -> Result<Verdi
     ensures is_empty_right { IfOk result (λ verdict. (verdict.empty_right ≡ None) ↔ IsEmptyRight opening.now events.now) }
 {
     let tables = Tables::new(alloc, events)?;
-    let in_order = first_out_of_order(alloc, &tables, opening, events)?;
-    let empty_right = first_wrong_empty(alloc, &tables, opening, events)?;
+    let in_order = out_of_order(alloc, &tables, opening, events)?;
+    let empty_right = wrong_empties(alloc, &tables, opening, events)?;
     Ok(Verdict {
-        fresh: number_of(first_unfresh(&tables, opening, events)),
-        once: number_of(first_repeated(&tables, events)),
-        in_order: number_of(in_order),
-        empty_right: number_of(empty_right),
+        fresh: number_of(unfresh(&tables, opening, events).first),
+        once: number_of(repeated(&tables, events).first),
+        in_order: number_of(in_order.first),
+        empty_right: number_of(empty_right.first),
     })
 }
 

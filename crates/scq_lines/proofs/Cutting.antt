@@ -1,7 +1,7 @@
 -- Bytes cut at the first that is this one, as a search finds it.
-use Rattle.std.proofs.Common.{◌≡◌, ℕ, ◌+◌, ◌<◌, false, ◌==◌, Some, None, List, [], ◌∷◌, ◌++◌, length, take, drop, get_or, refl, sym, ◌∙◌, ap, arith}
+use Rattle.std.proofs.Common.{◌≡◌, ℕ, ◌+◌, ◌<◌, ◌≤◌, false, ◌==◌, Some, None, List, [], ◌∷◌, ◌++◌, length, take, drop, get_or, refl, sym, ◌∙◌, ap, append_assoc, arith}
 use Rattle.std.specs.Prelude.{slice_range}
-use Rattle.std.specs.List.{All}
+use Rattle.std.specs.List.{All, onto_first}
 use Rattle.std.proofs.lemmas.Bool.{false_from_ne_true, eqb-true}
 use Rattle.std.proofs.lemmas.List.{take_rest, get_or-take, length-take-le, take-append-drop, drop_more}
 use Rattle.std.proofs.lemmas.List.Elements.{All-head, All-tail}
@@ -52,6 +52,47 @@ lines_of-some text n found =
 pub lines_of-none : (text : List ℕ) → 0 < length text → IsFirstByte (is_byte 10) text None → lines_of text ≡ text ∷ []
 lines_of-none [] some none = absurd (omega arith)
 lines_of-none (b ∷ bs) some none = lines_of-last b bs (none_at_all 10 (b ∷ bs) none)
+
+-- the same where more bytes follow
+pub lines_of-some-more : (text more : List ℕ) (n : ℕ) → IsFirstByte (is_byte 10) text (Some n)
+    → lines_of (text ++ more) ≡ take n text ∷ lines_of (slice_range text (n + 1) (length text) ++ more)
+lines_of-some-more text more n found =
+    ap (λ t. lines_of (t ++ more)) (cut_at 10 text n found) ∙ ap lines_of (append_assoc (take n text) (10 ∷ drop (n + 1) text) more)
+    ∙ lines_of-ended (take n text) (drop (n + 1) text ++ more) (none_before 10 text n found)
+    ∙ ap (λ rest. take n text ∷ lines_of (rest ++ more)) (sym (take_rest text (n + 1)))
+
+-- the first line of a text that begins with these bytes, none of which ends it, has them all
+pub record BeginsLine (text more : List ℕ) : Type 0 where
+  pub line : List ℕ
+  pub lines : List (List ℕ)
+  pub cut : lines_of (text ++ more) ≡ line ∷ lines
+  pub has : length text ≤ length line
+
+pub record Onto (b : ℕ) (lines : List (List ℕ)) (n : ℕ) : Type 0 where
+  pub line : List ℕ
+  pub rest : List (List ℕ)
+  pub cut : onto_first b lines ≡ line ∷ rest
+  pub has : n + 1 ≤ length line
+
+onto : (b : ℕ) (lines : List (List ℕ)) (line : List ℕ) (rest : List (List ℕ)) (n : ℕ) → lines ≡ line ∷ rest → n ≤ length line → Onto b lines n
+onto b lines line rest n cut has = record { line = b ∷ line; rest = rest; cut = ap (onto_first b) cut; has = omega arith }
+
+onto_any : (b : ℕ) (lines : List (List ℕ)) → Onto b lines 0
+onto_any b [] = record { line = b ∷ []; rest = []; cut = refl; has = omega arith }
+onto_any b (line ∷ rest) = record { line = b ∷ line; rest = rest; cut = refl; has = omega arith }
+
+begins : (b : ℕ) (bs more : List ℕ) → HasNo 10 (b ∷ bs) → BeginsLine (b ∷ bs) more
+begins b [] more clear =
+    let o = onto_any b (lines_of more) in
+    record { line = o.line; lines = o.rest; cut = rw (All-head (IsOther 10) b [] clear) o.cut; has = o.has }
+begins b (d ∷ bs) more clear =
+    let inner = begins d bs more (All-tail (IsOther 10) b (d ∷ bs) clear) in
+    let o = onto b (lines_of ((d ∷ bs) ++ more)) inner.line inner.lines (length (d ∷ bs)) inner.cut inner.has in
+    record { line = o.line; lines = o.rest; cut = rw (All-head (IsOther 10) b (d ∷ bs) clear) o.cut; has = (let h = o.has in omega arith) }
+
+pub lines_of-none-more : (text more : List ℕ) → 0 < length text → IsFirstByte (is_byte 10) text None → BeginsLine text more
+lines_of-none-more [] more some none = absurd (omega arith)
+lines_of-none-more (b ∷ bs) more some none = begins b bs more (none_at_all 10 (b ∷ bs) none)
 
 -- the first field and what follows it
 fields_cut : (line : List ℕ) (n : ℕ) → IsFirstByte (is_byte 32) line (Some n) → fields_of line ≡ take n line ∷ fields_of (drop (n + 1) line)

@@ -14,4 +14,4 @@ mod tests;
 pub use contents::content;
 pub use fields::{first_field, next_field};
 pub use lines::next_line;
-pub use numbers::{number, number_below};
+pub use numbers::{number, number_below, number_up_to};

@@ -1,6 +1,6 @@
 //! The numbers that fields say.
 
-ghost use Rattle.std.specs.Prelude.{◌≡◌, ◌<◌, IfSome};
+ghost use Rattle.std.specs.Prelude.{◌≡◌, ◌+◌, ◌<◌, IfSome};
 ghost use Rattle.scq_lines.specs.Lines.{number_of, number_below};
 
 // A number of as many digits fits 64 bits.
@@ -30,6 +30,16 @@ pub fn number_below(bound: u32, field: &[u8]) -> Option<u32>
 {
     match number(field) {
         Some(number) if number < u64::from(bound) => Some(number as u32),
+        _ => None,
+    }
+}
+
+/// The number that a field says, where it is at most this.
+pub fn number_up_to(most: u32, field: &[u8]) -> Option<u32>
+    ensures { result ≡ number_below (most + 1) field.now }
+{
+    match number(field) {
+        Some(number) if number <= u64::from(most) => Some(number as u32),
         _ => None,
     }
 }

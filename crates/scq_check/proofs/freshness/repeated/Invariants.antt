@@ -1,0 +1,6 @@
+use Rattle.scq_hist.specs.Aspects.{IsOnceAt}
+use Rattle.scq_check.specs.Failures.{AreFailuresBefore}
+use Rattle.scq_check.proofs.freshness.repeated.Given as goal
+
+abbrev pub invariant-loop-e : goal.invariant-loop-e
+invariant-loop-e l = AreFailuresBefore (IsOnceAt l.events) l.e l.failures

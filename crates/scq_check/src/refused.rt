@@ -1,0 +1,122 @@
+//! The Gots that name puts which their queues refused.
+
+ghost use Rattle.std.specs.Prelude.{◌≡◌, ◌+◌, ◌<◌, ◌↔◌, IsTrue, Some, IfOk, IfSome, OnOk, length, MatchOption, is_some};
+ghost use Rattle.scq_hist.specs.Aspects.{IsLawful};
+ghost use Rattle.scq_hist.specs.Lookups.{got_name};
+ghost use Rattle.scq_hist.specs.declared.events.PutName.TheVariants.{Of};
+ghost use Rattle.scq_check.specs.ByName.{place_in};
+ghost use Rattle.scq_check.specs.Failures.{AreFailures};
+ghost use Rattle.scq_check.specs.Refused.{IsSpentAt, NoneSpentAt, NamesNoPut, IsRefusals, IsAcceptedAt};
+ghost use Rattle.scq_check.specs.Tables.{IsTables};
+
+use crate::by_name::ByName;
+use crate::failures::Failures;
+use crate::tables::Tables;
+use scq_hist::{Call, Event, PutName, Reply};
+use scq_word::NoMemory;
+use std::alloc::Global;
+
+// The put that ends with Spent at this position: its seat and number.
+fn spent_at(tables: &Tables, events: &[Event], e: usize) -> Option<(u32, u64)>
+    requires tables { IsTables events.now tables.now }
+    requires lawful { IsLawful events.now }
+    requires within { e < length events.now }
+    ensures { MatchOption result (NoneSpentAt events.now e) (λ put. IsSpentAt events.now put.0 put.1 e) }
+{
+    match &events[e] {
+        Event::End {
+            seat,
+            reply: Reply::Spent,
+        } => match tables.call_of(events, e) {
+            (start, Call::Put { .. }) => Some((*seat, tables.number(events, start))),
+            _ => None,
+        },
+        _ => None,
+    }
+}
+
+// Where each put that ended with Spent did.
+fn refusals(alloc: Global, tables: &Tables, events: &[Event]) -> Result<ByName, NoMemory>
+    requires tables { IsTables events.now tables.now }
+    requires lawful { IsLawful events.now }
+    ensures { IfOk result (IsRefusals events.now (length events.now)) }
+{
+    let mut refusals = ByName::new(alloc);
+    for e in 0..events.len() {
+        add_refusal(&mut refusals, tables, events, e)?;
+    }
+    Ok(refusals)
+}
+
+// From the events before position e to those up to it.
+fn add_refusal(
+    refusals: &mut ByName,
+    tables: &Tables,
+    events: &[Event],
+    e: usize,
+) -> Result<(), NoMemory>
+    requires tables { IsTables events.now tables.now }
+    requires lawful { IsLawful events.now }
+    requires within { e < length events.now }
+    requires before { IsRefusals events.now e refusals.old }
+    ensures { OnOk result (IsRefusals events.now (e + 1) refusals.new) }
+{
+    if let Some((seat, number)) = spent_at(tables, events, e) {
+        refusals.set(seat, number, e)?;
+    }
+    Ok(())
+}
+
+// The seat and the number of the put that a Got names.
+fn named_put(event: &Event) -> Option<(u32, u64)>
+    ensures { MatchOption result (NamesNoPut event.now) (λ put. got_name event.now ≡ Some (Of put.0 put.1)) }
+{
+    match event {
+        Event::End {
+            reply: Reply::Got {
+                name: PutName::Of { seat, number },
+                ..
+            },
+            ..
+        } => Some((*seat, *number)),
+        _ => None,
+    }
+}
+
+// Whether the put of this name is among them.
+fn is_among(refusals: &ByName, seat: u32, number: u64) -> bool
+    ensures { result ≡ is_some (place_in refusals.now seat number) }
+{
+    refusals.get(seat, number).is_some()
+}
+
+// Whether the Got that stands at this position, if one does, names no put that was refused.
+fn is_accepted_at(refusals: &ByName, events: &[Event], e: usize) -> bool
+    requires within { e < length events.now }
+    requires refusals { IsRefusals events.now (length events.now) refusals.now }
+    ensures { IsTrue result ↔ IsAcceptedAt events.now e }
+{
+    match named_put(&events[e]) {
+        Some((seat, number)) => !is_among(refusals, seat, number),
+        None => true,
+    }
+}
+
+/// The Gots that name puts which ended with Spent.
+pub(crate) fn refused_gots(
+    alloc: Global,
+    tables: &Tables,
+    events: &[Event],
+) -> Result<Failures, NoMemory>
+    requires tables { IsTables events.now tables.now }
+    requires lawful { IsLawful events.now }
+    ensures failures { IfOk result (AreFailures (IsAcceptedAt events.now)) }
+    ensures within { IfOk result (λ failures. IfSome failures.first (λ e. e < length events.now)) }
+{
+    let refusals = refusals(alloc, tables, events)?;
+    let mut failures = Failures::none();
+    for e in 0..events.len() {
+        failures = failures.with(e, is_accepted_at(&refusals, events, e));
+    }
+    Ok(failures)
+}

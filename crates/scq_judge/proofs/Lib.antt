@@ -1,0 +1,4 @@
+pub mod ReadLemmas
+pub mod MergeLemmas
+pub mod CountLemmas
+pub mod JudgeLemmas

@@ -1,0 +1,67 @@
+-- Events whose stamps rise
+use Rattle.std.proofs.Common.{◌≡◌, ℕ, ◌+◌, ◌-◌, ◌<◌, ◌≤◌, ◌↔◌, IsTrue, ltb, inl, inr, List, [], ◌∷◌, ◌++◌, map, length, get_or, append_assoc, refl, sym, ◌∙◌, ap, subst, arith}
+use Rattle.std.proofs.lemmas.List.{append-nil, get_or_default}
+use Rattle.std.proofs.lemmas.Bool.{cases_eq, cases_lt, lt-ltb, ltb-true}
+use Rattle.std.specs.List.Sorted.{IsNonDecreasingBy}
+use Rattle.scq_judge.specs.Merged.{RiseBelow, HasEqual, IsAbove, IsPlaceAt}
+use Rattle.scq_judge.specs.declared.recorded.Place.{Place}
+use Rattle.scq_judge.specs.declared.recorded.Stamped.{Stamped}
+
+pub rise_one : (merged : List Stamped) → RiseBelow merged 1
+rise_one merged = record { rises = λ i d lt. absurd (omega arith) }
+
+-- one event more, whose stamp is above that of the one before it
+pub rise_more : (merged : List Stamped) (i : ℕ) → 1 ≤ i
+    → ((d : Stamped) → (get_or merged (i - 1) d).stamp < (get_or merged i d).stamp) → RiseBelow merged i → RiseBelow merged (i + 1)
+rise_more merged i one here is = record {
+  rises = λ k d lt. elim (cases_eq (k + 1) i) [
+    | inl same ↦ (let before : i - 1 ≡ k = omega arith in
+        subst (λ z. (get_or merged k d).stamp < (get_or merged z d).stamp) (sym same)
+        (subst (λ z. (get_or merged z d).stamp < (get_or merged i d).stamp) before (here d)))
+    | inr ne ↦ is.rises k d (omega arith)
+  ];
+}
+
+pub rise_all : (merged : List Stamped) (i : ℕ) → length merged ≤ i → RiseBelow merged i → RiseBelow merged (length merged)
+rise_all merged i reached is = record { rises = λ k d lt. is.rises k d (omega arith) }
+
+-- the stamps at two positions, as they are read
+pub above_iff : (merged : List Stamped) (i : ℕ) (a b : Stamped) → 1 ≤ i → i < length merged
+    → IsTrue (ltb (get_or merged (i - 1) a).stamp (get_or merged i b).stamp) ↔ IsAbove merged i
+above_iff merged i a b one within = (
+  λ t d. rw (get_or_default merged (i - 1) d a (omega arith), get_or_default merged i d b within) (ltb-true _ _ t),
+  λ above. lt-ltb _ _ (rw (get_or_default merged i a b within) at (above a)),
+)
+
+pub place_there : (merged : List Stamped) (i : ℕ) (a : Stamped) → i < length merged → a ≡ get_or merged i a → IsPlaceAt merged i a.place
+place_there merged i a within at_a d = ap (λ (s : Stamped). s.place) (get_or_default merged i d a within ∙ sym at_a)
+
+-- an event that is parted from the others
+pub parts_more : {A : Type 0} (f : Stamped → A) (done pushed total : List A) (old new : List Stamped) (s : Stamped) → old ≡ s ∷ new → pushed ≡ done ++ f s ∷ []
+    → done ++ map f old ≡ total → pushed ++ map f new ≡ total
+parts_more {A} f done pushed total old new s is push all =
+    ap (λ xs. xs ++ map f new) push ∙ append_assoc done (f s ∷ []) (map f new) ∙ ap (λ xs. done ++ map f xs) (sym is) ∙ all
+
+pub parts_none : {A : Type 0} (f : Stamped → A) (done total : List A) (old : List Stamped) → length old ≡ 0 → done ++ map f old ≡ total → done ≡ total
+parts_none {A} f done total [] none all = sym (append-nil done) ∙ all
+parts_none {A} f done total (s ∷ old) none all = absurd (omega arith)
+
+-- the stamp isn't above that of the one before it, and none falls
+not_above : (merged : List Stamped) (i : ℕ) (d : Stamped) → 1 ≤ i → i < length merged → ¬ IsAbove merged i
+    → (get_or merged i d).stamp ≤ (get_or merged (i - 1) d).stamp
+not_above merged i d one within low = elim (cases_lt (get_or merged (i - 1) d).stamp (get_or merged i d).stamp) [
+  | inl lt ↦ absurd (low (λ e. rw (get_or_default merged (i - 1) e d (omega arith), get_or_default merged i e d within) lt))
+  | inr ge ↦ ge
+]
+
+pub equal_there : (merged : List Stamped) (i : ℕ) (place : Place) → 1 ≤ i → i < length merged
+    → ¬ IsAbove merged i → IsPlaceAt merged i place
+    → IsNonDecreasingBy (λ s. s.stamp) merged → HasEqual merged place
+equal_there merged i place one within low stands sorted = record {
+  i = i - 1;
+  within = omega arith;
+  equal = λ d. (let up = sorted (i - 1) i d (omega arith) within in let down = not_above merged i d one within low in
+      let back : i - 1 + 1 ≡ i = omega arith in
+      subst (λ z. (get_or merged (i - 1) d).stamp ≡ (get_or merged z d).stamp) (sym back) (omega arith));
+  stands = λ d. (let back : i - 1 + 1 ≡ i = omega arith in subst (λ z. (get_or merged z d).place ≡ place) (sym back) (stands d));
+}

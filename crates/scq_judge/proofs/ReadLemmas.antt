@@ -1,0 +1,148 @@
+-- The lines of a file as they are taken, and files one after the other
+use Rattle.std.proofs.Common.{◌≡◌, ℕ, zero, suc, ◌+◌, ◌<◌, ◌≤◌, Bool, List, [], ◌∷◌, ◌++◌, length, length-append, length-drop, slice_get, take, drop, append_assoc, Option, Some, None, Result, Ok, Err, refl, sym, ◌∙◌, ap, subst, arith}
+use Rattle.std.specs.Prelude.{slice_range, slice_set, IfSome, IsSomeAnd, OnOk}
+use Rattle.std.specs.Option.{option_map}
+use Rattle.std.proofs.lemmas.Bool.Decides.{nat_tests}
+use Rattle.std.proofs.lemmas.List.{take_rest}
+use Rattle.scq_judge.specs.Files.{most_bytes}
+use Rattle.memchr.specs.Find.{IsFirstByte, is_byte}
+use Rattle.scq_lines.specs.Lines.{lines_of}
+use Rattle.scq_lines.proofs.Cutting.{lines_of-some-more, lines_of-none-more, lines_of-none}
+use Rattle.scq_judge.specs.Entry.{said_by}
+use Rattle.scq_judge.specs.Recording.{Recording, after_lines, after_line, after_file, after_files, if_file}
+
+-- a line that ends is taken
+pub taken_more : (file : ℕ) (lone : Bool) (before : ℕ) (r next : Recording) (text : List ℕ) (n : ℕ) → IsFirstByte (is_byte 10) text (Some n)
+    → ((lines : List (List ℕ)) → after_lines file lone before r (take n text ∷ lines) ≡ after_lines file lone (before + 1) next lines)
+    → (more : List ℕ) → after_lines file lone before r (lines_of (text ++ more)) ≡ after_lines file lone (before + 1) next (lines_of (slice_range text (n + 1) (length text) ++ more))
+taken_more file lone before r next text n found read more =
+    ap (after_lines file lone before r) (lines_of-some-more text more n found) ∙ read (lines_of (slice_range text (n + 1) (length text) ++ more))
+
+-- a line that ends is refused
+pub refused_more : (file : ℕ) (lone : Bool) (before l : ℕ) (r : Recording) (text : List ℕ) (n : ℕ) → IsFirstByte (is_byte 10) text (Some n)
+    → ((lines : List (List ℕ)) → after_lines file lone before r (take n text ∷ lines) ≡ Err l)
+    → (more : List ℕ) → after_lines file lone before r (lines_of (text ++ more)) ≡ Err l
+refused_more file lone before l r text n found bad more =
+    ap (after_lines file lone before r) (lines_of-some-more text more n found) ∙ bad (lines_of (slice_range text (n + 1) (length text) ++ more))
+
+-- a line that is too long is not understood
+long_line : (file : ℕ) (lone : Bool) (before : ℕ) (r : Recording) (line : List ℕ) (lines : List (List ℕ)) → 1024 < length line
+    → after_lines file lone before r (line ∷ lines) ≡ Err (before + 1)
+long_line file lone before r line lines long =
+    let none : said_by line ≡ None = grind (arith, nat_tests) in rw none refl
+
+pub refused_long : (file : ℕ) (lone : Bool) (before : ℕ) (r : Recording) (text : List ℕ) → 1024 < length text → IsFirstByte (is_byte 10) text None
+    → (more : List ℕ) → after_lines file lone before r (lines_of (text ++ more)) ≡ Err (before + 1)
+refused_long file lone before r text long none more =
+    let b = lines_of-none-more text more (omega arith) none in
+    ap (after_lines file lone before r) b.cut ∙ long_line file lone before r b.line b.lines (let h = b.has in omega arith)
+
+-- the bytes that were read so far, taken
+pub record IsTaken (file : ℕ) (lone : Bool) (begun now : Recording) (lines : ℕ) (front : List ℕ) (before after : Option (List ℕ)) : Type 0 where
+  pub text : option_map (λ content. after_lines file lone 0 begun (lines_of content)) before
+      ≡ option_map (λ rest. after_lines file lone lines now (lines_of (front ++ rest))) after
+
+-- a piece more was read
+moved : {A : Type 0} (f : List ℕ → A) (piece : List ℕ) (before after : Option (List ℕ)) → before ≡ option_map (λ rest. piece ++ rest) after
+    → option_map f before ≡ option_map (λ rest. f (piece ++ rest)) after
+moved {A} f piece before None is = rw is refl
+moved {A} f piece before (Some rest) is = rw is refl
+
+same_map : {A : Type 0} (f g : List ℕ → A) (o : Option (List ℕ)) → ((x : List ℕ) → f x ≡ g x) → option_map f o ≡ option_map g o
+same_map {A} f g None same = refl
+same_map {A} f g (Some x) same = ap Some (same x)
+
+pub taken_piece : (file : ℕ) (lone : Bool) (begun old new : Recording) (lines more_lines : ℕ) (front piece rest : List ℕ) (first before after : Option (List ℕ))
+    → before ≡ option_map (λ left. piece ++ left) after
+    → ((more : List ℕ) → after_lines file lone lines old (lines_of ((front ++ piece) ++ more)) ≡ after_lines file lone more_lines new (lines_of (rest ++ more)))
+    → IsTaken file lone begun old lines front first before → IsTaken file lone begun new more_lines rest first after
+taken_piece file lone begun old new lines more_lines front piece rest first before after is taken text = record {
+  text = text.text ∙ moved (λ left. after_lines file lone lines old (lines_of (front ++ left))) piece before after is
+      ∙ same_map (λ left. after_lines file lone lines old (lines_of (front ++ (piece ++ left)))) (λ left. after_lines file lone more_lines new (lines_of (rest ++ left))) after
+      (λ left. ap (λ t. after_lines file lone lines old (lines_of t)) (sym (append_assoc front piece left)) ∙ taken left);
+}
+
+-- what is so of the texts before a piece was read, by what is so of the rest
+module _ {A : Type 0} (f g : List ℕ → A) (first after : Option (List ℕ)) (same : option_map f first ≡ option_map g after) where
+  -- nothing is left
+  pub at_end : (y : A) → IfSome after (λ rest. rest ≡ []) → g [] ≡ y → IfSome first (λ content. f content ≡ y)
+  at_end y none is = go first after same none where
+    go : (o p : Option (List ℕ)) → option_map f o ≡ option_map g p → IfSome p (λ rest. rest ≡ []) → IfSome o (λ content. f content ≡ y)
+    go None p e n = tt
+    go (Some content) None e n = absurd cc
+    go (Some content) (Some rest) e n = (let here : f content ≡ g rest = cc in here ∙ ap g n ∙ is)
+
+  -- whatever is left
+  pub in_any_case : (y : A) → ((rest : List ℕ) → g rest ≡ y) → IfSome first (λ content. f content ≡ y)
+  in_any_case y is = go first after same where
+    go : (o p : Option (List ℕ)) → option_map f o ≡ option_map g p → IfSome o (λ content. f content ≡ y)
+    go None p e = tt
+    go (Some content) None e = absurd cc
+    go (Some content) (Some rest) e = (let here : f content ≡ g rest = cc in here ∙ is rest)
+
+pub is_large : (first after : Option (List ℕ)) (n most : ℕ) → option_map length first ≡ option_map (λ rest. n + length rest) after → most < n
+    → IfSome first (λ content. most < length content)
+is_large None after n most same large = tt
+is_large (Some content) None n most same large = absurd cc
+is_large (Some content) (Some rest) n most same large = (let here : length content ≡ n + length rest = cc in omega arith)
+
+-- the lengths, where a piece more was read
+pub longer : (first before after : Option (List ℕ)) (piece : List ℕ) (n m : ℕ) → option_map length first ≡ option_map (λ rest. n + length rest) before
+    → before ≡ option_map (λ rest. piece ++ rest) after → m ≡ n + length piece → option_map length first ≡ option_map (λ rest. m + length rest) after
+longer first before after piece n m same moved_on is =
+    same ∙ moved (λ rest. n + length rest) piece before after moved_on
+    ∙ same_map_to (λ rest. n + length (piece ++ rest)) (λ rest. m + length rest) after (λ rest. omega (arith, length-append piece rest)) where
+      same_map_to : (f g : List ℕ → ℕ) (o : Option (List ℕ)) → ((x : List ℕ) → f x ≡ g x) → option_map f o ≡ option_map g o
+      same_map_to f g None each = refl
+      same_map_to f g (Some x) each = ap Some (each x)
+
+-- a file more
+pub file_more : (lone : Bool) (file i : ℕ) (old new : Recording) (contents : List (List ℕ)) (own : Option (List ℕ)) → i < length contents
+    → own ≡ slice_get contents i → IfSome own (λ content. after_file file lone old content ≡ Ok new)
+    → after_files lone file old (drop i contents) ≡ after_files lone (file + 1) new (drop (suc i) contents)
+file_more lone file i old new [] own lt is read = absurd (omega arith)
+file_more lone file zero old new (content ∷ contents) own lt is read =
+    let here : after_file file lone old content ≡ Ok new = subst (λ o. IfSome o (λ content. after_file file lone old content ≡ Ok new)) is read in
+    ap (λ r. if_file file r (λ next. after_files lone (file + 1) next contents)) here
+file_more lone file (suc i) old new (content ∷ contents) own lt is read = file_more lone file i old new contents own (omega arith) is read
+
+-- a file that is refused
+pub file_bad : (lone : Bool) (file i l : ℕ) (old : Recording) (contents : List (List ℕ)) (own : Option (List ℕ)) → i < length contents
+    → own ≡ slice_get contents i → IfSome own (λ content. after_file file lone old content ≡ Err l)
+    → after_files lone file old (drop i contents) ≡ Err (record { file = file; line = l })
+file_bad lone file i l old [] own lt is bad = absurd (omega arith)
+file_bad lone file zero l old (content ∷ contents) own lt is bad =
+    let here : after_file file lone old content ≡ Err l = subst (λ o. IfSome o (λ content. after_file file lone old content ≡ Err l)) is bad in
+    ap (λ r. if_file file r (λ next. after_files lone (file + 1) next contents)) here
+file_bad lone file (suc i) l old (content ∷ contents) own lt is bad = file_bad lone file i l old contents own (omega arith) is bad
+
+-- a file that is too large
+pub file_large : (i : ℕ) (contents : List (List ℕ)) (own : Option (List ℕ)) → i < length contents → own ≡ slice_get contents i
+    → IfSome own (λ content. most_bytes < length content) → IsSomeAnd (slice_get contents i) (λ content. most_bytes < length content)
+file_large i [] own lt is large = absurd (omega arith)
+file_large zero (content ∷ contents) own lt is large = subst (λ o. IfSome o (λ content. most_bytes < length content)) is large
+file_large (suc i) (content ∷ contents) own lt is large = file_large i contents own (omega arith) is large
+
+-- how many lines there are and how many bytes are left
+pub taken_few : (lines total : ℕ) (text : List ℕ) (n : ℕ) → IsFirstByte (is_byte 10) text (Some n) → lines + length text ≤ total
+    → lines + 1 + length (slice_range text (n + 1) (length text)) ≤ total
+taken_few lines total text n found few =
+    rw (take_rest text (n + 1)) (let high = found.0.high in let short = length-drop (n + 1) text in omega arith)
+
+-- what follows an answer
+pub on_ok : {T E : Type 0} (r : Result T E) (P Q : Type 0) → (P → Q) → OnOk r P → OnOk r Q
+on_ok (Ok x) P Q to p = to p
+on_ok (Err e) P Q to p = p
+
+-- a list with another member at position i
+pub set_other : {X : Type 0} (xs : List X) (i k : ℕ) (x : X) → i < k → slice_get (slice_set xs i x) k ≡ slice_get xs k
+set_other {X} [] i k x lt = refl
+set_other {X} (y ∷ ys) zero zero x lt = absurd (omega arith)
+set_other {X} (y ∷ ys) zero (suc k) x lt = refl
+set_other {X} (y ∷ ys) (suc i) zero x lt = absurd (omega arith)
+set_other {X} (y ∷ ys) (suc i) (suc k) x lt = set_other ys i k x (omega arith)
+
+pub set_same : {X : Type 0} (xs : List X) (i : ℕ) (x : X) → i < length xs → slice_get (slice_set xs i x) i ≡ Some x
+set_same {X} [] i x lt = absurd (omega arith)
+set_same {X} (y ∷ ys) zero x lt = refl
+set_same {X} (y ∷ ys) (suc i) x lt = set_same ys i x (omega arith)

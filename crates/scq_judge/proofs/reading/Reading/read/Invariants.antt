@@ -1,0 +1,20 @@
+use Rattle.std.proofs.Common.{◌≡◌, ◌+◌, ◌-◌, ◌≤◌, ℕ, List, None, length}
+use Rattle.std.specs.Option.{option_map}
+use Rattle.memchr.specs.Find.{IsFirstByte, is_byte}
+use Rattle.scq_judge.specs.Files.{most_bytes}
+use Rattle.scq_judge.specs.declared.recorded.Last.TheVariants.{NoEvent}
+use Rattle.scq_judge.proofs.ReadLemmas.{IsTaken}
+use Rattle.scq_judge.proofs.reading.Reading.read.Given as goal
+
+abbrev pub invariant-reads : goal.invariant-reads
+invariant-reads g l = record {
+  few : l.lines + length l.front.items ≤ l.size;
+  small : l.size ≤ most_bytes;
+  front : IsFirstByte (is_byte 10) l.front.items None;
+  taken : IsTaken l.fn.self.file l.fn.self.lone (record l.fn.recorded { last = NoEvent }) l.recorded l.lines l.front.items
+      (g.S.Source.left l.fn.source) (g.S.Source.left l.source);
+  left : option_map length (g.S.Source.left l.fn.source) ≡ option_map (λ rest. l.size + length rest) (g.S.Source.left l.source);
+}
+
+abbrev pub decreases-reads : goal.decreases-reads
+decreases-reads g l = most_bytes - l.size

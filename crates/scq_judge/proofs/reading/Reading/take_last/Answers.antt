@@ -1,0 +1,18 @@
+use Rattle.std.proofs.Common.{◌≡◌, ◌<◌, ◌∙◌, [], length, ap, arith}
+use Rattle.scq_lines.proofs.Cutting.{lines_of-none}
+use Rattle.scq_judge.specs.Recording.{after_lines}
+use Rattle.scq_judge.proofs.ReadLemmas.{on_ok}
+use Rattle.scq_judge.proofs.reading.Reading.take_last.Goals as goal
+
+pub returns-clause-read : goal.returns-clause-read
+returns-clause-read c =
+    let some : 0 < length c.args.bytes.now = grind arith in
+    on_ok c.add_line.result _ _
+    (λ read. ap (after_lines c.args.self.file c.args.self.lone c.args.before c.args.recorded.now) (lines_of-none c.args.bytes.now some c.requires.front) ∙ read [])
+    c.add_line.ensures.read
+
+pub returns-clause-bad_line : goal.returns-clause-bad_line
+returns-clause-bad_line c = λ f l is.
+    let some : 0 < length c.args.bytes.now = grind arith in
+    let h = c.add_line.ensures.bad_line f l is in
+    (h.0, ap (after_lines c.args.self.file c.args.self.lone c.args.before c.args.recorded.now) (lines_of-none c.args.bytes.now some c.requires.front) ∙ h.1 [])

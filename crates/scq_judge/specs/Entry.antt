@@ -1,0 +1,40 @@
+-- What a line of a recording says: an opening token, or an event with its stamp in front, or with none
+use Rattle.std.specs.Prelude.{ℕ, ◌-◌, ◌^◌, nat_le, List, [], ◌∷◌, Option, Some, None, length, if◌then◌else◌}
+use Rattle.scq_lines.specs.Lines.{fields_of, number_of}
+use Rattle.scq_check.specs.Line.{said}
+use Rattle.scq_check.specs.declared.line.Bounds.{Bounds}
+use Rattle.scq_check.specs.declared.line.Line.{Line}
+use Rattle.scq_check.specs.declared.line.Line.TheVariants as line
+use Rattle.scq_judge.specs.declared.entry.Entry.{Entry}
+use Rattle.scq_judge.specs.declared.entry.Entry.TheVariants.{Opening, Happens}
+
+-- seats, queues and numbers of opening tokens are below 2^32
+abbrev pub wide : Bounds
+wide = record { seat = 2 ^ 32 - 1; queue = 2 ^ 32 - 1; token = 2 ^ 32 - 1 }
+
+-- a line without a stamp, and one whose stamp was read
+abbrev pub bare : Option Line → Option Entry
+bare (Some (line.Opening content)) = Some (Opening content)
+bare (Some (line.Happens event)) = Some (Happens None event)
+bare None = None
+
+abbrev pub stamped : ℕ → Option Line → Option Entry
+stamped stamp (Some (line.Happens event)) = Some (Happens (Some stamp) event)
+stamped stamp _ = None
+
+-- a first field that is a number is a stamp
+abbrev pub entry_in : Option ℕ → List ℕ → List (List ℕ) → Option Entry
+entry_in None field more = bare (said wide (field ∷ more))
+entry_in (Some stamp) field more = stamped stamp (said wide more)
+
+abbrev pub entry_of : List (List ℕ) → Option Entry
+entry_of [] = None
+entry_of (field ∷ more) = entry_in (number_of field) field more
+
+-- the most bytes of a line, which is more than any line of the form has
+abbrev pub most_line : ℕ
+most_line = 1024
+
+-- what a line says
+abbrev pub said_by : List ℕ → Option Entry
+said_by line = if nat_le (length line) most_line then entry_of (fields_of line) else None

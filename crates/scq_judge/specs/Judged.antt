@@ -1,0 +1,91 @@
+-- What recordings with visible contents tell: the report of the merged history, or the cause of a fault
+use Rattle.std.specs.Prelude.{◌≡◌, ◌⊎◌, ℕ, ◌<◌, List, Ok, Err, Some, slice_get}
+use Rattle.scq_hist.specs.Aspects.{IsLawful, IsLawfulAt}
+use Rattle.scq_hist.specs.First.{IsFirstFailing}
+use Rattle.scq_hist.specs.declared.events.Event.{Event}
+use Rattle.scq_judge.specs.Files.{IsLarge}
+use Rattle.scq_judge.specs.Merged.{IsMergeOf, HasStampOfAnother}
+use Rattle.scq_judge.specs.Recording.{Recording, recording_of}
+use Rattle.scq_judge.specs.Report.{IsReport, report_lines}
+use Rattle.scq_judge.specs.declared.judging.JudgeFault.{JudgeFault}
+use Rattle.scq_judge.specs.declared.judging.JudgeFault.TheVariants.{BadLine, Unlawful, ReadFault, TooLarge, NoMemory}
+use Rattle.scq_judge.specs.declared.judging.Report.{Report}
+use Rattle.scq_judge.specs.declared.merging.MergeFault.{MergeFault}
+use Rattle.scq_judge.specs.declared.merging.MergeFault.TheVariants as merging
+use Rattle.scq_judge.specs.declared.reading.ReadingFault.{ReadingFault}
+use Rattle.scq_judge.specs.declared.reading.ReadingFault.TheVariants as reading
+use Rattle.scq_judge.specs.declared.recorded.Place.{Place}
+
+-- the history that what was read is merged to
+pub record IsHistoryOf (recorded : Recording) (opening : List (List ℕ)) (events : List Event) (places : List Place) : Type 0 where
+  pub opens : opening ≡ recorded.opening
+  pub merged : IsMergeOf recorded.events events places
+
+-- the history is lawful, and the text is that of its report
+pub record IsReportOf (opening : List (List ℕ)) (events : List Event) (places : List Place) (text : List ℕ) : Type 0 where
+  pub lawful : IsLawful events
+  pub report : Report
+  pub is_report : IsReport opening events report
+  pub said : text ≡ report_lines places report
+
+-- so of the history that what was read is merged to
+pub record IsReported (recorded : Recording) (text : List ℕ) : Type 0 where
+  pub opening : List (List ℕ)
+  pub events : List Event
+  pub places : List Place
+  pub history : IsHistoryOf recorded opening events places
+  pub reported : IsReportOf opening events places text
+
+-- the event of this place is the first of the history that is out of place
+pub record IsOutOfPlace (recorded : Recording) (place : Place) : Type 0 where
+  pub opening : List (List ℕ)
+  pub events : List Event
+  pub places : List Place
+  pub history : IsHistoryOf recorded opening events places
+  pub e : ℕ
+  pub first : IsFirstFailing (λ d. IsLawfulAt events d (slice_get events d)) (Some e)
+  pub stands : slice_get places e ≡ Some place
+
+-- what is at fault in what was read
+abbrev pub IsCauseIn : Recording → JudgeFault → Type 0
+IsCauseIn recorded (BadLine file line) = HasStampOfAnother recorded.events (record { file = file; line = line })
+IsCauseIn recorded (Unlawful file line) = IsOutOfPlace recorded (record { file = file; line = line })
+IsCauseIn recorded NoMemory = Unit {0}
+IsCauseIn recorded _ = ⊥
+
+-- recordings with these contents are read, and tell this report
+pub record IsJudged (contents : List (List ℕ)) (text : List ℕ) : Type 0 where
+  pub recorded : Recording
+  pub read : recording_of contents ≡ Ok recorded
+  pub reported : IsReported recorded text
+
+pub record IsCaused (contents : List (List ℕ)) (fault : JudgeFault) : Type 0 where
+  pub recorded : Recording
+  pub read : recording_of contents ≡ Ok recorded
+  pub cause : IsCauseIn recorded fault
+
+-- what is at fault in the contents; a read that fails and want of memory aren't
+abbrev pub IsCause : List (List ℕ) → JudgeFault → Type 0
+IsCause contents (BadLine file line) =
+    (recording_of contents ≡ Err (record { file = file; line = line })) ⊎ IsCaused contents (BadLine file line)
+IsCause contents (Unlawful file line) = IsCaused contents (Unlawful file line)
+IsCause contents (TooLarge file) = IsLarge contents file
+IsCause contents (ReadFault file) = Unit {0}
+IsCause contents NoMemory = Unit {0}
+
+-- For private calls: the fault tells the place of the first event that isn't lawful
+abbrev pub IsUnlawfulAt : List Event → List Place → JudgeFault → Type 0
+IsUnlawfulAt events places (Unlawful file line) =
+    (e : ℕ) × IsFirstFailing (λ d. IsLawfulAt events d (slice_get events d)) (Some e) × (slice_get places e ≡ Some (record { file = file; line = line }))
+IsUnlawfulAt events places _ = ⊥
+
+-- the faults of reading and of merging
+abbrev pub fault_of_reading : ReadingFault → JudgeFault
+fault_of_reading (reading.BadLine file line) = BadLine file line
+fault_of_reading (reading.ReadFault file) = ReadFault file
+fault_of_reading (reading.TooLarge file) = TooLarge file
+fault_of_reading reading.NoMemory = NoMemory
+
+abbrev pub fault_of_merging : MergeFault → JudgeFault
+fault_of_merging (merging.SameStamp place) = BadLine place.file place.line
+fault_of_merging merging.NoMemory = NoMemory

@@ -1,0 +1,66 @@
+//! What a line of a recording says.
+
+ghost use Rattle.std.specs.Prelude.{◌≡◌, ◌∷◌, IfOk};
+ghost use Rattle.scq_judge.specs.Entry.{bare, stamped, said_by};
+
+use scq_check::{Bounds, Line, read_fields};
+use scq_hist::Event;
+use scq_lines::{first_field, next_field, number};
+use scq_word::{Bytes, NoMemory};
+use std::alloc::Global;
+
+/// Any seat, queue and number of an opening token that a `u32` holds.
+const WIDE: Bounds = Bounds {
+    seat: u32::MAX,
+    queue: u32::MAX,
+    token: u32::MAX,
+};
+
+/// The most bytes of a line. No line of the form has as many.
+pub(crate) const MOST_LINE: usize = 1024;
+
+/// What a line says.
+#[derive(Debug, Drop)]
+pub(crate) enum Entry {
+    Opening { content: Bytes },
+    Happens { stamp: Option<u64>, event: Event },
+}
+
+/// What a line says, where it is of the form: a first field that is a number is a stamp.
+pub(crate) fn read_entry(alloc: Global, line: &[u8]) -> Result<Option<Entry>, NoMemory>
+    ensures { IfOk result (λ entry. entry ≡ said_by line.now) }
+{
+    if line.len() > MOST_LINE {
+        return Ok(None);
+    }
+    let (field, rest) = first_field(line);
+    match number(field) {
+        None => Ok(bare(read_fields(alloc, WIDE, field, rest)?)),
+        Some(stamp) => match next_field(rest) {
+            None => Ok(None),
+            Some((word, rest)) => Ok(stamped(stamp, read_fields(alloc, WIDE, word, rest)?)),
+        },
+    }
+}
+
+fn bare(line: Option<Line>) -> Option<Entry>
+    ensures { result ≡ bare line }
+{
+    match line {
+        Some(Line::Opening { content }) => Some(Entry::Opening { content }),
+        Some(Line::Happens { event }) => Some(Entry::Happens { stamp: None, event }),
+        None => None,
+    }
+}
+
+fn stamped(stamp: u64, line: Option<Line>) -> Option<Entry>
+    ensures { result ≡ stamped stamp line }
+{
+    match line {
+        Some(Line::Happens { event }) => Some(Entry::Happens {
+            stamp: Some(stamp),
+            event,
+        }),
+        _ => None,
+    }
+}

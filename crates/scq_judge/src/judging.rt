@@ -1,0 +1,172 @@
+//! Recordings read, merged and judged.
+
+ghost use Rattle.std.specs.Prelude.{◌≡◌, ◌-◌, ◌<◌, ◌^◌, ◌⊎◌, ℕ, List, length, slice_get, IfOk, IfErr, IsErrOf, IsSomeAnd};
+ghost use Rattle.scq_hist.specs.Aspects.{IsLawful};
+ghost use Rattle.scq_check.specs.Verdicts.{AreWithin};
+ghost use Rattle.scq_judge.specs.Files.{HaveContents};
+ghost use Rattle.scq_judge.specs.Judged.{IsJudged, IsCause, IsReported, IsReportOf, IsCauseIn, IsUnlawfulAt};
+ghost use Rattle.scq_judge.specs.Report.{IsReport};
+
+use crate::counting::{Counts, count};
+use crate::merging::{MergeFault, Merged, merge};
+use crate::reading::{ReadingFault, read_recordings};
+use crate::recorded::{Place, Recorded};
+use crate::text::report_text;
+use scq_check::{Breaches, find_breaches, first_unlawful};
+use scq_hist::Event;
+use scq_outside::Source;
+use scq_word::{Bytes, NoMemory};
+use std::alloc::Global;
+use thiserror::Error;
+
+/// What is said of a history: the events that break each aspect, and what it has.
+#[derive(Clone, Copy, Debug, PartialEq, Eq)]
+pub struct Report {
+    pub breaches: Breaches,
+    pub counts: Counts,
+}
+
+/// Why recordings were not judged. Files and lines are numbered from 1.
+#[derive(Clone, Copy, Debug, PartialEq, Eq, Error)]
+pub enum JudgeFault {
+    /// The line is not of the form, or may not stand there, or has the stamp of another.
+    #[error("file {file} line {line}: not understood")]
+    BadLine { file: u32, line: u32 },
+    /// In the merged history this line's event is the first that isn't lawful.
+    #[error("file {file} line {line}: event out of place")]
+    Unlawful { file: u32, line: u32 },
+    #[error("file {file}: read fault")]
+    ReadFault { file: u32 },
+    #[error("file {file}: more than 2147483646 bytes")]
+    TooLarge { file: u32 },
+    #[error("out of memory")]
+    NoMemory,
+}
+
+impl From<NoMemory> for JudgeFault {
+    ghost use Rattle.scq_judge.specs.declared.judging.JudgeFault.TheVariants.{NoMemory as Wanted};
+
+    ghost from_gives = { λ _ fault. fault ≡ Wanted };
+
+    fn from(_: NoMemory) -> JudgeFault {
+        JudgeFault::NoMemory
+    }
+}
+
+impl From<ReadingFault> for JudgeFault {
+    ghost use Rattle.scq_judge.specs.Judged.{fault_of_reading};
+
+    ghost from_gives = { λ refused fault. fault ≡ fault_of_reading refused };
+
+    fn from(refused: ReadingFault) -> JudgeFault {
+        match refused {
+            ReadingFault::BadLine { file, line } => JudgeFault::BadLine { file, line },
+            ReadingFault::ReadFault { file } => JudgeFault::ReadFault { file },
+            ReadingFault::TooLarge { file } => JudgeFault::TooLarge { file },
+            ReadingFault::NoMemory => JudgeFault::NoMemory,
+        }
+    }
+}
+
+impl From<MergeFault> for JudgeFault {
+    ghost use Rattle.scq_judge.specs.Judged.{fault_of_merging};
+
+    ghost from_gives = { λ refused fault. fault ≡ fault_of_merging refused };
+
+    fn from(refused: MergeFault) -> JudgeFault {
+        match refused {
+            MergeFault::SameStamp {
+                place: Place { file, line },
+            } => JudgeFault::BadLine { file, line },
+            MergeFault::NoMemory => JudgeFault::NoMemory,
+        }
+    }
+}
+
+/// The report of the history that the recordings of these files are merged to, as text. Memory and time grow little faster than
+/// the number of events.
+pub fn judge_recordings<S: Source>(alloc: Global, sources: &mut [S]) -> Result<Bytes, JudgeFault>
+    requires { length sources.old < 2 ^ 31 }
+    ensures judged { IfOk result (λ text. (contents : List (List ℕ)) → HaveContents S.left sources.old contents → IsJudged contents text) }
+    ensures refused { IfErr result (λ fault. (contents : List (List ℕ)) → HaveContents S.left sources.old contents → IsCause contents fault) }
+    ensures read_fault { (file : ℕ) → IsErrOf result (JudgeFault.ReadFault file)
+        → IsSomeAnd (slice_get sources.new (file - 1)) (λ source. 0 < S.faults source) }
+{
+    match read_recordings(alloc, sources) {
+        Ok(recorded) => judge_recorded(alloc, recorded),
+        Err(fault) => Err(JudgeFault::from(fault)),
+    }
+}
+
+// The report of what was read, as text.
+fn judge_recorded(alloc: Global, recorded: Recorded) -> Result<Bytes, JudgeFault>
+    ensures reported { IfOk result (IsReported recorded) }
+    ensures refused { IfErr result (IsCauseIn recorded) }
+{
+    match merge(alloc, recorded) {
+        Ok(merged) => judge_merged(alloc, &merged),
+        Err(fault) => Err(JudgeFault::from(fault)),
+    }
+}
+
+// The report of a merged history, as text.
+fn judge_merged(alloc: Global, merged: &Merged) -> Result<Bytes, JudgeFault>
+    requires { length merged.now.places.items ≡ length merged.now.events.items }
+    ensures reported { IfOk result (IsReportOf merged.now.opening.items merged.now.events.items merged.now.places.items) }
+    ensures refused { IfErr result (λ fault. (fault ≡ JudgeFault.NoMemory) ⊎ IsUnlawfulAt merged.now.events.items merged.now.places.items fault) }
+{
+    let opening = merged.opening.as_slice();
+    let events = merged.events.as_slice();
+    let places = merged.places.as_slice();
+    judge_history(alloc, opening, events, places)
+}
+
+// The report of a history, as text.
+fn judge_history(
+    alloc: Global,
+    opening: &[Bytes],
+    events: &[Event],
+    places: &[Place],
+) -> Result<Bytes, JudgeFault>
+    requires { length places.now ≡ length events.now }
+    ensures reported { IfOk result (IsReportOf opening.now events.now places.now) }
+    ensures refused { IfErr result (λ fault. (fault ≡ JudgeFault.NoMemory) ⊎ IsUnlawfulAt events.now places.now fault) }
+{
+    let first = first_unlawful(alloc, events)?;
+    match first {
+        Some(e) => {
+            let Place { file, line } = places[e];
+            Err(JudgeFault::Unlawful { file, line })
+        }
+        None => judge_lawful(alloc, opening, events, places),
+    }
+}
+
+// The report of a lawful history, as text.
+fn judge_lawful(
+    alloc: Global,
+    opening: &[Bytes],
+    events: &[Event],
+    places: &[Place],
+) -> Result<Bytes, JudgeFault>
+    requires many { length places.now ≡ length events.now }
+    requires lawful { IsLawful events.now }
+    ensures reported { IfOk result (IsReportOf opening.now events.now places.now) }
+    ensures refused { IfErr result (λ fault. fault ≡ JudgeFault.NoMemory) }
+{
+    let report = report_on(alloc, opening, events)?;
+    let text = report_text(alloc, places, &report)?;
+    Ok(text)
+}
+
+// What is said of a lawful history.
+fn report_on(alloc: Global, opening: &[Bytes], events: &[Event]) -> Result<Report, NoMemory>
+    requires { IsLawful events.now }
+    ensures report { IfOk result (IsReport opening.now events.now) }
+    ensures within { IfOk result (λ report. AreWithin (length events.now) report.breaches) }
+{
+    Ok(Report {
+        breaches: find_breaches(alloc, opening, events)?,
+        counts: count(alloc, events)?,
+    })
+}

@@ -1,0 +1,101 @@
+//! The events of all files in the order of their stamps.
+
+ghost use Rattle.std.specs.Prelude.{◌≡◌, ◌<◌, ◌≤◌, ◌↔◌, IsTrue, map, length, IfOk, OnOk, MatchOption, IsErrOf};
+ghost use Rattle.std.specs.List.Sorted.{IsPermutation, IsNonDecreasingBy};
+ghost use Rattle.scq_judge.specs.Merged.{RiseBelow, HasEqual, IsAbove, IsPlaceAt, IsMergeOf, HasStampOfAnother};
+
+use crate::recorded::{Place, Recorded, Stamped};
+use scq_hist::Event;
+use scq_word::{Bytes, NoMemory};
+use std::alloc::Global;
+
+/// The opening tokens, and of all files the events in the order of their stamps with their places.
+#[derive(Drop)]
+pub(crate) struct Merged {
+    pub opening: Vec<Bytes>,
+    pub events: Vec<Event>,
+    pub places: Vec<Place>,
+}
+
+/// Why recordings were not merged.
+#[derive(Clone, Copy, Debug, PartialEq, Eq)]
+pub(crate) enum MergeFault {
+    /// The event of this place has the stamp of another.
+    SameStamp { place: Place },
+    NoMemory,
+}
+
+/// Merges recordings.
+pub(crate) fn merge(alloc: Global, recorded: Recorded) -> Result<Merged, MergeFault>
+    ensures opening { IfOk result (λ merged. merged.opening.items ≡ recorded.opening) }
+    ensures merged { IfOk result (λ merged. IsMergeOf recorded.events merged.events.items merged.places.items) }
+    ensures same_stamp { (place : Place) → IsErrOf result (MergeFault.SameStamp place) → HasStampOfAnother recorded.events place }
+{
+    let (opening, mut stamped) = recorded.into_parts();
+    if sort(&mut stamped).is_err() {
+        return Err(MergeFault::NoMemory);
+    }
+    if let Some(place) = first_equal(&stamped) {
+        return Err(MergeFault::SameStamp { place });
+    }
+    match part(alloc, stamped) {
+        Ok((events, places)) => Ok(Merged {
+            opening,
+            events,
+            places,
+        }),
+        Err(NoMemory) => Err(MergeFault::NoMemory),
+    }
+}
+
+fn sort(stamped: &mut Vec<Stamped>) -> Result<(), NoMemory>
+    ensures same { IsPermutation stamped.old.items stamped.new.items }
+    ensures sorted { OnOk result (IsNonDecreasingBy (λ s. s.stamp) stamped.new.items) }
+{
+    stamped.sort_by_key(|event| event.stamp)?;
+    Ok(())
+}
+
+/// The place of the first event whose stamp is that of the one before it.
+fn first_equal(stamped: &[Stamped]) -> Option<Place>
+    requires { IsNonDecreasingBy (λ s. s.stamp) stamped.now }
+    ensures { MatchOption result (RiseBelow stamped.now (length stamped.now)) (HasEqual stamped.now) }
+{
+    for i in 1..stamped.len() {
+        if !is_above(stamped, i) {
+            return Some(place_at(stamped, i));
+        }
+    }
+    None
+}
+
+// Whether the stamp of the event at this position is above that of the one before it.
+fn is_above(stamped: &[Stamped], i: usize) -> bool
+    requires later { 1 ≤ i }
+    requires within { i < length stamped.now }
+    ensures { IsTrue result ↔ IsAbove stamped.now i }
+{
+    stamped[i - 1].stamp < stamped[i].stamp
+}
+
+fn place_at(stamped: &[Stamped], i: usize) -> Place
+    requires { i < length stamped.now }
+    ensures { IsPlaceAt stamped.now i result }
+{
+    stamped[i].place
+}
+
+/// The events and their places, apart.
+fn part(alloc: Global, stamped: Vec<Stamped>) -> Result<(Vec<Event>, Vec<Place>), NoMemory>
+    ensures events { IfOk result (λ parts. parts.0.items ≡ map (λ s. s.event) stamped.items) }
+    ensures places { IfOk result (λ parts. parts.1.items ≡ map (λ s. s.place) stamped.items) }
+{
+    let mut events = Vec::with_capacity(alloc, stamped.len())?;
+    let mut places = Vec::with_capacity(alloc, stamped.len())?;
+    let mut rest = stamped.into_iter();
+    'parts: while let Some(Stamped { place, event, .. }) = rest.next() {
+        events.push(event)?;
+        places.push(place)?;
+    }
+    Ok((events, places))
+}

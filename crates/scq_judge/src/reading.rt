@@ -1,0 +1,223 @@
+//! Recordings read from their files, piece by piece.
+
+ghost use Rattle.std.specs.Prelude.{◌≡◌, ◌+◌, ◌-◌, ◌<◌, ◌≤◌, ◌^◌, ◌∷◌, ◌++◌, ℕ, List, None, Ok, Err, length, slice_get, IfOk, IfSome, IsSomeAnd, OnOk, IsErrOf};
+ghost use Rattle.scq_lines.specs.Lines.{lines_of};
+ghost use Rattle.memchr.specs.Find.{IsFirstByte, is_byte};
+ghost use Rattle.scq_outside.specs.Counts.{Rose};
+ghost use Rattle.scq_judge.specs.Recording.{after_lines, after_file, recording_of};
+ghost use Rattle.scq_judge.specs.Files.{HaveContents, IsLarge, most_bytes};
+
+use crate::entry::MOST_LINE;
+use crate::recorded::{LineFault, Place, Recorded};
+use memchr::memchr;
+use scq_outside::{Failed, Source};
+use scq_word::NoMemory;
+use std::alloc::{AllocError, Global};
+use thiserror::Error;
+
+/// The most bytes that one read is asked for.
+const PIECE: usize = 65536;
+
+/// The most bytes of a file.
+const MOST_BYTES: u64 = (1 << 31) - 2;
+
+/// Why recordings were not read to their ends. Files and lines are numbered from 1.
+#[derive(Clone, Copy, Debug, PartialEq, Eq, Error)]
+pub(crate) enum ReadingFault {
+    /// The line is not of the form, or may not stand there.
+    #[error("file {file} line {line}: not understood")]
+    BadLine { file: u32, line: u32 },
+    #[error("file {file}: read fault")]
+    ReadFault { file: u32 },
+    #[error("file {file}: more than 2147483646 bytes")]
+    TooLarge { file: u32 },
+    #[error("out of memory")]
+    NoMemory,
+}
+
+impl From<NoMemory> for ReadingFault {
+    ghost use Rattle.scq_judge.specs.declared.reading.ReadingFault.TheVariants.{NoMemory as Wanted};
+
+    ghost from_gives = { λ _ fault. fault ≡ Wanted };
+
+    fn from(_: NoMemory) -> ReadingFault {
+        ReadingFault::NoMemory
+    }
+}
+
+impl From<AllocError> for ReadingFault {
+    ghost use Rattle.scq_judge.specs.declared.reading.ReadingFault.TheVariants.{NoMemory as Wanted};
+
+    ghost from_gives = { λ _ fault. fault ≡ Wanted };
+
+    fn from(_: AllocError) -> ReadingFault {
+        ReadingFault::NoMemory
+    }
+}
+
+/// A file that is read: its number, and whether it is the only one.
+#[derive(Clone, Copy)]
+struct Reading {
+    file: u32,
+    lone: bool,
+}
+
+/// How many lines of a file were taken, and what follows them: the front of a line.
+#[derive(Drop)]
+struct Taken<'a> {
+    lines: u32,
+    rest: &'a [u8],
+}
+
+impl Reading {
+    /// Takes the line that follows so many of the file.
+    fn add_line(
+        self,
+        alloc: Global,
+        recorded: &mut Recorded,
+        before: u32,
+        text: &[u8],
+    ) -> Result<(), ReadingFault>
+        requires { before + 1 < 2 ^ 32 }
+        ensures read { OnOk result ((lines : List (List ℕ)) → after_lines self.file self.lone before recorded.old (text.now ∷ lines)
+            ≡ after_lines self.file self.lone (before + 1) recorded.new lines) }
+        ensures bad_line { (f l : ℕ) → IsErrOf result (ReadingFault.BadLine f l) → (f ≡ self.file) × ((lines : List (List ℕ))
+            → after_lines self.file self.lone before recorded.old (text.now ∷ lines) ≡ Err l) }
+        ensures read_fault { (f : ℕ) → ¬ IsErrOf result (ReadingFault.ReadFault f) }
+        ensures large { (f : ℕ) → ¬ IsErrOf result (ReadingFault.TooLarge f) }
+    {
+        let file = self.file;
+        let line = before + 1;
+        match recorded.add_line(alloc, self.lone, Place { file, line }, text) {
+            Ok(()) => Ok(()),
+            Err(LineFault::NotUnderstood) => Err(ReadingFault::BadLine { file, line }),
+            Err(LineFault::NoMemory) => Err(ReadingFault::NoMemory),
+        }
+    }
+
+    /// Takes the whole lines of these bytes, which follow so many lines of the file.
+    fn take_lines<'a>(
+        self,
+        alloc: Global,
+        recorded: &mut Recorded,
+        before: u32,
+        bytes: &'a [u8],
+    ) -> Result<Taken<'a>, ReadingFault>
+        requires room { before + length bytes.now < 2 ^ 31 }
+        ensures taken { IfOk result (λ taken. (more : List ℕ) → after_lines self.file self.lone before recorded.old (lines_of (bytes.now ++ more))
+            ≡ after_lines self.file self.lone taken.lines recorded.new (lines_of (taken.rest.now ++ more))) }
+        ensures few { IfOk result (λ taken. taken.lines + length taken.rest.now ≤ before + length bytes.now) }
+        ensures front { IfOk result (λ taken. IsFirstByte (is_byte 10) taken.rest.now None) }
+        ensures bad_line { (f l : ℕ) → IsErrOf result (ReadingFault.BadLine f l) → (f ≡ self.file) × ((more : List ℕ)
+            → after_lines self.file self.lone before recorded.old (lines_of (bytes.now ++ more)) ≡ Err l) }
+        ensures read_fault { (f : ℕ) → ¬ IsErrOf result (ReadingFault.ReadFault f) }
+        ensures large { (f : ℕ) → ¬ IsErrOf result (ReadingFault.TooLarge f) }
+    {
+        let mut lines = before;
+        let mut rest = bytes;
+        'lines: loop {
+            match memchr(b'\n', rest) {
+                Some(end) => {
+                    self.add_line(alloc, recorded, lines, &rest[..end])?;
+                    lines += 1;
+                    rest = &rest[end + 1..];
+                }
+                None => {
+                    if rest.len() > MOST_LINE {
+                        return Err(ReadingFault::BadLine {
+                            file: self.file,
+                            line: lines + 1,
+                        });
+                    }
+                    return Ok(Taken { lines, rest });
+                }
+            }
+        }
+    }
+
+    /// Takes the bytes behind the last LF, where there are any, as a line that follows so many.
+    fn take_last(
+        self,
+        alloc: Global,
+        recorded: &mut Recorded,
+        before: u32,
+        bytes: &[u8],
+    ) -> Result<(), ReadingFault>
+        requires room { before < 2 ^ 31 }
+        requires front { IsFirstByte (is_byte 10) bytes.now None }
+        ensures read { OnOk result (after_lines self.file self.lone before recorded.old (lines_of bytes.now) ≡ Ok recorded.new) }
+        ensures bad_line { (f l : ℕ) → IsErrOf result (ReadingFault.BadLine f l)
+            → (f ≡ self.file) × (after_lines self.file self.lone before recorded.old (lines_of bytes.now) ≡ Err l) }
+        ensures read_fault { (f : ℕ) → ¬ IsErrOf result (ReadingFault.ReadFault f) }
+        ensures large { (f : ℕ) → ¬ IsErrOf result (ReadingFault.TooLarge f) }
+    {
+        if bytes.is_empty() {
+            return Ok(());
+        }
+        self.add_line(alloc, recorded, before, bytes)
+    }
+
+    /// Reads the file to its end.
+    fn read<S: Source>(
+        self,
+        alloc: Global,
+        recorded: &mut Recorded,
+        source: &mut S,
+    ) -> Result<(), ReadingFault>
+        ensures read { OnOk result (IfSome (S.left source.old) (λ content. after_file self.file self.lone recorded.old content ≡ Ok recorded.new)) }
+        ensures bad_line { (f l : ℕ) → IsErrOf result (ReadingFault.BadLine f l) → (f ≡ self.file)
+            × IfSome (S.left source.old) (λ content. after_file self.file self.lone recorded.old content ≡ Err l) }
+        ensures large { (f : ℕ) → IsErrOf result (ReadingFault.TooLarge f) → (f ≡ self.file)
+            × IfSome (S.left source.old) (λ content. most_bytes < length content) }
+        ensures read_fault { (f : ℕ) → IsErrOf result (ReadingFault.ReadFault f) → (f ≡ self.file) × (0 < S.faults source.new) }
+    {
+        recorded.begin_file();
+        let mut piece = [0; PIECE];
+        let mut front = Vec::new(alloc);
+        let mut lines = 0;
+        let mut size = 0;
+        'reads: loop {
+            let Ok(count) = source.read(&mut piece) else {
+                return Err(ReadingFault::ReadFault { file: self.file });
+            };
+            if count == 0 {
+                return self.take_last(alloc, recorded, lines, &front);
+            }
+            size += count as u64;
+            if size > MOST_BYTES {
+                return Err(ReadingFault::TooLarge { file: self.file });
+            }
+            front.extend_from_slice(&piece[..count])?;
+            let taken = self.take_lines(alloc, recorded, lines, &front)?;
+            lines = taken.lines;
+            front = Vec::from_slice(alloc, taken.rest)?;
+        }
+    }
+}
+
+/// Reads the files of recordings, one after the other, each to its end. A lone file may be without stamps.
+pub(crate) fn read_recordings<S: Source>(
+    alloc: Global,
+    sources: &mut [S],
+) -> Result<Recorded, ReadingFault>
+    requires { length sources.old < 2 ^ 31 }
+    ensures read { IfOk result (λ recorded. (contents : List (List ℕ)) → HaveContents S.left sources.old contents
+        → recording_of contents ≡ Ok recorded) }
+    ensures bad_line { (file line : ℕ) → IsErrOf result (ReadingFault.BadLine file line) → (contents : List (List ℕ))
+        → HaveContents S.left sources.old contents → recording_of contents ≡ Err (record { file = file; line = line }) }
+    ensures large { (file : ℕ) → IsErrOf result (ReadingFault.TooLarge file) → (contents : List (List ℕ))
+        → HaveContents S.left sources.old contents → IsLarge contents file }
+    ensures read_fault { (file : ℕ) → IsErrOf result (ReadingFault.ReadFault file)
+        → IsSomeAnd (slice_get sources.new (file - 1)) (λ source. 0 < S.faults source) }
+{
+    let lone = sources.len() == 1;
+    let mut recorded = Recorded::new(alloc);
+    for i in 0..sources.len() {
+        let reading = Reading {
+            file: i as u32 + 1,
+            lone,
+        };
+        reading.read(alloc, &mut recorded, &mut sources[i])?;
+    }
+    Ok(recorded)
+}

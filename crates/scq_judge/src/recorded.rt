@@ -1,0 +1,189 @@
+//! What has been read of recordings.
+
+ghost use Rattle.std.specs.Prelude.{◌≡◌, [], ◌∷◌, ◌++◌, Some, None, OnOk, IsErrOf};
+ghost use Rattle.scq_judge.specs.Entry.{said_by};
+ghost use Rattle.scq_judge.specs.Recording.{nothing, may_follow, with_entry, event_with, after_line, after_entry};
+ghost use Rattle.scq_judge.specs.declared.recorded.Last.TheVariants.{NoEvent};
+
+use crate::entry::{Entry, read_entry};
+use scq_hist::Event;
+use scq_word::{Bytes, NoMemory};
+use std::alloc::{AllocFailed, Global};
+use std::marker::Model;
+use thiserror::Error;
+
+/// Where a line stands: its file and its number, both from 1.
+#[derive(Clone, Copy, Debug, PartialEq, Eq)]
+pub struct Place {
+    pub file: u32,
+    pub line: u32,
+}
+
+/// An event with its stamp and its place.
+#[derive(Debug, Drop)]
+pub struct Stamped {
+    pub stamp: u64,
+    pub place: Place,
+    pub event: Event,
+}
+
+/// What stood in front of the last event of a file.
+#[derive(Clone, Copy, Debug, PartialEq, Eq)]
+pub enum Last {
+    NoEvent,
+    Bare,
+    Stamp(u64),
+}
+
+/// The opening tokens and the events of all files that were read. Contracts see the lists.
+#[derive(Drop)]
+pub struct Recorded {
+    opening: Vec<Bytes>,
+    events: Vec<Stamped>,
+    last: Last,
+}
+
+impl Model for Recorded {
+    ghost use Rattle.scq_judge.specs.Recording.{Recording};
+
+    ghost Value = { Recording };
+
+    ghost view = { λ r. record { opening = r.opening.items; events = r.events.items; last = r.last } };
+}
+
+/// Why a line was not taken.
+#[derive(Clone, Copy, Debug, PartialEq, Eq, Error)]
+pub(crate) enum LineFault {
+    #[error("not understood")]
+    NotUnderstood,
+    #[error("out of memory")]
+    NoMemory,
+}
+
+impl From<NoMemory> for LineFault {
+    ghost use Rattle.scq_judge.specs.declared.recorded.LineFault.TheVariants.{NoMemory as Wanted};
+
+    ghost from_gives = { λ _ fault. fault ≡ Wanted };
+
+    fn from(_: NoMemory) -> LineFault {
+        LineFault::NoMemory
+    }
+}
+
+impl<T: Drop> From<AllocFailed<T>> for LineFault {
+    ghost use Rattle.scq_judge.specs.declared.recorded.LineFault.TheVariants.{NoMemory as Wanted};
+
+    ghost from_gives = { λ _ fault. fault ≡ Wanted };
+
+    fn from(_: AllocFailed<T>) -> LineFault {
+        LineFault::NoMemory
+    }
+}
+
+/// Whether an entry may follow in this file. Opening tokens stand at the head of file 1; stamps rise; events without
+/// stamps are those of a lone file, which has no others.
+fn may_follow(file: u32, lone: bool, last: Last, entry: &Entry) -> bool
+    ensures { result ≡ may_follow file lone last entry.now }
+{
+    match (last, entry) {
+        (Last::NoEvent, Entry::Opening { .. }) => file == 1,
+        (Last::NoEvent, Entry::Happens { stamp: None, .. }) => lone,
+        (Last::NoEvent, Entry::Happens { stamp: Some(_), .. }) => true,
+        (Last::Bare, Entry::Happens { stamp: None, .. }) => true,
+        (
+            Last::Stamp(last),
+            Entry::Happens {
+                stamp: Some(stamp),
+                ..
+            },
+        ) => last < *stamp,
+        _ => false,
+    }
+}
+
+impl Recorded {
+    pub(crate) fn new(alloc: Global) -> Recorded
+        ensures { result ≡ nothing }
+    {
+        Recorded {
+            opening: Vec::new(alloc),
+            events: Vec::new(alloc),
+            last: Last::NoEvent,
+        }
+    }
+
+    /// Another file begins.
+    pub(crate) fn begin_file(&mut self)
+        ensures { self.new ≡ record self.old { last = NoEvent } }
+    {
+        self.last = Last::NoEvent;
+    }
+
+    /// Takes what the line of this number says, where it is understood there.
+    pub(crate) fn add_line(
+        &mut self,
+        alloc: Global,
+        lone: bool,
+        place: Place,
+        line: &[u8],
+    ) -> Result<(), LineFault>
+        ensures read { OnOk result (after_line place.file lone place.line self.old line.now ≡ Some self.new) }
+        ensures not_understood { IsErrOf result LineFault.NotUnderstood → after_line place.file lone place.line self.old line.now ≡ None }
+    {
+        let Some(entry) = read_entry(alloc, line)? else {
+            return Err(LineFault::NotUnderstood);
+        };
+        if !may_follow(place.file, lone, self.last, &entry) {
+            return Err(LineFault::NotUnderstood);
+        }
+        self.add(place, entry)?;
+        Ok(())
+    }
+
+    fn add(&mut self, place: Place, entry: Entry) -> Result<(), NoMemory>
+        ensures { OnOk result (self.new ≡ with_entry place.file place.line self.old entry) }
+    {
+        match entry {
+            Entry::Opening { content } => self.opening.push(content).map_err(|_| NoMemory)?,
+            Entry::Happens { stamp: None, event } => {
+                let stamp = u64::from(place.line);
+                self.push(stamp, place, event)?;
+                self.last = Last::Bare;
+            }
+            Entry::Happens {
+                stamp: Some(stamp),
+                event,
+            } => {
+                self.push(stamp, place, event)?;
+                self.last = Last::Stamp(stamp);
+            }
+        }
+        Ok(())
+    }
+
+    fn push(&mut self, stamp: u64, place: Place, event: Event) -> Result<(), NoMemory>
+        ensures { OnOk result (self.new ≡ record self.old { events = self.old.events ++ (record { stamp = stamp; place = place; event = event }) ∷ [] }) }
+    {
+        self.events
+            .push(Stamped {
+                stamp,
+                place,
+                event,
+            })
+            .map_err(|_| NoMemory)?;
+        Ok(())
+    }
+
+    /// The opening tokens and the events.
+    pub(crate) fn into_parts(self) -> (Vec<Bytes>, Vec<Stamped>)
+        ensures opening { result.0.items ≡ self.opening }
+        ensures events { result.1.items ≡ self.events }
+    {
+        let Recorded {
+            opening,
+            events,
+            last: _,
+        } = self;
+        (opening, events)
+    }
+}
