@@ -4,7 +4,7 @@ use Rattle.std.proofs.lemmas.List.{append-nil}
 use Rattle.scq_core.specs.declared.ended.Ended.{Ended}
 use Rattle.scq_core.specs.declared.ended.Ended.TheVariants.{Nothing}
 use Rattle.scq_queue.specs.Lists.{takes_of}
-use Rattle.scq_queue.specs.Passes.{PassStanding, after_look}
+use Rattle.scq_queue.specs.Passes.{PassStanding, after_look, having_seen}
 use Rattle.scq_queue.proofs.Records.{takes-append}
 use Rattle.scq_work.specs.Leaving.{TookNothing, FoundTopicEmpty, IsSweep, HasIdled, no_sweep, and_idle}
 use Rattle.scq_work.specs.Working.{HasTaken}
@@ -42,16 +42,13 @@ module _ {B : Type 0} where
   }
 
   -- the pass asked, and then took from each topic until it was empty
-  pub sweep-of : (topics found : ℕ) (p looked q : PassStanding B) → looked ≡ after_look found p → HasTaken looked q
+  pub sweep-of : (topics found : ℕ) (p looked q : PassStanding B) → looked ≡ having_seen looked.seen (after_look found p) → HasTaken looked q
       → ((topic : ℕ) → topic < topics → FoundTopicEmpty topic looked q) → IsSweep topics found p q
-  sweep-of topics found p looked q is taken empty = record {
-    taken = subst (λ (x : PassStanding B). HasTaken x q) is taken;
-    empty = λ topic low. subst (λ (x : PassStanding B). FoundTopicEmpty topic x q) is (empty topic low);
-  }
+  sweep-of topics found p looked q is taken empty = record { asked = looked; answer = is; taken = taken; empty = empty }
 
   -- it took nothing, in this sweep and in those before
-  pub idle-more : (topics count found : ℕ) (p old looked q : PassStanding B) → HasIdled topics count p old → looked ≡ after_look found old
-      → IsSweep topics found old q → TookNothing looked q → HasIdled topics (count + 1) p q
+  pub idle-more : (topics count found : ℕ) (p old looked q : PassStanding B) → HasIdled topics count p old
+      → looked ≡ having_seen looked.seen (after_look found old) → IsSweep topics found old q → TookNothing looked q → HasIdled topics (count + 1) p q
   idle-more topics count found p old looked q idled is sweep none = record {
     first = idled.first;
     before = idled.before;

@@ -3,7 +3,7 @@ use Rattle.std.specs.Prelude.{◌≡◌, ◌⊎◌, ℕ, suc, ◌+◌, ◌<◌, 
 use Rattle.scq_core.specs.declared.ended.Ended.{Ended}
 use Rattle.scq_core.specs.declared.ended.Ended.TheVariants.{Nothing}
 use Rattle.scq_queue.specs.Lists.{takes_of}
-use Rattle.scq_queue.specs.Passes.{PassStanding, after_look}
+use Rattle.scq_queue.specs.Passes.{PassStanding, after_look, having_seen}
 use Rattle.scq_work.specs.Working.{HasTaken}
 
 module _ {B : Type 0} where
@@ -19,8 +19,10 @@ module _ {B : Type 0} where
 
   -- a sweep: the pass asked whether all had retired, when so many had not, and then took from so many topics, each until it was empty
   pub record IsSweep (topics found : ℕ) (old new : PassStanding B) : Type 0 where
-    pub taken : HasTaken (after_look found old) new
-    pub empty : (topic : ℕ) → topic < topics → FoundTopicEmpty topic (after_look found old) new
+    pub asked : PassStanding B
+    pub answer : asked ≡ having_seen asked.seen (after_look found old)
+    pub taken : HasTaken asked new
+    pub empty : (topic : ℕ) → topic < topics → FoundTopicEmpty topic asked new
 
   -- so many sweeps in a row that took nothing
   pub data AreIdle (topics : ℕ) : ℕ → PassStanding B → PassStanding B → Type 0 where
