@@ -1,7 +1,9 @@
-//! Two threads on one queue of two buffers. One sends the numbers from 1 to 100, and sums itself those for which no buffer is free; the
-//! other takes numbers and sums them; what is left when both are done is taken then. Who sums a number differs from run to run, and
-//! the sum doesn't.
+//! Two threads on one queue of two buffers, twice. First they hand each other notes, so that each call stands behind the one before it
+//! (`rounds`). Then one sends the numbers from 1 to 100, and sums itself those for which no buffer is free; the other takes numbers and
+//! sums them; what is left when both are done is taken then. Who sums a number differs from run to run, and the sum doesn't.
 #![tactic(auto)]
+
+mod rounds;
 
 ghost use Rattle.std.specs.Prelude.{◌≡◌, ◌<◌, ◌≤◌, [], ◌∷◌, ◌++◌, IfOk, vec_len, vec_capacity};
 ghost use Rattle.std.specs.Option.{option_to_list};
@@ -10,9 +12,12 @@ ghost use Rattle.scq_queue.specs.HoldsJust.{HoldsJust};
 ghost use Rattle.example_queue.specs.Values.{values_in};
 
 use anyhow::{Result, anyhow};
+use rounds::{NUMBERS, make_rounds};
 use scq_queue::{Closed, HeapBuffer, Held, Pass, Queue};
 use scq_word::Setup;
 use std::alloc::Global;
+use std::marker::Brand;
+use std::sync::Wait;
 use std::thread::{Threads, join};
 
 /// The last number.
@@ -208,21 +213,30 @@ fn run<R: Threads>(
     };
     let (sender, taker) = work(rt, &queue, sender, taker);
     let taker = take_rest(&queue, taker);
-    let sum = sender.sum.wrapping_add(taker.sum);
-    give_in(sender, &mut passes, &mut values);
-    give_in(taker, &mut passes, &mut values);
-    (sum, queue.close(passes, values))
+    let Worked { pass, sum, held } = sender;
+    give_in(pass, held, &mut passes, &mut values);
+    let Worked {
+        pass,
+        sum: rest,
+        held,
+    } = taker;
+    give_in(pass, held, &mut passes, &mut values);
+    (sum.wrapping_add(rest), queue.close(passes, values))
 }
 
 /// A pass and the value that it holds, if any, behind those that are there.
-fn give_in(worked: Worked, passes: &mut Vec<Pass<HeapBuffer>>, values: &mut Vec<Held<HeapBuffer>>)
+fn give_in(
+    pass: Pass<HeapBuffer>,
+    held: Option<Held<HeapBuffer>>,
+    passes: &mut Vec<Pass<HeapBuffer>>,
+    values: &mut Vec<Held<HeapBuffer>>,
+)
     requires passes { vec_len passes.old < vec_capacity passes.old }
     requires values { vec_len values.old < vec_capacity values.old }
-    ensures passes { passes.new.items ≡ passes.old.items ++ worked.pass ∷ [] }
-    ensures values { values.new.items ≡ values.old.items ++ option_to_list worked.held }
+    ensures passes { passes.new.items ≡ passes.old.items ++ pass ∷ [] }
+    ensures values { values.new.items ≡ values.old.items ++ option_to_list held }
     ensures room { (vec_capacity passes.new ≡ vec_capacity passes.old) × (vec_capacity values.new ≡ vec_capacity values.old) }
 {
-    let Worked { pass, sum: _, held } = worked;
     passes.push_reserved(pass);
     if let Some(held) = held {
         values.push_reserved(held);
@@ -244,8 +258,30 @@ fn made(alloc: Global) -> Result<(Queue<HeapBuffer>, Vec<Pass<HeapBuffer>>)>
     }
 }
 
+/// The rounds of notes, on a queue of their own.
+fn hand_over<R: Threads + Wait + Sync>(
+    rt: &R,
+    alloc: Global,
+) -> Result<([u8; NUMBERS], [u8; NUMBERS])> {
+    let values = Vec::with_capacity(alloc, 2)?;
+    let (queue, passes) = match made(alloc) {
+        Ok(made) => made,
+        Err(fault) => {
+            values.destroy_empty();
+            return Err(fault);
+        }
+    };
+    make_rounds::<Brand, R>(rt, alloc, queue, passes, values).ok_or(anyhow!(
+        "no memory for the channels"
+    ))
+}
+
 fn main(rt: HostRuntime) -> Result<()> {
     let alloc = rt.alloc();
+    let (sends, takes) = hand_over(&rt, alloc)?;
+    for (send, take) in sends.iter().zip(takes.iter()) {
+        println!(rt; "send {send}, take {take}")?;
+    }
     let values = Vec::with_capacity(alloc, 2)?;
     let (queue, passes) = match made(alloc) {
         Ok(made) => made,

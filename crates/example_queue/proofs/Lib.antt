@@ -1,0 +1,2 @@
+mod NotesSent
+mod ChannelsSent
