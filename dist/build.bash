@@ -104,9 +104,7 @@ pack() {
     rm -f "$to/sum"
     for part in incremental rlib; do
         [ -d "$made/$part" ] || continue
-        # (1: a file got a second name meanwhile, as the libraries' files do in the rooms of the crates above)
-        nice tar -C "$made" -czf "$to/new" "$part" || [ $? = 1 ] || return
-        mv "$to/new" "$to/$part.tar.gz" || return
+        nice tar -C "$made" -czf "$to/new" "$part" && mv "$to/new" "$to/$part.tar.gz" || return
     done
     echo "${sums[$1]}" >"$to/sum"
 }

@@ -1,59 +1,43 @@
 -- A band that closes: its last state has all seats in one view, with every slot at home. So each clause on records, hands and
 -- buffers is a fact of that state.
-use Rattle.std.proofs.Common.{◌≡◌, ℕ, zero, suc, ◌+◌, ◌<◌, ◌≤◌, Bool, true, false, List, [], ◌∷◌, ◌++◌, map, length, refl, sym, ◌∙◌, ap, subst, inl, inr, arith}
+use Rattle.std.proofs.Common.{◌≡◌, ℕ, zero, suc, ◌+◌, ◌<◌, ◌≤◌, Bool, true, false, List, [], ◌∷◌, map, length, refl, sym, ◌∙◌, ap, subst, inl, inr, arith}
 use Rattle.std.specs.Prelude.{Option, Some, None, is_none, if◌then◌else◌, slice_get, slice_index, slice_index_or}
-use Rattle.std.specs.List.{Contains}
 use Rattle.std.proofs.lemmas.Bool.{cases_eq}
-use Rattle.std.proofs.lemmas.List.Elements.{Contains-append_left, Contains-append_right}
 use Rattle.std.proofs.lemmas.Option.{slice_get_within, get_or_from_slice_get}
 use mathlib.Core.Option.{some}
 use lib.ListN.{get_elem?}
 use Rattle.atomic_table.specs.Seated.{TableId}
-use Rattle.atomic_table.specs.Table.{State, Final, Seen as OfView}
+use Rattle.atomic_table.specs.Table.{State, Final, Seen}
 use Rattle.scq_word.specs.declared.setup.Setup.{Setup}
 use Rattle.scq_word.specs.Sizes.{n_of}
 use Rattle.scq_core.specs.declared.ended.Ended.{Ended}
-use Rattle.scq_core.specs.declared.phase.Phase.TheVariants.{Idle}
-use Rattle.scq_core.specs.declared.step.Step.{Step}
-use Rattle.scq_core.specs.Machine.{Cells, Part, Machine}
+use Rattle.scq_core.specs.Machine.{Cells, Machine}
 use Rattle.scq_core.proofs.Indices.{HasIndices, has_indices}
 use Rattle.scq_law.specs.Kept.{left_in}
-use Rattle.scq_law.specs.RunSteps.{run_of, IsFinishedRun}
-use Rattle.scq_law.proofs.Aspects.EmptyRight.{has_aspects}
-use Rattle.scq_law.proofs.Aspects.CoupledRuns.{tied_run}
-use Rattle.scq_law.proofs.Aspects.RecordsShown.{records_shown}
-use Rattle.scq_law.proofs.Order.OrderExists.{order_exists}
-use Rattle.scq_law.proofs.Order.OrderLaw.{one_order}
 use Rattle.scq_band.specs.declared.numbers.Numbers.{Numbers}
 use Rattle.scq_band.specs.declared.slot.Slot.{Slot}
 use Rattle.scq_band.specs.Buffers.{LiesIn, opening_of}
-use Rattle.scq_law.specs.Prefixes.{AllPrefixes}
-use Rattle.scq_band.specs.RunSeen.{Seen, Caller}
 use Rattle.scq_band.specs.Known.{Member, Known}
-use Rattle.scq_band.specs.Sights.{Sight, known_state, ShowsRun}
-use Rattle.scq_band.proofs.Gates.{none_awake}
-use Rattle.scq_band.proofs.RunEnds.{reaches, opens_with}
-use Rattle.scq_band.proofs.RunShown.{known_at}
 use Rattle.scq_band.specs.Shown.{ShowsWords, Has, Owns, Shown, awake}
 use Rattle.scq_band.specs.declared.rule.Key.{Key}
-use Rattle.scq_band.specs.Standing.{Identity, Standing, caller_of}
+use Rattle.scq_band.specs.Standing.{Identity, Standing}
 use Rattle.scq_band.specs.Kept.{identity_of}
-use Rattle.scq_band.specs.Homes.{full_slot, IsMemberOf, AreMembersOf, HeadsKnown, GatesKnown, HasAll, all_seen}
-use Rattle.scq_band.specs.Closing.{indices_of, IsOneRun, EachGetHasItsPut, NoneIsPutTwice, NoneIsGotTwice, EachPutPassedIsGot, IsBalance, IsAllThere, EachIsInOneHand, EachSpentIsPastTheBound, EachLeftIsItsPut, StandsAtItsPut, IsOneRunToTheEnd, IsLeft, AreTheSame, AllRetiredWhereClosed, EachSeenRetiredHas, all_calls, all_hands, all_known, all_spent, callers_of}
-use Rattle.scq_band.proofs.AllSeats.{AreAll, are_all, member_at, seat_at}
+use Rattle.scq_band.specs.Homes.{full_slot, IsMemberOf, AreMembersOf, HeadsKnown, GatesKnown, HasAll}
+use Rattle.scq_band.specs.Closing.{indices_of, EachGetHasItsPut, NoneIsPutTwice, NoneIsGotTwice, EachPutPassedIsGot, IsBalance, IsAllThere, EachIsInOneHand, EachSpentIsPastTheBound, EachLeftIsItsPut, AreTheSame, AllRetiredWhereClosed, all_calls, all_hands, all_known, all_spent}
+use Rattle.scq_band.proofs.AllSeats.{AreAll, are_all, member_at}
 use Rattle.scq_band.proofs.ClosedRecords.{map_back, map_on, records_of, AllRest, gets_have_puts, none_put_twice, none_twice, passed_is_got}
 use Rattle.scq_band.proofs.ClosedCounts.{hands_of, kept_by, IsLeftOf, is_balance, all_there, spent_past, each_in_one_hand}
 use Rattle.scq_band.proofs.Unloading.{read_some}
-use Rattle.scq_band.proofs.LeftBuffers.{AllBrought, all_home, lefts_at_home, lefts_stand}
+use Rattle.scq_band.proofs.LeftBuffers.{AllBrought, all_home, lefts_at_home}
 
 module _ {B : Type 0} where
   -- a member and the seat that it was
   member_of : (seats : List (Standing B)) (xs : List Member) → AreMembersOf seats xs → (a : ℕ) (x : Member) → slice_get xs a ≡ Some x
-      → (s : Standing B) × (slice_get seats a ≡ Some s) × IsMemberOf s x
+      → (s : Standing B) × IsMemberOf s x
   member_of [] [] are a x e = absurd (cc)
   member_of [] (y ∷ ys) are a x e = absurd are
   member_of (s ∷ ss) [] are a x e = absurd (cc)
-  member_of (s ∷ ss) (y ∷ ys) are zero x e = let same : y ≡ x = cc in (s, refl, subst (λ (u : Member). IsMemberOf s u) same are.0)
+  member_of (s ∷ ss) (y ∷ ys) are zero x e = let same : y ≡ x = cc in (s, subst (λ (u : Member). IsMemberOf s u) same are.0)
   member_of (s ∷ ss) (y ∷ ys) are (suc a) x e = member_of ss ys are.1 a x e
 
   -- a seat and the member that it has become
@@ -93,34 +77,29 @@ module _ {B : Type 0} where
       let same : s.numbers ≡ numbers = cc in heads.0 r x (ap (λ (l : List Numbers). slice_get l r) same ∙ here)
   heads_at (s ∷ ss) known heads (suc a) numbers e r x here = heads_at ss known heads.1 a numbers e r x here
 
--- what each of two lists has
-two_lists : (fs gs : List (List (ℕ × Step))) (xs : List (ℕ × Step)) → AllPrefixes (fs ++ gs) xs → AllPrefixes fs xs × AllPrefixes gs xs
-two_lists [] gs xs all = (tt, all)
-two_lists (f ∷ fs) gs xs all = let rest = two_lists fs gs xs all.1 in ((all.0, rest.0), rest.1)
+-- where no seat is awake each has retired
+none_awake : (gone : ℕ → Option ℕ) (n : ℕ) → awake gone n ≡ 0 → (k : ℕ) → k < n → (m : ℕ) × (gone k ≡ Some m)
+none_awake gone zero none k low = absurd (omega arith)
+none_awake gone (suc n) none k low =
+    elim (cases_eq k n) [
+      | inl same ↦ let last = is_gone (gone n) (awake gone n) none in (last.0, ap gone same ∙ last.1)
+      | inr other ↦ none_awake gone n (rest_gone (is_none (gone n)) (awake gone n) none) k (omega arith)
+    ]
+  where
+    is_gone : (x : Option ℕ) (a : ℕ) → (if is_none x then 1 else 0) + a ≡ 0 → (m : ℕ) × (x ≡ Some m)
+    is_gone None a e = absurd (omega arith)
+    is_gone (Some m) a e = (m, refl)
 
-seen_at : {B : Type 0} (run : List (ℕ × Step)) (seats : List (Standing B)) → AllPrefixes (all_seen seats).runs run → (a : ℕ) (s : Standing B)
-    → slice_get seats a ≡ Some s → AllPrefixes s.seen.runs run
-seen_at run [] all a s e = absurd (cc)
-seen_at {B} run (t ∷ ts) all zero s e =
-    let same : t ≡ s = cc in subst (λ (u : Standing B). AllPrefixes u.seen.runs run) same (two_lists (all_seen ts).runs t.seen.runs run all).1
-seen_at run (t ∷ ts) all (suc a) s e = seen_at run ts (two_lists (all_seen ts).runs t.seen.runs run all).0 a s e
-
--- the retired ones that one of them has seen are among those of all
-retirees_at : {B : Type 0} (seats : List (Standing B)) (a : ℕ) (s : Standing B) (p : ℕ × ℕ) → slice_get seats a ≡ Some s → Contains s.seen.retirees p
-    → Contains (all_seen seats).retirees p
-retirees_at [] a s p e has = absurd (cc)
-retirees_at {B} (t ∷ ts) zero s p e has =
-    let same : t ≡ s = cc in
-    Contains-append_right (all_seen ts).retirees t.seen.retirees p (subst (λ (u : Standing B). Contains u.seen.retirees p) (sym same) has)
-retirees_at (t ∷ ts) (suc a) s p e has = Contains-append_left (all_seen ts).retirees t.seen.retirees p (retirees_at ts a s p e has)
+    rest_gone : (b : Bool) (a : ℕ) → (if b then 1 else 0) + a ≡ 0 → a ≡ 0
+    rest_gone true a e = absurd (omega arith)
+    rest_gone false a e = omega arith
 
 length_images : {A C : Type 0} (f : A → C) (xs : List A) → length (map f xs) ≡ length xs
 length_images f [] = refl
 length_images f (x ∷ xs) = ap suc (length_images f xs)
 
 module _ {B : Type 0} (contents : B → List ℕ) (IsSame : B → B → Type 0) (given : List B) (c : Setup) (s : State (Slot B) Known) (id : ℕ) (v : Known)
-    (seats : List (Standing B)) (gone : ℕ → Option ℕ)
-    (run : List (ℕ × Step)) (sh : Shown (LiesIn contents IsSame given) (opening_of contents given) c gone run s) (here : get_elem? s.views id ≡ some v)
+    (seats : List (Standing B)) (sh : Shown (LiesIn contents IsSame given) (opening_of contents given) c s) (here : get_elem? s.views id ≡ some v)
     (has : HasAll c.rings seats v) (count : length seats ≡ c.seats) (many : length given ≡ n_of c.order) where
   abbrev m : Machine
   m = sh.scene.state
@@ -132,13 +111,13 @@ module _ {B : Type 0} (contents : B → List ℕ) (IsSame : B → B → Type 0) 
   all = are_all (LiesIn contents IsSame given) c sh.scene s.homes id v.seats owns (members_count seats v.seats has.members ∙ count)
 
   rest : AllRest v.seats
-  rest a x e = (member_of seats v.seats has.members a x e).2.idle
+  rest a x e = (member_of seats v.seats has.members a x e).1.idle
 
   brought : AllBrought v.seats
-  brought a x e = (member_of seats v.seats has.members a x e).2.brought
+  brought a x e = (member_of seats v.seats has.members a x e).1.brought
 
   opened : length m.opening ≡ n_of c.order
-  opened = ap length (opens_with sh.leads) ∙ length_images contents given ∙ many
+  opened = ap length sh.begun ∙ length_images contents given ∙ many
 
   calls : records_of v.seats ≡ all_calls seats
   calls = same_lists (λ (x : Member). x.part.calls) (λ (t : Standing B). t.calls) (λ t x is. is.calls) seats v.seats has.members
@@ -149,102 +128,42 @@ module _ {B : Type 0} (contents : B → List ℕ) (IsSame : B → B → Type 0) 
   spents : kept_by v.seats ≡ all_spent seats
   spents = same_lists (λ (x : Member). x.part.spent) (λ (t : Standing B). t.spent) (λ t x is. is.spent) seats v.seats has.members
 
-  -- each seat of the machine is one of these
-  all_idle : (k : ℕ) → k < c.seats → (m.part k).phase ≡ Idle
-  all_idle k low =
-      let at = seat_at c m v.seats all k low in
-      ap (λ (j : ℕ). (m.part j).phase) (sym at.is) ∙ ap (λ (p : Part). p.phase) (all.part at.at at.member at.here) ∙ rest at.at at.member at.here
-
-  -- one run has ended in these records
-  pub closed_run : (told : Seen) → AllPrefixes told.runs run → told ≡ all_seen seats
-      → IsOneRun c (opening_of contents given) (callers_of seats)
-  closed_run told prefixes are =
-      let opening = opening_of contents given in
-      let recorded = sh.leads.recorded in
-      let is_run = sh.leads.is_run in
-      let ends : recorded.state ≡ m = sh.leads.ends in
-      let all_told : AllPrefixes (all_seen seats).runs run = subst (λ (y : Seen). AllPrefixes y.runs run) are prefixes in
-      let fin : IsFinishedRun (run_of c opening run) = record {
-        recorded = recorded;
-        is_run = is_run;
-        idle = λ k low. ap (λ (n : Machine). (n.part k).phase) ends ∙ all_idle k low;
-      } in
-      record {
-        steps = run;
-        finished = fin;
-        all =
-            λ k low.
-            let at = seat_at c m v.seats all k low in
-            let s = member_of seats v.seats has.members at.at at.member at.here in
-            (at.at, caller_of s.0, map_on caller_of seats at.at s.0 s.1, sym s.2.number ∙ at.is);
-        apart =
-            λ a b x y at_a at_b same.
-            let t = map_back caller_of seats a x at_a in
-            let u = map_back caller_of seats b y at_b in
-            let one = seat_member seats v.seats has.members a t.0 t.1 in
-            let other = seat_member seats v.seats has.members b u.0 u.1 in
-            all.apart a b one.0 other.0 one.1 other.1
-            (one.2.number ∙ ap (λ (z : Caller). z.seat) t.2 ∙ same ∙ sym (ap (λ (z : Caller). z.seat) u.2) ∙ sym other.2.number);
-        low =
-            λ a x e.
-            let t = map_back caller_of seats a x e in
-            let one = seat_member seats v.seats has.members a t.0 t.1 in
-            subst (λ (z : Caller). z.seat < c.seats) t.2 (subst (λ (k : ℕ). k < c.seats) one.2.number (all.low a one.0 one.1));
-        records =
-            λ a x e.
-            let t = map_back caller_of seats a x e in
-            let one = seat_member seats v.seats has.members a t.0 t.1 in
-            subst (λ (z : Caller). (recorded.state.part z.seat).calls ≡ z.calls) t.2
-            (ap (λ (n : Machine). (n.part t.0.number).calls) ends ∙ ap (λ (j : ℕ). (m.part j).calls) (sym one.2.number)
-            ∙ ap (λ (p : Part). p.calls) (all.part a one.0 one.1) ∙ one.2.calls);
-        had_seen =
-            λ a x e.
-            let t = map_back caller_of seats a x e in
-            subst (λ (z : Caller). AllPrefixes z.seen.runs run) t.2 (seen_at run seats all_told a t.0 t.1);
-        aspects = has_aspects c opening is_run.full recorded (tied_run c opening run recorded is_run.full is_run.seats is_run);
-        history = records_shown c opening run recorded is_run;
-        orders =
-            λ r.
-            let found = order_exists (run_of c opening run) fin r in
-            (found.0, found.1, one_order (run_of c opening run) fin r found.0 found.1);
-      }
-
   pub closed_gets : EachGetHasItsPut c (opening_of contents given) (all_calls seats)
   closed_gets =
-      subst (λ (o : List (List ℕ)). EachGetHasItsPut c o (all_calls seats)) (opens_with sh.leads)
-      (subst (λ (l : List (List Ended)). EachGetHasItsPut c m.opening l) calls (gets_have_puts c m v.seats (reaches sh.leads) all rest opened))
+      subst (λ (o : List (List ℕ)). EachGetHasItsPut c o (all_calls seats)) sh.begun
+      (subst (λ (l : List (List Ended)). EachGetHasItsPut c m.opening l) calls (gets_have_puts c m v.seats sh.reachable all rest opened))
 
   pub closed_put_once : NoneIsPutTwice c (opening_of contents given) (all_calls seats)
   closed_put_once =
-      subst (λ (o : List (List ℕ)). NoneIsPutTwice c o (all_calls seats)) (opens_with sh.leads)
-      (subst (λ (l : List (List Ended)). NoneIsPutTwice c m.opening l) calls (none_put_twice c m v.seats (reaches sh.leads) all rest opened))
+      subst (λ (o : List (List ℕ)). NoneIsPutTwice c o (all_calls seats)) sh.begun
+      (subst (λ (l : List (List Ended)). NoneIsPutTwice c m.opening l) calls (none_put_twice c m v.seats sh.reachable all rest opened))
 
   pub closed_once : NoneIsGotTwice (all_calls seats)
-  closed_once = subst (λ (l : List (List Ended)). NoneIsGotTwice l) calls (none_twice c m v.seats (reaches sh.leads) all rest)
+  closed_once = subst (λ (l : List (List Ended)). NoneIsGotTwice l) calls (none_twice c m v.seats sh.reachable all rest)
 
   pub closed_passed : EachPutPassedIsGot c (opening_of contents given) (all_calls seats) (all_known seats)
   closed_passed =
-      subst (λ (o : List (List ℕ)). EachPutPassedIsGot c o (all_calls seats) (all_known seats)) (opens_with sh.leads)
+      subst (λ (o : List (List ℕ)). EachPutPassedIsGot c o (all_calls seats) (all_known seats)) sh.begun
       (subst (λ (l : List (List Ended)). EachPutPassedIsGot c m.opening l (all_known seats)) calls
-      (passed_is_got c m v.seats (reaches sh.leads) all rest (all_known seats) opened
+      (passed_is_got c m v.seats sh.reachable all rest (all_known seats) opened
       (λ a numbers at r x here_too.
       let one = heads_at seats v.numbers has.heads a numbers at r x here_too in
       let true = (sh.views id v here).numbers r one.0 one.1 in
       omega (arith, one.2, true.head))))
 
   pub closed_balance : (left : List ℕ) → IsLeftOf c m left → IsBalance c (all_calls seats) left
-  closed_balance left is = subst (λ (l : List (List Ended)). IsBalance c l left) calls (is_balance c m v.seats (reaches sh.leads) all rest left is)
+  closed_balance left is = subst (λ (l : List (List Ended)). IsBalance c l left) calls (is_balance c m v.seats sh.reachable all rest left is)
 
   pub closed_all_there : (left : List ℕ) → IsLeftOf c m left → IsAllThere c (all_hands seats) left
-  closed_all_there left is = subst (λ (l : List (List ℕ)). IsAllThere c l left) hands (all_there c m v.seats (reaches sh.leads) all rest left is)
+  closed_all_there left is = subst (λ (l : List (List ℕ)). IsAllThere c l left) hands (all_there c m v.seats sh.reachable all rest left is)
 
   pub closed_hands : EachIsInOneHand c (all_hands seats)
-  closed_hands = subst (λ (l : List (List ℕ)). EachIsInOneHand c l) hands (each_in_one_hand c m v.seats (reaches sh.leads) all rest)
+  closed_hands = subst (λ (l : List (List ℕ)). EachIsInOneHand c l) hands (each_in_one_hand c m v.seats sh.reachable all rest)
 
   pub closed_spent : EachSpentIsPastTheBound c (all_calls seats) (all_spent seats)
   closed_spent =
       subst (λ (l : List (Option ℕ)). EachSpentIsPastTheBound c (all_calls seats) l) spents
-      (subst (λ (l : List (List Ended)). EachSpentIsPastTheBound c l (kept_by v.seats)) calls (spent_past c m v.seats (reaches sh.leads) all rest))
+      (subst (λ (l : List (List Ended)). EachSpentIsPastTheBound c l (kept_by v.seats)) calls (spent_past c m v.seats sh.reachable all rest))
 
   pub closed_gate : AllRetiredWhereClosed seats
   closed_gate a b reader other at_a is at_b =
@@ -256,45 +175,19 @@ module _ {B : Type 0} (contents : B → List ℕ) (IsSame : B → B → Type 0) 
       let gone = none_awake sh.scene.gone c.seats none x.0.number member.low in
       (gone.0, sym x.2.retired ∙ sym member.gone ∙ gone.1)
 
-  -- whoever some seat had seen retired has retired, as it was seen
-  pub closed_retirees : (told : Seen) → told ≡ all_seen seats → ((p : ℕ × ℕ) → Contains told.retirees p → gone p.0 ≡ Some p.1) → EachSeenRetiredHas seats
-  closed_retirees told are rule a b calls one other at_a at_b seen_it =
-      let among : Contains told.retirees (other.number, calls) =
-      subst (λ (y : Seen). Contains y.retirees (other.number, calls)) (sym are) (retirees_at seats a one (other.number, calls) at_a seen_it) in
-      let x = seat_member seats v.seats has.members b other at_b in
-      let member = member_at (LiesIn contents IsSame given) c sh.scene s.homes id v.seats owns b x.0 x.1 in
-      sym x.2.retired ∙ sym member.gone ∙ ap (λ (f : ℕ → Option ℕ). f x.0.number) sh.gone_is ∙ ap gone x.2.number ∙ rule (other.number, calls) among
-
   -- each slot is at home
   pub closed_homes : (i : ℕ) → i < n_of c.order → (w : List ℕ) × Has (LiesIn contents IsSame given) s.homes i w
   closed_homes =
-      all_home (LiesIn contents IsSame given) c sh.scene s.homes id v.seats (reaches sh.leads) all brought owns sh.stored
+      all_home (LiesIn contents IsSame given) c sh.scene s.homes id v.seats sh.reachable all brought owns sh.stored
 
   pub closed_left : (bytes : List (List ℕ))
       → ((i : ℕ) (w : List ℕ) → i < n_of c.order → Has (LiesIn contents IsSame given) s.homes i w → slice_index_or bytes i [] ≡ w)
       → EachLeftIsItsPut c (opening_of contents given) (all_calls seats) (all_hands seats) bytes
   closed_left bytes tells =
-      subst (λ (o : List (List ℕ)). EachLeftIsItsPut c o (all_calls seats) (all_hands seats) bytes) (opens_with sh.leads)
+      subst (λ (o : List (List ℕ)). EachLeftIsItsPut c o (all_calls seats) (all_hands seats) bytes) sh.begun
       (subst (λ (l : List (List Ended)). EachLeftIsItsPut c m.opening l (all_hands seats) bytes) calls
       (subst (λ (l : List (List ℕ)). EachLeftIsItsPut c m.opening (records_of v.seats) l bytes) hands
-      (lefts_at_home (LiesIn contents IsSame given) c m v.seats s.homes bytes (reaches sh.leads) all rest opened sh.stored tells)))
-
-  pub closed_stands : (one : IsOneRun c (opening_of contents given) (callers_of seats)) → one.finished.recorded.state ≡ m → (bytes : List (List ℕ))
-      → ((i : ℕ) (w : List ℕ) → i < n_of c.order → Has (LiesIn contents IsSame given) s.homes i w → slice_index_or bytes i [] ≡ w)
-      → IsOneRunToTheEnd c (opening_of contents given) (callers_of seats) (all_calls seats) (all_hands seats) bytes
-  closed_stands one ends bytes tells =
-      record {
-        one = one;
-        left =
-            λ i small left.
-            let of_members = subst (λ (l : List (List ℕ)). IsLeft l i) (sym hands) left in
-            let here = lefts_stand (LiesIn contents IsSame given) c m v.seats s.homes bytes
-            (reaches sh.leads) all rest opened sh.stored tells i small of_members in
-            let w = slice_index_or bytes i [] in
-            subst (λ (n : Machine). StandsAtItsPut c (opening_of contents given) (all_calls seats) n i w) (sym ends)
-            (subst (λ (o : List (List ℕ)). StandsAtItsPut c o (all_calls seats) m i w) (opens_with sh.leads)
-            (subst (λ (l : List (List Ended)). StandsAtItsPut c m.opening l m i w) calls here));
-      }
+      (lefts_at_home (LiesIn contents IsSame given) c m v.seats s.homes bytes sh.reachable all rest opened sh.stored tells)))
 
   -- the slot of each index has the buffer that was given for it
   pub closed_slot : (items : List (Slot B)) → ((k : ℕ) (y : Slot B) → get_elem? s.homes k ≡ some (some y) → get_elem? items k ≡ some y) → (i : ℕ) (w : List ℕ)
@@ -314,14 +207,12 @@ pub record EndsAs {B : Type 0} (contents : B → List ℕ) (IsSame : B → B →
   pub hands : EachIsInOneHand c (all_hands seats)
   pub spent : EachSpentIsPastTheBound c (all_calls seats) (all_spent seats)
   pub gate : AllRetiredWhereClosed seats
-  pub retirees : EachSeenRetiredHas seats
   pub counts : (left : List ℕ) → length left ≡ c.rings
       → ((m : Cells) → ShowsWords c ws m → (r : ℕ) → r < c.rings → slice_index left r ≡ left_in c m r)
       → IsBalance c (all_calls seats) left × IsAllThere c (all_hands seats) left
   pub same : (buffers : List B) → map full_slot buffers ≡ items → AreTheSame IsSame given buffers
   pub lefts : (buffers : List B) → map full_slot buffers ≡ items
       → EachLeftIsItsPut c (opening_of contents given) (all_calls seats) (all_hands seats) (map contents buffers)
-      × IsOneRunToTheEnd c (opening_of contents given) (callers_of seats) (all_calls seats) (all_hands seats) (map contents buffers)
 
 module _ {B : Type 0} where
   -- the buffers are those in the slots
@@ -332,41 +223,33 @@ module _ {B : Type 0} where
       let inner : Some back.0 ≡ Some b = ap (λ (t : Slot B). t.buffer) back.2 in
       back.1 ∙ inner
 
-  pub ends : (contents : B → List ℕ) (IsSame : B → B → Type 0) (given : List B) (c : Setup) (id : ℕ) (w : Sight) (seats : List (Standing B)) (ws : List ℕ)
-      (items : List (Slot B)) → Final (OfView (ShowsRun (LiesIn contents IsSame given) (opening_of contents given) c) id w) ws items
-      → HasAll c.rings seats w.known → w.seen ≡ all_seen seats
+  pub ends : (contents : B → List ℕ) (IsSame : B → B → Type 0) (given : List B) (c : Setup) (id : ℕ) (v : Known) (seats : List (Standing B)) (ws : List ℕ)
+      (items : List (Slot B)) → Final (Seen (Shown (LiesIn contents IsSame given) (opening_of contents given) c) id v) ws items → HasAll c.rings seats v
       → length seats ≡ c.seats → length given ≡ n_of c.order → EndsAs contents IsSame given c seats ws items
-  unfolding closed_run
-  ends contents IsSame given c id w seats ws items f has told count many =
-      let v = w.known in
-      let s = known_state f.0 in
-      let run = f.1.0.run in
-      let gone = f.1.0.gone in
-      let sh = f.1.0.shown in
-      let here = known_at f.0.views id w f.1.1 in
+  ends contents IsSame given c id v seats ws items f has count many =
+      let s = f.0 in
+      let sh = f.1.0 in
+      let here = f.1.1 in
       let m = sh.scene.state in
       let shows : ShowsWords c ws m.cells = subst (λ (l : List ℕ). ShowsWords c l m.cells) f.2 sh.words in
-      let home = closed_homes contents IsSame given c s id v seats gone run sh here has count many in
-      let slot = closed_slot contents IsSame given c s id v seats gone run sh here has count many items f.4 in
-      let one = closed_run contents IsSame given c s id v seats gone run sh here has count many w.seen (f.1.0.seen id w f.1.1) told in
+      let home = closed_homes contents IsSame given c s id v seats sh here has count many in
+      let slot = closed_slot contents IsSame given c s id v seats sh here has count many items f.4 in
       let room : length items ≡ length given = sym f.3 ∙ sh.room ∙ sym many in
       record {
-        words = (m.cells, shows, has_indices c m (reaches sh.leads));
+        words = (m.cells, shows, has_indices c m sh.reachable);
         laid = λ i low. let h = home i low in (h.1.lies.buffer, slot i h.0 h.1);
-        gets = closed_gets contents IsSame given c s id v seats gone run sh here has count many;
-        put_once = closed_put_once contents IsSame given c s id v seats gone run sh here has count many;
-        once = closed_once contents IsSame given c s id v seats gone run sh here has count many;
-        passed = closed_passed contents IsSame given c s id v seats gone run sh here has count many;
-        hands = closed_hands contents IsSame given c s id v seats gone run sh here has count many;
-        spent = closed_spent contents IsSame given c s id v seats gone run sh here has count many;
-        retirees =
-            closed_retirees contents IsSame given c s id v seats gone run sh here has count many w.seen told (λ p there. (f.1.0.retirees id w f.1.1 p there).1);
-        gate = closed_gate contents IsSame given c s id v seats gone run sh here has count many;
+        gets = closed_gets contents IsSame given c s id v seats sh here has count many;
+        put_once = closed_put_once contents IsSame given c s id v seats sh here has count many;
+        once = closed_once contents IsSame given c s id v seats sh here has count many;
+        passed = closed_passed contents IsSame given c s id v seats sh here has count many;
+        hands = closed_hands contents IsSame given c s id v seats sh here has count many;
+        spent = closed_spent contents IsSame given c s id v seats sh here has count many;
+        gate = closed_gate contents IsSame given c s id v seats sh here has count many;
         counts =
             λ left rings each.
             let is : IsLeftOf c m left = record { rings = rings; each = each m.cells shows } in (
-              closed_balance contents IsSame given c s id v seats gone run sh here has count many left is,
-              closed_all_there contents IsSame given c s id v seats gone run sh here has count many left is,
+              closed_balance contents IsSame given c s id v seats sh here has count many left is,
+              closed_all_there contents IsSame given c s id v seats sh here has count many left is,
             );
         same =
             λ buffers are. (
@@ -382,26 +265,22 @@ module _ {B : Type 0} where
             );
         lefts =
             λ buffers are.
-            let tells : (i : ℕ) (w : List ℕ) → i < n_of c.order → Has (LiesIn contents IsSame given) s.homes i w
-            → slice_index_or (map contents buffers) i [] ≡ w =
-            λ i w low h.
+            closed_left contents IsSame given c s id v seats sh here has count many (map contents buffers)
+            (λ i w low h.
             let at = buffer_at buffers items are i h.lies.buffer (slot i w h) in
-            get_or_from_slice_get (map contents buffers) i (contents h.lies.buffer) [] (map_on contents buffers i h.lies.buffer at) ∙ h.lies.bytes in (
-              closed_left contents IsSame given c s id v seats gone run sh here has count many (map contents buffers) tells,
-              closed_stands contents IsSame given c s id v seats gone run sh here has count many one sh.leads.ends (map contents buffers) tells,
-            );
+            get_or_from_slice_get (map contents buffers) i (contents h.lies.buffer) [] (map_on contents buffers i h.lies.buffer at) ∙ h.lies.bytes);
       }
     where
       some_same : (a b : B) → Some a ≡ Some b → a ≡ b
       some_same a b e = cc
 
   -- the same, of a band as contracts see it
-  pub ended : (contents : B → List ℕ) (IsSame : B → B → Type 0) (table : TableId) (key : Key B) (band : Identity B) (id : ℕ) (v : Sight)
+  pub ended : (contents : B → List ℕ) (IsSame : B → B → Type 0) (table : TableId) (key : Key B) (band : Identity B) (id : ℕ) (v : Known)
       (seats : List (Standing B)) (ws : List ℕ) (items : List (Slot B)) → identity_of table key ≡ band
-      → Final (OfView (ShowsRun (LiesIn contents IsSame key.given.value.items) (opening_of contents key.given.value.items) key.setup) id v) ws items
-      → HasAll key.setup.rings seats v.known → v.seen ≡ all_seen seats → length seats ≡ band.setup.seats → length key.given.value.items ≡ n_of key.setup.order
+      → Final (Seen (Shown (LiesIn contents IsSame key.given.value.items) (opening_of contents key.given.value.items) key.setup) id v) ws items
+      → HasAll key.setup.rings seats v → length seats ≡ band.setup.seats → length key.given.value.items ≡ n_of key.setup.order
       → EndsAs contents IsSame band.given band.setup seats ws items
-  ended contents IsSame table key band id v seats ws items is f has told count many =
+  ended contents IsSame table key band id v seats ws items is f has count many =
       let seats_are : length seats ≡ key.setup.seats = count ∙ ap (λ (b : Identity B). b.setup.seats) (sym is) in
       subst (λ (b : Identity B). EndsAs contents IsSame b.given b.setup seats ws items) is
-      (ends contents IsSame key.given.value.items key.setup id v seats ws items f has told seats_are many)
+      (ends contents IsSame key.given.value.items key.setup id v seats ws items f has seats_are many)

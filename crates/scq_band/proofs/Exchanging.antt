@@ -4,7 +4,6 @@ use Rattle.std.specs.Prelude.{Some, Option}
 use Rattle.atomic_table.specs.Seated.{TableId}
 use Rattle.atomic_table.specs.Table.{Me, rest}
 use Rattle.scq_law.specs.Hands.{times}
-use Rattle.scq_band.specs.RunSeen.{Seen}
 use Rattle.scq_band.specs.declared.numbers.Numbers.{Numbers}
 use Rattle.scq_band.specs.declared.slot.Slot.{Slot}
 use Rattle.scq_band.specs.declared.rule.Key.{Key}
@@ -12,7 +11,7 @@ use Rattle.scq_band.specs.Numbers.{changed}
 use Rattle.scq_band.specs.Known.{Known}
 use Rattle.scq_band.specs.Steps.{my, front_index}
 use Rattle.scq_band.specs.Standing.{Standing, in_hand, with_buffer, IsAsGiven}
-use Rattle.scq_band.specs.Kept.{in_order, buffer_in, hand_of, standing_from, AllGiven, IsKept, IsRotation}
+use Rattle.scq_band.specs.Kept.{in_order, buffer_in, hand_of, standing_of, AllGiven, IsKept, IsRotation}
 use Rattle.scq_band.proofs.Slots.{fronted, held_times, times-rotated, length-rotated, buffer-rotated, given-rotated, exchanged_hand}
 
 module _ {B : Type 0} (IsSame : B → B → Type 0) where
@@ -118,14 +117,12 @@ module _ {B : Type 0} (IsSame : B → B → Type 0) where
 
 module _ {B : Type 0} where
   -- what contracts see of a seat in whose hand alone something changed
-  pub hand_changed : (fs gs : Seen) (table later : TableId) (key : Key B) (me : Me (Slot B) Known) (slots : List (ℕ × Slot B))
-      (hand : List (ℕ × Option B)) (s : Standing B)
-      → standing_from fs table key me ≡ s → gs ≡ fs → later ≡ table → hand_of slots (my me.0).part.hand ≡ hand
-      → standing_from gs later key (me.0, slots) ≡ record s { hand = hand }
-  hand_changed fs gs table later key me slots hand s is seen same changed =
-      ap (λ t. standing_from gs t key (me.0, slots)) same
-      ∙ ap (λ (hs : Seen). standing_from hs table key (me.0, slots)) seen
-      ∙ ap (λ (h : List (ℕ × Option B)). record (standing_from fs table key me) { hand = h }) changed
+  pub hand_changed : (table later : TableId) (key : Key B) (me : Me (Slot B) Known) (slots : List (ℕ × Slot B)) (hand : List (ℕ × Option B)) (s : Standing B)
+      → standing_of table key me ≡ s → later ≡ table → hand_of slots (my me.0).part.hand ≡ hand
+      → standing_of later key (me.0, slots) ≡ record s { hand = hand }
+  hand_changed table later key me slots hand s is same changed =
+      ap (λ t. standing_of t key (me.0, slots)) same
+      ∙ ap (λ (h : List (ℕ × Option B)). record (standing_of table key me) { hand = h }) changed
       ∙ ap (λ (z : Standing B). record z { hand = hand }) is
 
   abbrev first_slot : Slot B → List (ℕ × Slot B) → Slot B
@@ -137,14 +134,13 @@ module _ {B : Type 0} where
   same_slot i s t os rs ms one other = ap (first_slot s) (sym one ∙ other)
 
   -- what contracts see of a seat after an exchange of the buffer of an index
-  pub lent_standing : (IsSame : B → B → Type 0) (fs gs : Seen) (table later : TableId) (key : Key B) (me me' : Me (Slot B) Known) (v : Known)
-      (ms : List (ℕ × Slot B))
+  pub lent_standing : (IsSame : B → B → Type 0) (table later : TableId) (key : Key B) (me me' : Me (Slot B) Known) (v : Known) (ms : List (ℕ × Slot B))
       (given : List B) (i : ℕ) (o : Option B) (y : Slot B) (s : Standing B)
-      → standing_from fs table key me ≡ s → gs ≡ fs → later ≡ table → v ≡ me.0 → Brought IsSame me given ms i o → me' ≡ (v, (i, y) ∷ rest ms)
-      → standing_from gs later key me' ≡ record s { hand = with_buffer i y.buffer s.hand }
-  lent_standing IsSame fs gs table later key me me' v ms given i o y s is seen same view b now =
+      → standing_of table key me ≡ s → later ≡ table → v ≡ me.0 → Brought IsSame me given ms i o → me' ≡ (v, (i, y) ∷ rest ms)
+      → standing_of later key me' ≡ record s { hand = with_buffer i y.buffer s.hand }
+  lent_standing IsSame table later key me me' v ms given i o y s is same view b now =
       let others : rest ms ≡ b.others = ap rest b.is in
       let changed : hand_of ((i, y) ∷ b.others) (my me.0).part.hand ≡ with_buffer i y.buffer s.hand =
       exchanged_hand me.1 ms b.others i b.slot y b.same b.is (my me.0).part.hand ∙ ap (λ (z : Standing B). with_buffer i y.buffer z.hand) is in
-      ap (standing_from gs later key) (now ∙ ap (λ (u : Known). (u, (i, y) ∷ rest ms)) view ∙ ap (λ (l : List (ℕ × Slot B)). (me.0, (i, y) ∷ l)) others)
-      ∙ hand_changed fs gs table later key me ((i, y) ∷ b.others) (with_buffer i y.buffer s.hand) s is seen same changed
+      ap (standing_of later key) (now ∙ ap (λ (u : Known). (u, (i, y) ∷ rest ms)) view ∙ ap (λ (l : List (ℕ × Slot B)). (me.0, (i, y) ∷ l)) others)
+      ∙ hand_changed table later key me ((i, y) ∷ b.others) (with_buffer i y.buffer s.hand) s is same changed

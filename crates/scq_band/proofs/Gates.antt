@@ -1,9 +1,6 @@
 -- The gate, word 0, is read and lowered: reading it changes one view's own two numbers, and a seat that retires lowers it by one.
-use Rattle.std.proofs.Common.{◌≡◌, ◌≢◌, ◌⊎◌, ℕ, zero, suc, ◌+◌, ◌-◌, ◌%◌, ◌^◌, ◌<◌, ◌≤◌, Bool, true, false, List, [], ◌∷◌, ◌++◌, length, refl, sym, ◌∙◌, ap, subst, inl, inr, arith}
-use Rattle.std.specs.Prelude.{Some, None, Option, is_none, unwrap_or, if◌then◌else◌, slice_set, slice_index, slice_index_or}
-use Rattle.std.specs.List.{Contains}
-use Rattle.std.proofs.lemmas.List.Elements.{Contains-append_left, Contains-append_right, Contains-append_cases}
-use Rattle.scq_band.specs.Sights.{retired_ones}
+use Rattle.std.proofs.Common.{◌≡◌, ◌≢◌, ◌⊎◌, ℕ, zero, suc, ◌+◌, ◌-◌, ◌%◌, ◌^◌, ◌<◌, ◌≤◌, true, false, List, [], ◌∷◌, length, refl, sym, ◌∙◌, ap, subst, inl, inr, arith}
+use Rattle.std.specs.Prelude.{Some, None, Option, is_none, if◌then◌else◌, slice_set, slice_index}
 use Rattle.std.proofs.lemmas.Bool.{cases_eq}
 use Rattle.std.proofs.lemmas.List.{set-get_or, get_or-set_same}
 use mathlib.Core.Option.{some}
@@ -12,8 +9,6 @@ use lib.ListN.{get_elem?}
 use Rattle.atomic_table.specs.Table.{Me, State, Allows, stepped, keeps}
 use Rattle.atomic_table.proofs.Lists.{at_set}
 use Rattle.scq_word.specs.declared.setup.Setup.{Setup}
-use Rattle.scq_core.specs.declared.step.Step.{Step}
-use Rattle.scq_core.specs.Machine.{Part}
 use Rattle.scq_core.specs.Updated.{updated}
 use Rattle.scq_core.proofs.UpdatedLemmas.{updated_here, updated_else}
 use Rattle.scq_band.specs.Known.{Member, Known}
@@ -73,84 +68,9 @@ awake_fewer gone k calls (suc n) low is_some =
     one_more true a m le = omega arith
     one_more false a m le = omega arith
 
--- where no seat is awake each has retired
-pub none_awake : (gone : ℕ → Option ℕ) (n : ℕ) → awake gone n ≡ 0 → (k : ℕ) → k < n → (m : ℕ) × (gone k ≡ Some m)
-none_awake gone zero none k low = absurd (omega arith)
-none_awake gone (suc n) none k low =
-    elim (cases_eq k n) [
-      | inl same ↦ let last = is_gone (gone n) (awake gone n) none in (last.0, ap gone same ∙ last.1)
-      | inr other ↦ none_awake gone n (rest_gone (is_none (gone n)) (awake gone n) none) k (omega arith)
-    ]
-  where
-    is_gone : (x : Option ℕ) (a : ℕ) → (if is_none x then 1 else 0) + a ≡ 0 → (m : ℕ) × (x ≡ Some m)
-    is_gone None a e = absurd (omega arith)
-    is_gone (Some m) a e = (m, refl)
-
-    rest_gone : (b : Bool) (a : ℕ) → (if b then 1 else 0) + a ≡ 0 → a ≡ 0
-    rest_gone true a e = absurd (omega arith)
-    rest_gone false a e = omega arith
-
--- where some are awake one has not retired
-pub some_awake : (gone : ℕ → Option ℕ) (n : ℕ) → 0 < awake gone n → (k : ℕ) × (k < n) × (gone k ≡ None)
-some_awake gone zero more = absurd (omega arith)
-some_awake gone (suc n) more =
-    elim (first_or_rest (gone n) (awake gone n) more) [
-      | inl none ↦ (n, omega arith, none)
-      | inr rest ↦ let below = some_awake gone n rest in (below.0, (let low = below.1 in omega (arith, low)), below.2)
-    ]
-  where
-    first_or_rest : (x : Option ℕ) (a : ℕ) → 0 < (if is_none x then 1 else 0) + a → (x ≡ None) ⊎ (0 < a)
-    first_or_rest None a e = inl refl
-    first_or_rest (Some m) a e = inr (omega arith)
-
--- those that have retired are just these
-pub ones_gone : (gone : ℕ → Option ℕ) (n : ℕ) (p : ℕ × ℕ) → Contains (retired_ones gone n) p → gone p.0 ≡ Some p.1
-ones_gone gone zero p has = absurd (omega (arith, has.1))
-ones_gone gone (suc n) p has =
-    elim (Contains-append_cases (retired_ones gone n) (if is_none (gone n) then [] else (n, unwrap_or (gone n) 0) ∷ []) p has) [
-      | inl before ↦ ones_gone gone n p before
-      | inr last ↦ this (gone n) refl last
-    ]
-  where
-    this : (x : Option ℕ) → gone n ≡ x → Contains (if is_none x then [] else (n, unwrap_or x 0) ∷ []) p → gone p.0 ≡ Some p.1
-    this None is here = absurd (omega (arith, here.1))
-    this (Some m) is here = one here.0 here.1 here.2
-      where
-        one : (k : ℕ) → k < 1 → slice_index_or ((n, m) ∷ []) k p ≡ p → gone p.0 ≡ Some p.1
-        one zero low same = ap (λ (q : ℕ × ℕ). gone q.0) (sym same) ∙ is ∙ ap (λ (q : ℕ × ℕ). Some q.1) same
-        one (suc k) low same = absurd (omega arith)
-
-pub ones_low : (gone : ℕ → Option ℕ) (n : ℕ) (p : ℕ × ℕ) → Contains (retired_ones gone n) p → p.0 < n
-ones_low gone zero p has = absurd (omega (arith, has.1))
-ones_low gone (suc n) p has =
-    elim (Contains-append_cases (retired_ones gone n) (if is_none (gone n) then [] else (n, unwrap_or (gone n) 0) ∷ []) p has) [
-      | inl before ↦ let low = ones_low gone n p before in omega (arith, low)
-      | inr last ↦ this (gone n) last
-    ]
-  where
-    this : (x : Option ℕ) → Contains (if is_none x then [] else (n, unwrap_or x 0) ∷ []) p → p.0 < suc n
-    this None here = absurd (omega (arith, here.1))
-    this (Some m) here = one here.0 here.1 here.2
-      where
-        one : (k : ℕ) → k < 1 → slice_index_or ((n, m) ∷ []) k p ≡ p → p.0 < suc n
-        one zero low same = let is = ap (λ (q : ℕ × ℕ). q.0) same in omega (arith, is)
-        one (suc k) low same = absurd (omega arith)
-
-pub gone_ones : (gone : ℕ → Option ℕ) (n k m : ℕ) → k < n → gone k ≡ Some m → Contains (retired_ones gone n) (k, m)
-gone_ones gone zero k m low is = absurd (omega arith)
-gone_ones gone (suc n) k m low is =
-    let last : List (ℕ × ℕ) = if is_none (gone n) then [] else (n, unwrap_or (gone n) 0) ∷ [] in
-    elim (cases_eq k n) [
-      | inl same ↦
-          let here : Contains last (n, m) = rw (ap gone (sym same) ∙ is) (0, omega arith, refl) in
-          subst (λ (j : ℕ). Contains (retired_ones gone n ++ last) (j, m)) (sym same) (Contains-append_right (retired_ones gone n) last (n, m) here)
-      | inr other ↦ Contains-append_left (retired_ones gone n) last (k, m) (gone_ones gone n k m (omega (arith, low, other)) is)
-    ]
-
 module _ {S : Type 0} (Lies : ℕ → S → List ℕ → Type 0) where
   -- what a reading of the gate tells a seat
-  reading : {opening : List (List ℕ)} {gone : ℕ → Option ℕ} {run : List (ℕ × Step)} (c : Setup) (id : ℕ) (v : Known) (s : State S Known)
-      → Shown Lies opening c gone run s → get_elem? s.views id ≡ some v
+  reading : {opening : List (List ℕ)} (c : Setup) (id : ℕ) (v : Known) (s : State S Known) → Shown Lies opening c s → get_elem? s.views id ≡ some v
       → IsReading c.seats v.gate (my v).retired (slice_index s.words 0)
   reading c id v s sh here = record {
     fell = (sh.views id v here).last_gate;
@@ -162,24 +82,18 @@ module _ {S : Type 0} (Lies : ℕ → S → List ℕ → Type 0) where
       own (x ∷ xs) owns calls eq = awake_fewer sh.scene.gone x.number calls c.seats owns.0.low (owns.0.gone ∙ eq)
 
   -- the gate may be read
-  pub looks : {opening : List (List ℕ)} {gone : ℕ → Option ℕ} {run : List (ℕ × Step)} (c : Setup) (slots id : ℕ) (me : Me S Known)
-      → Allows (Shown Lies opening c gone run) slots id me 0 (λ n. n)
+  pub looks : {opening : List (List ℕ)} (c : Setup) (slots id : ℕ) (me : Me S Known)
+      → Allows (Shown Lies opening c) slots id me 0 (λ n. n)
       (λ n later. (later.0 ≡ looked n me.0) × (later.1 ≡ me.1) × IsReading c.seats me.0.gate (my me.0).retired n)
-  looks {opening} {gone} {run} c slots id me s sh many here small =
+  looks {opening} c slots id me s sh many here small =
       let same : slice_set s.words 0 (slice_index s.words 0) ≡ s.words = set-get_or s.words 0 0 in
-      let shown : Shown Lies opening c gone run (stepped s 0 (slice_index s.words 0) id me.1 (looked (slice_index s.words 0) me.0) keeps) =
-      subst (λ (ws : List ℕ). Shown Lies opening c gone run (record {
-        words = ws;
-        homes = s.homes;
-        views = slice_set s.views id (looked
-            (slice_index s.words 0) me.0);
-      }))
+      let shown : Shown Lies opening c (stepped s 0 (slice_index s.words 0) id me.1 (looked (slice_index s.words 0) me.0) keeps) =
+      subst (λ (ws : List ℕ). Shown Lies opening c (record { words = ws; homes = s.homes; views = slice_set s.views id (looked (slice_index s.words 0) me.0) }))
       (sym same)
       (record {
         scene = sh.scene;
-        leads = sh.leads;
-        gone_is = sh.gone_is;
-        made = sh.made;
+        reachable = sh.reachable;
+        begun = sh.begun;
         words = sh.words;
         awake_seats = sh.awake_seats;
         room = sh.room;
@@ -214,19 +128,16 @@ module _ {S : Type 0} (Lies : ℕ → S → List ℕ → Type 0) where
           owner = x_is.owner;
           part = x_is.part;
           gone = updated_else z.gone k (Some n) x.number other ∙ x_is.gone;
+          retired = x_is.retired;
           brought = x_is.brought;
         },
         gone_else c z homes id j k n mine apart xs owns.1,
       )
 
   -- a seat that has not retired may retire
-  pub retires : {opening : List (List ℕ)} {gone : ℕ → Option ℕ} {run : List (ℕ × Step)} (c : Setup) (id : ℕ) (me : Me S Known) → IsAlone me.0
-      → (my me.0).retired ≡ None → (s : State S Known) → Shown Lies opening c gone run s → get_elem? s.views id ≡ some me.0
-      → slice_index s.words 0 < 18446744073709551616
-      → Shown Lies opening c (updated gone (my me.0).number (Some (length (my me.0).part.calls))) run
-      (stepped s 0 ((slice_index s.words 0 + (2 ^ 64 - 1)) % 2 ^ 64) id me.1 (retired_at me.0) keeps)
-      × (gone (my me.0).number ≡ None)
-  retires {opening} {gone} {run} c id me alone stays s sh here small =
+  pub retires : {opening : List (List ℕ)} (c : Setup) (slots id : ℕ) (me : Me S Known) → IsAlone me.0 → (my me.0).retired ≡ None
+      → Allows (Shown Lies opening c) slots id me 0 (λ n. (n + (2 ^ 64 - 1)) % 2 ^ 64) (λ n later. (later.0 ≡ retired_at me.0) × (later.1 ≡ me.1))
+  retires {opening} c slots id me alone stays s sh many here small =
       let z = sh.scene in
       let x = my me.0 in
       let k = x.number in
@@ -241,22 +152,10 @@ module _ {S : Type 0} (Lies : ℕ → S → List ℕ → Type 0) where
       let few : 0 < length s.words = omega (arith, sh.words.count) in
       let gate : slice_index (slice_set s.words 0 (word - 1)) 0 ≡ word - 1 = get_or-set_same s.words 0 (word - 1) 0 few in
       let zz : Scene = record z { gone = updated z.gone k (Some calls) } in
-      let now = updated gone k (Some calls) in
-      let shown : Shown Lies opening c now run (stepped s 0 (word - 1) id me.1 (retired_at me.0) keeps) = record {
+      let shown : Shown Lies opening c (stepped s 0 (word - 1) id me.1 (retired_at me.0) keeps) = record {
         scene = zz;
-        leads = sh.leads;
-        gone_is = ap (λ (f : ℕ → Option ℕ). updated f k (Some calls)) sh.gone_is;
-        made =
-            λ b n e.
-            elim (cases_eq b k) [
-              | inl same ↦
-                  let is : Some calls ≡ Some n = sym (updated_here gone k (Some calls)) ∙ ap now (sym same) ∙ e in
-                  let all : calls ≡ n = cc in
-                  let part : length (z.state.part b).calls ≡ calls =
-                  ap (λ j. length (z.state.part j).calls) same ∙ ap (λ (p : Part). length p.calls) x_is.part in
-                  omega (arith, all, part)
-              | inr other ↦ sh.made b n (sym (updated_else gone k (Some calls) b other) ∙ e)
-            ];
+        reachable = sh.reachable;
+        begun = sh.begun;
         words = gate_shown c s.words z.state.cells (word - 1) sh.words;
         awake_seats = gate ∙ omega (arith, less, is);
         room = sh.room;
@@ -271,6 +170,7 @@ module _ {S : Type 0} (Lies : ℕ → S → List ℕ → Type 0) where
                         owner = x_is.owner;
                         part = x_is.part;
                         gone = updated_here z.gone k (Some calls);
+                        retired = λ n eq. let same : calls ≡ n = cc in omega (arith, same);
                         brought = x_is.brought;
                       },
                       tt,
@@ -290,10 +190,8 @@ module _ {S : Type 0} (Lies : ℕ → S → List ℕ → Type 0) where
                   })
             ];
         stored = sh.stored;
-      } in (
-        subst (λ (v : ℕ). Shown Lies opening c now run (stepped s 0 v id me.1 (retired_at me.0) keeps)) (sym wrote) shown,
-        ap (λ (f : ℕ → Option ℕ). f k) (sym sh.gone_is) ∙ x_is.gone ∙ stays,
-      )
+      } in
+      (retired_at me.0, keeps, tt, subst (λ (v : ℕ). Shown Lies opening c (stepped s 0 v id me.1 (retired_at me.0) keeps)) (sym wrote) shown, (refl, refl))
     where
       rings_of : (v : Known) → IsAlone v → (v.seats ≡ []) ⊎ (length v.numbers ≡ c.rings)
           → ((retired_at v).seats ≡ []) ⊎ (length (retired_at v).numbers ≡ c.rings)

@@ -3,37 +3,32 @@ use Rattle.std.proofs.Common.{◌≡◌, ℕ, ◌+◌, ◌≤◌, List, [], ◌�
 use Rattle.std.specs.Prelude.{sum_by}
 use Rattle.std.proofs.lemmas.List.Sums.{sum_by_push}
 use Rattle.scq_law.specs.Hands.{times}
-use Rattle.scq_band.specs.RunSeen.{Seen, both_seen}
 use Rattle.scq_band.specs.Known.{Member, Known, both_of}
 use Rattle.scq_band.specs.Steps.{my}
 use Rattle.scq_band.specs.Standing.{Standing}
 use Rattle.scq_band.specs.Closing.{indices_of}
-use Rattle.scq_band.specs.Homes.{IsMemberOf, AreGathered, all_seen}
+use Rattle.scq_band.specs.Homes.{IsMemberOf, AreGathered}
 use Rattle.scq_band.proofs.SeatsHome.{has_one, has_more}
 
 module _ {B : Type 0} where
   pub gathered_first : (rings : ℕ) (all left : List (Standing B)) (s : Standing B) (w : Known) → all ≡ left ++ s ∷ [] → w.seats ≡ my w ∷ []
-      → IsMemberOf s (my w) → w.numbers ≡ s.numbers → length s.numbers ≡ rings → w.gate ≡ s.gate → (told : Seen) → told ≡ s.seen
-      → AreGathered rings all left w told
-  gathered_first rings all left s w split alone member numbers count gate told seen =
+      → IsMemberOf s (my w) → w.numbers ≡ s.numbers → length s.numbers ≡ rings → w.gate ≡ s.gate → AreGathered rings all left w
+  gathered_first rings all left s w split alone member numbers count gate =
       record {
         done = s ∷ [];
         split = split;
         has = has_one rings s w alone member numbers count gate;
-        seen = seen;
         some = λ none. let no : my w ∷ [] ≡ [] = sym alone ∙ none in cc;
       }
 
-  pub gathered_more : (rings : ℕ) (all before left : List (Standing B)) (s : Standing B) (v w : Known) (told : Seen)
-      → AreGathered rings all before v told
+  pub gathered_more : (rings : ℕ) (all before left : List (Standing B)) (s : Standing B) (v w : Known) → AreGathered rings all before v
       → before ≡ left ++ s ∷ [] → w.seats ≡ my w ∷ [] → IsMemberOf s (my w) → w.numbers ≡ s.numbers → length s.numbers ≡ rings
-      → w.gate ≡ s.gate → (more : Seen) → more ≡ s.seen → AreGathered rings all left (both_of v w) (both_seen told more)
-  gathered_more rings all before left s v w told now last alone member numbers count gate more seen =
+      → w.gate ≡ s.gate → AreGathered rings all left (both_of v w)
+  gathered_more rings all before left s v w now last alone member numbers count gate =
       record {
         done = s ∷ now.done;
         split = now.split ∙ ap (λ (l : List (Standing B)). l ++ now.done) last ∙ append_assoc left (s ∷ []) now.done;
         has = has_more rings s now.done v w now.has alone member numbers count gate;
-        seen = ap (λ (l : Seen). both_seen l more) now.seen ∙ ap (both_seen (all_seen now.done)) seen;
         some =
             λ none.
             let no : my w ∷ v.seats ≡ [] = ap (λ (xs : List Member). xs ++ v.seats) (sym alone) ∙ none in

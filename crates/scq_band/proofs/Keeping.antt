@@ -1,40 +1,31 @@
 -- What a seat keeps after a call.
 use Rattle.std.proofs.Common.{◌≡◌, ◌⊎◌, ℕ, zero, suc, ◌+◌, ◌^◌, ◌<◌, ◌≤◌, true, List, [], ◌∷◌, ◌++◌, length, refl, sym, ◌∙◌, ap, subst, inl, inr, arith, eq-eqb, ne_eqb}
 use Rattle.std.specs.Prelude.{Some, None, Option, IfSome, max, slice_set, slice_get, slice_index_or}
-use Rattle.std.specs.List.{Contains}
 use Rattle.std.proofs.lemmas.Bool.{cases_eq, cases_lt}
 use Rattle.std.proofs.Math.Nat.{max-eq_left, max-eq_right}
 use Rattle.std.proofs.lemmas.List.{length-append, length-set}
 use Rattle.atomic_table.specs.Seated.{TableId}
 use Rattle.atomic_table.specs.Table.{Me, rest}
 use Rattle.scq_word.specs.Sizes.{n_of}
-use Rattle.scq_core.specs.Machine.{Part}
 use Rattle.scq_core.specs.Table.{hand_without, ends}
 use Rattle.scq_word.specs.declared.setup.Setup.{Setup}
 use Rattle.scq_core.specs.declared.ended.Ended.{Ended}
 use Rattle.scq_core.specs.declared.ended.Ended.TheVariants.{Nothing}
 use Rattle.scq_core.specs.declared.phase.Phase.TheVariants.{Idle}
-use Rattle.scq_core.specs.declared.step.Step.{Step}
 use Rattle.scq_law.specs.Hands.{times}
 use Rattle.scq_band.specs.declared.numbers.Numbers.{Numbers}
 use Rattle.scq_band.specs.declared.slot.Slot.{Slot}
 use Rattle.scq_band.specs.declared.rule.Key.{Key}
 use Rattle.scq_band.specs.Numbers.{known_of, changed, finishes, sees, passes, drew, empties}
 use Rattle.scq_band.specs.Known.{Member, Known}
-use Rattle.scq_band.specs.Sights.{Sight, StandsAfter, Went, Looked, retired_ones}
-use Rattle.scq_law.specs.Prefixes.{IsPrefix, IsRecordAfter}
-use Rattle.scq_band.specs.RunSeen.{Seen, EndsWith, Caller, IsCallInRun, WasEmptyInRun, IsReadingInRun}
 use Rattle.scq_band.specs.Steps.{my, bytes_in, front_bytes}
-use Rattle.scq_band.specs.Seats.{IsAlone, looked, HasGotAfter, with_part, seated, put_at, got_at, nothing_at, drew_head, spent_at}
-use Rattle.scq_band.specs.Turns.{Fronts}
-use Rattle.scq_band.specs.Buffers.{LiesIn, opening_of}
-use Rattle.scq_band.specs.Standing.{Identity, Standing, in_hand, bytes_of, bytes_in_hand, having_seen, caller_of, after_put, after_get, after_nothing, after_spent_put, HasTaken}
-use Rattle.scq_band.specs.Kept.{in_order, buffer_in, hand_of, identity_of, standing_from, standing_of, AllGiven, AreSmall, IsKept}
+use Rattle.scq_band.specs.Seats.{IsAlone, HasGotAfter, with_part, seated, put_at, got_at, nothing_at, drew_head, spent_at}
+use Rattle.scq_band.specs.Turns.{CameBy, Fronts}
+use Rattle.scq_band.specs.Buffers.{LiesIn}
+use Rattle.scq_band.specs.Standing.{LastStep, Standing, in_hand, bytes_of, bytes_in_hand, after_put, after_get, after_nothing, after_spent_put, HasTaken}
+use Rattle.scq_band.specs.Kept.{in_order, buffer_in, hand_of, standing_of, AllGiven, AreSmall, IsKept}
 use Rattle.scq_band.proofs.Slots.{times-append, times-without, length-without, put_hand}
-use Rattle.scq_law.proofs.Aspects.EmptyCalls.{empty_at_call}
-use Rattle.scq_band.proofs.RunShown.{began}
 use Rattle.scq_band.proofs.Exchanging.{Brought}
-use Rattle.scq_band.proofs.Gates.{none_awake, some_awake, ones_gone, gone_ones}
 
 -- what is known of a ring where it was written, or another one
 known_set : (ns : List Numbers) (r : ℕ) (y : Numbers) (q : ℕ) → (known_of (slice_set ns r y) q ≡ y) ⊎ (known_of (slice_set ns r y) q ≡ known_of ns q)
@@ -153,13 +144,12 @@ module _ {B : Type 0} (IsSame : B → B → Type 0) where
 
 module _ {B : Type 0} where
   -- what contracts see of a seat after a put
-  pub put_standing : (contents : B → List ℕ) (IsSame : B → B → Type 0) (fs gs : Seen) (table later : TableId) (key : Key B) (me me' : Me (Slot B) Known)
-      (v : Known)
+  pub put_standing : (contents : B → List ℕ) (IsSame : B → B → Type 0) (table later : TableId) (key : Key B) (me me' : Me (Slot B) Known) (v : Known)
       (ms : List (ℕ × Slot B)) (given : List B) (i : ℕ) (buffer : B) (s : Standing B) (r p : ℕ)
-      → standing_from fs table key me ≡ s → later ≡ table → v ≡ me.0 → in_hand s.hand i ≡ Some (Some buffer) → Brought IsSame me given ms i (Some buffer)
+      → standing_of table key me ≡ s → later ≡ table → v ≡ me.0 → in_hand s.hand i ≡ Some (Some buffer) → Brought IsSame me given ms i (Some buffer)
       → me'.0 ≡ put_at r i p (front_bytes contents ms) v → me'.1 ≡ rest ms
-      → standing_from gs later key me' ≡ having_seen gs (after_put r i p (bytes_in_hand contents s.hand i) s)
-  put_standing contents IsSame fs gs table later key me me' v ms given i buffer s r p is same view has b put home =
+      → standing_of later key me' ≡ after_put r i p (bytes_in_hand contents s.hand i) s
+  put_standing contents IsSame table later key me me' v ms given i buffer s r p is same view has b put home =
       let others : rest ms ≡ b.others = ap rest b.is in
       let bytes : front_bytes contents ms ≡ bytes_in_hand contents s.hand i = ap (front_bytes contents) b.is ∙ ap (bytes_in contents) b.has
       ∙ ap (bytes_of contents) (sym has) in
@@ -167,10 +157,10 @@ module _ {B : Type 0} where
       let now : me' ≡ (put_at r i p w me.0, b.others) =
       ap (λ (u : Known). (u, me'.1)) (put ∙ ap (λ (l : List ℕ). put_at r i p l v) bytes ∙ ap (put_at r i p w) view)
       ∙ ap (λ (l : List (ℕ × Slot B)). (put_at r i p w me.0, l)) (home ∙ others) in
-      ap (standing_from gs later key) now ∙ ap (λ t. standing_from gs t key (put_at r i p w me.0, b.others)) same
-      ∙ ap (λ (h : List (ℕ × Option B)). record (having_seen gs (after_put r i p w (standing_from fs table key me))) { hand = h })
+      ap (standing_of later key) now ∙ ap (λ t. standing_of t key (put_at r i p w me.0, b.others)) same
+      ∙ ap (λ (h : List (ℕ × Option B)). record (after_put r i p w (standing_of table key me)) { hand = h })
       (put_hand me.1 ms b.others i b.slot b.same b.is (my me.0).part.hand)
-      ∙ ap (λ (t : Standing B). having_seen gs (after_put r i p w t)) is
+      ∙ ap (after_put r i p w) is
 
   pub turned_hand : (slots ms : List (ℕ × Slot B)) → ((j : ℕ) → buffer_in ms j ≡ buffer_in slots j) → (hand : List ℕ) → hand_of ms hand ≡ hand_of slots hand
   turned_hand slots ms same [] = refl
@@ -178,23 +168,22 @@ module _ {B : Type 0} where
       ap (λ (o : Option B). (j, o) ∷ hand_of ms js) (same j) ∙ ap (λ (l : List (ℕ × Option B)). (j, buffer_in slots j) ∷ l) (turned_hand slots ms same js)
 
   -- what contracts see of a seat whose put drew a ticket at or past the limit
-  pub spent_standing : (fs gs : Seen) (table later : TableId) (key : Key B) (me me' : Me (Slot B) Known) (v : Known)
-      (ms : List (ℕ × Slot B)) (s : Standing B) (r t : ℕ)
-      → standing_from fs table key me ≡ s → later ≡ table → v ≡ me.0 → ((j : ℕ) → buffer_in ms j ≡ buffer_in me.1 j)
+  pub spent_standing : (table later : TableId) (key : Key B) (me me' : Me (Slot B) Known) (v : Known) (ms : List (ℕ × Slot B)) (s : Standing B) (r t : ℕ)
+      → standing_of table key me ≡ s → later ≡ table → v ≡ me.0 → ((j : ℕ) → buffer_in ms j ≡ buffer_in me.1 j)
       → me'.0 ≡ spent_at r t true v → me'.1 ≡ ms
-      → standing_from gs later key me' ≡ having_seen gs (after_spent_put r t s)
-  spent_standing fs gs table later key me me' v ms s r t is same view buffers spent slots =
+      → standing_of later key me' ≡ after_spent_put r t s
+  spent_standing table later key me me' v ms s r t is same view buffers spent slots =
       let now : me' ≡ (spent_at r t true me.0, ms) = ap (λ (u : Known). (u, me'.1)) (spent ∙ ap (spent_at r t true) view)
       ∙ ap (λ (l : List (ℕ × Slot B)). (spent_at r t true me.0, l)) slots in
-      ap (standing_from gs later key) now ∙ ap (λ z. standing_from gs z key (spent_at r t true me.0, ms)) same
-      ∙ ap (λ (h : List (ℕ × Option B)). record (having_seen gs (after_spent_put r t (standing_from fs table key me))) { hand = h })
+      ap (standing_of later key) now ∙ ap (λ z. standing_of z key (spent_at r t true me.0, ms)) same
+      ∙ ap (λ (h : List (ℕ × Option B)). record (after_spent_put r t (standing_of table key me)) { hand = h })
       (turned_hand me.1 ms buffers (my me.0).part.hand)
-      ∙ ap (λ (z : Standing B). having_seen gs (after_spent_put r t z)) is
+      ∙ ap (after_spent_put r t) is
 
   -- the slot in front has the buffer that its index was given
-  pub seen : (contents : B → List ℕ) (IsSame : B → B → Type 0) (me : Me (Slot B) Known) (ms : List (ℕ × Slot B)) (given all : List B) (i : ℕ) (buffer : B)
+  pub fronts : (contents : B → List ℕ) (IsSame : B → B → Type 0) (me : Me (Slot B) Known) (ms : List (ℕ × Slot B)) (given all : List B) (i : ℕ) (buffer : B)
       → Brought IsSame me given ms i (Some buffer) → given ≡ all → Fronts (LiesIn contents IsSame all) i (front_bytes contents ms) ms
-  seen contents IsSame me ms given all i buffer b same =
+  fronts contents IsSame me ms given all i buffer b same =
       let it = b.given_so buffer b.has in
       subst (λ (l : List (ℕ × Slot B)). Fronts (LiesIn contents IsSame all) i (front_bytes contents l) l) (sym b.is) (
         refl,
@@ -290,11 +279,11 @@ module _ {B : Type 0} (contents : B → List ℕ) (IsSame : B → B → Type 0) 
       ]
 
   -- what contracts see of a seat after a get
-  pub got_standing : (fs gs : Seen) (table later : TableId) (key : Key B) (me me' : Me (Slot B) Known) (numbers : List Numbers) (s : Standing B) (r h i : ℕ)
-      → standing_from fs table key me ≡ s → later ≡ table → HasGotAfter (LiesIn contents IsSame key.given.value.items) r h i me me'
+  pub got_standing : (table later : TableId) (key : Key B) (me me' : Me (Slot B) Known) (numbers : List Numbers) (s : Standing B) (r h i : ℕ)
+      → standing_of table key me ≡ s → later ≡ table → HasGotAfter (LiesIn contents IsSame key.given.value.items) r h i me me'
       → ((j : ℕ) → times j (my me'.0).part.hand ≤ 1) → r < length me.0.numbers
-      → HasTaken contents IsSame r h i s (standing_from gs later key me')
-  got_standing fs gs table later key me me' numbers s r h i is same got once there =
+      → HasTaken contents IsSame r h i s (standing_of later key me')
+  got_standing table later key me me' numbers s r h i is same got once there =
       let hand = (my me.0).part.hand in
       let lies = got.slots.lies in
       let b = lies.buffer in
@@ -306,34 +295,34 @@ module _ {B : Type 0} (contents : B → List ℕ) (IsSame : B → B → Type 0) 
       let l = ap (times i) held_now ∙ times-append i hand (i ∷ []) in
       let one : times i (i ∷ []) ≡ 1 = rw (eq-eqb i i refl) refl in
       omega (arith, o, l, one) in
-      let here : HasTaken contents IsSame r h i (standing_from fs table key me) (standing_from gs later key me') =
+      let here : HasTaken contents IsSame r h i (standing_of table key me) (standing_of later key me') =
       record {
         buffer = b;
         given = record { first = lies.first; was = lies.was; same = lies.same };
         seat =
-            ap (standing_from gs later key) (ap (λ (u : Known). (u, me'.1)) got.view
+            ap (standing_of later key) (ap (λ (u : Known). (u, me'.1)) got.view
             ∙ ap (λ (l : List (ℕ × Slot B)). (got_at r h i w (drew_head r h me.0), l)) got.slots.come)
-            ∙ ap (λ t. standing_from gs t key (got_at r h i w (drew_head r h me.0), (i, x) ∷ me.1)) same
-            ∙ ap (λ (l : List (ℕ × Option B)). record (standing_from gs table key (got_at r h i w (drew_head r h me.0), (i, x) ∷ me.1)) { hand = l })
+            ∙ ap (λ t. standing_of t key (got_at r h i w (drew_head r h me.0), (i, x) ∷ me.1)) same
+            ∙ ap (λ (l : List (ℕ × Option B)). record (standing_of table key (got_at r h i w (drew_head r h me.0), (i, x) ∷ me.1)) { hand = l })
             (come_hand me.1 i x hand none ∙ ap (λ (o : Option B). hand_of me.1 hand ++ (i, o) ∷ []) lies.laid)
-            ∙ ap (λ (ns : List Numbers). record (having_seen gs (after_get r h i b w (standing_from fs table key me))) { numbers = ns })
+            ∙ ap (λ (ns : List Numbers). record (after_get r h i b w (standing_of table key me)) { numbers = ns })
             (changed_twice (sees h) (passes (h + 1)) r me.0.numbers there)
-            ∙ ap (λ (z : List ℕ). having_seen gs (after_get r h i b z (standing_from fs table key me))) (sym lies.bytes);
+            ∙ ap (λ (z : List ℕ). after_get r h i b z (standing_of table key me)) (sym lies.bytes);
         came = in_hand-none me.1 hand i none;
       } in
-      subst (λ (z : Standing B). HasTaken contents IsSame r h i z (standing_from gs later key me')) is here
+      subst (λ (z : Standing B). HasTaken contents IsSame r h i z (standing_of later key me')) is here
 
 pub known_here : (ns : List Numbers) (r : ℕ) (y : Numbers) → r < length ns → known_of (slice_set ns r y) r ≡ y
 known_here [] r y low = absurd (omega arith)
 known_here (n ∷ ns) zero y low = refl
 known_here (n ∷ ns) (suc r) y low = known_here ns r y (omega arith)
 
--- what is known of a ring's Head after some steps is true then
-pub head_reached : (c : Setup) (opening : List (List ℕ)) (v u : Sight) (r head : ℕ) → (went : Went c opening v u) → r < length u.known.numbers
-    → head ≡ (known_of u.known.numbers r).head → head ≤ went.now.recorded.state.cells.head r
-head_reached c opening v u r head went low is =
-    let numbers = u.known.numbers in
-    let le = (went.numbers r (known_of numbers r) (known_there numbers r low)).head in omega (arith, is, le)
+-- what is known of a ring's Head after a turn was true then
+pub head_reached : (c : Setup) (opening : List (List ℕ)) (before : List Ended) (x : Member) (numbers : List Numbers) (r head : ℕ)
+    → CameBy c opening before x numbers → r < length numbers → head ≡ (known_of numbers r).head
+    → (last : LastStep c opening x.number before x.part.calls) × (head ≤ last.next.cells.head r)
+head_reached c opening before x numbers r head came low is =
+    (came.last, (let le = (came.true_then r (known_of numbers r) (known_there numbers r low)).head in omega (arith, is, le)))
 
 -- the view of a get that has found nothing, with the last ticket that it drew, if any
 abbrev pub none_at : ℕ → Option ℕ → Known → Known
@@ -368,131 +357,9 @@ module _ {B : Type 0} (IsSame : B → B → Type 0) where
       (subst AreSmall (sym new) (small_changed f r numbers (none_small drawn) kept.small)) kept.spent
       (ap (λ (u : Known). (u, me'.1)) none ∙ ap (λ (l : List (ℕ × Slot B)). (none_at r drawn me.0, l)) same)
 
-  pub none_standing : (fs gs : Seen) (table later : TableId) (key : Key B) (me me' : Me (Slot B) Known) (s : Standing B) (r : ℕ) (drawn : Option ℕ)
-      → standing_from fs table key me ≡ s → later ≡ table → me'.0 ≡ none_at r drawn me.0 → me'.1 ≡ me.1
-      → standing_from gs later key me' ≡ having_seen gs (after_nothing r drawn s)
-  none_standing fs gs table later key me me' s r drawn is same none slots =
-      ap (standing_from gs later key) (ap (λ (u : Known). (u, me'.1)) none ∙ ap (λ (l : List (ℕ × Slot B)). (none_at r drawn me.0, l)) slots)
-      ∙ ap (λ t. standing_from gs t key (none_at r drawn me.0, me.1)) same ∙ ap (λ (z : Standing B). having_seen gs (after_nothing r drawn z)) is
-
--- a seat that rests after a run, with the part that its view has
-rests_after : (c : Setup) (opening : List (List ℕ)) (run : List (ℕ × Step)) (x : Member) (number : ℕ) → StandsAfter c opening run x → x.part.phase ≡ Idle
-    → x.number ≡ number → IsRecordAfter c opening run number x.part.calls
-rests_after c opening run x number stands rests same =
-    let part : stands.recorded.state.part number ≡ x.part = ap stands.recorded.state.part (sym same) ∙ stands.part in
-    record {
-      recorded = stands.recorded;
-      is_run = stands.is_run;
-      idle = ap (λ (p : Part). p.phase) part ∙ rests;
-      calls_are = ap (λ (p : Part). p.calls) part;
-    }
-
-module _ {B : Type 0} where
-  -- a call in the run, as contracts see it
-  pub call_in_run : (opening : List (List ℕ)) (table later : TableId) (key : Key B) (me me' : Me (Slot B) Sight) → Went key.setup opening me.0 me'.0
-      → (my me.0.known).part.phase ≡ Idle → (my me'.0.known).part.phase ≡ Idle → (my me'.0.known).number ≡ (my me.0.known).number
-      → IsCallInRun key.setup opening (caller_of (standing_of table key me)) (caller_of (standing_of later key me'))
-  call_in_run opening table later key me me' went was is same =
-      record {
-        before = went.before;
-        after = went.after;
-        had_seen = went.had_seen;
-        first = went.first;
-        begins = went.begins;
-        last = went.last;
-        ends = subst (λ (k : ℕ). EndsWith (k, went.last) went.after) same went.ends;
-        has_seen = went.has_seen;
-        was = rests_after key.setup opening went.before (my me.0.known) (my me.0.known).number went.was was refl;
-        now = rests_after key.setup opening went.after (my me'.0.known) (my me.0.known).number went.now is same;
-      }
-
-  -- the same, of the seat and the band as contracts see them
-  pub call_seen : (contents : B → List ℕ) (table later shared_table : TableId) (key shared : Key B) (self : Identity B) (s : Standing B)
-      (me me' : Me (Slot B) Sight) → standing_of table key me ≡ s → s.band ≡ self → identity_of shared_table shared ≡ self
-      → Went shared.setup (opening_of contents shared.given.value.items) me.0 me'.0
-      → (my me.0.known).part.phase ≡ Idle → (my me'.0.known).part.phase ≡ Idle → (my me'.0.known).number ≡ (my me.0.known).number
-      → IsCallInRun self.setup (opening_of contents self.given) (caller_of s) (caller_of (standing_of later key me'))
-  call_seen contents table later shared_table key shared self s me me' is own shared_is went was rests same =
-      let band : identity_of table key ≡ self = ap (λ (t : Standing B). t.band) is ∙ own in
-      let its : Went key.setup (opening_of contents key.given.value.items) me.0 me'.0 =
-      subst (λ (i : Identity B). Went i.setup (opening_of contents i.given) me.0 me'.0) (shared_is ∙ sym band) went in
-      let call = call_in_run (opening_of contents key.given.value.items) table later key me me' its was rests same in
-      subst (λ (i : Identity B). IsCallInRun i.setup (opening_of contents i.given) (caller_of s) (caller_of (standing_of later key me'))) band
-      (subst (λ (t : Standing B). IsCallInRun key.setup (opening_of contents key.given.value.items) (caller_of t) (caller_of
-      (standing_of later key me'))) is call)
-
-  -- a get that found nothing, in the run
-  pub empty_seen : (contents : B → List ℕ) (table later shared_table : TableId) (key shared : Key B) (self : Identity B) (s : Standing B)
-      (me me' : Me (Slot B) Sight) (r head : ℕ) → standing_of table key me ≡ s → s.band ≡ self → identity_of shared_table shared ≡ self
-      → Went shared.setup (opening_of contents shared.given.value.items) me.0 me'.0
-      → (my me.0.known).part.phase ≡ Idle → (my me'.0.known).part.phase ≡ Idle → (my me'.0.known).number ≡ (my me.0.known).number
-      → r < length me'.0.known.numbers → head ≡ (known_of me'.0.known.numbers r).head
-      → (my me'.0.known).part.calls ≡ (my me.0.known).part.calls ++ Nothing r ∷ []
-      → WasEmptyInRun self.setup (opening_of contents self.given) r head (caller_of s) (caller_of (standing_of later key me'))
-  unfolding call_in_run rests_after
-  empty_seen contents table later shared_table key shared self s me me' r head is own shared_is went was rests same low known ended =
-      let band : identity_of table key ≡ self = ap (λ (t : Standing B). t.band) is ∙ own in
-      let opening = opening_of contents key.given.value.items in
-      let its : Went key.setup opening me.0 me'.0 =
-      subst (λ (i : Identity B). Went i.setup (opening_of contents i.given) me.0 me'.0) (shared_is ∙ sym band) went in
-      let x = my me.0.known in
-      let call = call_in_run opening table later key me me' its was rests same in
-      let finished : IsRecordAfter key.setup opening its.after x.number (x.part.calls ++ Nothing r ∷ []) = record {
-        recorded = call.now.recorded;
-        is_run = call.now.is_run;
-        idle = call.now.idle;
-        calls_are = call.now.calls_are ∙ ended;
-      } in
-      let here : WasEmptyInRun key.setup opening r head (caller_of (standing_of table key me)) (caller_of (standing_of later key me')) = record {
-        call = call;
-        past = head_reached key.setup opening me.0 me'.0 r head its low known;
-        moment = empty_at_call key.setup opening its.before its.after x.number r x.part.calls (began key.setup opening me.0 me'.0 its) call.was finished;
-      } in
-      subst (λ (i : Identity B). WasEmptyInRun i.setup (opening_of contents i.given) r head (caller_of s) (caller_of (standing_of later key me'))) band
-      (subst (λ (t : Standing B). WasEmptyInRun key.setup opening r head (caller_of t) (caller_of (standing_of later key me'))) is here)
-
-  -- a reading of the gate in the run
-  pub reading_seen : (contents : B → List ℕ) (table later shared_table : TableId) (key shared : Key B) (self : Identity B) (s : Standing B)
-      (me me' : Me (Slot B) Sight) (found : ℕ) → standing_of table key me ≡ s → s.band ≡ self → identity_of shared_table shared ≡ self
-      → IsAlone me.0.known → (my me.0.known).part.phase ≡ Idle → me'.0.known ≡ looked found me.0.known
-      → Looked shared.setup (opening_of contents shared.given.value.items) me.0 me'.0 found
-      → IsReadingInRun self.setup (opening_of contents self.given) s.retired (caller_of s) (caller_of (standing_of later key me')) found
-  reading_seen contents table later shared_table key shared self s me me' found is own shared_is alone rests same look =
-      let band : identity_of table key ≡ self = ap (λ (t : Standing B). t.band) is ∙ own in
-      let opening = opening_of contents key.given.value.items in
-      let its : Looked key.setup opening me.0 me'.0 found =
-      subst (λ (i : Identity B). Looked i.setup (opening_of contents i.given) me.0 me'.0 found) (shared_is ∙ sym band) look in
-      let x = my me.0.known in
-      let calls : (my me'.0.known).part.calls ≡ x.part.calls = ap (λ (u : Known). (my u).part.calls) same in
-      let known : (p : ℕ × ℕ) → Contains me'.0.seen.retirees p → Contains (retired_ones its.gone key.setup.seats) p =
-      λ p has. subst (λ (y : Seen). Contains y.retirees p) its.has_seen has in
-      let knows : (k n : ℕ) → k < key.setup.seats → its.gone k ≡ Some n → Contains me'.0.seen.retirees (k, n) =
-      λ k n low gone. subst (λ (y : Seen). Contains y.retirees (k, n)) (sym its.has_seen) (gone_ones its.gone key.setup.seats k n low gone) in
-      let here : IsReadingInRun key.setup opening x.retired (caller_of (standing_of table key me)) (caller_of (standing_of later key me')) found = record {
-        after = its.after;
-        had_seen = its.had_seen;
-        has_seen = ap (λ (y : Seen). y.runs) its.has_seen;
-        now =
-            subst (λ (l : List Ended). IsRecordAfter key.setup opening its.after x.number l) (sym calls)
-            (rests_after key.setup opening its.after x x.number (its.stands alone.seats) rests refl);
-        still = λ p has. let was = its.still p has in knows p.0 p.1 was.0 was.1;
-        made = λ p has. its.made p.0 p.1 (ones_gone its.gone key.setup.seats p (known p has));
-        itself = λ n is. knows x.number n (its.own alone.seats).0 ((its.own alone.seats).1 ∙ is);
-        not_itself =
-            λ is n has.
-            let gone : Some n ≡ None = sym (ones_gone its.gone key.setup.seats (x.number, n) (known (x.number, n) has)) ∙ (its.own alone.seats).1 ∙ is in cc;
-        none_left =
-            λ zeroth k low.
-            let all = none_awake its.gone key.setup.seats (sym its.awake_seats ∙ zeroth) k low in
-            (all.0, knows k all.0 low all.1);
-        some_left =
-            λ above.
-            let one = some_awake its.gone key.setup.seats (let e = its.awake_seats in omega (arith, e, above)) in (
-              one.0,
-              one.1,
-              λ n has. let gone : Some n ≡ None = sym (ones_gone its.gone key.setup.seats (one.0, n) (known (one.0, n) has)) ∙ one.2 in cc,
-            );
-      } in
-      subst (λ (i : Identity B). IsReadingInRun i.setup (opening_of contents i.given) s.retired (caller_of s) (caller_of
-      (standing_of later key me')) found) band
-      (subst (λ (t : Standing B). IsReadingInRun key.setup opening t.retired (caller_of t) (caller_of (standing_of later key me')) found) is here)
+  pub none_standing : (table later : TableId) (key : Key B) (me me' : Me (Slot B) Known) (s : Standing B) (r : ℕ) (drawn : Option ℕ)
+      → standing_of table key me ≡ s → later ≡ table → me'.0 ≡ none_at r drawn me.0 → me'.1 ≡ me.1
+      → standing_of later key me' ≡ after_nothing r drawn s
+  none_standing table later key me me' s r drawn is same none slots =
+      ap (standing_of later key) (ap (λ (u : Known). (u, me'.1)) none ∙ ap (λ (l : List (ℕ × Slot B)). (none_at r drawn me.0, l)) slots)
+      ∙ ap (λ t. standing_of t key (none_at r drawn me.0, me.1)) same ∙ ap (after_nothing r drawn) is

@@ -5,7 +5,7 @@ use Rattle.scq_core.specs.Machine.{tail_of, head_of}
 use Rattle.scq_band.specs.Knowing.{EachViewKnowsTruth}
 
 pub each_knows : {S : Type 0} (Lies : ℕ → S → List ℕ → Type 0) (opening : List (List ℕ)) (c : Setup) → EachViewKnowsTruth Lies opening c
-each_knows Lies opening c gone run s shown id v here =
+each_knows Lies opening c s shown id v here =
     let view = shown.views id v here in
     record {
       head = λ r x low is. subst (λ (n : ℕ). x.head ≤ n) (sym (shown.words.shows (head_of r) (low, tt))) (view.numbers r x is).head;

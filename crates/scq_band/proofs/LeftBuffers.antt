@@ -6,7 +6,7 @@ use Rattle.std.specs.List.{Contains}
 use mathlib.Core.Option as maybe
 use Rattle.scq_word.specs.declared.setup.Setup.{Setup}
 use Rattle.scq_word.specs.Sizes.{n_of}
-use Rattle.scq_word.specs.Words.{index_in, cycle_in, is_none_in, mark_of}
+use Rattle.scq_word.specs.Words.{index_in, is_none_in, mark_of}
 use Rattle.scq_core.specs.declared.ended.Ended.TheVariants.{Got}
 use Rattle.scq_core.specs.Machine.{Part, Machine}
 use Rattle.scq_core.specs.Laws.{total}
@@ -20,7 +20,7 @@ use Rattle.scq_law.proofs.Places.HandLaws.{one_hand}
 use Rattle.scq_law.proofs.Places.EntryLaws.{stands_placed}
 use Rattle.scq_band.specs.Known.{Member}
 use Rattle.scq_band.specs.Shown.{Scene, Has, Owns, Stored}
-use Rattle.scq_band.specs.Closing.{IsLeft, EachLeftIsItsPut, StandsAtItsPut}
+use Rattle.scq_band.specs.Closing.{IsLeft, EachLeftIsItsPut}
 use Rattle.scq_band.proofs.AllSeats.{AreAll, seat_at, total_all, member_at}
 use Rattle.scq_band.proofs.ClosedRecords.{records_of, AllRest, was_put_by, call_ended}
 use Rattle.scq_band.proofs.ClosedCounts.{sum_by-map, hands_of}
@@ -124,23 +124,6 @@ module _ (c : Setup) (m : Machine) (xs : List Member) (reach : IsReachable c m) 
             ap (λ r. m.cells.entries.word r (left_entry i a x).slot) ring ∙ ap (m.cells.entries.word (left_entry j b y).ring) slots in
             sym (left_entry i a x).is ∙ ap (index_in (ring_slots c)) words ∙ (left_entry j b y).is;
       }
-
--- where the slots at home have the bytes that are told, each such index stands at the place of its put
-pub lefts_stand : {S : Type 0} (Lies : ℕ → S → List ℕ → Type 0) (c : Setup) (m : Machine) (xs : List Member) (homes : List (maybe.Option S))
-    (bytes : List (List ℕ)) → IsReachable c m → AreAll c m xs → AllRest xs → length m.opening ≡ n_of c.order → Stored Lies c m.cells.entries homes
-    → ((i : ℕ) (w : List ℕ) → i < n_of c.order → Has Lies homes i w → slice_index_or bytes i [] ≡ w)
-    → (i : ℕ) → i < n_of c.order → IsLeft (hands_of xs) i → StandsAtItsPut c m.opening (records_of xs) m i (slice_index_or bytes i [])
-lefts_stand Lies c m xs homes bytes reach all rest count stored tells i small left =
-    let e = left_entry c m xs reach all rest i small left in
-    let s = stands c m xs reach all rest i small left in
-    let same : m.cells.entries.content e.ring e.slot ≡ slice_index_or bytes i [] = sym (tells i _ small (entry_home Lies c m homes i stored e)) in
-    record {
-      ring = e.ring;
-      place = s.place;
-      index = ap (λ p. index_in (ring_slots c) (m.cells.entries.word e.ring p)) s.slot ∙ e.is;
-      cycle_is = ap (λ p. cycle_in (ring_slots c) (m.cells.entries.word e.ring p)) s.slot ∙ s.cycle;
-      put = rw (← same) (was_put_by c m xs reach all rest e.ring s.place _ s.maker count s.placed);
-    }
 
 -- where the slots at home have the bytes that are told
 pub lefts_at_home : {S : Type 0} (Lies : ℕ → S → List ℕ → Type 0) (c : Setup) (m : Machine) (xs : List Member) (homes : List (maybe.Option S))

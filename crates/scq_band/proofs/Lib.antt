@@ -6,9 +6,6 @@ pub mod Knowing
 pub mod Learning
 pub mod Moves
 pub mod Grounds
-pub mod RunEnds
-pub mod RunShown
-pub mod SeenCalls
 pub mod Operations
 pub mod Outcomes
 pub mod RingLemmas

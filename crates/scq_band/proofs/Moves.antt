@@ -1,14 +1,13 @@
 -- A turn that a seat may make keeps the rule, and tells what it should. Plan: the turn's word and its slot are those of the
 -- machine's step, so the next state is shown; the seat's own view is the one that the turn makes, and all others stay true.
-use Rattle.std.proofs.Common.{◌≡◌, ◌≢◌, ◌⊎◌, ℕ, ◌+◌, ◌<◌, ◌≤◌, false, List, [], ◌∷◌, ◌++◌, map, length, refl, sym, ◌∙◌, ap, subst, inl, inr, arith}
-use Rattle.std.specs.Prelude.{Option, Some, slice_index}
-use Rattle.std.proofs.lemmas.Bool.{cases_eq}
+use Rattle.std.proofs.Common.{◌≡◌, ◌≢◌, ◌⊎◌, ℕ, ◌+◌, ◌<◌, ◌≤◌, false, List, [], ◌∷◌, map, length, refl, sym, ◌∙◌, ap, subst, inl, inr, arith}
+use Rattle.std.specs.Prelude.{Some, slice_index}
 use Rattle.std.specs.Option.{option_map}
 use Rattle.std.specs.List.{Contains}
 use mathlib.Core.Option.{some}
 use mathlib.Core.Option as maybe
 use lib.ListN.{get_elem?}
-use Rattle.atomic_table.specs.Table.{State, Me, Act, Valid, stepped, carried_after, homes_after}
+use Rattle.atomic_table.specs.Table.{State, Me, Allows, stepped, carried_after, homes_after}
 use Rattle.atomic_table.proofs.Lists.{at_set}
 use Rattle.scq_word.specs.declared.setup.Setup.{Setup}
 use Rattle.scq_word.specs.Sizes.{n_of}
@@ -27,12 +26,9 @@ use Rattle.scq_law.specs.Bounds.{ThresholdCovers}
 use Rattle.scq_band.specs.declared.numbers.Numbers.{Numbers}
 use Rattle.scq_band.specs.Layout.{at, IsLocation}
 use Rattle.scq_band.specs.Known.{Member, Known}
-use Rattle.scq_band.specs.Shown.{Scene, LeadsTo, Has, IsMember, Owns, IsView, Shown}
+use Rattle.scq_band.specs.Shown.{Scene, Has, IsMember, Owns, IsView, Shown}
 use Rattle.scq_law.specs.Retries.{Finds}
-use Rattle.scq_law.specs.Run.{recorded_after}
-use Rattle.scq_law.proofs.Replays.LongerRuns.{run_last}
-use Rattle.scq_band.specs.Turns.{learned, turned_member, made, FindsIndex, Draws, MayTurn, Carries, Turned}
-use Rattle.scq_band.proofs.RunEnds.{reaches}
+use Rattle.scq_band.specs.Turns.{learned, turned_member, made, FindsIndex, Draws, MayTurn, Carries, CameBy, Turned}
 use Rattle.scq_band.proofs.WordLemmas.{written_shown, gate_kept}
 use Rattle.scq_band.proofs.Handles.{Handles, handles}
 use Rattle.scq_band.proofs.Knowledge.{AllTrue, FinishedStay, all_stay}
@@ -77,23 +73,6 @@ calls_longer c t x y p =
     let same : length (after c t x y p).calls ≡ length p.calls + length grown.more = ap length grown.appended ∙ length-append p.calls grown.more in
     omega arith
 
--- and no other record any shorter
-calls_stay : (c : Setup) (m : Machine) (k b : ℕ) (t : Phase) → length (m.part b).calls ≤ length ((moved c m k t).part b).calls
-calls_stay c m k b t =
-    let x = read m.cells (location_of c t) in
-    let y = beside m.cells (location_of c t) in
-    elim (cases_eq b k) [
-      | inl same ↦
-          let now : (moved c m k t).part k ≡ after c t x y (m.part k) = updated_here m.part k _ in
-          let more = calls_longer c t x y (m.part k) in
-          let same_length = ap (λ (p : Part). length p.calls) now in
-          rw same (omega arith)
-      | inr other ↦
-          let now : (moved c m k t).part b ≡ m.part b = updated_else m.part k _ b other in
-          let same_length = ap (λ (p : Part). length p.calls) now in
-          omega arith
-    ]
-
 -- a view with a seat keeps numbers of each ring
 rings_told : (c : Setup) (t : Phase) (x : ℕ) (y : List ℕ) (v : Known) → (v.seats ≡ []) ⊎ (length v.numbers ≡ c.rings)
     → (map (turned_member c t x y) v.seats ≡ []) ⊎ (length (learned c t x v.numbers) ≡ c.rings)
@@ -105,17 +84,31 @@ hand_of_made : (P : List ℕ → Type 0) (c : Setup) (t : Phase) (x : ℕ) (y : 
     → P (my (made c t x y v)).part.hand
 hand_of_made P c t x y v m alone holds = subst (λ (xs : List Member). P (my_of (map (turned_member c t x y) xs)).part.hand) (sym alone) holds
 
--- a run goes on by a turn
-goes_on : (c : Setup) (opening : List (List ℕ)) (run : List (ℕ × Step)) (m : Machine) (k : ℕ) (s : Step) (t : Phase) → k < c.seats
-    → turn_of c (m.part k) s ≡ Some t → LeadsTo c opening run m → LeadsTo c opening (run ++ (k, s) ∷ []) (moved c m k t)
-goes_on c opening run m k s t low enabled leads =
-    let r = leads.recorded in
-    let there : turn_of c (r.state.part k) s ≡ Some t = ap (λ (n : Machine). turn_of c (n.part k) s) leads.ends ∙ enabled in
-    record {
-      recorded = recorded_after c k t r;
-      is_run = run_last c opening run r (recorded_after c k t r) (k, s) leads.is_run low (ap (option_map (λ turn. recorded_after c k turn r)) there);
-      ends = ap (λ (n : Machine). moved c n k t) leads.ends;
-    }
+-- a turn is a step of the machine, after which what it tells is true
+came_by : (c : Setup) (opening : List (List ℕ)) (m : Machine) (x : Member) (v : Known) (t : Phase) (step : Step) → x.number < c.seats → IsReachable c m
+    → m.opening ≡ opening → turn_of c (m.part x.number) step ≡ Some t → v.seats ≡ x ∷ [] → m.part x.number ≡ x.part
+    → AllTrue c (moved c m x.number t) (learned c t (read m.cells (location_of c t)) v.numbers)
+    → CameBy c opening (my v).part.calls (my (made c t (read m.cells (location_of c t)) (beside m.cells (location_of c t)) v))
+    (learned c t (read m.cells (location_of c t)) v.numbers)
+came_by c opening m x v t step low reach begun enabled alone part told =
+    let n = read m.cells (location_of c t) in
+    let y = beside m.cells (location_of c t) in
+    let k = x.number in
+    let here : CameBy c opening x.part.calls (turned_member c t n y x) (learned c t n v.numbers) = record {
+      last = record {
+        low = low;
+        state = m;
+        reachable = reach;
+        begun = begun;
+        step = step;
+        next = moved c m k t;
+        made = ap (option_map (moved c m k)) enabled;
+        was = ap (λ (p : Part). p.calls) part;
+        is = ap (λ (p : Part). p.calls) (updated_here m.part k _ ∙ ap (after c t n y) part);
+      };
+      true_then = told;
+    } in
+    subst (λ (xs : List Member). CameBy c opening (my_of xs).part.calls (my_of (map (turned_member c t n y) xs)) (learned c t n v.numbers)) (sym alone) here
 
 module _ {S : Type 0} (Lies : ℕ → S → List ℕ → Type 0) where
   -- the seats of another view, after a turn
@@ -131,6 +124,7 @@ module _ {S : Type 0} (Lies : ℕ → S → List ℕ → Type 0) where
           owner = x_is.owner;
           part = updated_else z.state.part k _ x.number other ∙ x_is.part;
           gone = x_is.gone;
+          retired = x_is.retired;
           brought =
               λ i there.
               let b = x_is.brought i there in
@@ -150,6 +144,9 @@ module _ {S : Type 0} (Lies : ℕ → S → List ℕ → Type 0) where
       part = updated_here z.state.part x.number _
           ∙ ap (after c t (read z.state.cells (location_of c t)) (beside z.state.cells (location_of c t))) x_is.part;
       gone = x_is.gone;
+      retired = λ n e.
+          let old = x_is.retired n e in
+          let more = calls_longer c t (read z.state.cells (location_of c t)) (beside z.state.cells (location_of c t)) x.part in omega arith;
       brought = λ i there. let e : Contains [] i = subst (λ (l : List ℕ). Contains l i) none there in absurd (omega (arith, e.1));
     },
     tt,
@@ -157,24 +154,21 @@ module _ {S : Type 0} (Lies : ℕ → S → List ℕ → Type 0) where
 
   -- the rule after the turn
   moved_shown : (opening : List (List ℕ)) (c : Setup) (s : State S Known) (id : ℕ) (me : Me S Known) (t : Phase) (may : MayTurn c me.0 t)
-      (gone : ℕ → Option ℕ) (run : List (ℕ × Step)) (sh : Shown Lies opening c gone run s)
+      (sh : Shown Lies opening c s)
       → get_elem? s.views id ≡ some me.0
       → IsMember Lies c sh.scene s.homes id 0 may.member → Ground c sh.scene.state may.member.number t
       → (h : Handles Lies c sh.scene.state s.homes me.1 may.member.number t)
-      → turn_of c (sh.scene.state.part may.member.number) may.step ≡ Some t
-      → Shown Lies opening c gone (run ++ (may.member.number, may.step) ∷ []) (stepped s (at c (location_of c t)) (writes c t (read sh.scene.state.cells
-      (location_of c t))) id me.1
+      → Shown Lies opening c (stepped s (at c (location_of c t)) (writes c t (read sh.scene.state.cells (location_of c t))) id me.1
       (made c t (read sh.scene.state.cells (location_of c t)) (beside sh.scene.state.cells (location_of c t)) me.0) h.act)
-  moved_shown opening c s id me t may gone run sh here x_is g h enabled =
+  moved_shown opening c s id me t may sh here x_is g h =
       let m = sh.scene.state in
       let k = may.member.number in
       let l = location_of c t in
       let gate = gate_kept c s.words l (writes c t (read m.cells l)) in
       record {
         scene = record sh.scene { state = moved c m k t };
-        leads = goes_on c opening run m k may.step t x_is.low enabled sh.leads;
-        gone_is = sh.gone_is;
-        made = λ b n e. let was = sh.made b n e in let more = calls_stay c m k b t in omega arith;
+        reachable = g.reach;
+        begun = sh.begun;
         words = written_shown c s.words m.cells l (writes c t (read m.cells l)) (stores t (read m.cells l) (beside m.cells l)) g.location sh.words;
         awake_seats = gate ∙ sh.awake_seats;
         room = h.room ∙ sh.room;
@@ -211,18 +205,15 @@ module _ {S : Type 0} (Lies : ℕ → S → List ℕ → Type 0) where
 
 module _ {S : Type 0} (Lies : ℕ → S → List ℕ → Type 0) where
   -- a turn may be made, whatever the table is when its word changes, and is a step of the machine
-  pub moves_by : {opening : List (List ℕ)} {gone : ℕ → Option ℕ}
-      {run : List (ℕ × Step)} (c : Setup) (slots id : ℕ) (me : Me S Known) (t : Phase) (i : ℕ) (f : ℕ → ℕ) (may : MayTurn c me.0 t)
+  pub moves_by : {opening : List (List ℕ)} (c : Setup) (slots id : ℕ) (me : Me S Known) (t : Phase) (i : ℕ) (f : ℕ → ℕ) (may : MayTurn c me.0 t)
       → Carries Lies t me.1
       → i ≡ at c (location_of c t)
       → ((m : Machine) → IsReachable c m → Busy c m.cells may.member.part.hand t
       → f (read m.cells (location_of c t)) ≡ writes c t (read m.cells (location_of c t)))
       → ((m : Machine) (k : ℕ) (s : Step) → IsReachable c m → k < c.seats → turn_of c (m.part k) s ≡ Some t → Ground c m k t)
-      → (s : State S Known) (sh : Shown Lies opening c gone run s) → get_elem? s.views id ≡ some me.0
-      → (w : Known) × (a : Act S) × Valid s.homes me.1 a
-      × Shown Lies opening c gone (run ++ (may.member.number, may.step) ∷ []) (stepped s i (f (slice_index s.words i)) id me.1 w a)
-      × Turned Lies c t me (slice_index s.words i) (w, carried_after me.1 a)
-  moves_by {opening} {gone} {run} c slots id me t i f may carries word does grounds s sh here =
+      → Allows (Shown Lies opening c) slots id me i f
+      (λ x later. Turned Lies c t me x later × CameBy c opening (my me.0).part.calls (my later.0) later.0.numbers)
+  moves_by {opening = opening} c slots id me t i f may carries word does grounds s sh many here small =
       let m = sh.scene.state in
       let k = may.member.number in
       let l = location_of c t in
@@ -230,17 +221,16 @@ module _ {S : Type 0} (Lies : ℕ → S → List ℕ → Type 0) where
       let owns : Owns Lies c sh.scene s.homes id (may.member ∷ []) = subst (λ (xs : List Member). Owns Lies c sh.scene s.homes id xs) may.alone mine.seats in
       let x_is = owns.0 in
       let enabled : turn_of c (m.part k) may.step ≡ Some t = rw x_is.part may.enabled in
-      let g = grounds m k may.step (reaches sh.leads) x_is.low enabled in
+      let g = grounds m k may.step sh.reachable x_is.low enabled in
       let h = handles Lies c m s.homes me.1 k t g.one sh.room sh.stored g.busy carries g.stands in
       let found : slice_index s.words i ≡ read m.cells l = ap (slice_index s.words) word ∙ sh.words.shows l g.location in
       let busy : Busy c m.cells may.member.part.hand t = subst (λ (p : Part). Busy c m.cells p.hand t) x_is.part g.busy in
-      let wrote : f (slice_index s.words i) ≡ writes c t (read m.cells l) = ap f found ∙ does m (reaches sh.leads) busy in
+      let wrote : f (slice_index s.words i) ≡ writes c t (read m.cells l) = ap f found ∙ does m sh.reachable busy in
       let w = made c t (read m.cells l) (beside m.cells l) me.0 in
-      let longer = run ++ (k, may.step) ∷ [] in
-      let shown : Shown Lies opening c gone longer (stepped s i (f (slice_index s.words i)) id me.1 w h.act) =
-      subst (λ (v : ℕ). Shown Lies opening c gone longer (stepped s i v id me.1 w h.act)) (sym wrote)
-      (subst (λ (j : ℕ). Shown Lies opening c gone longer (stepped s j (writes c t (read m.cells l)) id me.1 w h.act)) (sym word)
-      (moved_shown Lies opening c s id me t may gone run sh here x_is g h enabled)) in
+      let shown : Shown Lies opening c (stepped s i (f (slice_index s.words i)) id me.1 w h.act) =
+      subst (λ (v : ℕ). Shown Lies opening c (stepped s i v id me.1 w h.act)) (sym wrote)
+      (subst (λ (j : ℕ). Shown Lies opening c (stepped s j (writes c t (read m.cells l)) id me.1 w h.act)) (sym word)
+      (moved_shown Lies opening c s id me t may sh here x_is g h)) in
       let tells : Turned Lies c t me (read m.cells l) (w, carried_after me.1 h.act) = record {
         beside = beside m.cells l;
         view = refl;
@@ -259,4 +249,19 @@ module _ {S : Type 0} (Lies : ℕ → S → List ℕ → Type 0) where
             (subst (λ (p : Part). times i (after c t (read m.cells l) (beside m.cells l) p).hand ≤ 1) x_is.part
             (subst (λ (p : Part). times i p.hand ≤ 1) (updated_here m.part k _) (g.once i)));
       } in
-      (w, h.act, h.valid, shown, subst (λ n. Turned Lies c t me n (w, carried_after me.1 h.act)) (sym found) tells)
+      let came : CameBy c opening (my me.0).part.calls (my w) w.numbers =
+      came_by c opening m may.member me.0 t may.step x_is.low sh.reachable sh.begun enabled may.alone x_is.part
+      (learned_true c m k t me.0.numbers g.busy g.up g.stay g.covers g.first g.got mine.numbers) in
+      (w, h.act, h.valid, shown, (subst (λ n. Turned Lies c t me n (w, carried_after me.1 h.act)) (sym found) tells, came))
+
+  -- the same, with what the turn tells alone
+  pub moves : {opening : List (List ℕ)} (c : Setup) (slots id : ℕ) (me : Me S Known) (t : Phase) (i : ℕ) (f : ℕ → ℕ) (may : MayTurn c me.0 t)
+      → Carries Lies t me.1
+      → i ≡ at c (location_of c t)
+      → ((m : Machine) → IsReachable c m → Busy c m.cells may.member.part.hand t
+      → f (read m.cells (location_of c t)) ≡ writes c t (read m.cells (location_of c t)))
+      → ((m : Machine) (k : ℕ) (s : Step) → IsReachable c m → k < c.seats → turn_of c (m.part k) s ≡ Some t → Ground c m k t)
+      → Allows (Shown Lies opening c) slots id me i f (Turned Lies c t me)
+  moves {opening} c slots id me t i f may carries word does grounds s sh many here small =
+      let a = moves_by {opening = opening} c slots id me t i f may carries word does grounds s sh many here small in
+      (a.0, a.1, a.2, a.3, a.4.0)

@@ -16,10 +16,9 @@ use Rattle.scq_word.proofs.WordLemmas.{index_in-packed}
 use Rattle.scq_core.specs.Machine.{Location, tail_of, head_of, threshold_of, entry_of, read}
 use Rattle.scq_core.specs.Table.{ring_slots}
 use Rattle.scq_core.specs.Start.{unused, idle_part, start_cells, start_of}
+use Rattle.scq_core.specs.Reach.{at_start}
 use Rattle.scq_core.proofs.Entries.{some_indices, some_slots, none_in-marked}
 use Rattle.scq_core.proofs.Starts.{fills}
-use Rattle.scq_law.specs.Run.{recorded_first}
-use Rattle.scq_law.proofs.Replays.LongerRuns.{run_first}
 use Rattle.scq_band.specs.declared.numbers.Numbers.{Numbers}
 use Rattle.scq_band.specs.Layout.{ring_words, word_count, ring_at, offset_of, at, location_in, first_word, IsLocation}
 use Rattle.scq_band.specs.Numbers.{first_numbers_of, first_numbers, IsTrue}
@@ -100,6 +99,7 @@ module _ {S : Type 0} (Lies : ℕ → S → List ℕ → Type 0) where
       owner = ap (λ (f : ℕ → ℕ × ℕ). f n) owner ∙ ap (λ b. (0, b)) (sym (members_length n));
       part = part n;
       gone = ap (λ (f : ℕ → Option ℕ). f n) gone;
+      retired = λ m is. absurd (cc);
       brought = λ i there. absurd (omega (arith, there.1));
     },
     owns_first c z homes n (omega arith) owner gone part,
@@ -109,15 +109,14 @@ module _ {S : Type 0} (Lies : ℕ → S → List ℕ → Type 0) where
   pub opens : (c : Setup) (ws : List ℕ) (xs : List S) (contents : List (List ℕ)) → length ws ≡ word_count c
       → ((i : ℕ) → i < word_count c → slice_index ws i ≡ first_word c i)
       → length xs ≡ n_of c.order → length contents ≡ n_of c.order → ((j : ℕ) → j < n_of c.order → Has Lies (map some xs) j (slice_index_or contents j []))
-      → Shown Lies contents c (λ k. None) [] (opening ws xs (first_view c))
+      → Shown Lies contents c (opening ws xs (first_view c))
   opens c ws xs contents count each many all has =
       let z : Scene = record { state = start_of c contents; gone = λ k. None; owner = λ k. (0, k) } in
       let gate : slice_index ws 0 ≡ c.seats = each 0 (omega arith) ∙ gate_first c in
       record {
         scene = z;
-        leads = record { recorded = recorded_first c contents; is_run = run_first c contents all; ends = refl };
-        gone_is = refl;
-        made = λ k n e. absurd (cc);
+        reachable = at_start contents all;
+        begun = refl;
         words = record { count = count; shows = λ l here. each (at c l) (at_low c l here) ∙ first_word-at c l here ∙ same_words c contents l };
         awake_seats = gate ∙ sym (awake_all c.seats);
         room = length_map xs ∙ many;

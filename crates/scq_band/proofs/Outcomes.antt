@@ -10,7 +10,8 @@ use Rattle.scq_band.specs.Layout.{ring_of_word}
 use Rattle.scq_band.specs.declared.numbers.Numbers.{Numbers}
 use Rattle.scq_band.specs.Known.{Member, Known}
 use Rattle.scq_band.specs.Steps.{my, my_phase, loading, load_turn}
-use Rattle.scq_band.specs.Turns.{MayTurn, Turned, made, learned, turned_member}
+use Rattle.scq_core.specs.declared.ended.Ended.{Ended}
+use Rattle.scq_band.specs.Turns.{MayTurn, CameBy, Turned, made, learned, turned_member}
 use Rattle.scq_band.specs.Seats.{IsAlone, with_part, at_phase, goes_to, seated}
 
 made_alone : (c : Setup) (t : Phase) (x : ℕ) (y : List ℕ) (v : Known) → v.seats ≡ my v ∷ []
@@ -66,3 +67,8 @@ alone_at v later t alone is = alone_seated v later (at_phase t (my v)) v.numbers
 pub may_phase : (c : Setup) (v : Known) (t : Phase) (s : Step) → IsAlone v → my_phase v ≡ t → turn_at c (my v).part.hand (my v).part.spent t s ≡ Some t
     → MayTurn c v (my_phase v)
 may_phase c v t s alone phase able = subst (λ (u : Phase). MayTurn c v u) (sym phase) (may_go c v t s alone phase able)
+
+-- the record before a turn is that of an earlier view, where the call has gone on from there
+pub came_along : (c : Setup) (opening : List (List ℕ)) (first before : List Ended) (x : Member) (numbers : List Numbers) → before ≡ first
+    → CameBy c opening before x numbers → CameBy c opening first x numbers
+came_along c opening first before x numbers same came = subst (λ (calls : List Ended). CameBy c opening calls x numbers) same came

@@ -6,7 +6,6 @@ use Rattle.std.proofs.lemmas.Bool.{cases_eq, cases_Bool}
 use Rattle.atomic_table.specs.Seated.{TableId}
 use Rattle.atomic_table.specs.Table.{Me}
 use Rattle.scq_law.specs.Hands.{times}
-use Rattle.scq_band.specs.RunSeen.{Seen}
 use Rattle.scq_band.specs.declared.numbers.Numbers.{Numbers}
 use Rattle.scq_band.specs.declared.rule.Key.{Key}
 use Rattle.scq_band.specs.declared.slot.Slot.{Slot}
@@ -14,7 +13,7 @@ use Rattle.scq_band.specs.Numbers.{joined, larger}
 use Rattle.scq_band.specs.Known.{Member, Known, lower_gate, both_of}
 use Rattle.scq_band.specs.Steps.{my}
 use Rattle.scq_band.specs.Standing.{Standing}
-use Rattle.scq_band.specs.Kept.{in_order, buffer_in, hand_of, standing_from, AllGiven, IsKept}
+use Rattle.scq_band.specs.Kept.{in_order, buffer_in, hand_of, standing_of, AllGiven, IsKept}
 use Rattle.scq_band.specs.Closing.{indices_of, lifted_of}
 use Rattle.scq_band.specs.Homes.{at_home, times_lifted, AllOutGiven, MayLeave, IsMemberOf, AreMembersOf, HeadsKnown, GatesKnown, HasAll}
 use Rattle.scq_band.proofs.GoingHome.{times-append, contains_behind}
@@ -134,8 +133,8 @@ module _ {B : Type 0} where
         }
 
     -- what it has become
-    pub is_member : (seen : Seen) (table : TableId) → IsMemberOf (standing_from seen table key me) (my (at_home (indices_of me.1) me.0))
-    is_member seen table =
+    pub is_member : (table : TableId) → IsMemberOf (standing_of table key me) (my (at_home (indices_of me.1) me.0))
+    is_member table =
         record {
           number = refl;
           calls = refl;

@@ -5,7 +5,7 @@ use Rattle.std.specs.List.{remove}
 use Rattle.std.proofs.lemmas.List.Elements.{Contains-push_cases}
 use Rattle.scq_law.specs.Hands.{times}
 use Rattle.scq_law.proofs.Base.SeatSums.{contains_none}
-use Rattle.scq_band.specs.Standing.{Identity, Standing, first_standings, in_hand, with_buffer, having_seen, after_put, HasTaken, IsAsGiven}
+use Rattle.scq_band.specs.Standing.{Identity, Standing, first_standings, in_hand, with_buffer, after_put, HasTaken, IsAsGiven}
 use Rattle.scq_band.specs.Closing.{lifted_of, AreTheLifted}
 
 module _ {B : Type 0} (contents : B → List ℕ) (IsSame : B → B → Type 0) where
@@ -40,10 +40,9 @@ module _ {B : Type 0} (contents : B → List ℕ) (IsSame : B → B → Type 0) 
       }
 
   -- the second was put, so the first is what is left
-  pub one_left : (a b r p : ℕ) (w : List ℕ) (s u : Standing B) → (is : IsTwo a b s) → u ≡ having_seen u.seen (after_put r b p w s)
-      → u.hand ≡ (a, Some is.first) ∷ []
+  pub one_left : (a b r p : ℕ) (w : List ℕ) (s u : Standing B) → (is : IsTwo a b s) → u ≡ after_put r b p w s → u.hand ≡ (a, Some is.first) ∷ []
   one_left a b r p w s u is put =
-      ap (λ (z : Standing B). z.hand) put ∙ ap (λ (l : List (ℕ × Option B)). (after_put r b p w (record s { hand = l })).hand) is.hand
+      ap (λ (z : Standing B). z.hand) (put ∙ ap (λ (l : List (ℕ × Option B)). after_put r b p w (record s { hand = l })) is.hand)
       ∙ rw (ne_eqb a b is.apart, eq-eqb b b refl) refl
 
   pub laid_first : (a : ℕ) (buffer : B) (s : Standing B) → s.hand ≡ (a, Some buffer) ∷ [] → in_hand s.hand a ≡ Some (Some buffer)

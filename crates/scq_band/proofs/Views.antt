@@ -10,7 +10,6 @@ use lib.ListN.{get_elem?}
 use Rattle.atomic_table.specs.Table.{Splits, Joins}
 use Rattle.atomic_table.proofs.Lists.{at_set, at_snoc, set_again, set_else}
 use Rattle.scq_word.specs.declared.setup.Setup.{Setup}
-use Rattle.scq_core.specs.declared.step.Step.{Step}
 use Rattle.scq_core.specs.Updated.{updated}
 use Rattle.scq_core.specs.Machine.{Machine}
 use Rattle.scq_core.proofs.UpdatedLemmas.{updated_here, updated_else}
@@ -66,14 +65,12 @@ lower_true word (Some a) (Some b) one other n is =
 
 module _ {S : Type 0} (Lies : ℕ → S → List ℕ → Type 0) where
   -- a note may be copied off any view
-  pub copies : {opening : List (List ℕ)} {gone : ℕ → Option ℕ} {run : List (ℕ × Step)} (c : Setup) (id : ℕ) (v : Known)
-      → Splits (Shown Lies opening c gone run) id v v (note_of v)
+  pub copies : {opening : List (List ℕ)} (c : Setup) (id : ℕ) (v : Known) → Splits (Shown Lies opening c) id v v (note_of v)
   copies c id v s sh here =
       record {
         scene = sh.scene;
-        leads = sh.leads;
-        gone_is = sh.gone_is;
-        made = sh.made;
+        reachable = sh.reachable;
+        begun = sh.begun;
         words = sh.words;
         awake_seats = sh.awake_seats;
         room = sh.room;
@@ -109,6 +106,7 @@ module _ {S : Type 0} (Lies : ℕ → S → List ℕ → Type 0) where
           owner = rw other_view x_is.owner;
           part = x_is.part;
           gone = x_is.gone;
+          retired = x_is.retired;
           brought = x_is.brought;
         },
         stay_there c z homes id other n j apart xs owns.1,
@@ -128,15 +126,15 @@ module _ {S : Type 0} (Lies : ℕ → S → List ℕ → Type 0) where
           owner = rw its_view (ap (λ d. (id, d)) depth);
           part = x_is.part;
           gone = x_is.gone;
+          retired = x_is.retired;
           brought = x_is.brought;
         },
         come_over c z homes id other vs xs owns.1 behind,
       )
 
   -- a view in which a seat stands may take in another
-  pub joins : {opening : List (List ℕ)} {gone : ℕ → Option ℕ} {run : List (ℕ × Step)} (c : Setup) (id : ℕ) (v : Known) (other : ℕ) (w : Known)
-      → (v.seats ≡ [] → ⊥)
-      → Joins (Shown Lies opening c gone run) id v other w (both_of v w) nobody
+  pub joins : {opening : List (List ℕ)} (c : Setup) (id : ℕ) (v : Known) (other : ℕ) (w : Known) → (v.seats ≡ [] → ⊥)
+      → Joins (Shown Lies opening c) id v other w (both_of v w) nobody
   joins c id v other w full s sh here apart there =
       let z = sh.scene in
       let zz = joined_scene id other (length v.seats) z in
@@ -144,9 +142,8 @@ module _ {S : Type 0} (Lies : ℕ → S → List ℕ → Type 0) where
       let its = sh.views other w (sym (set_else s.views id other (both_of v w) apart) ∙ there) in
       record {
         scene = zz;
-        leads = sh.leads;
-        gone_is = sh.gone_is;
-        made = sh.made;
+        reachable = sh.reachable;
+        begun = sh.begun;
         words = sh.words;
         awake_seats = sh.awake_seats;
         room = sh.room;
@@ -202,15 +199,15 @@ module _ {S : Type 0} (Lies : ℕ → S → List ℕ → Type 0) where
           owner = updated_else z.owner k new x.number other ∙ x_is.owner;
           part = x_is.part;
           gone = x_is.gone;
+          retired = x_is.retired;
           brought = x_is.brought;
         },
         split_owner_else c z homes k at_view j n mine xs owns.1 (λ b low is. apart b (omega (arith, low)) is) new,
       )
 
   -- the first seat of a view may be split off
-  pub peels : {opening : List (List ℕ)} {gone : ℕ → Option ℕ} {run : List (ℕ × Step)} (c : Setup) (id : ℕ) (v : Known) (x : Member) (xs : List Member)
-      → v.seats ≡ x ∷ xs
-      → Splits (Shown Lies opening c gone run) id v (others_of v) (first_of v)
+  pub peels : {opening : List (List ℕ)} (c : Setup) (id : ℕ) (v : Known) (x : Member) (xs : List Member) → v.seats ≡ x ∷ xs
+      → Splits (Shown Lies opening c) id v (others_of v) (first_of v)
   peels c id v x xs seats s sh here =
       let z = sh.scene in
       let mine = sh.views id v here in
@@ -236,6 +233,7 @@ module _ {S : Type 0} (Lies : ℕ → S → List ℕ → Type 0) where
                 owner = updated_here z.owner x.number (new, 0);
                 part = x_is.part;
                 gone = x_is.gone;
+                retired = x_is.retired;
                 brought =
                     x_is.brought;
               },
@@ -247,9 +245,8 @@ module _ {S : Type 0} (Lies : ℕ → S → List ℕ → Type 0) where
       } in
       record {
         scene = zz;
-        leads = sh.leads;
-        gone_is = sh.gone_is;
-        made = sh.made;
+        reachable = sh.reachable;
+        begun = sh.begun;
         words = sh.words;
         awake_seats = sh.awake_seats;
         room = sh.room;

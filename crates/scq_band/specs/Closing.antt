@@ -5,25 +5,15 @@ use Rattle.std.specs.List.{Contains}
 use Rattle.scq_word.specs.declared.setup.Setup.{Setup}
 use Rattle.scq_word.specs.Sizes.{n_of}
 use Rattle.scq_word.specs.Bounds.{ticket_bound, limit_for}
-use Rattle.scq_word.specs.Words.{index_in, cycle_in}
 use Rattle.scq_core.specs.declared.ended.Ended.{Ended}
 use Rattle.scq_core.specs.declared.ended.Ended.TheVariants.{Done, Got, Spent}
-use Rattle.scq_core.specs.declared.step.Step.{Step}
-use Rattle.scq_core.specs.Machine.{Machine}
-use Rattle.scq_core.specs.Table.{ring_slots, slot, cycle}
+use Rattle.scq_core.specs.Table.{ring_slots}
 use Rattle.scq_law.specs.Hands.{times}
 use Rattle.scq_law.specs.Bounds.{tally, was_put, openings}
 use Rattle.scq_law.specs.Kept.{was_done, was_got}
-use Rattle.scq_law.specs.RunSteps.{run_of, IsFinishedRun}
-use Rattle.scq_law.specs.History.{HistoryHasAspects}
-use Rattle.scq_law.specs.ShownCalls.{HistoryShowsRecords}
-use Rattle.scq_law.specs.Order.{IsLinearization, IsOneOrder}
-use Rattle.scq_law.specs.declared.ordered.Ordered.{Ordered}
-use Rattle.scq_law.specs.Prefixes.{AllPrefixes}
-use Rattle.scq_band.specs.RunSeen.{Caller}
 use Rattle.scq_band.specs.declared.numbers.Numbers.{Numbers}
 use Rattle.scq_band.specs.Numbers.{known_of}
-use Rattle.scq_band.specs.Standing.{Identity, Standing, IsAsGiven, caller_of}
+use Rattle.scq_band.specs.Standing.{Identity, Standing, IsAsGiven}
 
 -- this call ended so
 abbrev pub IsCall : List (List Ended) → ℕ → ℕ → Ended → Type 0
@@ -154,12 +144,6 @@ AllRetiredWhereClosed {B} seats =
     (a b : ℕ) (reader other : Standing B) → slice_get seats a ≡ Some reader → reader.gate ≡ Some 0 → slice_get seats b ≡ Some other
     → (calls : ℕ) × (other.retired ≡ Some calls)
 
--- each seat that some seat had seen retired has retired, with so many calls made before
-abbrev pub EachSeenRetiredHas : {B : Type 0} → List (Standing B) → Type 0
-EachSeenRetiredHas {B} seats =
-    (a b calls : ℕ) (one other : Standing B) → slice_get seats a ≡ Some one → slice_get seats b ≡ Some other
-    → Contains one.seen.retirees (other.number, calls) → other.retired ≡ Some calls
-
 -- the records of all seats, their hands, what they know, and the spent tickets that they keep
 abbrev pub all_calls : {B : Type 0} → List (Standing B) → List (List Ended)
 all_calls seats = map (λ s. s.calls) seats
@@ -173,42 +157,7 @@ all_known seats = map (λ s. s.numbers) seats
 abbrev pub all_spent : {B : Type 0} → List (Standing B) → List (Option ℕ)
 all_spent seats = map (λ s. s.spent) seats
 
--- the seats as those who made calls in the run
-abbrev pub callers_of : {B : Type 0} → List (Standing B) → List Caller
-callers_of seats = map caller_of seats
-
 -- the buffers that are out are just those that are lifted, each the same as the one given for its index
 pub record AreTheLifted {B : Type 0} (IsSame : B → B → Type 0) (band : Identity B) (seats : List (Standing B)) (out : List (ℕ × B)) : Type 0 where
   pub lifted : (i : ℕ) → times i (indices_of out) ≡ sum_by (λ (s : Standing B). times i (lifted_of s.hand)) seats
   pub same : (o : ℕ × B) → Contains out o → IsAsGiven IsSame band.given o.0 o.1
-
--- one run behind all calls. Its calls have all ended, each seat is one of these callers, and each caller's record is the run's; all that
--- any of them had seen are prefixes of it. Its history has the four aspects, and shows each seat's calls as its record has them; and the
--- calls of each ring stand in one order, in which every reply is a plain queue's, and which keeps each call behind those that ended
--- before it began
-pub record IsOneRun (c : Setup) (opening : List (List ℕ)) (callers : List Caller) : Type 0 where
-  pub steps : List (ℕ × Step)
-  pub finished : IsFinishedRun (run_of c opening steps)
-  pub all : (k : ℕ) → k < c.seats → (a : ℕ) × (x : Caller) × (slice_get callers a ≡ Some x) × (x.seat ≡ k)
-  pub apart : (a b : ℕ) (x y : Caller) → slice_get callers a ≡ Some x → slice_get callers b ≡ Some y → x.seat ≡ y.seat → a ≡ b
-  pub low : (a : ℕ) (x : Caller) → slice_get callers a ≡ Some x → x.seat < c.seats
-  pub records : (a : ℕ) (x : Caller) → slice_get callers a ≡ Some x → (finished.recorded.state.part x.seat).calls ≡ x.calls
-  pub had_seen : (a : ℕ) (x : Caller) → slice_get callers a ≡ Some x → AllPrefixes x.seen.runs steps
-  pub aspects : HistoryHasAspects opening finished.recorded
-  pub history : HistoryShowsRecords finished.recorded
-  pub orders : (r : ℕ) → (order : List Ordered) × IsLinearization (run_of c opening steps) r order × IsOneOrder (run_of c opening steps) r order
-
--- in this state an index stands in the entry of a place, which a put placed there with these bytes
-pub record StandsAtItsPut (c : Setup) (opening : List (List ℕ)) (records : List (List Ended)) (m : Machine) (i : ℕ) (w : List ℕ) : Type 0 where
-  pub ring : ℕ
-  pub place : ℕ
-  pub index : index_in (ring_slots c) (m.cells.entries.word ring (slot c place)) ≡ i
-  pub cycle_is : cycle_in (ring_slots c) (m.cells.entries.word ring (slot c place)) ≡ cycle c place
-  pub put : WasPut c opening records ring place w
-
--- one run behind all calls, at whose end each index that is in no hand stands at the place of the put that placed it, and its buffer has
--- that put's bytes
-pub record IsOneRunToTheEnd (c : Setup) (opening : List (List ℕ)) (callers : List Caller) (records : List (List Ended)) (hands bytes : List
-    (List ℕ)) : Type 0 where
-  pub one : IsOneRun c opening callers
-  pub left : (i : ℕ) → i < n_of c.order → IsLeft hands i → StandsAtItsPut c opening records one.finished.recorded.state i (slice_index_or bytes i [])

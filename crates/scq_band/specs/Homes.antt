@@ -4,7 +4,6 @@ use Rattle.std.specs.List.{Contains}
 use Rattle.std.specs.List.Sorted.{IsPermutation}
 use Rattle.atomic_table.specs.Table.{Me}
 use Rattle.scq_core.specs.declared.phase.Phase.TheVariants.{Idle}
-use Rattle.scq_band.specs.RunSeen.{Seen, nothing_seen, both_seen}
 use Rattle.scq_law.specs.Hands.{times}
 use Rattle.scq_band.specs.declared.slot.Slot.{Slot}
 use Rattle.scq_band.specs.declared.numbers.Numbers.{Numbers}
@@ -96,15 +95,9 @@ module _ {B : Type 0} where
     pub rings_known : length v.numbers ≡ rings
     pub gates : GatesKnown seats v.gate
 
-  -- what these seats have seen of the run, the last one's first
-  abbrev pub all_seen : List (Standing B) → Seen
-  all_seen [] = nothing_seen
-  all_seen (s ∷ ss) = both_seen (all_seen ss) s.seen
-
   -- of all these seats some are left, and the others stand in one view with their slots at home
-  pub record AreGathered (rings : ℕ) (all left : List (Standing B)) (v : Known) (told : Seen) : Type 0 where
+  pub record AreGathered (rings : ℕ) (all left : List (Standing B)) (v : Known) : Type 0 where
     pub done : List (Standing B)
     pub split : all ≡ left ++ done
     pub has : HasAll rings done v
-    pub seen : told ≡ all_seen done
     pub some : v.seats ≡ [] → ⊥

@@ -11,9 +11,7 @@ use Rattle.scq_band.specs.declared.slot.Slot.{Slot}
 use Rattle.scq_band.specs.declared.rule.Key.{Key}
 use Rattle.scq_band.specs.Numbers.{known_of}
 use Rattle.scq_band.specs.Layout.{word_count}
-use Rattle.scq_band.specs.RunSeen.{Seen, nothing_seen}
 use Rattle.scq_band.specs.Known.{Known}
-use Rattle.scq_band.specs.Sights.{Sight, known_me}
 use Rattle.scq_band.specs.Steps.{my}
 use Rattle.scq_band.specs.Seats.{IsAlone}
 use Rattle.scq_band.specs.Standing.{Identity, Standing, IsAsGiven}
@@ -36,8 +34,8 @@ module _ {B : Type 0} where
   abbrev pub identity_of : TableId → Key B → Identity B
   identity_of table key = record { table = table; setup = key.setup; given = key.given.value.items }
 
-  abbrev pub standing_from : Seen → TableId → Key B → Me (Slot B) Known → Standing B
-  standing_from seen table key me =
+  abbrev pub standing_of : TableId → Key B → Me (Slot B) Known → Standing B
+  standing_of table key me =
       record {
         band = identity_of table key;
         number = (my me.0).number;
@@ -48,11 +46,7 @@ module _ {B : Type 0} where
         gates = me.0.gates;
         gate = me.0.gate;
         retired = (my me.0).retired;
-        seen = seen;
       }
-
-  abbrev pub standing_of : TableId → Key B → Me (Slot B) Sight → Standing B
-  standing_of table key me = standing_from me.0.seen table key (known_me me)
 
   -- each buffer that is laid in one of the slots is the same as the one given for its index
   abbrev pub AllGiven : (B → B → Type 0) → List B → List (ℕ × Slot B) → Type 0
@@ -103,16 +97,8 @@ pub record IsRotation {S : Type 0} (slots later : List (ℕ × S)) : Type 0 wher
 abbrev pub note_with : List Numbers → Known
 note_with numbers = record { seats = []; numbers = numbers; gates = 0; gate = None }
 
-abbrev pub note_sight_with : Seen → List Numbers → Sight
-note_sight_with seen numbers = record { known = note_with numbers; seen = seen }
-
--- what a view has seen of the run, where there is one
-abbrev pub seen_in : List Sight → Seen
-seen_in [] = nothing_seen
-seen_in (v ∷ vs) = v.seen
-
 -- what a note keeps: the one view that its badge has, and in its first cells the numbers of each ring
-pub record IsNote (views : List Sight) (cells : List Numbers) (rings : ℕ) : Type 0 where
-  pub is : views ≡ note_sight_with (seen_in views) (take rings cells) ∷ []
+pub record IsNote (views : List Known) (cells : List Numbers) (rings : ℕ) : Type 0 where
+  pub is : views ≡ note_with (take rings cells) ∷ []
   pub small : AreSmall (take rings cells)
   pub few : rings ≤ length cells

@@ -1,11 +1,10 @@
 -- For the law of views (`each_view_knows_the_truth`) alone; no public call's contract cites it. What the seats and notes of a band
 -- know, told of the running words.
-use Rattle.std.specs.Prelude.{◌≡◌, ◌⊎◌, ℕ, ◌<◌, ◌≤◌, List, Option, Some, slice_get, slice_index}
+use Rattle.std.specs.Prelude.{◌≡◌, ◌⊎◌, ℕ, ◌<◌, ◌≤◌, List, Some, slice_get, slice_index}
 use mathlib.Core.Option.{some}
 use lib.ListN.{get_elem?}
 use Rattle.atomic_table.specs.Table.{State}
 use Rattle.scq_word.specs.declared.setup.Setup.{Setup}
-use Rattle.scq_core.specs.declared.step.Step.{Step}
 use Rattle.scq_core.specs.Machine.{Machine, tail_of, head_of}
 use Rattle.scq_law.specs.Bounds.{IsFinished}
 use Rattle.scq_band.specs.declared.numbers.Numbers.{Numbers}
@@ -27,5 +26,4 @@ pub record KnowsTruth (c : Setup) (m : Machine) (words : List ℕ) (v : Known) :
 -- each view does, whatever words and views the rule allows
 abbrev pub EachViewKnowsTruth : {S : Type 0} → (ℕ → S → List ℕ → Type 0) → List (List ℕ) → Setup → Type 0
 EachViewKnowsTruth {S} Lies opening c =
-    (gone : ℕ → Option ℕ) (run : List (ℕ × Step)) (s : State S Known) (shown : Shown Lies opening c gone run s) (id : ℕ) (v : Known)
-    → get_elem? s.views id ≡ some v → KnowsTruth c shown.scene.state s.words v
+    (s : State S Known) (shown : Shown Lies opening c s) (id : ℕ) (v : Known) → get_elem? s.views id ≡ some v → KnowsTruth c shown.scene.state s.words v

@@ -11,8 +11,6 @@ use Rattle.scq_band.specs.Layout.{word_count, first_word}
 use Rattle.scq_band.specs.Known.{Known}
 use Rattle.scq_band.specs.Shown.{first_view, first_members}
 use Rattle.scq_band.specs.Numbers.{first_numbers}
-use Rattle.scq_band.specs.RunSeen.{nothing_seen}
-use Rattle.scq_band.specs.Sights.{Sight}
 
 -- a buffer is laid in the slot
 abbrev pub IsLaid : {B : Type 0} → Slot B → Type 0
@@ -54,6 +52,3 @@ pub record IsOfStart (state : StateLists) : Type 0 where
 -- the first view, once the seats at or past a number were split off
 abbrev pub first_below : Setup → ℕ → Known
 first_below c k = record (first_view c) { seats = first_members k }
-
-abbrev pub sight_below : Setup → ℕ → Sight
-sight_below c k = record { known = first_below c k; seen = nothing_seen }

@@ -14,8 +14,7 @@ use Rattle.scq_word.specs.Words.{index_in, is_none_in}
 use Rattle.scq_core.specs.Machine.{Entries, Cells, Machine, Location, read}
 use Rattle.scq_core.specs.Table.{ring_slots}
 use Rattle.scq_core.specs.Start.{idle_part}
-use Rattle.scq_core.specs.declared.step.Step.{Step}
-use Rattle.scq_law.specs.Run.{Recorded, IsRun}
+use Rattle.scq_core.specs.Reach.{IsReachable}
 use Rattle.scq_law.specs.Hands.{times}
 use Rattle.scq_band.specs.declared.numbers.Numbers.{Numbers}
 use Rattle.scq_band.specs.Layout.{at, word_count, IsLocation}
@@ -33,12 +32,6 @@ pub record Scene : Type 0 where
 abbrev pub awake : (ℕ → Option ℕ) → ℕ → ℕ
 awake gone zero = 0
 awake gone (suc k) = (if is_none (gone k) then 1 else 0) + awake gone k
-
--- these steps are a run from these opening contents that ends in this state
-pub record LeadsTo (c : Setup) (opening : List (List ℕ)) (steps : List (ℕ × Step)) (m : Machine) : Type 0 where
-  pub recorded : Recorded
-  pub is_run : IsRun c opening steps recorded
-  pub ends : recorded.state ≡ m
 
 -- each word of a ring stands where the layout says
 pub record ShowsWords (c : Setup) (words : List ℕ) (m : Cells) : Type 0 where
@@ -65,6 +58,7 @@ module _ {S : Type 0} (Lies : ℕ → S → List ℕ → Type 0) where
     pub owner : z.owner x.number ≡ (id, behind)
     pub part : z.state.part x.number ≡ x.part
     pub gone : z.gone x.number ≡ x.retired
+    pub retired : (n : ℕ) → x.retired ≡ Some n → n ≤ length x.part.calls
     pub brought : (i : ℕ) → Contains x.brought i → (0 < times i x.part.hand) × ((w : List ℕ) × Has homes i w)
 
   abbrev pub Owns : Setup → Scene → List (maybe.Option S) → ℕ → List Member → Type 0
@@ -78,13 +72,11 @@ module _ {S : Type 0} (Lies : ℕ → S → List ℕ → Type 0) where
     pub numbers : (r : ℕ) (x : Numbers) → slice_get v.numbers r ≡ Some x → IsTrue c z.state r x
     pub last_gate : (n : ℕ) → v.gate ≡ Some n → word ≤ n
 
-  -- `opening` has the contents of the opening puts, the run is the steps that all seats have made, and `gone` tells of each seat that
-  -- has retired how many calls it had made before
-  pub record Shown (opening : List (List ℕ)) (c : Setup) (gone : ℕ → Option ℕ) (run : List (ℕ × Step)) (s : State S Known) : Type 0 where
+  -- `opening` has the contents of the opening puts
+  pub record Shown (opening : List (List ℕ)) (c : Setup) (s : State S Known) : Type 0 where
     pub scene : Scene
-    pub leads : LeadsTo c opening run scene.state
-    pub gone_is : scene.gone ≡ gone
-    pub made : (k n : ℕ) → gone k ≡ Some n → n ≤ length (scene.state.part k).calls
+    pub reachable : IsReachable c scene.state
+    pub begun : scene.state.opening ≡ opening
     pub words : ShowsWords c s.words scene.state.cells
     pub awake_seats : slice_index s.words 0 ≡ awake scene.gone c.seats
     pub room : length s.homes ≡ n_of c.order

@@ -4,8 +4,11 @@ use Rattle.atomic_table.specs.Seated.{TableId}
 use Rattle.scq_word.specs.declared.setup.Setup.{Setup}
 use Rattle.scq_core.specs.declared.ended.Ended.{Ended}
 use Rattle.scq_core.specs.declared.ended.Ended.TheVariants.{Done, Got, Nothing, Spent}
+use Rattle.scq_core.specs.declared.step.Step.{Step}
+use Rattle.scq_core.specs.Machine.{Machine}
+use Rattle.scq_core.specs.Table.{step_of}
+use Rattle.scq_core.specs.Reach.{IsReachable}
 use Rattle.scq_band.specs.declared.numbers.Numbers.{Numbers}
-use Rattle.scq_band.specs.RunSeen.{Seen, nothing_seen, Caller}
 use Rattle.scq_band.specs.Numbers.{known_of, first_numbers, changed, finishes, sees, passes, drew, empties}
 
 -- which band: its table, the setup that it was made for, and the buffers that it was given, that of index i at i
@@ -31,8 +34,6 @@ pub record Standing (B : Type 0) : Type 0 where
   pub gate : Option ℕ
   -- how many calls stood in its record when it retired
   pub retired : Option ℕ
-  -- what it has seen of the run of all seats, and of those that retired
-  pub seen : Seen
 
 -- a number read at the gate by a seat, of so many seats, which last read `gate` there: the number never rises, and a seat that has
 -- retired isn't counted in it
@@ -40,11 +41,27 @@ pub record IsReading (seats : ℕ) (gate retired : Option ℕ) (found : ℕ) : T
   pub fell : (last : ℕ) → gate ≡ Some last → found ≤ last
   pub own : (calls : ℕ) → retired ≡ Some calls → found < seats
 
+-- the step that ended a call of a seat: from a state that steps reach from these opening contents, in which the seat's record is
+-- `before`, to one in which it is `later`
+pub record LastStep (c : Setup) (opening : List (List ℕ)) (seat : ℕ) (before later : List Ended) : Type 0 where
+  pub low : seat < c.seats
+  pub state : Machine
+  pub reachable : IsReachable c state
+  pub begun : state.opening ≡ opening
+  pub step : Step
+  pub next : Machine
+  pub made : step_of c state seat step ≡ Some next
+  pub was : (state.part seat).calls ≡ before
+  pub is : (next.part seat).calls ≡ later
+
+-- Head of ring r was at or past a number after the step that ended the call
+abbrev pub HeadWasPast : Setup → List (List ℕ) → ℕ → List Ended → List Ended → ℕ → ℕ → Type 0
+HeadWasPast c opening seat before later r head = (last : LastStep c opening seat before later) × (head ≤ last.next.cells.head r)
+
 -- what contracts see of a note
 pub record NoteStanding : Type 0 where
   pub table : TableId
   pub numbers : List Numbers
-  pub seen : Seen
 
 module _ {B : Type 0} where
   -- a seat of a new band, and those below a number, in order
@@ -60,7 +77,6 @@ module _ {B : Type 0} where
         gates = 0;
         gate = Some band.setup.seats;
         retired = None;
-        seen = nothing_seen;
       }
 
   abbrev pub first_standings : Identity B → ℕ → List (Standing B)
@@ -87,14 +103,6 @@ module _ {B : Type 0} where
   -- a hand in which the buffer of an index was laid, or lifted
   abbrev pub with_buffer : ℕ → Option B → List (ℕ × Option B) → List (ℕ × Option B)
   with_buffer i buffer hand = map (λ x. if x.0 == i then (x.0, buffer) else x) hand
-
-  -- a seat that has seen this
-  abbrev pub having_seen : Seen → Standing B → Standing B
-  having_seen seen s = record s { seen = seen }
-
-  -- the seat as one who makes a call in the run
-  abbrev pub caller_of : Standing B → Caller
-  caller_of s = record { seat = s.number; calls = s.calls; seen = s.seen }
 
   -- a seat whose put of an index has ended at a place, with the bytes of its buffer
   abbrev pub after_put : ℕ → ℕ → ℕ → List ℕ → Standing B → Standing B
@@ -145,7 +153,7 @@ module _ {B : Type 0} where
   pub record HasTaken (contents : B → List ℕ) (IsSame : B → B → Type 0) (ring place index : ℕ) (old new : Standing B) : Type 0 where
     pub buffer : B
     pub given : IsAsGiven IsSame old.band.given index buffer
-    pub seat : new ≡ having_seen new.seen (after_get ring place index buffer (contents buffer) old)
+    pub seat : new ≡ after_get ring place index buffer (contents buffer) old
     -- it was not in the hand before
     pub came : in_hand old.hand index ≡ None
 
@@ -153,7 +161,7 @@ module _ {B : Type 0} where
   -- and of one more than the known finished place
   pub record FoundEmpty (ring head : ℕ) (old new : Standing B) : Type 0 where
     pub drawn : Option ℕ
-    pub seat : new ≡ having_seen new.seen (after_nothing ring drawn old)
+    pub seat : new ≡ after_nothing ring drawn old
     pub known : head ≡ (known_of new.numbers ring).head
     -- a ticket that was drawn is below the limit, and no lower than the head that was known
     pub below : (ticket : ℕ) → drawn ≡ Some ticket → ticket < old.band.setup.limit

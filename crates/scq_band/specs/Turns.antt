@@ -4,6 +4,7 @@ use Rattle.atomic_table.specs.Table.{Me, rest}
 use Rattle.scq_word.specs.declared.setup.Setup.{Setup}
 use Rattle.scq_word.specs.Sizes.{n_of}
 use Rattle.scq_word.specs.Words.{index_in, is_none_in}
+use Rattle.scq_core.specs.declared.ended.Ended.{Ended}
 use Rattle.scq_core.specs.declared.phase.Phase.{Phase}
 use Rattle.scq_core.specs.declared.phase.Phase.TheVariants.{AtE1, AtE4, AtE5, AtE6, AtD1, AtD2, AtD4, AtD6, AtD10}
 use Rattle.scq_core.specs.declared.step.Step.{Step}
@@ -14,7 +15,8 @@ use Rattle.scq_law.specs.Retries.{Finds}
 use Rattle.scq_band.specs.declared.numbers.Numbers.{Numbers}
 use Rattle.scq_band.specs.Known.{Member, Known}
 use Rattle.scq_band.specs.Steps.{my}
-use Rattle.scq_band.specs.Numbers.{changed, finishes, sees, passes, empties}
+use Rattle.scq_band.specs.Numbers.{IsTrue, changed, finishes, sees, passes, empties}
+use Rattle.scq_band.specs.Standing.{LastStep}
 
 -- what a turn that found the word x tells of its ring
 abbrev pub learned : Setup → Phase → ℕ → List Numbers → List Numbers
@@ -44,6 +46,12 @@ abbrev pub Draws : Phase → ℕ → List Numbers → Type 0
 Draws (AtE1 r i w l) x numbers = (known : Numbers) → slice_get numbers r ≡ Some known → known.seen < x
 Draws (AtD2 r l) x numbers = (known : Numbers) → slice_get numbers r ≡ Some known → known.head ≤ x
 Draws turn x numbers = Unit {0}
+
+-- the seat and its numbers after a turn, whose record was `before` it: the turn is a step of the machine from a state that steps
+-- reach from these opening contents, after which the numbers are true
+pub record CameBy (c : Setup) (opening : List (List ℕ)) (before : List Ended) (member : Member) (numbers : List Numbers) : Type 0 where
+  pub last : LastStep c opening member.number before member.part.calls
+  pub true_then : (r : ℕ) (x : Numbers) → slice_get numbers r ≡ Some x → IsTrue c last.next r x
 
 -- one seat stands in the view, none of its slots was brought home, and it may make this turn
 pub record MayTurn (c : Setup) (v : Known) (t : Phase) : Type 0 where

@@ -2,9 +2,7 @@
 ghost use Rattle.std.specs.Prelude.{◌≡◌, ℕ, ◌<◌, ◌≤◌, ◌==◌, length, Some, None, All, IfOk, IfErr, vec_len};
 ghost use Rattle.scq_word.specs.Sizes.{n_of};
 ghost use Rattle.scq_band.specs.Rings.{IsRing};
-ghost use Rattle.scq_band.specs.Buffers.{opening_of};
-ghost use Rattle.scq_band.specs.RunSeen.{IsReadingInRun};
-ghost use Rattle.scq_band.specs.Standing.{first_standings, after_look, having_seen, caller_of};
+ghost use Rattle.scq_band.specs.Standing.{first_standings, after_look};
 
 use crate::gate::{read_gate, retire};
 use crate::making::{Memory, lay_all, lift_all, reserved};
@@ -122,12 +120,10 @@ impl<B: Buffer> Band<B> {
     }
 
     /// Whether every seat had retired when word 0 was read. The number that is read there, of the seats that haven't retired,
-    /// never rises. The seat has then seen the whole run, and with it all calls that seats made before they retired.
+    /// never rises.
     pub fn gate_closed(&self, seat: &mut Seat<B>) -> bool
         requires seat { seat.old.band ≡ self.now }
-        ensures looked { (found : ℕ) × (seat.new ≡ having_seen seat.new.seen (after_look found seat.old)) × (result ≡ (found == 0)) }
-        ensures in_run { (found : ℕ) → seat.new.gate ≡ Some found
-            → IsReadingInRun self.now.setup (opening_of B.contents self.now.given) seat.old.retired (caller_of seat.old) (caller_of seat.new) found }
+        ensures looked { (found : ℕ) × (seat.new ≡ after_look found seat.old) × (result ≡ (found == 0)) }
         ensures fell { (last found : ℕ) → seat.old.gate ≡ Some last → seat.new.gate ≡ Some found → found ≤ last }
         ensures own { (calls found : ℕ) → seat.old.retired ≡ Some calls → seat.new.gate ≡ Some found → found < self.now.setup.seats }
     {

@@ -1,7 +1,6 @@
 //! What a seat knows of the rings, carried to another.
 ghost use Rattle.std.specs.Prelude.{◌≡◌, ◌<◌, ◌≤◌, length, take, vec_len, vec_capacity};
 ghost use Rattle.scq_band.specs.Numbers.{joined};
-ghost use Rattle.scq_band.specs.RunSeen.{both_seen};
 
 use crate::band::Band;
 use crate::notes::{learn, note};
@@ -29,9 +28,9 @@ impl Model for BandNote {
 
     ghost Value = { NoteStanding };
 
-    ghost use Rattle.scq_band.specs.Kept.{IsNote, seen_in};
+    ghost use Rattle.scq_band.specs.Kept.{IsNote};
 
-    ghost view = { λ n. record { table = n.badge.table_id; numbers = take n.rings n.numbers; seen = seen_in n.badge.views } };
+    ghost view = { λ n. record { table = n.badge.table_id; numbers = take n.rings n.numbers } };
 
     ghost invariant = { λ n. IsNote n.badge.views n.numbers n.rings };
 }
@@ -73,7 +72,7 @@ impl<B: Buffer> Band<B> {
     pub fn note(&self, seat: &mut Seat<B>) -> BandNote
         requires seat { seat.old.band ≡ self.now }
         ensures same { seat.new ≡ seat.old }
-        ensures note { (result.table ≡ self.now.table) × (result.numbers ≡ seat.old.numbers) × (result.seen ≡ seat.old.seen) }
+        ensures note { (result.table ≡ self.now.table) × (result.numbers ≡ seat.old.numbers) }
     {
         let rings = seat.numbers.len();
         let numbers = copied(&seat.numbers);
@@ -89,7 +88,7 @@ impl<B: Buffer> Band<B> {
     pub fn learn(&self, seat: &mut Seat<B>, note: BandNote)
         requires seat { seat.old.band ≡ self.now }
         requires note { note.table ≡ self.now.table }
-        ensures { seat.new ≡ record seat.old { numbers = joined seat.old.numbers note.numbers; seen = both_seen seat.old.seen note.seen } }
+        ensures { seat.new ≡ record seat.old { numbers = joined seat.old.numbers note.numbers } }
     {
         let BandNote {
             badge,

@@ -3,8 +3,7 @@ ghost use Rattle.std.specs.Prelude.{◌≡◌, ℕ, ◌<◌, ◌≤◌, Some, No
 ghost use Rattle.scq_word.specs.Sizes.{n_of};
 ghost use Rattle.scq_band.specs.Buffers.{opening_of};
 ghost use Rattle.scq_band.specs.Numbers.{known_of};
-ghost use Rattle.scq_band.specs.RunSeen.{IsCallInRun, WasEmptyInRun};
-ghost use Rattle.scq_band.specs.Standing.{caller_of, in_hand, bytes_in_hand, having_seen, after_put, after_spent_put, after_spent_get, HasTaken, FoundEmpty};
+ghost use Rattle.scq_band.specs.Standing.{HeadWasPast, in_hand, bytes_in_hand, after_put, after_spent_put, after_spent_get, HasTaken, FoundEmpty};
 
 use crate::band::Band;
 use crate::dequeue::{Without, dequeue};
@@ -29,21 +28,18 @@ pub enum DeqRefusal {
 
 impl<B: Buffer> Band<B> {
     /// Puts an index that the seat has in its hand on a ring, with its buffer: answers its place, which is below the limit.
-    /// The call is one of the run of all seats, behind all that the seat had seen of it. Spent where the ticket that was drawn
-    /// is at or past the limit; the seat keeps it, and answers it from then on, with no step made.
+    /// Spent where the ticket that was drawn is at or past the limit; the seat keeps it, and answers it from then on, with no
+    /// step made.
     #[inline(always)]
     pub fn enq(&self, seat: &mut Seat<B>, ring: u32, index: u32) -> Result<u64, Spent>
         requires seat { seat.old.band ≡ self.now }
         requires ring { ring < self.now.setup.rings }
         requires held { (buffer : B) × (in_hand seat.old.hand index ≡ Some (Some buffer)) }
         ensures band { seat.new.band ≡ seat.old.band }
-        ensures put { IfOk result (λ place. seat.new ≡ having_seen seat.new.seen (after_put ring index place
-            (bytes_in_hand B.contents seat.old.hand index) seat.old)) }
+        ensures put { IfOk result (λ place. seat.new ≡ after_put ring index place (bytes_in_hand B.contents seat.old.hand index) seat.old) }
         ensures place { IfOk result (λ place. (place < self.now.setup.limit) × ((known_of seat.old.numbers ring).seen < place)) }
         ensures spent { IfErr result (λ spent. seat.old.spent ≡ None
-            → (seat.new ≡ having_seen seat.new.seen (after_spent_put ring spent.ticket seat.old)) × (self.now.setup.limit ≤ spent.ticket)) }
-        ensures run { seat.old.spent ≡ None
-            → IsCallInRun self.now.setup (opening_of B.contents self.now.given) (caller_of seat.old) (caller_of seat.new) }
+            → (seat.new ≡ after_spent_put ring spent.ticket seat.old) × (self.now.setup.limit ≤ spent.ticket)) }
         ensures kept { (ticket : ℕ) → seat.old.spent ≡ Some ticket → (result ≡ Err (record { ticket = ticket })) × (seat.new ≡ seat.old) }
     {
         if let Some(ticket) = seat.spent {
@@ -67,9 +63,8 @@ impl<B: Buffer> Band<B> {
     /// Gets an index from a ring, with its buffer: answers its place, which is below the limit, and the index.
     /// Empty where the ring was found empty: its Head is at or past the number answered, so whatever the seat knew to be
     /// finished there had been claimed. The number is what the seat's view knows of Head now, which is true of the words at
-    /// every moment (`laws::each_view_knows_the_truth`). In the run of all seats Head was at or past it after the call's last
-    /// step, and at a moment inside the call each put of the ring that had ended was claimed: by a get that got it, or by one that
-    /// was under way (the clause `empty_in_run`). Spent as with `enq`.
+    /// every moment (`laws::each_view_knows_the_truth`); the clause `head` says besides that a step of the machine ended the
+    /// call, after which Head was at or past the number. Spent as with `enq`.
     #[inline(always)]
     pub fn deq(&self, seat: &mut Seat<B>, ring: u32) -> Result<(u64, u32), DeqRefusal>
         requires seat { seat.old.band ≡ self.now }
@@ -79,12 +74,10 @@ impl<B: Buffer> Band<B> {
         ensures place { IfOk result (λ r. (r.0 < self.now.setup.limit) × ((known_of seat.old.numbers ring).head ≤ r.0)) }
         ensures index { IfOk result (λ r. r.1 < n_of self.now.setup.order) }
         ensures empty { (head : ℕ) → result ≡ Err (DeqRefusal.Empty head) → FoundEmpty ring head seat.old seat.new }
-        ensures empty_in_run { (head : ℕ) → result ≡ Err (DeqRefusal.Empty head)
-            → WasEmptyInRun self.now.setup (opening_of B.contents self.now.given) ring head (caller_of seat.old) (caller_of seat.new) }
+        ensures head { (head : ℕ) → result ≡ Err (DeqRefusal.Empty head)
+            → HeadWasPast self.now.setup (opening_of B.contents self.now.given) seat.new.number seat.old.calls seat.new.calls ring head }
         ensures spent { (ticket : ℕ) → result ≡ Err (DeqRefusal.Spent ticket) → seat.old.spent ≡ None
-            → (seat.new ≡ having_seen seat.new.seen (after_spent_get ring ticket seat.old)) × (self.now.setup.limit ≤ ticket) }
-        ensures run { seat.old.spent ≡ None
-            → IsCallInRun self.now.setup (opening_of B.contents self.now.given) (caller_of seat.old) (caller_of seat.new) }
+            → (seat.new ≡ after_spent_get ring ticket seat.old) × (self.now.setup.limit ≤ ticket) }
         ensures kept { (ticket : ℕ) → seat.old.spent ≡ Some ticket → (result ≡ Err (DeqRefusal.Spent ticket)) × (seat.new ≡ seat.old) }
     {
         if let Some(ticket) = seat.spent {

@@ -7,9 +7,8 @@ ghost use Rattle.scq_band.specs.declared.slot.Slot.{Slot};
 ghost use Rattle.scq_band.specs.Buffers.{LiesIn, opening_of};
 ghost use Rattle.scq_band.specs.Steps.{my, front_index};
 ghost use Rattle.scq_band.specs.Kept.{identity_of};
-ghost use Rattle.scq_band.specs.Closing.{indices_of, lifted_of, IsOneRunToTheEnd, EachGetHasItsPut, NoneIsPutTwice, NoneIsGotTwice, EachPutPassedIsGot, IsBalance, IsAllThere, EachIsInOneHand, EachSpentIsPastTheBound, NoneIsSpentWithinTheLimit, EachLeftIsItsPut, AreTheSame, AreTheLifted, AllRetiredWhereClosed, EachSeenRetiredHas, all_calls, all_hands, all_known, all_spent, callers_of};
-ghost use Rattle.scq_band.specs.Homes.{at_home, MayBring, IsLaidBack, times_lifted, AllOutGiven, MayLeave, IsMemberOf, HasAll, all_seen};
-ghost use Rattle.scq_band.specs.Sights.{known_me};
+ghost use Rattle.scq_band.specs.Closing.{indices_of, lifted_of, EachGetHasItsPut, NoneIsPutTwice, NoneIsGotTwice, EachPutPassedIsGot, IsBalance, IsAllThere, EachIsInOneHand, EachSpentIsPastTheBound, NoneIsSpentWithinTheLimit, EachLeftIsItsPut, AreTheSame, AreTheLifted, AllRetiredWhereClosed, all_calls, all_hands, all_known, all_spent};
+ghost use Rattle.scq_band.specs.Homes.{at_home, MayBring, IsLaidBack, times_lifted, AllOutGiven, MayLeave, IsMemberOf, HasAll};
 
 use crate::band::Band;
 use crate::closed::{count_left, unload};
@@ -25,10 +24,9 @@ use std::marker::Brand;
 fn bring<B: Buffer>(words: &Words<B>, token: &mut Token<B>)
     requires own { token.old.table_id ≡ words.now.table_id }
     requires room { 0 < words.now.table_id.words }
-    requires may { MayBring (LiesIn B.contents B.IsSameBuffer words.now.key.given.value.items) (known_me token.old.me) }
+    requires may { MayBring (LiesIn B.contents B.IsSameBuffer words.now.key.given.value.items) token.old.me }
     ensures own { (token.new.table_id ≡ token.old.table_id) × (token.new.id ≡ token.old.id) }
-    ensures home { known_me token.new.me ≡ (at_home (front_index token.old.me.1 ∷ []) token.old.me.0.known, rest token.old.me.1) }
-    ensures seen { token.new.me.0.seen ≡ token.old.me.0.seen }
+    ensures home { token.new.me ≡ (at_home (front_index token.old.me.1 ∷ []) token.old.me.0, rest token.old.me.1) }
 {
     words.load::<Brand>(token, 0);
 }
@@ -86,10 +84,9 @@ fn bring_all<B: Buffer, T: Lifted<B>>(
 )
     requires own { token.old.table_id ≡ words.now.table_id }
     requires room { 0 < words.now.table_id.words }
-    requires may { MayLeave B.IsSameBuffer words.now.key.given.value.items (known_me token.old.me) hand.items (map T.pair out.old.items) }
+    requires may { MayLeave B.IsSameBuffer words.now.key.given.value.items token.old.me hand.items (map T.pair out.old.items) }
     ensures own { (token.new.table_id ≡ token.old.table_id) × (token.new.id ≡ token.old.id) }
-    ensures home { known_me token.new.me ≡ (at_home (indices_of token.old.me.1) token.old.me.0.known, []) }
-    ensures seen { token.new.me.0.seen ≡ token.old.me.0.seen }
+    ensures home { token.new.me ≡ (at_home (indices_of token.old.me.1) token.old.me.0, []) }
     ensures less { (i : ℕ) → times i (indices_of (map T.pair out.new.items)) + times_lifted i token.old.me.1 ≡ times i (indices_of (map T.pair out.old.items)) }
     ensures given { AllOutGiven B.IsSameBuffer words.now.key.given.value.items (map T.pair out.new.items) }
 {
@@ -106,11 +103,10 @@ fn one_home<B: Buffer, T: Lifted<B>>(words: &Words<B>, seat: Seat<B>, out: &mut 
     requires lifted { (i : ℕ) → times i (lifted_of seat.hand) ≤ times i (indices_of (map T.pair out.old.items)) }
     requires given { AllOutGiven B.IsSameBuffer words.now.key.given.value.items (map T.pair out.old.items) }
     ensures own { result.table_id ≡ words.now.table_id }
-    ensures alone { result.me.0.known.seats ≡ my result.me.0.known ∷ [] }
-    ensures member { IsMemberOf seat (my result.me.0.known) }
-    ensures numbers { (result.me.0.known.numbers ≡ seat.numbers) × (length seat.numbers ≡ words.now.key.setup.rings) }
-    ensures gate { result.me.0.known.gate ≡ seat.gate }
-    ensures seen { result.me.0.seen ≡ seat.seen }
+    ensures alone { result.me.0.seats ≡ my result.me.0 ∷ [] }
+    ensures member { IsMemberOf seat (my result.me.0) }
+    ensures numbers { (result.me.0.numbers ≡ seat.numbers) × (length seat.numbers ≡ words.now.key.setup.rings) }
+    ensures gate { result.me.0.gate ≡ seat.gate }
     ensures none { result.me.1 ≡ [] }
     ensures less { (i : ℕ) → times i (indices_of (map T.pair out.new.items)) + times i (lifted_of seat.hand) ≡ times i (indices_of (map T.pair out.old.items)) }
     ensures given { AllOutGiven B.IsSameBuffer words.now.key.given.value.items (map T.pair out.new.items) }
@@ -138,8 +134,7 @@ pub fn gather<B: Buffer, T: Lifted<B>>(
     requires lifted { (i : ℕ) → times i (indices_of (map T.pair out.items)) ≡ sum_by (λ s. times i (lifted_of s.hand)) seats.items }
     requires given { AllOutGiven B.IsSameBuffer words.now.key.given.value.items (map T.pair out.items) }
     ensures own { result.table_id ≡ words.now.table_id }
-    ensures all { HasAll words.now.key.setup.rings seats.items result.me.0.known }
-    ensures seen { result.me.0.seen ≡ all_seen seats.items }
+    ensures all { HasAll words.now.key.setup.rings seats.items result.me.0 }
 {
     let Some(last) = seats.pop() else {
         unreachable!()
@@ -165,15 +160,11 @@ impl<B: Buffer> Band<B> {
     /// Closes a band whose seats all come back. The buffers that are lifted come in `out`, each with its index, as pairs or in a
     /// type that has more beside them; they are laid back, and all buffers are handed out. Takes no memory.
     ///
-    /// The clauses read the seats' records, hands and numbers together, in the order in which the seats are given. One run stands behind
-    /// all their calls: what each seat had seen are prefixes of it, its history has the four aspects, and the calls of each ring stand in
-    /// one order in which every reply is a plain queue's.
+    /// The clauses read the seats' records, hands and numbers together, in the order in which the seats are given.
     pub fn close<T: Lifted<B>>(self, seats: Vec<Seat<B>>, out: Vec<T>) -> BandClosed<B>
         requires seats { All (λ s. s.band ≡ self) seats.items }
         requires all { vec_len seats ≡ self.setup.seats }
         requires out { AreTheLifted B.IsSameBuffer self seats.items (map T.pair out.items) }
-        ensures run { IsOneRunToTheEnd self.setup (opening_of B.contents self.given) (callers_of seats.items) (all_calls seats.items) (all_hands seats.items)
-            (map B.contents result.buffers.items) }
         ensures buffers { AreTheSame B.IsSameBuffer self.given result.buffers.items }
         ensures gets { EachGetHasItsPut self.setup (opening_of B.contents self.given) (all_calls seats.items) }
         ensures put_once { NoneIsPutTwice self.setup (opening_of B.contents self.given) (all_calls seats.items) }
@@ -185,7 +176,6 @@ impl<B: Buffer> Band<B> {
         ensures left { EachLeftIsItsPut self.setup (opening_of B.contents self.given) (all_calls seats.items) (all_hands seats.items)
             (map B.contents result.buffers.items) }
         ensures gate { AllRetiredWhereClosed seats.items }
-        ensures retirees { EachSeenRetiredHas seats.items }
         ensures spent { EachSpentIsPastTheBound self.setup (all_calls seats.items) (all_spent seats.items) }
         ensures limits { NoneIsSpentWithinTheLimit self.setup (all_calls seats.items) (all_spent seats.items) }
     {

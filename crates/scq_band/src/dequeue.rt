@@ -11,7 +11,7 @@ ghost use Rattle.scq_band.specs.declared.numbers.Numbers.{Numbers};
 ghost use Rattle.scq_band.specs.Layout.{at, word_count, entry_at};
 ghost use Rattle.scq_band.specs.Rings.{IsRing};
 ghost use Rattle.scq_band.specs.Buffers.{LiesIn, opening_of};
-ghost use Rattle.scq_band.specs.Sights.{known_me, Went};
+ghost use Rattle.scq_band.specs.Turns.{CameBy};
 ghost use Rattle.scq_band.specs.Steps.{my, my_phase};
 ghost use Rattle.scq_band.specs.Seats.{IsAlone, IsSeeking, IsBehind, HasGot, HasGotAfter, drew_head, drawn_spent, goes_to, nothing_at};
 
@@ -49,18 +49,16 @@ fn passed_by(ring: Ring, ticket: u64, found: u64) -> u64
 fn takes<B: Buffer>(words: &Words<B>, token: &mut Token<B>, ring: Ring, ticket: u64) -> Option<u32>
     requires own { (token.old.table_id ≡ words.now.table_id) × (words.now.table_id.words ≡ word_count words.now.key.setup) }
     requires ring { IsRing words.now.key.setup ring }
-    requires alone { IsAlone token.old.me.0.known }
+    requires alone { IsAlone token.old.me.0 }
     requires limit { ticket < ring.limit }
-    requires seeks { IsSeeking ring.number ticket (my_phase token.old.me.0.known) }
+    requires seeks { IsSeeking ring.number ticket (my_phase token.old.me.0) }
     ensures own { (token.new.table_id ≡ token.old.table_id) × (token.new.id ≡ token.old.id) }
-    ensures went { Went words.now.key.setup (opening_of B.contents words.now.key.given.value.items) token.old.me.0 token.new.me.0 }
     ensures got { IfSome result
-        (λ index. HasGot (LiesIn B.contents B.IsSameBuffer words.now.key.given.value.items) ring.number ticket index (known_me token.old.me)
-        (known_me token.new.me)) }
+        (λ index. HasGot (LiesIn B.contents B.IsSameBuffer words.now.key.given.value.items) ring.number ticket index token.old.me token.new.me) }
     ensures small { IfSome result (λ index. index < n_of words.now.key.setup.order) }
-    ensures fits { IfSome result (λ index. length (my token.new.me.0.known).part.hand ≤ n_of words.now.key.setup.order) }
-    ensures once { IfSome result (λ index. (i : ℕ) → times i (my token.new.me.0.known).part.hand ≤ 1) }
-    ensures given_up { IfNone result (token.new.me.0.known ≡ goes_to (AtD6 ring.number ticket) token.old.me.0.known) }
+    ensures fits { IfSome result (λ index. length (my token.new.me.0).part.hand ≤ n_of words.now.key.setup.order) }
+    ensures once { IfSome result (λ index. (i : ℕ) → times i (my token.new.me.0).part.hand ≤ 1) }
+    ensures given_up { IfNone result (token.new.me.0 ≡ goes_to (AtD6 ring.number ticket) token.old.me.0) }
     ensures slots { IfNone result (token.new.me.1 ≡ token.old.me.1) }
 {
     let cycle = cycle_of(ring.shape, ticket);
@@ -96,13 +94,12 @@ fn takes<B: Buffer>(words: &Words<B>, token: &mut Token<B>, ring: Ring, ticket: 
 fn catch_up<B: Buffer>(words: &Words<B>, token: &mut Token<B>, ring: Ring, ticket: u64, tail: u64)
     requires own { (token.old.table_id ≡ words.now.table_id) × (words.now.table_id.words ≡ word_count words.now.key.setup) }
     requires ring { IsRing words.now.key.setup ring }
-    requires alone { IsAlone token.old.me.0.known }
-    requires behind { IsBehind ring.number ticket tail (ticket + 1) (my_phase token.old.me.0.known) }
+    requires alone { IsAlone token.old.me.0 }
+    requires behind { IsBehind ring.number ticket tail (ticket + 1) (my_phase token.old.me.0) }
     requires room { ticket < 2 ^ 60 }
     ensures own { (token.new.table_id ≡ token.old.table_id) × (token.new.id ≡ token.old.id) }
-    ensures went { Went words.now.key.setup (opening_of B.contents words.now.key.given.value.items) token.old.me.0 token.new.me.0 }
     ensures slots { token.new.me.1 ≡ token.old.me.1 }
-    ensures caught_up { token.new.me.0.known ≡ goes_to (AtD10 ring.number ticket true) token.old.me.0.known }
+    ensures caught_up { token.new.me.0 ≡ goes_to (AtD10 ring.number ticket true) token.old.me.0 }
 {
     let mut from = tail;
     let mut to = ticket + 1;
@@ -123,14 +120,15 @@ fn catch_up<B: Buffer>(words: &Words<B>, token: &mut Token<B>, ring: Ring, ticke
 fn is_over<B: Buffer>(words: &Words<B>, token: &mut Token<B>, ring: Ring, ticket: u64) -> bool
     requires own { (token.old.table_id ≡ words.now.table_id) × (words.now.table_id.words ≡ word_count words.now.key.setup) }
     requires ring { IsRing words.now.key.setup ring }
-    requires alone { IsAlone token.old.me.0.known }
-    requires given_up { my_phase token.old.me.0.known ≡ AtD6 ring.number ticket }
+    requires alone { IsAlone token.old.me.0 }
+    requires given_up { my_phase token.old.me.0 ≡ AtD6 ring.number ticket }
     requires limit { ticket < ring.limit }
     ensures own { (token.new.table_id ≡ token.old.table_id) × (token.new.id ≡ token.old.id) }
-    ensures went { Went words.now.key.setup (opening_of B.contents words.now.key.given.value.items) token.old.me.0 token.new.me.0 }
     ensures slots { token.new.me.1 ≡ token.old.me.1 }
-    ensures over { IsTrue result → token.new.me.0.known ≡ nothing_at ring.number token.old.me.0.known }
-    ensures on { IsFalse result → token.new.me.0.known ≡ goes_to (AtD2 ring.number (ticket + 1)) token.old.me.0.known }
+    ensures over { IsTrue result → token.new.me.0 ≡ nothing_at ring.number token.old.me.0 }
+    ensures on { IsFalse result → token.new.me.0 ≡ goes_to (AtD2 ring.number (ticket + 1)) token.old.me.0 }
+    ensures last { IsTrue result → CameBy words.now.key.setup (opening_of B.contents words.now.key.given.value.items) (my token.old.me.0).part.calls
+        (my token.new.me.0) token.new.me.0.numbers }
 {
     let tail = load(words, token, ring.tail);
     if tail <= ticket + 1 {
@@ -157,24 +155,25 @@ pub fn dequeue<B: Buffer>(
 ) -> Result<(u64, u32), Without>
     requires own { (token.old.table_id ≡ words.now.table_id) × (words.now.table_id.words ≡ word_count words.now.key.setup) }
     requires ring { IsRing words.now.key.setup ring }
-    requires alone { IsAlone token.old.me.0.known }
-    requires idle { (my_phase token.old.me.0.known ≡ Idle) × ((my token.old.me.0.known).part.spent ≡ None) }
+    requires alone { IsAlone token.old.me.0 }
+    requires idle { (my_phase token.old.me.0 ≡ Idle) × ((my token.old.me.0).part.spent ≡ None) }
     ensures own { (token.new.table_id ≡ token.old.table_id) × (token.new.id ≡ token.old.id) }
-    ensures went { Went words.now.key.setup (opening_of B.contents words.now.key.given.value.items) token.old.me.0 token.new.me.0 }
     ensures got { IfOk result
-        (λ r. HasGotAfter (LiesIn B.contents B.IsSameBuffer words.now.key.given.value.items) ring.number r.0 r.1 (known_me token.old.me)
-        (known_me token.new.me)) }
+        (λ r. HasGotAfter (LiesIn B.contents B.IsSameBuffer words.now.key.given.value.items) ring.number r.0 r.1 token.old.me token.new.me) }
     ensures small { IfOk result (λ r. (r.0 < words.now.key.setup.limit) × (r.1 < n_of words.now.key.setup.order)) }
-    ensures fits { IfOk result (λ r. length (my token.new.me.0.known).part.hand ≤ n_of words.now.key.setup.order) }
-    ensures once { IfOk result (λ r. (i : ℕ) → times i (my token.new.me.0.known).part.hand ≤ 1) }
-    ensures above { IfOk result (λ r. (known : Numbers) → slice_get token.old.me.0.known.numbers ring.number ≡ Some known → known.head ≤ r.0) }
-    ensures nothing { result ≡ Err (Without.Nothing None) → token.new.me.0.known ≡ nothing_at ring.number token.old.me.0.known }
+    ensures fits { IfOk result (λ r. length (my token.new.me.0).part.hand ≤ n_of words.now.key.setup.order) }
+    ensures once { IfOk result (λ r. (i : ℕ) → times i (my token.new.me.0).part.hand ≤ 1) }
+    ensures above { IfOk result (λ r. (known : Numbers) → slice_get token.old.me.0.numbers ring.number ≡ Some known → known.head ≤ r.0) }
+    ensures nothing { result ≡ Err (Without.Nothing None) → token.new.me.0 ≡ nothing_at ring.number token.old.me.0 }
     ensures nothing_left { (ticket : ℕ) → result ≡ Err (Without.Nothing (Some ticket))
-        → (token.new.me.0.known ≡ nothing_at ring.number (drew_head ring.number ticket token.old.me.0.known))
+        → (token.new.me.0 ≡ nothing_at ring.number (drew_head ring.number ticket token.old.me.0))
         × (ticket < words.now.key.setup.limit)
-        × ((known : Numbers) → slice_get token.old.me.0.known.numbers ring.number ≡ Some known → known.head ≤ ticket) }
+        × ((known : Numbers) → slice_get token.old.me.0.numbers ring.number ≡ Some known → known.head ≤ ticket) }
+    ensures last { (drawn : Option ℕ) → result ≡ Err (Without.Nothing drawn)
+        → CameBy words.now.key.setup (opening_of B.contents words.now.key.given.value.items) (my token.old.me.0).part.calls (my token.new.me.0)
+        token.new.me.0.numbers }
     ensures spent { (ticket : ℕ) → result ≡ Err (Without.Spent ticket)
-        → (token.new.me.0.known ≡ drawn_spent ring.number ticket token.old.me.0.known) × (words.now.key.setup.limit ≤ ticket) }
+        → (token.new.me.0 ≡ drawn_spent ring.number ticket token.old.me.0) × (words.now.key.setup.limit ≤ ticket) }
     ensures short { (ticket : ℕ) → result ≡ Err (Without.Spent ticket) → ticket + 1 < 2 ^ 64 }
     ensures kept { IfErr result (λ e. token.new.me.1 ≡ token.old.me.1) }
 {

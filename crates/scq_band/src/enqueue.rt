@@ -1,7 +1,7 @@
 //! An enqueue of the slot that stands first, step by step.
 ghost use Rattle.std.specs.Prelude.{◌≡◌, ◌+◌, ◌<◌, ◌≤◌, if◌then◌else◌, IfSome, IfNone, IfOk, IfErr, IsTrue, IsFalse, Some, None, true, slice_get};
 ghost use Rattle.atomic_table.specs.Table.{rest};
-ghost use Rattle.scq_band.specs.Buffers.{LiesIn, opening_of};
+ghost use Rattle.scq_band.specs.Buffers.{LiesIn};
 ghost use Rattle.scq_band.specs.Turns.{Fronts};
 ghost use Rattle.scq_core.specs.declared.phase.Phase.TheVariants.{Idle, AtE1, AtE4};
 ghost use Rattle.scq_word.specs.Sizes.{n_of};
@@ -10,7 +10,6 @@ ghost use Rattle.scq_core.specs.Table.{ring_slots, holds_index};
 ghost use Rattle.scq_band.specs.Layout.{at, word_count, entry_at};
 ghost use Rattle.scq_band.specs.declared.numbers.Numbers.{Numbers};
 ghost use Rattle.scq_band.specs.Rings.{IsRing};
-ghost use Rattle.scq_band.specs.Sights.{known_me, Went};
 ghost use Rattle.scq_band.specs.Steps.{my, my_phase, front_index, front_bytes};
 ghost use Rattle.scq_band.specs.Seats.{IsAlone, IsLooking, IsEnding, goes_to, placed_to, done_at, put_at, spent_at, index_of, content_of, least_of};
 
@@ -29,19 +28,16 @@ fn finds_room<B: Buffer>(
 ) -> Option<u64>
     requires own { (token.old.table_id ≡ words.now.table_id) × (words.now.table_id.words ≡ word_count words.now.key.setup) }
     requires ring { IsRing words.now.key.setup ring }
-    requires alone { IsAlone token.old.me.0.known }
-    requires looks { IsLooking ring.number ticket (my_phase token.old.me.0.known) }
+    requires alone { IsAlone token.old.me.0 }
+    requires looks { IsLooking ring.number ticket (my_phase token.old.me.0) }
     ensures own { (token.new.table_id ≡ token.old.table_id) × (token.new.id ≡ token.old.id) }
-    ensures went { Went words.now.key.setup (opening_of B.contents words.now.key.given.value.items) token.old.me.0 token.new.me.0 }
     ensures slots { token.new.me.1 ≡ token.old.me.1 }
     ensures room { IfSome result
-        (λ found. token.new.me.0.known
-        ≡ goes_to (AtE4 ring.number (index_of (my_phase token.old.me.0.known)) (content_of
-        (my_phase token.old.me.0.known)) ticket found) token.old.me.0.known) }
-    ensures least { IfSome result (λ found. least_of (my_phase token.old.me.0.known) ≤ rank_in (ring_slots words.now.key.setup) found) }
+        (λ found. token.new.me.0
+        ≡ goes_to (AtE4 ring.number (index_of (my_phase token.old.me.0)) (content_of (my_phase token.old.me.0)) ticket found) token.old.me.0) }
+    ensures least { IfSome result (λ found. least_of (my_phase token.old.me.0) ≤ rank_in (ring_slots words.now.key.setup) found) }
     ensures no_room { IfNone result
-        (token.new.me.0.known ≡ goes_to (AtE1 ring.number (index_of (my_phase token.old.me.0.known)) (content_of (my_phase token.old.me.0.known))
-        (ticket + 1)) token.old.me.0.known) }
+        (token.new.me.0 ≡ goes_to (AtE1 ring.number (index_of (my_phase token.old.me.0)) (content_of (my_phase token.old.me.0)) (ticket + 1)) token.old.me.0) }
 {
     let found = load(words, token, ring.entry(ticket));
     let entry = unpack(ring.shape, found);
@@ -65,19 +61,15 @@ fn is_placed<B: Buffer>(
 ) -> bool
     requires own { (token.old.table_id ≡ words.now.table_id) × (words.now.table_id.words ≡ word_count words.now.key.setup) }
     requires ring { IsRing words.now.key.setup ring }
-    requires alone { IsAlone token.old.me.0.known }
-    requires looks { IsLooking ring.number ticket (my_phase token.old.me.0.known) }
+    requires alone { IsAlone token.old.me.0 }
+    requires looks { IsLooking ring.number ticket (my_phase token.old.me.0) }
     requires limit { ticket < ring.limit }
-    requires index { (index ≡ index_of (my_phase token.old.me.0.known)) × (index < n_of words.now.key.setup.order) }
-    requires front { Fronts (LiesIn B.contents B.IsSameBuffer words.now.key.given.value.items) index (content_of
-        (my_phase token.old.me.0.known)) token.old.me.1 }
+    requires index { (index ≡ index_of (my_phase token.old.me.0)) × (index < n_of words.now.key.setup.order) }
+    requires front { Fronts (LiesIn B.contents B.IsSameBuffer words.now.key.given.value.items) index (content_of (my_phase token.old.me.0)) token.old.me.1 }
     ensures own { (token.new.table_id ≡ token.old.table_id) × (token.new.id ≡ token.old.id) }
-    ensures went { Went words.now.key.setup (opening_of B.contents words.now.key.given.value.items) token.old.me.0 token.new.me.0 }
     ensures slots { token.new.me.1 ≡ (if result then rest token.old.me.1 else token.old.me.1) }
-    ensures placed { IsTrue result → token.new.me.0.known ≡ placed_to ring.number index (content_of
-        (my_phase token.old.me.0.known)) ticket token.old.me.0.known }
-    ensures passed { IsFalse result → token.new.me.0.known ≡ goes_to (AtE1 ring.number index (content_of (my_phase token.old.me.0.known))
-        (ticket + 1)) token.old.me.0.known }
+    ensures placed { IsTrue result → token.new.me.0 ≡ placed_to ring.number index (content_of (my_phase token.old.me.0)) ticket token.old.me.0 }
+    ensures passed { IsFalse result → token.new.me.0 ≡ goes_to (AtE1 ring.number index (content_of (my_phase token.old.me.0)) (ticket + 1)) token.old.me.0 }
 {
     let entry = Entry {
         cycle: cycle_of(ring.shape, ticket),
@@ -100,12 +92,11 @@ fn is_placed<B: Buffer>(
 fn ends<B: Buffer>(words: &Words<B>, token: &mut Token<B>, ring: Ring, ticket: u64)
     requires own { (token.old.table_id ≡ words.now.table_id) × (words.now.table_id.words ≡ word_count words.now.key.setup) }
     requires ring { IsRing words.now.key.setup ring }
-    requires alone { IsAlone token.old.me.0.known }
-    requires placed { IsEnding ring.number ticket (my_phase token.old.me.0.known) }
+    requires alone { IsAlone token.old.me.0 }
+    requires placed { IsEnding ring.number ticket (my_phase token.old.me.0) }
     ensures own { (token.new.table_id ≡ token.old.table_id) × (token.new.id ≡ token.old.id) }
-    ensures went { Went words.now.key.setup (opening_of B.contents words.now.key.given.value.items) token.old.me.0 token.new.me.0 }
     ensures slots { token.new.me.1 ≡ token.old.me.1 }
-    ensures done { token.new.me.0.known ≡ done_at ring.number ticket (content_of (my_phase token.old.me.0.known)) token.old.me.0.known }
+    ensures done { token.new.me.0 ≡ done_at ring.number ticket (content_of (my_phase token.old.me.0)) token.old.me.0 }
 {
     if load(words, token, ring.threshold()) != ring.level {
         reset(words, token, ring.threshold(), ring.level);
@@ -122,19 +113,17 @@ pub fn enqueue<B: Buffer>(
 ) -> Result<u64, u64>
     requires own { (token.old.table_id ≡ words.now.table_id) × (words.now.table_id.words ≡ word_count words.now.key.setup) }
     requires ring { IsRing words.now.key.setup ring }
-    requires alone { IsAlone token.old.me.0.known }
-    requires idle { (my_phase token.old.me.0.known ≡ Idle) × ((my token.old.me.0.known).part.spent ≡ None) }
-    requires held { (holds_index (my token.old.me.0.known).part.hand index ≡ true) × (index < n_of words.now.key.setup.order) }
+    requires alone { IsAlone token.old.me.0 }
+    requires idle { (my_phase token.old.me.0 ≡ Idle) × ((my token.old.me.0).part.spent ≡ None) }
+    requires held { (holds_index (my token.old.me.0).part.hand index ≡ true) × (index < n_of words.now.key.setup.order) }
     requires first { front_index token.old.me.1 ≡ index }
     requires front { Fronts (LiesIn B.contents B.IsSameBuffer words.now.key.given.value.items) index (front_bytes B.contents token.old.me.1) token.old.me.1 }
     ensures own { (token.new.table_id ≡ token.old.table_id) × (token.new.id ≡ token.old.id) }
-    ensures went { Went words.now.key.setup (opening_of B.contents words.now.key.given.value.items) token.old.me.0 token.new.me.0 }
-    ensures placed { IfOk result (λ place. token.new.me.0.known ≡ put_at ring.number index place (front_bytes B.contents token.old.me.1) token.old.me.0.known) }
+    ensures placed { IfOk result (λ place. token.new.me.0 ≡ put_at ring.number index place (front_bytes B.contents token.old.me.1) token.old.me.0) }
     ensures given { IfOk result (λ place. token.new.me.1 ≡ rest token.old.me.1) }
     ensures above { IfOk result
-        (λ place. (place < words.now.key.setup.limit) × ((known : Numbers) → slice_get token.old.me.0.known.numbers ring.number ≡ Some known
-        → known.seen < place)) }
-    ensures spent { IfErr result (λ ticket. token.new.me.0.known ≡ spent_at ring.number ticket true token.old.me.0.known) }
+        (λ place. (place < words.now.key.setup.limit) × ((known : Numbers) → slice_get token.old.me.0.numbers ring.number ≡ Some known → known.seen < place)) }
+    ensures spent { IfErr result (λ ticket. token.new.me.0 ≡ spent_at ring.number ticket true token.old.me.0) }
     ensures kept { IfErr result (λ ticket. (token.new.me.1 ≡ token.old.me.1) × (words.now.key.setup.limit ≤ ticket)) }
 {
     'draws: loop {

@@ -1,10 +1,8 @@
-//! Laws of all words and views that the rule of a band allows, and of what its seats have seen. The functions do nothing: each stands
-//! for its contract.
+//! A law of all words and views that the rule of a band allows. The function does nothing: it stands for its contract.
 ghost use Rattle.std.specs.Prelude.{List};
 ghost use Rattle.scq_word.specs.declared.setup.Setup.{Setup};
 ghost use Rattle.scq_band.specs.Buffers.{LiesIn, opening_of};
 ghost use Rattle.scq_band.specs.Knowing.{EachViewKnowsTruth};
-ghost use Rattle.scq_band.specs.SeenCalls.{EachSeenCallComesFirst};
 
 use scq_word::Buffer;
 
@@ -13,10 +11,4 @@ use scq_word::Buffer;
 /// word 0 is no higher than the seat last found it. The numbers that contracts see of a seat are those of its view.
 pub fn each_view_knows_the_truth<B: Buffer>()
     ensures { (given : List B) (c : Setup) → EachViewKnowsTruth (LiesIn B.contents B.IsSameBuffer given) (opening_of B.contents given) c }
-{}
-
-/// Where a seat had seen a call to its end when it began one of its own, by that call's own seat or by a note, each step of that call
-/// was made before each of its own; and where both are of one ring, it stands before it in the ring's one order.
-pub fn calls_seen_come_first()
-    ensures { EachSeenCallComesFirst }
 {}

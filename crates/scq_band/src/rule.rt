@@ -20,16 +20,16 @@ impl<B> Drop for Key<B> {
     }
 }
 
-/// There is one run of the machine whose end the words and the views show.
+/// The words and the views show a state of the machine that steps reach.
 pub struct Rule {}
 
 impl<B: Buffer> TableRule<Slot<B>, View, Key<B>> for Rule {
-    ghost use Rattle.scq_band.specs.Sights.{ShowsRun, first_sight};
+    ghost use Rattle.scq_band.specs.Shown.{Shown, first_view};
     ghost use Rattle.scq_band.specs.Buffers.{LiesIn, opening_of};
 
-    ghost holds = { λ key. ShowsRun (LiesIn B.contents B.IsSameBuffer key.given.value.items) (opening_of B.contents key.given.value.items) key.setup };
+    ghost holds = { λ key. Shown (LiesIn B.contents B.IsSameBuffer key.given.value.items) (opening_of B.contents key.given.value.items) key.setup };
 
-    ghost first = { λ key. first_sight key.setup };
+    ghost first = { λ key. first_view key.setup };
 }
 
 // What a step tells is picked where the step is made.

@@ -27,11 +27,10 @@ impl<B: Buffer> Model for Seat<B> {
     ghost Value = { Standing B };
 
     ghost use Rattle.scq_band.specs.Kept.{standing_of, IsKept};
-    ghost use Rattle.scq_band.specs.Sights.{known_me};
 
     ghost view = { λ s. standing_of s.token.table_id s.key.value s.token.me };
 
-    ghost invariant = { λ s. IsKept B.IsSameBuffer s.key.value (known_me s.token.me) s.hand.items (vec_capacity s.hand) s.numbers.items s.spent };
+    ghost invariant = { λ s. IsKept B.IsSameBuffer s.key.value s.token.me s.hand.items (vec_capacity s.hand) s.numbers.items s.spent };
 }
 
 impl<B: Buffer> Seat<B> {

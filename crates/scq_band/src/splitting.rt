@@ -1,9 +1,9 @@
 //! All seats stand in the first view of a table, and are split off one by one.
 ghost use Rattle.std.specs.Prelude.{◌≡◌, ℕ, suc, ◌+◌, ◌<◌, ◌≤◌, [], All, length, vec_len, vec_capacity};
-ghost use Rattle.scq_band.specs.Sights.{first_sight};
+ghost use Rattle.scq_band.specs.Shown.{first_view};
 ghost use Rattle.scq_band.specs.Standing.{first_standing, first_standings};
 ghost use Rattle.scq_band.specs.Kept.{identity_of};
-ghost use Rattle.scq_band.specs.Making.{IsRoom, sight_below};
+ghost use Rattle.scq_band.specs.Making.{IsRoom, first_below};
 
 use crate::making::Room;
 use crate::rule::{Key, Token, Words};
@@ -17,22 +17,22 @@ use std::snapshot::Snapshot;
 pub struct Peels {}
 
 impl Split<View> for Peels {
-    ghost use Rattle.scq_band.specs.Sights.{others_sight, first_sight_of};
+    ghost use Rattle.scq_band.specs.Known.{others_of, first_of};
 
-    ghost left = { others_sight };
+    ghost left = { others_of };
 
-    ghost right = { first_sight_of };
+    ghost right = { first_of };
 }
 
 // The next seat.
 fn peel<B: Buffer>(words: &Words<B>, rest: &mut Token<B>, key: &Key<B>, room: Room) -> Seat<B>
     requires own { (rest.old.table_id ≡ words.now.table_id) × (words.now.key ≡ key.now) }
     requires words { 0 < words.now.table_id.words }
-    requires some { (k : ℕ) × (rest.old.me.0 ≡ sight_below key.now.setup (suc k)) }
+    requires some { (k : ℕ) × (rest.old.me.0 ≡ first_below key.now.setup (suc k)) }
     requires room { IsRoom key.now.setup room }
     ensures own { rest.new.table_id ≡ rest.old.table_id }
-    ensures peeled { (k : ℕ) → rest.old.me.0 ≡ sight_below key.now.setup (suc k)
-        → (rest.new.me.0 ≡ sight_below key.now.setup k) × (result ≡ first_standing (identity_of words.now.table_id key.now) k) }
+    ensures peeled { (k : ℕ) → rest.old.me.0 ≡ first_below key.now.setup (suc k)
+        → (rest.new.me.0 ≡ first_below key.now.setup k) × (result ≡ first_standing (identity_of words.now.table_id key.now) k) }
 {
     let Room { hand, numbers } = room;
     Seat {
@@ -54,7 +54,7 @@ pub fn split_all<B: Buffer>(
 ) -> Vec<Seat<B>>
     requires own { (rest.table_id ≡ words.now.table_id) × (words.now.key ≡ key.now) }
     requires words { 0 < words.now.table_id.words }
-    requires all { rest.me.0 ≡ first_sight key.now.setup }
+    requires all { rest.me.0 ≡ first_view key.now.setup }
     requires rooms { All (IsRoom key.now.setup) rooms.items }
     requires count { vec_len rooms ≡ key.now.setup.seats }
     requires empty { seats.items ≡ [] }

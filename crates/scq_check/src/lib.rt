@@ -18,8 +18,6 @@ mod order;
 mod puts;
 mod queues;
 mod tables;
-#[cfg(test)]
-mod tests;
 mod verdicts;
 
 pub use history::{History, HistoryFault, read_history};

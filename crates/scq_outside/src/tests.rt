@@ -1,10 +1,7 @@
 ghost use Rattle.std.specs.Prelude.{◌≡◌, IfOk};
 
-use crate::{
-    DiskFiles, Failed, Files, MemFiles, MemSink, MemSource, PlainSource, ReadAllFault, Sink,
-    Source, StdSink, StdStream, read_all,
-};
-use scq_word::{Bytes, NoMemory};
+use crate::{DiskFiles, Failed, Files, MemFiles, MemSource, Sink, Source, StdSink, StdStream};
+use scq_word::NoMemory;
 use std::alloc::{AllocError, Global};
 use std::fs;
 use std::io::{self, Write};
@@ -47,61 +44,6 @@ fn source_of(alloc: Global, text: &str) -> Result<MemSource, AllocError>
 {
     let bytes = text.as_bytes().to_vec(alloc)?;
     Ok(MemSource::new(bytes, Vec::new(alloc), Vec::new(alloc)))
-}
-
-#[test]
-fn a_plain_source_gives_what_it_has(rt: HostRuntime) -> Result<(), Fail> {
-    let alloc = rt.alloc();
-    for piece in [1, 2, 5, 6] {
-        let mut source = PlainSource::new(b"x 12\n".to_vec(alloc)?);
-        let bytes = read_up_to(alloc, &mut source, piece)?.ok_or("no end")?;
-        assert_eq!(rt; bytes.as_slice(), b"x 12\n".as_slice(), "by {piece}");
-    }
-    Ok(())
-}
-
-#[test]
-fn reads_go_as_they_are_told_to(rt: HostRuntime) -> Result<(), Fail> {
-    let alloc = rt.alloc();
-    let pieces = vec![in alloc; 2, 9, 1, 4]?;
-    let fails = vec![in alloc; 5, 2]?;
-    let mut source = MemSource::new(b"abcdefgh".to_vec(alloc)?, pieces, fails);
-    // A read that fails moves nothing.
-    let rows = [
-        (Ok(2), "ab"),
-        (Err(Failed), ""),
-        (Ok(1), "c"),
-        (Ok(3), "def"),
-        (Err(Failed), ""),
-        (Ok(2), "gh"),
-        (Ok(0), ""),
-    ];
-    for (row, (want, gives)) in rows.iter().enumerate() {
-        let mut into = [0; 3];
-        assert_eq!(rt; source.read(&mut into), *want, "row {row}");
-        assert!(rt; into.starts_with(gives.as_bytes()), "row {row}");
-    }
-    Ok(())
-}
-
-#[test]
-fn writes_go_as_they_are_told_to(rt: HostRuntime) -> Result<(), Fail> {
-    let alloc = rt.alloc();
-    let pieces = vec![in alloc; 2]?;
-    let fails = vec![in alloc; 2]?;
-    let mut sink = MemSink::new(alloc, 9, pieces, fails).map_err(|_| "no memory")?;
-    let rows = [
-        (b"abcd", Ok(2)),
-        (b"efgh", Err(Failed)),
-        (b"ijkl", Ok(4)),
-        (b"mnop", Ok(3)),
-        (b"qrst", Err(Failed)),
-    ];
-    for (row, (piece, want)) in rows.iter().enumerate() {
-        assert_eq!(rt; sink.write(piece.as_slice()), *want, "row {row}");
-    }
-    assert_eq!(rt; sink.bytes(), b"abijklmno".as_slice());
-    Ok(())
 }
 
 #[test]
@@ -178,60 +120,4 @@ fn a_stream_that_takes_a_part_or_fails(rt: HostRuntime) {
             "at most {most}"
         );
     }
-}
-
-/// What `read_all` answers where a source has `text`, gives two bytes at a time and fails at the
-/// reads of these numbers.
-fn all_of(
-    alloc: Global,
-    text: &str,
-    fails: Vec<u32>,
-    most: u64,
-) -> Result<Result<Bytes, ReadAllFault>, Fail> {
-    let pieces = vec![in alloc; 2; 9]?;
-    let mut source = MemSource::new(text.as_bytes().to_vec(alloc)?, pieces, fails);
-    Ok(read_all(alloc, &mut source, most.min(100)))
-}
-
-#[test]
-fn a_source_is_read_to_its_end_or_to_one_byte_past_the_limit(rt: HostRuntime) -> Result<(), Fail> {
-    let alloc = rt.alloc();
-    // A text, the number of the read that fails, the limit, and how the call ends.
-    let rows = [
-        ("", 0, 0, "read"),
-        ("", 1, 0, "a read failed"),
-        ("a", 0, 0, "more bytes than the limit: 1 were read"),
-        ("abcde", 0, 5, "read"),
-        ("abcde", 0, 4, "more bytes than the limit: 5 were read"),
-        ("abcde", 0, 3, "more bytes than the limit: 4 were read"),
-        ("abcde", 2, 1, "more bytes than the limit: 2 were read"),
-        ("abcde", 2, 2, "a read failed"),
-        ("abcde", 4, 5, "a read failed"),
-    ];
-    for (row, (text, fails, most, want)) in rows.iter().enumerate() {
-        let fails = vec![in alloc; *fails]?;
-        let said = match all_of(alloc, *text, fails, *most)? {
-            Ok(bytes) => {
-                assert_eq!(rt; bytes.bytes(), text.as_bytes(), "row {row}");
-                "read".to_string(alloc)?
-            }
-            Err(fault) => fault.to_string(alloc)?,
-        };
-        assert_eq!(rt; said.as_str(), *want, "row {row}");
-    }
-    let pieces = Vec::new(alloc);
-    let mut long = MemSource::new(vec![in alloc; b'x'; 10_000]?, pieces, Vec::new(alloc));
-    let bytes = read_all(alloc, &mut long, 10_000).map_err(|_| "not read")?;
-    assert_eq!(rt; bytes.bytes().len(), 10_000);
-    Ok(())
-}
-
-#[test]
-fn faults_say_what_they_are(rt: HostRuntime) -> Result<(), Fail> {
-    let alloc = rt.alloc();
-    let failed = Failed.to_string(alloc)?;
-    assert_eq!(rt; failed.as_str(), "reading, writing or opening failed");
-    let wanted = ReadAllFault::NoMemory.to_string(alloc)?;
-    assert_eq!(rt; wanted.as_str(), "out of memory");
-    Ok(())
 }

@@ -18,9 +18,8 @@ use Rattle.scq_band.specs.Closing as band
 use Rattle.scq_band.proofs.ClosedRecords.{map_back, map_on}
 use Rattle.scq_band.proofs.Slots.{times-append}
 use Rattle.scq_queue.specs.Lists.{Placed, sent_by, taken_by, sends_of, takes_of, on_topic}
-use Rattle.scq_band.specs.RunSeen.{Caller}
-use Rattle.scq_queue.specs.Passes.{PassStanding, HeldStanding, caller_of}
-use Rattle.scq_queue.specs.Closing.{records_of, all_held, callers_of, WasSent, WasTaken, EachTakeIsASend, NoPlaceIsSentTwice, NoPlaceIsTakenTwice, IsBalance, EachSendPassedIsTaken, IsAllThere, AllRetiredWhereTold, EachSeenRetiredHas, AreTheHeld}
+use Rattle.scq_queue.specs.Passes.{PassStanding, HeldStanding}
+use Rattle.scq_queue.specs.Closing.{records_of, all_held, WasSent, WasTaken, EachTakeIsASend, NoPlaceIsSentTwice, NoPlaceIsTakenTwice, IsBalance, EachSendPassedIsTaken, IsAllThere, AllRetiredWhereTold, AreTheHeld}
 use Rattle.scq_queue.specs.Kept.{seat_of, value_of, IsGiven}
 use Rattle.scq_queue.proofs.Hands.{indices-all_lifted, lifted-all_lifted}
 use Rattle.scq_queue.proofs.Records.{came_by, gives_one, sent_call, taken_call, done_sent, got_taken}
@@ -226,10 +225,6 @@ module _ {B : Type 0} where
     retired_where_told all a b told other its gate others =
         all a b (seat_of told) (seat_of other) (map_on seat_of passes a told its) gate (map_on seat_of passes b other others)
 
-    pub retirees_have : band.EachSeenRetiredHas (map seat_of passes) → EachSeenRetiredHas passes
-    retirees_have all a b calls one other its others has =
-        all a b calls (seat_of one) (seat_of other) (map_on seat_of passes a one its) (map_on seat_of passes b other others) has
-
   -- the indices in the hands of all seats are those that are held
   pub held_sum : (passes : List (PassStanding B)) (i : ℕ)
       → sum_by (λ (s : Standing B). times i (band.lifted_of s.hand)) (map seat_of passes) ≡ sum_by (λ (p : PassStanding B). times i p.held) passes
@@ -284,12 +279,3 @@ module _ {B : Type 0} where
   all_is_there c queue passes held left are there =
       let count = held_count queue passes held are in
       ap (λ (n : ℕ). sum left + n) (sym count) ∙ there
-
--- the seats make the calls of the passes
-pub callers_are : {B : Type 0} (passes : List (PassStanding B)) (seats : List (Standing B)) → seats ≡ map seat_of passes
-    → band.callers_of seats ≡ callers_of passes
-callers_are {B} passes seats are = ap (λ (l : List (Standing B)). band.callers_of l) are ∙ over passes
-  where
-    over : (ps : List (PassStanding B)) → band.callers_of (map seat_of ps) ≡ callers_of ps
-    over [] = refl
-    over (p ∷ ps) = ap (λ (l : List Caller). caller_of p ∷ l) (over ps)

@@ -12,7 +12,7 @@ use Rattle.scq_queue.specs.declared.calls.LendRefusal.{LendRefusal}
 use Rattle.scq_queue.specs.declared.calls.LendRefusal.TheVariants.{Full, Spent as NoTicket}
 use Rattle.scq_queue.specs.declared.calls.TakeRefusal.{TakeRefusal}
 use Rattle.scq_queue.specs.declared.calls.TakeRefusal.TheVariants.{Empty, Spent}
-use Rattle.scq_queue.specs.Passes.{PassStanding, HeldStanding, IsHeldBy, FoundNothing, FoundFull, without, after_put, after_get, after_spent_put, after_spent_get, having_seen}
+use Rattle.scq_queue.specs.Passes.{PassStanding, HeldStanding, IsHeldBy, FoundNothing, FoundFull, without, after_put, after_get, after_spent_put, after_spent_get}
 use Rattle.scq_queue.specs.Closing.{AreTheHeld}
 use Rattle.scq_queue.specs.HoldsJust.{AllOf, HoldsJust}
 use Rattle.scq_queue.proofs.Hands.{contains_last}
@@ -89,7 +89,7 @@ module _ {B : Type 0} where
       ((all.0, all.1, rest.0), rest.1, rest.2)
 
   pub holds_more : (queue : Identity B) (old new : PassStanding B) (values : List (HeldStanding B)) (h : HeldStanding B) (ring place : ℕ) (w : List ℕ)
-      → HoldsJust queue old values → new ≡ having_seen new.seen (after_get ring h.index place w old) → IsHeldBy new h → (Contains old.held h.index → ⊥)
+      → HoldsJust queue old values → new ≡ after_get ring h.index place w old → IsHeldBy new h → (Contains old.held h.index → ⊥)
       → HoldsJust queue new (values ++ h ∷ [])
   holds_more queue old new values h ring place w before is held came =
       let own : new.queue ≡ queue = ap (λ (p : PassStanding B). p.queue) is ∙ before.own in
@@ -120,7 +120,7 @@ module _ {B : Type 0} where
       }
 
   pub holds_less : (queue : Identity B) (old new : PassStanding B) (values : List (HeldStanding B)) (h : HeldStanding B) (ring place : ℕ) (w : List ℕ)
-      → HoldsJust queue old (values ++ h ∷ []) → new ≡ having_seen new.seen (after_put ring h.index place w old) → HoldsJust queue new values
+      → HoldsJust queue old (values ++ h ∷ []) → new ≡ after_put ring h.index place w old → HoldsJust queue new values
   holds_less queue old new values h ring place w before is =
       let list : List ℕ = map (λ (v : HeldStanding B). v.index) values in
       let was : old.held ≡ list ++ h.index ∷ [] = sym before.same ∙ map-append (λ (v : HeldStanding B). v.index) values (h ∷ []) in
@@ -151,7 +151,7 @@ module _ {B : Type 0} where
 
   -- a pass whose call was refused holds what it held
   pub lend_refused : (old new : PassStanding B) (refusal : LendRefusal) → ((head : ℕ) → refusal ≡ Full head → FoundFull head old new)
-      → ((ticket : ℕ) → refusal ≡ NoTicket ticket → old.spent ≡ None → new ≡ having_seen new.seen (after_spent_get 0 ticket old))
+      → ((ticket : ℕ) → refusal ≡ NoTicket ticket → old.spent ≡ None → new ≡ after_spent_get 0 ticket old)
       → ((ticket : ℕ) → old.spent ≡ Some ticket → new ≡ old) → IsAlike old new
   lend_refused old new (Full head) full spent kept =
       same_as old new _ (full head refl).pass (record { queue = refl; number = refl; held = refl; retired = refl })
@@ -163,7 +163,7 @@ module _ {B : Type 0} where
 
   pub take_refused : (topic : ℕ) (old new : PassStanding B) (refusal : TakeRefusal)
       → ((head : ℕ) → refusal ≡ Empty head → FoundNothing (suc topic) head old new)
-      → ((ticket : ℕ) → refusal ≡ Spent ticket → old.spent ≡ None → new ≡ having_seen new.seen (after_spent_get (suc topic) ticket old))
+      → ((ticket : ℕ) → refusal ≡ Spent ticket → old.spent ≡ None → new ≡ after_spent_get (suc topic) ticket old)
       → ((ticket : ℕ) → old.spent ≡ Some ticket → new ≡ old) → IsAlike old new
   take_refused topic old new (Empty head) empty spent kept =
       same_as old new _ (empty head refl).pass (record { queue = refl; number = refl; held = refl; retired = refl })
@@ -173,7 +173,7 @@ module _ {B : Type 0} where
         | inr some ↦ same_as old new old (kept some.0 some.1) (record { queue = refl; number = refl; held = refl; retired = refl })
       ]
 
-  pub put_refused : (ring ticket : ℕ) (old new : PassStanding B) → (old.spent ≡ None → new ≡ having_seen new.seen (after_spent_put ring ticket old))
+  pub put_refused : (ring ticket : ℕ) (old new : PassStanding B) → (old.spent ≡ None → new ≡ after_spent_put ring ticket old)
       → ((kept : ℕ) → old.spent ≡ Some kept → new ≡ old) → IsAlike old new
   put_refused ring ticket old new spent kept =
       elim (cases_spent old.spent) [

@@ -3,14 +3,13 @@ use Rattle.std.proofs.Common.{◌≡◌, ◌⊎◌, ℕ, List, [], ◌∷◌, �
 use Rattle.std.specs.Prelude.{Option, Some, None}
 use Rattle.std.specs.List.{Contains}
 use Rattle.scq_core.specs.declared.ended.Ended.TheVariants.{Done}
-use Rattle.scq_band.specs.RunSeen.{Seen}
 use Rattle.scq_band.specs.Numbers.{changed, finishes}
 use Rattle.scq_band.specs.declared.calls.DeqRefusal.{DeqRefusal}
 use Rattle.scq_band.specs.declared.calls.DeqRefusal.TheVariants.{Empty, Spent}
 use Rattle.scq_band.specs.Standing as band
 use Rattle.scq_band.specs.Standing.{Standing, in_hand, with_buffer, without_index, bytes_in_hand, HasTaken}
 use Rattle.scq_band.specs.Closing.{indices_of}
-use Rattle.scq_queue.specs.Passes.{PassStanding, HeldStanding, IsHeldBy, HasGot, FoundNothing, without, having_seen, after_put, after_get, after_spent_put, after_spent_get}
+use Rattle.scq_queue.specs.Passes.{PassStanding, HeldStanding, IsHeldBy, HasGot, FoundNothing, without, after_put, after_get, after_spent_put, after_spent_get}
 use Rattle.scq_queue.specs.Kept.{all_lifted, AreLifted, pass_over, held_of}
 use Rattle.scq_queue.proofs.Hands.{indices-all_lifted, held_lifted, laid_in_hand, laid_and_lifted, laid_and_put, came_in_hand, came_and_lifted, contains_last, not_held}
 
@@ -54,9 +53,8 @@ module _ {B : Type 0} where
 
   pub value_put : (contents : B → List ℕ) (s laid later : Standing B) (ring i place : ℕ) (b : B) → AreLifted s → in_hand s.hand i ≡ Some None
       → laid ≡ record s { hand = with_buffer i (Some b) s.hand }
-      → later ≡ band.having_seen later.seen (band.after_put ring i place (bytes_in_hand contents laid.hand i) laid)
-      → AreLifted later
-      × ((fulls : List ℕ) → pass_over later fulls ≡ having_seen later.seen (after_put ring i place (contents b) (pass_over s fulls)))
+      → later ≡ band.after_put ring i place (bytes_in_hand contents laid.hand i) laid
+      → AreLifted later × ((fulls : List ℕ) → pass_over later fulls ≡ after_put ring i place (contents b) (pass_over s fulls))
   value_put contents s laid later ring i place b lifted there is_laid is_later =
       let hand : laid.hand ≡ with_buffer i (Some b) s.hand = ap (λ (t : Standing B). t.hand) is_laid in
       let bytes : bytes_in_hand contents laid.hand i ≡ contents b = rw (value_laid s laid i b there is_laid) refl in
@@ -68,14 +66,12 @@ module _ {B : Type 0} where
         both.0,
         λ fulls.
             ap (λ (t : Standing B). pass_over t fulls) is_later
-            ∙ same_put (record (pass_over laid fulls) { seen = later.seen }) ring place (bytes_in_hand contents laid.hand i) (contents b) (indices_of
-            (without_index i laid.hand))
+            ∙ same_put (pass_over laid fulls) ring place (bytes_in_hand contents laid.hand i) (contents b) (indices_of (without_index i laid.hand))
             (without i (indices_of s.hand)) bytes gone
             ∙ ap (λ (t : Standing B). record (pass_over t fulls) {
               calls = t.calls ++ Done ring place (contents b) ∷ [];
               held = without i (indices_of s.hand);
               numbers = changed (finishes place) ring t.numbers;
-              seen = later.seen;
             }) is_laid,
       )
 
@@ -93,18 +89,14 @@ module _ {B : Type 0} where
 
   -- what a pass is whose value came back, where its seat drew a spent ticket, and where it kept one
   pub value_spent : (s laid tried later : Standing B) (ring ticket i : ℕ) (b : B) → AreLifted s → laid ≡ record s { hand = with_buffer i (Some b) s.hand }
-      → tried ≡ band.having_seen tried.seen (band.after_spent_put ring ticket laid) → later ≡ record tried { hand = with_buffer i None tried.hand }
-      → AreLifted later
-      × ((fulls : List ℕ) → pass_over later fulls ≡ having_seen later.seen (after_spent_put ring ticket (pass_over s fulls)))
+      → tried ≡ band.after_spent_put ring ticket laid → later ≡ record tried { hand = with_buffer i None tried.hand }
+      → AreLifted later × ((fulls : List ℕ) → pass_over later fulls ≡ after_spent_put ring ticket (pass_over s fulls))
   value_spent s laid tried later ring ticket i b lifted is_laid is_tried is_later =
       let back = value_back s laid tried later i b lifted is_laid (ap (λ (t : Standing B). t.hand) is_tried) is_later in (
         still_lifted s tried later lifted back,
         λ fulls.
             ap (λ (t : Standing B). pass_over t fulls) back
-            ∙ ap (λ (t : Standing B). pass_over (record t { hand = s.hand }) fulls) (is_tried
-            ∙ ap (λ (t : Standing B). band.having_seen tried.seen (band.after_spent_put ring ticket t)) is_laid)
-            ∙ ap (λ (fs : Seen). record (after_spent_put ring ticket (pass_over s fulls)) { seen = fs })
-            (sym (ap (λ (t : Standing B). t.seen) is_later)),
+            ∙ ap (λ (t : Standing B). pass_over (record t { hand = s.hand }) fulls) (is_tried ∙ ap (band.after_spent_put ring ticket) is_laid),
       )
 
   pub value_kept : (s laid tried later : Standing B) (i : ℕ) (b : B) → AreLifted s → laid ≡ record s { hand = with_buffer i (Some b) s.hand }
@@ -141,9 +133,7 @@ module _ {B : Type 0} where
                 ap (λ (t : Standing B). pass_over t fulls) is_later
                 ∙ ap (λ (h : List ℕ). record (pass_over got fulls) { held = h }) (ap (λ (t : Standing B). indices_of t.hand) (sym is_later) ∙ indices)
                 ∙ ap (λ (t : Standing B). record (pass_over t fulls) { held = indices_of s.hand ++ i ∷ [] }) taken.seat
-                ∙ ap (λ (c : B). having_seen got.seen (after_get ring i place (contents c) (pass_over s fulls))) same_buffer
-                ∙ ap (λ (fs : Seen). record (after_get ring i place (contents b) (pass_over s fulls)) { seen = fs })
-                (sym (ap (λ (t : Standing B). t.seen) is_later));
+                ∙ ap (λ (c : B). after_get ring i place (contents c) (pass_over s fulls)) same_buffer;
             held = record { queue = refl; pass = refl; holds = subst (λ (h : List ℕ). Contains h i) (sym indices) (contains_last (indices_of s.hand) i) };
             came = not_held B (indices_of s.hand) i (ap (λ (h : List (ℕ × Option B)). in_hand h i) (sym lifted) ∙ taken.came);
           }
@@ -162,10 +152,8 @@ module _ {B : Type 0} where
     },
   )
 
-  pub get_spent : (s later : Standing B) (ring ticket : ℕ) → AreLifted s
-      → later ≡ band.having_seen later.seen (band.after_spent_get ring ticket s)
-      → AreLifted later
-      × ((fulls : List ℕ) → pass_over later fulls ≡ having_seen later.seen (after_spent_get ring ticket (pass_over s fulls)))
+  pub get_spent : (s later : Standing B) (ring ticket : ℕ) → AreLifted s → later ≡ band.after_spent_get ring ticket s
+      → AreLifted later × ((fulls : List ℕ) → pass_over later fulls ≡ after_spent_get ring ticket (pass_over s fulls))
   get_spent s later ring ticket lifted is = (
     (lifted_with later (indices_of s.hand) (ap (λ (t : Standing B). t.hand) is ∙ lifted)).0,
     λ fulls. ap (λ (t : Standing B). pass_over t fulls) is,
@@ -174,7 +162,7 @@ module _ {B : Type 0} where
   -- a get that was refused leaves the hand, and which seat it is
   pub refused : (s later : Standing B) (ring : ℕ) (refusal : DeqRefusal)
       → ((head : ℕ) → refusal ≡ Empty head → band.FoundEmpty ring head s later)
-      → ((ticket : ℕ) → refusal ≡ Spent ticket → s.spent ≡ None → later ≡ band.having_seen later.seen (band.after_spent_get ring ticket s))
+      → ((ticket : ℕ) → refusal ≡ Spent ticket → s.spent ≡ None → later ≡ band.after_spent_get ring ticket s)
       → ((ticket : ℕ) → s.spent ≡ Some ticket → later ≡ s)
       → (later.hand ≡ s.hand) × (later.band ≡ s.band) × (later.number ≡ s.number)
   refused s later ring refusal empty spent kept =

@@ -9,7 +9,7 @@ use Rattle.scq_band.specs.Numbers.{known_of}
 use Rattle.scq_band.specs.Standing.{Identity, Standing}
 use Rattle.scq_queue.specs.declared.counts.Counts.{Counts}
 use Rattle.scq_queue.specs.Lists.{sent_by, taken_by, was_full, fulls_in, sends_of, takes_of, with_send, with_take, with_full, counted, counts_of}
-use Rattle.scq_queue.specs.Passes.{PassStanding, HeldStanding, HasGot, WasLent, WasGivenBack, lists_of, having_seen, after_put}
+use Rattle.scq_queue.specs.Passes.{PassStanding, HeldStanding, HasGot, WasLent, WasGivenBack, lists_of, after_put}
 use Rattle.scq_queue.specs.Kept.{AreLifted, IsPass, pass_over}
 use Rattle.scq_queue.proofs.HeldValues.{cases_spent}
 use Rattle.scq_queue.proofs.Records.{sends-append, takes-append}
@@ -147,8 +147,7 @@ module _ {B : Type 0} where
 
   -- a value that was given back, where the pass is seen as the caller sees it
   pub given_back : (s later : Standing B) (heads : List ℕ) (old : PassStanding B) (queue band : Identity B) (i place : ℕ) (bytes : List ℕ)
-      → pass_over s heads ≡ old → old.queue ≡ queue → band ≡ queue
-      → pass_over later heads ≡ having_seen later.seen (after_put 0 i place bytes (pass_over s heads))
+      → pass_over s heads ≡ old → old.queue ≡ queue → band ≡ queue → pass_over later heads ≡ after_put 0 i place bytes (pass_over s heads)
       → place < band.setup.limit → (known_of s.numbers 0).seen < place → WasGivenBack bytes i old (pass_over later heads)
   given_back s later heads old queue band i place bytes view own same put low known =
       let is : band ≡ s.band = same ∙ sym own ∙ ap (λ (p : PassStanding B). p.queue) (sym view) in

@@ -1,25 +1,19 @@
 -- What all passes say together once a queue is closed. A pass is told by its position among those that were given, a send or a take by
 -- its position among those of its pass.
 use Rattle.std.specs.Prelude.{◌≡◌, ℕ, suc, ◌+◌, ◌<◌, List, map, length, Some, slice_get, slice_index, All, sum, sum_by}
-use Rattle.std.specs.List.{Contains}
 use Rattle.scq_core.specs.declared.ended.Ended.{Ended}
 use Rattle.scq_word.specs.declared.setup.Setup.{Setup}
 use Rattle.scq_word.specs.Sizes.{n_of}
 use Rattle.scq_law.specs.Hands.{times}
-use Rattle.scq_band.specs.RunSeen.{Caller}
 use Rattle.scq_band.specs.Standing.{Identity}
 use Rattle.scq_band.specs.Closing.{EachSpentIsPastTheBound, NoneIsSpentWithinTheLimit}
 use Rattle.scq_queue.specs.Lists.{Placed, sends_of, takes_of, on_topic, fulls_in}
-use Rattle.scq_queue.specs.Passes.{PassStanding, HeldStanding, known_on, caller_of}
+use Rattle.scq_queue.specs.Passes.{PassStanding, HeldStanding, known_on}
 
 module _ {B : Type 0} where
   -- the records of all passes, and the indices that each holds
   abbrev pub records_of : List (PassStanding B) → List (List Ended)
   records_of passes = map (λ p. p.calls) passes
-
-  -- the passes as those who made calls in the run
-  abbrev pub callers_of : List (PassStanding B) → List Caller
-  callers_of passes = map caller_of passes
 
   abbrev pub all_held : List (PassStanding B) → List (List ℕ)
   all_held passes = map (λ p. p.held) passes
@@ -95,12 +89,6 @@ module _ {B : Type 0} where
   AllRetiredWhereTold passes =
       (a b : ℕ) (told other : PassStanding B) → slice_get passes a ≡ Some told → told.gate ≡ Some 0 → slice_get passes b ≡ Some other
       → (calls : ℕ) × (other.retired ≡ Some calls)
-
-  -- each pass that some pass had seen retired has retired, with so many calls made before
-  abbrev pub EachSeenRetiredHas : List (PassStanding B) → Type 0
-  EachSeenRetiredHas passes =
-      (a b calls : ℕ) (one other : PassStanding B) → slice_get passes a ≡ Some one → slice_get passes b ≡ Some other
-      → Contains one.seen.retirees (other.number, calls) → other.retired ≡ Some calls
 
   -- these are the values that the passes of the queue hold, and no others
   pub record AreTheHeld (queue : Identity B) (passes : List (PassStanding B)) (held : List (HeldStanding B)) : Type 0 where

@@ -32,7 +32,6 @@ module _ {B : Type 0} where
         gates = s.gates;
         gate = s.gate;
         retired = s.retired;
-        seen = s.seen;
       }
 
   abbrev pub seat_of : PassStanding B → Standing B
@@ -47,7 +46,6 @@ module _ {B : Type 0} where
         gates = p.gates;
         gate = p.gate;
         retired = p.retired;
-        seen = p.seen;
       }
 
   -- the buffers of all that a seat has in its hand are lifted

@@ -5,7 +5,6 @@ use Rattle.std.specs.List.{Contains}
 use Rattle.scq_core.specs.declared.ended.Ended.{Ended}
 use Rattle.scq_core.specs.declared.ended.Ended.TheVariants.{Done, Got, Nothing, Spent}
 use Rattle.scq_band.specs.declared.numbers.Numbers.{Numbers}
-use Rattle.scq_band.specs.RunSeen.{Seen, nothing_seen, Caller}
 use Rattle.scq_band.specs.Numbers.{known_of, first_numbers, changed, finishes, sees, passes, drew, empties}
 use Rattle.scq_band.specs.Standing.{Identity}
 use Rattle.scq_queue.specs.Lists.{Lists, sends_of, takes_of}
@@ -29,8 +28,6 @@ pub record PassStanding (B : Type 0) : Type 0 where
   pub gate : Option ℕ
   -- how many calls stood in its record when it retired
   pub retired : Option ℕ
-  -- what it has seen of the run of all passes, and of those that retired
-  pub seen : Seen
 
 -- what contracts see of a held value: its queue, the number of the pass that got it, its index, and its buffer
 pub record HeldStanding (B : Type 0) : Type 0 where
@@ -58,7 +55,6 @@ module _ {B : Type 0} where
         gates = 0;
         gate = Some queue.setup.seats;
         retired = None;
-        seen = nothing_seen;
       }
 
   abbrev pub first_passes : Identity B → ℕ → List (PassStanding B)
@@ -81,14 +77,6 @@ module _ {B : Type 0} where
     pub queue : h.queue ≡ p.queue
     pub pass : h.pass ≡ p.number
     pub holds : Contains p.held h.index
-
-  -- a pass that has seen this
-  abbrev pub having_seen : Seen → PassStanding B → PassStanding B
-  having_seen seen p = record p { seen = seen }
-
-  -- the pass as one who makes a call in the run
-  abbrev pub caller_of : PassStanding B → Caller
-  caller_of p = record { seat = p.number; calls = p.calls; seen = p.seen }
 
   -- a pass whose value of an index was put on a ring, at a place, with these bytes
   abbrev pub after_put : ℕ → ℕ → ℕ → List ℕ → PassStanding B → PassStanding B
@@ -131,7 +119,7 @@ module _ {B : Type 0} where
 
   -- a pass that got a value off a ring at a place: it holds the value, whose bytes stand in its record, and did not hold it before
   pub record HasGot (contents : B → List ℕ) (ring place : ℕ) (old new : PassStanding B) (h : HeldStanding B) : Type 0 where
-    pub pass : new ≡ having_seen new.seen (after_get ring h.index place (contents h.buffer) old)
+    pub pass : new ≡ after_get ring h.index place (contents h.buffer) old
     pub held : IsHeldBy new h
     pub came : Contains old.held h.index → ⊥
 
@@ -145,7 +133,7 @@ module _ {B : Type 0} where
   -- a pass that gave a value of an index back: the place on the free ring is below the limit, and above the places that the pass knew
   pub record WasGivenBack (bytes : List ℕ) (index : ℕ) (old new : PassStanding B) : Type 0 where
     pub place : ℕ
-    pub pass : new ≡ having_seen new.seen (after_put 0 index place bytes old)
+    pub pass : new ≡ after_put 0 index place bytes old
     pub low : place < old.queue.setup.limit
     pub known : (known_free old).seen < place
 
@@ -153,7 +141,7 @@ module _ {B : Type 0} where
   -- more than the finished place known
   pub record FoundNothing (ring head : ℕ) (old new : PassStanding B) : Type 0 where
     pub drawn : Option ℕ
-    pub pass : new ≡ having_seen new.seen (after_nothing ring drawn old)
+    pub pass : new ≡ after_nothing ring drawn old
     pub known : head ≡ (known_of new.numbers ring).head
     -- a ticket that was drawn is below the limit, and no lower than the head that was known
     pub below : (ticket : ℕ) → drawn ≡ Some ticket → ticket < old.queue.setup.limit

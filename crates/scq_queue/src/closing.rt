@@ -1,10 +1,10 @@
 //! The end of a queue: its passes and the values that are still held come back, and its buffers are handed out.
 ghost use Rattle.std.specs.Prelude.{◌≡◌, ◌≤◌, [], map, All, vec_len, vec_capacity};
-ghost use Rattle.scq_band.specs.Closing.{IsOneRunToTheEnd, AreTheSame, EachIsInOneHand, EachLeftIsItsPut};
+ghost use Rattle.scq_band.specs.Closing.{AreTheSame, EachIsInOneHand, EachLeftIsItsPut};
 ghost use Rattle.scq_band.specs.Buffers.{opening_of};
 ghost use Rattle.scq_queue.specs.Lists.{counts_of};
 ghost use Rattle.scq_queue.specs.Passes.{lists_of};
-ghost use Rattle.scq_queue.specs.Closing.{EachTakeIsASend, NoPlaceIsSentTwice, NoPlaceIsTakenTwice, IsBalance, EachSendPassedIsTaken, IsAllThere, AllFullsStand, EachKeptIsPastTheBound, NoneIsKeptWithinTheLimit, AllRetiredWhereTold, EachSeenRetiredHas, AreTheHeld, records_of, all_held, callers_of};
+ghost use Rattle.scq_queue.specs.Closing.{EachTakeIsASend, NoPlaceIsSentTwice, NoPlaceIsTakenTwice, IsBalance, EachSendPassedIsTaken, IsAllThere, AllFullsStand, EachKeptIsPastTheBound, NoneIsKeptWithinTheLimit, AllRetiredWhereTold, AreTheHeld, records_of, all_held};
 ghost use Rattle.scq_queue.specs.Kept.{seat_of, IsGiven};
 
 use crate::counts::Counts;
@@ -58,15 +58,11 @@ fn all_given<B: Buffer>(held: &[Held<B>])
 impl<B: Buffer> Queue<B> {
     /// Closes a queue whose passes and held values all come back. All buffers are handed out. Takes no memory.
     ///
-    /// The clauses read what the passes did together, in the order in which they are given. One run stands behind all their calls: what
-    /// each pass had seen are prefixes of it, its history has the four aspects, and the calls of each ring stand in one order in which
-    /// every reply is a plain queue's.
+    /// The clauses read what the passes did together, in the order in which they are given.
     pub fn close(self, passes: Vec<Pass<B>>, held: Vec<Held<B>>) -> Closed<B>
         requires passes { All (λ p. p.queue ≡ self) passes.items }
         requires all { vec_len passes ≡ self.setup.seats }
         requires held { AreTheHeld self passes.items held.items }
-        ensures run { IsOneRunToTheEnd self.setup (opening_of B.contents self.given) (callers_of passes.items) (records_of passes.items)
-            (all_held passes.items) (map B.contents result.buffers.items) }
         ensures buffers { AreTheSame B.IsSameBuffer self.given result.buffers.items }
         ensures counts { result.counts.items ≡ map (λ p. counts_of (lists_of p)) passes.items }
         ensures passes { result.passes.value.items ≡ passes.items }
@@ -83,7 +79,6 @@ impl<B: Buffer> Queue<B> {
         ensures kept { EachKeptIsPastTheBound self.setup passes.items }
         ensures limits { NoneIsKeptWithinTheLimit self.setup passes.items }
         ensures gate { AllRetiredWhereTold passes.items }
-        ensures retirees { EachSeenRetiredHas passes.items }
     {
         let Queue {
             band,

@@ -1,7 +1,6 @@
 //! What a pass knows of the rings, carried to another.
 ghost use Rattle.std.specs.Prelude.{◌≡◌};
 ghost use Rattle.scq_band.specs.Numbers.{joined};
-ghost use Rattle.scq_band.specs.RunSeen.{both_seen};
 
 use crate::pass::Pass;
 use crate::queue::Queue;
@@ -24,23 +23,22 @@ impl Model for Note {
 }
 
 impl<B: Buffer> Queue<B> {
-    /// A note of what the pass knows, and of what it has seen of the run of all passes.
+    /// A note of what the pass knows.
     pub fn note(&self, pass: &mut Pass<B>) -> Note
         requires pass { pass.old.queue ≡ self.now }
         ensures same { pass.new ≡ pass.old }
-        ensures note { (result.table ≡ self.now.table) × (result.numbers ≡ pass.old.numbers) × (result.seen ≡ pass.old.seen) }
+        ensures note { (result.table ≡ self.now.table) × (result.numbers ≡ pass.old.numbers) }
     {
         Note {
             inner: self.band.note(&mut pass.seat),
         }
     }
 
-    /// From then on the pass knows the larger of each number, and has seen what the note's pass had: the calls that it had seen end
-    /// stand before each call that the pass makes from now on (`scq_law::orders::calls_seen_come_first`).
+    /// From then on the pass knows the larger of each number.
     pub fn learn(&self, pass: &mut Pass<B>, note: Note)
         requires pass { pass.old.queue ≡ self.now }
         requires note { note.table ≡ self.now.table }
-        ensures { pass.new ≡ record pass.old { numbers = joined pass.old.numbers note.numbers; seen = both_seen pass.old.seen note.seen } }
+        ensures { pass.new ≡ record pass.old { numbers = joined pass.old.numbers note.numbers } }
     {
         let Note { inner } = note;
         self.band.learn(&mut pass.seat, inner);

@@ -2,9 +2,7 @@
 ghost use Rattle.std.specs.Prelude.{◌≡◌, ℕ, ◌<◌, ◌≤◌, ◌==◌, [], map, length, Some, None, All, IfOk, IfErr, vec_len, vec_capacity};
 ghost use Rattle.scq_word.specs.Sizes.{n_of};
 ghost use Rattle.scq_band.specs.Standing.{Standing};
-ghost use Rattle.scq_band.specs.Buffers.{opening_of};
-ghost use Rattle.scq_band.specs.RunSeen.{IsReadingInRun};
-ghost use Rattle.scq_queue.specs.Passes.{first_passes, after_look, having_seen, caller_of};
+ghost use Rattle.scq_queue.specs.Passes.{first_passes, after_look};
 ghost use Rattle.scq_queue.specs.Kept.{pass_over};
 
 use crate::counts::Counts;
@@ -119,13 +117,10 @@ impl<B: Buffer> Queue<B> {
     }
 
     /// Whether every pass had retired: so where the number of those that had not, as it was read at this call's one step, was 0. It is
-    /// kept, and never rises. The pass has then seen the whole run of all passes, and with it all calls that passes made before they
-    /// retired. Where a pass was told so, `close` says that every pass has retired.
+    /// kept, and never rises. Where a pass was told so, `close` says that every pass has retired.
     pub fn closed(&self, pass: &mut Pass<B>) -> bool
         requires pass { pass.old.queue ≡ self.now }
-        ensures looked { (found : ℕ) × (pass.new ≡ having_seen pass.new.seen (after_look found pass.old)) × (result ≡ (found == 0)) }
-        ensures in_run { (found : ℕ) → pass.new.gate ≡ Some found
-            → IsReadingInRun self.now.setup (opening_of B.contents self.now.given) pass.old.retired (caller_of pass.old) (caller_of pass.new) found }
+        ensures looked { (found : ℕ) × (pass.new ≡ after_look found pass.old) × (result ≡ (found == 0)) }
         ensures fell { (last found : ℕ) → pass.old.gate ≡ Some last → pass.new.gate ≡ Some found → found ≤ last }
         ensures own { (calls found : ℕ) → pass.old.retired ≡ Some calls → pass.new.gate ≡ Some found → found < self.now.setup.seats }
     {

@@ -18,10 +18,9 @@ use Rattle.scq_collect.specs.declared.answered.Answered.{Answered}
 use Rattle.scq_collect.specs.Collected.{answer_of}
 use Rattle.scq_collect.specs.Merging.{members_in}
 use Rattle.scq_collect.specs.Output.{Answer, without_way}
-use Rattle.scq_band.specs.Closing.{IsOneRun}
 use Rattle.scq_band.specs.Standing.{Identity}
 use Rattle.scq_band.proofs.ClosedCounts.{sum_by-map}
-use Rattle.scq_queue.specs.Closing.{EachTakeIsASend, NoPlaceIsSentTwice, NoPlaceIsTakenTwice, IsBalance, EachSendPassedIsTaken, AllFullsStand, NoneIsKeptWithinTheLimit, IsAllThere, callers_of}
+use Rattle.scq_queue.specs.Closing.{EachTakeIsASend, NoPlaceIsSentTwice, NoPlaceIsTakenTwice, IsBalance, EachSendPassedIsTaken, AllFullsStand, NoneIsKeptWithinTheLimit, IsAllThere}
 use Rattle.scq_queue.specs.Lists.{sends_of, takes_of}
 use Rattle.scq_queue.specs.Passes.{PassStanding, HeldStanding}
 use Rattle.scq_work.specs.AllWorkers.{OfEachWorker, HaveAnswered, HaveShared}
@@ -44,7 +43,6 @@ use Rattle.scq_work.proofs.SendsAndTakes.{stands-at, sends-are-takes, no-place-t
 
 -- what `close` says of the passes
 pub record HasClosed {B : Type 0} (c : Setup) (passes : List (PassStanding B)) (held : List (HeldStanding B)) (left : List ℕ) : Type 0 where
-  pub run : (opening : List (List ℕ)) × IsOneRun c opening (callers_of passes)
   pub takes : EachTakeIsASend passes
   pub sent_once : NoPlaceIsSentTwice passes
   pub taken_once : NoPlaceIsTakenTwice passes
@@ -250,7 +248,6 @@ module _ {B S : Type 0} where
               (λ k d less. (ran.run k d less).queue),
         );
         numbers = pass-numbers;
-        run = closed.run;
         alone = All-map (λ (p : PassStanding B). HoldsNothingAtEachFull p.calls) (λ (d : Desk B S). d.worker.pass) desks
             (λ k d less. ((ran.run k d less).sweeping (spent-none k d less)).between.alone);
         helps = All-map (λ (p : PassStanding B). HelpsAfterEachFull (length topics + 1) p.calls) (λ (d : Desk B S). d.worker.pass) desks

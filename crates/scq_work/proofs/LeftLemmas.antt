@@ -7,7 +7,7 @@ use Rattle.scq_core.specs.declared.ended.Ended.TheVariants.{Got, Spent}
 use Rattle.scq_law.specs.Bounds.{tally, was_put}
 use Rattle.scq_law.proofs.Base.SeatSums.{tally-append}
 use Rattle.scq_queue.specs.Lists.{sends_of, takes_of}
-use Rattle.scq_queue.specs.Passes.{PassStanding, HeldStanding, HasGot, WasLent, after_spent_get, after_spent_put, having_seen}
+use Rattle.scq_queue.specs.Passes.{PassStanding, HeldStanding, HasGot, WasLent, after_spent_get, after_spent_put}
 use Rattle.scq_work.specs.Working.{HasTaken, HasFoundFull, HasLeft, index_of}
 use Rattle.scq_queue.proofs.Records.{sends-append, takes-append}
 use Rattle.scq_work.proofs.WorkerSteps.{at_most, thrifty-taken, thrifty-full}
@@ -18,8 +18,7 @@ few ring r = at_most (ring == r)
 
 module _ {B : Type 0} where
   -- a get met Spent
-  pub left-at-get : (messages ring ticket : ℕ) (p q : PassStanding B) → q ≡ having_seen q.seen (after_spent_get ring ticket p)
-      → HasLeft messages messages p q None
+  pub left-at-get : (messages ring ticket : ℕ) (p q : PassStanding B) → q ≡ after_spent_get ring ticket p → HasLeft messages messages p q None
   left-at-get messages ring ticket p q is =
       let last : List Ended = Spent ring ticket false ∷ [] in
       let calls : q.calls ≡ p.calls ++ last = ap (λ (x : PassStanding B). x.calls) is in
@@ -42,7 +41,7 @@ module _ {B : Type 0} where
 
   -- the return of what was taken met Spent: the worker keeps it
   pub left-at-return : (contents : B → List ℕ) (messages topic place ticket : ℕ) (p q r : PassStanding B) (h k : HeldStanding B)
-      → HasGot contents (suc topic) place p q h → r ≡ having_seen r.seen (after_spent_put 0 ticket q) → k ≡ h → HasLeft messages messages p r (Some k)
+      → HasGot contents (suc topic) place p q h → r ≡ after_spent_put 0 ticket q → k ≡ h → HasLeft messages messages p r (Some k)
   left-at-return contents messages topic place ticket p q r h k got is same =
       let first : List Ended = Got (suc topic) place (contents h.buffer) ∷ [] in
       let last : List Ended = Spent 0 ticket true ∷ [] in
@@ -80,8 +79,7 @@ module _ {B : Type 0} where
 
   -- the send of what was lent met Spent
   pub left-at-send : (contents : B → List ℕ) (messages topic ticket : ℕ) (p q r : PassStanding B) (h k : HeldStanding B)
-      → WasLent contents p q h → r ≡ having_seen r.seen (after_spent_put (suc topic) ticket q) → k.index ≡ h.index → k.queue ≡ h.queue
-      → HasLeft messages (messages + 1) p r (Some k)
+      → WasLent contents p q h → r ≡ after_spent_put (suc topic) ticket q → k.index ≡ h.index → k.queue ≡ h.queue → HasLeft messages (messages + 1) p r (Some k)
   left-at-send contents messages topic ticket p q r h k lent is index queue =
       let got = lent.got in
       let first : List Ended = Got 0 lent.place (contents h.buffer) ∷ [] in

@@ -12,8 +12,7 @@ use Rattle.scq_band.specs.Standing.{Identity}
 use Rattle.scq_band.proofs.Learning.{changed_length}
 use Rattle.scq_frames.specs.declared.message.Message.{Message}
 use Rattle.scq_collect.proofs.Orders.{contains-first, contains-more}
-use Rattle.scq_band.specs.RunSeen.{Seen}
-use Rattle.scq_queue.specs.Passes.{PassStanding, HeldStanding, HasGot, WasLent, WasGivenBack, FoundEmpty, FoundFull, having_seen, after_put, without, known_on, after_look}
+use Rattle.scq_queue.specs.Passes.{PassStanding, HeldStanding, HasGot, WasLent, WasGivenBack, FoundEmpty, FoundFull, after_put, without, known_on, after_look}
 use Rattle.scq_work.specs.Records.{none, and_got, and_found_none}
 use Rattle.scq_work.specs.Passing.{Sends}
 use Rattle.scq_work.specs.Working.{KnowsMore, HasTaken, HasSent, HasFoundFull, Suits, takes_left}
@@ -66,10 +65,10 @@ module _ {B : Type 0} where
       }
 
   -- where a pass differs in its calls and numbers alone
-  pub calls-alone : (p q : PassStanding B) (calls : List Ended) (numbers : List Numbers) → q ≡ record p { calls = calls; numbers = numbers; seen = q.seen }
-      → q ≡ record p { calls = calls; numbers = q.numbers; gates = q.gates; gate = q.gate; seen = q.seen }
+  pub calls-alone : (p q : PassStanding B) (calls : List Ended) (numbers : List Numbers) → q ≡ record p { calls = calls; numbers = numbers }
+      → q ≡ record p { calls = calls; numbers = q.numbers; gates = q.gates; gate = q.gate }
   calls-alone p q calls numbers is =
-      is ∙ ap (λ (x : PassStanding B). record p { calls = calls; numbers = x.numbers; gates = x.gates; gate = x.gate; seen = x.seen }) (sym is)
+      is ∙ ap (λ (x : PassStanding B). record p { calls = calls; numbers = x.numbers; gates = x.gates; gate = x.gate }) (sym is)
 
   -- nothing was done
   pub taken-nothing : (p : PassStanding B) → HasTaken p p
@@ -81,16 +80,8 @@ module _ {B : Type 0} where
       record {
         block = one.block ++ more.block;
         are = takes-join one.block more.block one.are more.are;
-        pass = more.pass ∙ ap (λ (x : PassStanding B). record x {
-          calls = x.calls ++ more.block;
-          numbers = r.numbers;
-          gates = r.gates;
-          gate = r.gate;
-          seen =
-              r.seen;
-        }) one.pass
-            ∙ ap (λ calls. record p { calls = calls; numbers = r.numbers; gates = r.gates; gate = r.gate; seen = r.seen })
-            (append_assoc p.calls one.block more.block);
+        pass = more.pass ∙ ap (λ (x : PassStanding B). record x { calls = x.calls ++ more.block; numbers = r.numbers; gates = r.gates; gate = r.gate }) one.pass
+            ∙ ap (λ calls. record p { calls = calls; numbers = r.numbers; gates = r.gates; gate = r.gate }) (append_assoc p.calls one.block more.block);
         knows = knows-along p q r one.knows more.knows;
         same = λ t. more.same t ∙ one.same t;
       }
@@ -118,22 +109,15 @@ module _ {B : Type 0} where
           calls = x.calls ++ Done 0 back.place bytes ∷ [];
           held = without h.index x.held;
           numbers = changed (finishes back.place) 0 x.numbers;
-          seen = r.seen;
         }) got.pass
             ∙ ap (λ (held : List ℕ). record p {
               calls = (p.calls ++ Got (suc topic) place bytes ∷ []) ++ Done 0 back.place bytes ∷ [];
               held = held;
               numbers = changed (finishes back.place) 0 (changed f (suc topic) p.numbers);
-              seen = r.seen;
             }) (without-came h.index p.held got.came)
-            ∙ ap (λ (calls : List Ended). record p {
-              calls = calls;
-              numbers = changed (finishes back.place) 0 (changed f
-                  (suc topic) p.numbers);
-              seen = r.seen;
-            })
+            ∙ ap (λ (calls : List Ended). record p { calls = calls; numbers = changed (finishes back.place) 0 (changed f (suc topic) p.numbers) })
             (append_assoc p.calls (Got (suc topic) place bytes ∷ []) (Done 0 back.place bytes ∷ []))
-            ∙ ap (λ ns. record p { calls = p.calls ++ (Got (suc topic) place bytes ∷ Done 0 back.place bytes ∷ []); numbers = ns; seen = r.seen })
+            ∙ ap (λ ns. record p { calls = p.calls ++ (Got (suc topic) place bytes ∷ Done 0 back.place bytes ∷ []); numbers = ns })
             (sym (r_numbers ∙ ap (changed (finishes back.place) 0) q_numbers)));
         knows = record { rings = r_length ∙ q_length; finished = λ t. (both (suc t)).finished; head = λ t. (both (suc t)).head };
         same = λ t. ap (λ ns. (known_of ns (suc t)).finished) r_numbers
@@ -178,7 +162,7 @@ module _ {B : Type 0} where
       let raised : (k : ℕ) → Raises (known_of p.numbers k) (known_of q.numbers k) = λ k.
       subst (λ ns. Raises (known_of p.numbers k) (known_of ns k)) (sym numbers) (known-raised f 0 k p.numbers (empty-raises found.drawn) within) in
       record {
-        pass = found.pass ∙ ap (λ ns. record p { calls = p.calls ++ Nothing 0 ∷ []; fulls = p.fulls ++ head ∷ []; numbers = ns; seen = q.seen }) (sym numbers);
+        pass = found.pass ∙ ap (λ ns. record p { calls = p.calls ++ Nothing 0 ∷ []; fulls = p.fulls ++ head ∷ []; numbers = ns }) (sym numbers);
         knows = record {
           rings = ap length numbers ∙ changed_length f 0 p.numbers;
           finished = λ t. (raised (suc t)).finished;
@@ -189,8 +173,7 @@ module _ {B : Type 0} where
   -- a buffer was lent, and sent with the bytes of a message
   pub lent-and-sent : (contents : B → List ℕ) (m : Message) (place : ℕ) (bytes : List ℕ) (p q r : PassStanding B) (h : HeldStanding B)
       → suc m.topic < length p.numbers
-      → WasLent contents p q h → r ≡ having_seen r.seen (after_put (suc m.topic) h.index place bytes q)
-      → Sends m (record { topic = m.topic; place = place; bytes = bytes })
+      → WasLent contents p q h → r ≡ after_put (suc m.topic) h.index place bytes q → Sends m (record { topic = m.topic; place = place; bytes = bytes })
       → HasSent m p r
   lent-and-sent contents m place bytes p q r h within lent sent sends =
       let over = contents h.buffer in
@@ -212,14 +195,13 @@ module _ {B : Type 0} where
         over = over;
         place = place;
         bytes = bytes;
-        pass = sent ∙ ap (λ (x : PassStanding B). having_seen r.seen (after_put (suc m.topic) h.index place bytes x)) lent.got.pass
+        pass = sent ∙ ap (λ (x : PassStanding B). after_put (suc m.topic) h.index place bytes x) lent.got.pass
             ∙ ap (λ (held : List ℕ). record p {
               calls = (p.calls ++ Got 0 lent.place over ∷ []) ++ Done (suc m.topic) place bytes ∷ [];
               held = held;
               numbers = changed (finishes place) (suc m.topic) (changed f 0 p.numbers);
-              seen = r.seen;
             }) (without-came h.index p.held lent.got.came)
-            ∙ ap (λ ns. record p { calls = (p.calls ++ Got 0 lent.place over ∷ []) ++ Done (suc m.topic) place bytes ∷ []; numbers = ns; seen = r.seen })
+            ∙ ap (λ ns. record p { calls = (p.calls ++ Got 0 lent.place over ∷ []) ++ Done (suc m.topic) place bytes ∷ []; numbers = ns })
             (sym (r_numbers ∙ ap (changed (finishes place) (suc m.topic)) q_numbers));
         sends = sends;
         knows = record { rings = r_length ∙ q_length; finished = λ t. (both (suc t)).finished; head = λ t. (both (suc t)).head };
@@ -227,8 +209,8 @@ module _ {B : Type 0} where
       }
 
   -- it asked whether all had retired
-  pub looked : (p : PassStanding B) (found : ℕ) (seen : Seen) → HasTaken p (having_seen seen (after_look found p))
-  looked p found seen =
+  pub looked : (p : PassStanding B) (found : ℕ) → HasTaken p (after_look found p)
+  looked p found =
       record {
         block = [];
         are = none;

@@ -8,7 +8,7 @@ use Rattle.scq_frames.specs.declared.message.Message.{Message}
 use Rattle.scq_collect.specs.declared.answered.Answered.{Answered}
 use Rattle.scq_collect.specs.declared.answered.Way.TheVariants.{Direct}
 use Rattle.scq_band.specs.Standing.{Identity}
-use Rattle.scq_queue.specs.Passes.{PassStanding, HeldStanding, WasLent, after_spent_put, having_seen}
+use Rattle.scq_queue.specs.Passes.{PassStanding, HeldStanding, WasLent, after_spent_put}
 use Rattle.scq_work.specs.Records.{is_take}
 use Rattle.scq_work.specs.Members.{answered}
 use Rattle.scq_work.specs.Working.{Suits, HasTaken, HasSent, HasFoundFull, HasAnswered, HasListed, HasLeft, IsThrifty, IsAtWork, HasStopped, index_of}
@@ -67,7 +67,7 @@ module _ {B : Type 0} where
   -- the send of a value that was lent met Spent: that value came back
   pub left-sent : (contents : B → List ℕ) (messages topic ticket : ℕ) (p q r : PassStanding B) (h : HeldStanding B) (kept : Option (HeldStanding B))
       → WasLent contents p q h
-      → r ≡ having_seen r.seen (after_spent_put (suc topic) ticket q) → IsSome kept → IfSome kept (λ k. (k.index ≡ h.index) × (k.queue ≡ h.queue))
+      → r ≡ after_spent_put (suc topic) ticket q → IsSome kept → IfSome kept (λ k. (k.index ≡ h.index) × (k.queue ≡ h.queue))
       → HasLeft messages (messages + 1) p r kept
   left-sent contents messages topic ticket p q r h None lent is some_ back = absurd (search rules)
   left-sent contents messages topic ticket p q r h (Some k) lent is some_ back = left-at-send contents messages topic ticket p q r h k lent is back.0 back.1

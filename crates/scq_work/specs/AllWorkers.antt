@@ -11,9 +11,8 @@ use Rattle.scq_collect.specs.Output.{without_way}
 use Rattle.scq_collect.specs.declared.answered.Answered.{Answered}
 use Rattle.scq_word.specs.declared.setup.Setup.{Setup}
 use Rattle.scq_word.specs.Sizes.{n_of}
-use Rattle.scq_band.specs.Closing.{IsOneRun}
 use Rattle.scq_band.specs.Standing.{Identity}
-use Rattle.scq_queue.specs.Closing.{AllFullsStand, IsBalance, callers_of}
+use Rattle.scq_queue.specs.Closing.{AllFullsStand, IsBalance}
 use Rattle.scq_queue.specs.Lists.{sends_of, takes_of}
 use Rattle.scq_queue.specs.Passes.{PassStanding}
 use Rattle.scq_queue.specs.declared.counts.Counts.{Counts}
@@ -61,9 +60,6 @@ module _ {B : Type 0} where
     -- they are the passes of one queue, in the order of their numbers
     pub one : (queue : Identity B) × (queue.setup ≡ c) × All (λ p. p.queue ≡ queue) passes
     pub numbers : (w : ℕ) (p : PassStanding B) → slice_get passes w ≡ Some p → p.number ≡ w
-    -- one run of the rings' steps stands behind all their calls: its history has the four aspects, and the calls of each ring stand in
-    -- one order, in which every reply is a plain queue's
-    pub run : (opening : List (List ℕ)) × IsOneRun c opening (callers_of passes)
     -- each Full stands where the pass held nothing. After it, before the next lend, comes one take of each topic. The record has as many
     -- Fulls as the list.
     pub alone : All (λ p. HoldsNothingAtEachFull p.calls) passes

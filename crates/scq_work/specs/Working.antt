@@ -37,7 +37,7 @@ module _ {B : Type 0} where
   pub record HasTaken (old new : PassStanding B) : Type 0 where
     pub block : List Ended
     pub are : AreTakes block
-    pub pass : new ≡ record old { calls = old.calls ++ block; numbers = new.numbers; gates = new.gates; gate = new.gate; seen = new.seen }
+    pub pass : new ≡ record old { calls = old.calls ++ block; numbers = new.numbers; gates = new.gates; gate = new.gate }
     pub knows : KnowsMore old new
     pub same : (topic : ℕ) → (known_on topic new).finished ≡ (known_on topic old).finished
 
@@ -47,14 +47,14 @@ module _ {B : Type 0} where
     pub over : List ℕ
     pub place : ℕ
     pub bytes : List ℕ
-    pub pass : new ≡ record old { calls = (old.calls ++ Got 0 from over ∷ []) ++ Done (suc m.topic) place bytes ∷ []; numbers = new.numbers; seen = new.seen }
+    pub pass : new ≡ record old { calls = (old.calls ++ Got 0 from over ∷ []) ++ Done (suc m.topic) place bytes ∷ []; numbers = new.numbers }
     pub sends : Sends m (record { topic = m.topic; place = place; bytes = bytes })
     pub knows : KnowsMore old new
     pub finished : place ≤ (known_on m.topic new).finished
 
   -- a pass that found no buffer free
   pub record HasFoundFull (head : ℕ) (old new : PassStanding B) : Type 0 where
-    pub pass : new ≡ record old { calls = old.calls ++ Nothing 0 ∷ []; fulls = old.fulls ++ head ∷ []; numbers = new.numbers; seen = new.seen }
+    pub pass : new ≡ record old { calls = old.calls ++ Nothing 0 ∷ []; fulls = old.fulls ++ head ∷ []; numbers = new.numbers }
     pub knows : KnowsMore old new
 
   -- each send of a pass is on one of its topics, and the pass knows of its place as finished

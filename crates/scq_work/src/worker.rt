@@ -2,7 +2,7 @@ ghost use Rattle.std.specs.Prelude.{◌≡◌, ◌≤◌, ◌<◌, ◌+◌, ◌^
 ghost use Rattle.scq_core.specs.declared.ended.Ended.{Ended as TheEnded};
 ghost use Rattle.scq_frames.specs.Views.{message_of_view};
 ghost use Rattle.scq_queue.specs.Lists.{Placed};
-ghost use Rattle.scq_queue.specs.Passes.{known_on, IsHeldBy, after_put, after_spent_put, having_seen};
+ghost use Rattle.scq_queue.specs.Passes.{known_on, IsHeldBy, after_put, after_spent_put};
 ghost use Rattle.scq_work.specs.Records.{is_take};
 ghost use Rattle.scq_work.specs.Members.{answered, is_taken, is_direct, AnswersSoFar};
 ghost use Rattle.scq_work.specs.Passing.{Sends};
@@ -169,11 +169,9 @@ impl<B: Buffer> Worker<B> {
         requires held { IsHeldBy self.old.pass held }
         requires room { length message.now.payload + 16 ≤ length (B.contents held.buffer) }
         requires short { length message.now.payload < 2 ^ 32 }
-        ensures sent { OnOk result ((place : ℕ) × (bytes : List ℕ) × (self.new.pass ≡ having_seen self.new.pass.seen (after_put
-            (suc message.now.topic) held.index place bytes self.old.pass))
+        ensures sent { OnOk result ((place : ℕ) × (bytes : List ℕ) × (self.new.pass ≡ after_put (suc message.now.topic) held.index place bytes self.old.pass)
             × Sends message.now (record { topic = message.now.topic; place = place; bytes = bytes })) }
-        ensures spent { IfErr result (λ l. (ticket : ℕ) × (self.new.pass ≡ having_seen self.new.pass.seen (after_spent_put
-            (suc message.now.topic) ticket self.old.pass))) }
+        ensures spent { IfErr result (λ l. (ticket : ℕ) × (self.new.pass ≡ after_spent_put (suc message.now.topic) ticket self.old.pass)) }
         ensures back { IfErr result (λ l. IfSome l.held (λ h. (h.index ≡ held.index) × (h.queue ≡ held.queue))) }
         ensures kept { IfErr result (λ l. IsSome l.held) }
         ensures same { (self.new.members.items ≡ self.old.members.items) × (self.new.starved ≡ self.old.starved) × (self.new.number ≡ self.old.number) }

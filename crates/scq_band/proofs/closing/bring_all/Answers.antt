@@ -3,7 +3,6 @@ use Rattle.atomic_table.specs.Table.{Me}
 use Rattle.scq_band.specs.declared.slot.Slot.{Slot}
 use Rattle.scq_band.specs.Buffers.{LiesIn}
 use Rattle.scq_band.specs.Known.{Known}
-use Rattle.scq_band.specs.Sights.{Sight, known_in, known_me}
 use Rattle.scq_band.specs.Homes.{times_lifted, MayBring, MayLeave}
 use Rattle.scq_band.proofs.GoingHome.{first_slot, is_out, leaves, goes_on, none_left}
 use Rattle.scq_band.proofs.closing.bring_all.Goals as goal
@@ -12,7 +11,7 @@ pub lay_back-requires-clause-first : goal.lay_back-requires-clause-first
 lay_back-requires-clause-first g c κs within =
     let Same = g.B.Buffer.IsSameBuffer in
     let buffers = c.args.words.now.key.given.value.items in
-    let me = known_me c.loop-index.token.me in
+    let me = c.loop-index.token.me in
     let others = c.pop.new.self.items in
     let i = c.in-Some.index in
     let out = map g.T.Lifted.pair c.loop-index.out.items in
@@ -24,42 +23,41 @@ pub bring-requires-clause-may : goal.bring-requires-clause-may
 bring-requires-clause-may g c κs within =
     let Same = g.B.Buffer.IsSameBuffer in
     let buffers = c.args.words.now.key.given.value.items in
-    let me = known_me c.loop-index.token.me in
+    let me = c.loop-index.token.me in
     let others = c.pop.new.self.items in
     let i = c.in-Some.index in
     let out = map g.T.Lifted.pair c.loop-index.out.items in
     let may = subst (λ (l : List ℕ). MayLeave Same buffers me l out) c.in-Some.ensures.items c.loop-index.invariant.2 in
     let l = leaves g.B.Buffer.contents Same buffers me others i out c.lay_back.new.token.me.1 (map g.T.Lifted.pair c.lay_back.new.out.items) may
     c.lay_back.ensures.laid in
-    subst (λ (v : Known). MayBring (LiesIn g.B.Buffer.contents Same buffers) (v, c.lay_back.new.token.me.1)) (sym (ap known_in c.lay_back.ensures.view)) l.bring
+    subst (λ (v : Known). MayBring (LiesIn g.B.Buffer.contents Same buffers) (v, c.lay_back.new.token.me.1)) (sym c.lay_back.ensures.view) l.bring
 
 pub loop-index-preserved : goal.loop-index-preserved
 loop-index-preserved g c =
     let Same = g.B.Buffer.IsSameBuffer in
     let buffers = c.args.words.now.key.given.value.items in
-    let me = known_me c.loop-index.token.me in
+    let me = c.loop-index.token.me in
     let others = c.pop.new.self.items in
     let i = c.in-Some.index in
     let out = map g.T.Lifted.pair c.loop-index.out.items in
     let may = subst (λ (l : List ℕ). MayLeave Same buffers me l out) c.in-Some.ensures.items c.loop-index.invariant.2 in
     let l = leaves g.B.Buffer.contents Same buffers me others i out c.lay_back.new.token.me.1 (map g.T.Lifted.pair c.lay_back.new.out.items) may
     c.lay_back.ensures.laid in
-    let n = goes_on g.B.Buffer.contents Same buffers me (known_me c.lay_back.new.token.me) (known_me c.bring.new.token.me) others i out
+    let n = goes_on g.B.Buffer.contents Same buffers me c.lay_back.new.token.me c.bring.new.token.me others i out
     (map g.T.Lifted.pair c.lay_back.new.out.items) l
-    (ap known_in c.lay_back.ensures.view) c.bring.ensures.home in (
+    c.lay_back.ensures.view c.bring.ensures.home in (
       c.bring.ensures.own.0 ∙ c.lay_back.ensures.own.0 ∙ c.loop-index.invariant.0,
       c.bring.ensures.own.1 ∙ c.lay_back.ensures.own.1 ∙ c.loop-index.invariant.1,
       n.may,
       n.home ∙ c.loop-index.invariant.3,
       λ j. let now = n.less j in let before = c.loop-index.invariant.4 j in omega arith,
-      c.bring.ensures.seen ∙ ap (λ (v : Sight). v.seen) c.lay_back.ensures.view ∙ c.loop-index.invariant.5,
     )
 
 pub returns-clause-home : goal.returns-clause-home
 returns-clause-home g c =
     let Same = g.B.Buffer.IsSameBuffer in
     let buffers = c.args.words.now.key.given.value.items in
-    let me = known_me c.loop-index.token.me in
+    let me = c.loop-index.token.me in
     let out = map g.T.Lifted.pair c.loop-index.out.items in
     let empty : length c.loop-index.hand.items ≡ 0 = omega (arith, c.in_default.ensures.cases.0, c.loop-index.hand.ok) in
     none_left Same buffers me c.loop-index.hand.items out c.loop-index.invariant.2 empty
@@ -69,7 +67,7 @@ pub returns-clause-less : goal.returns-clause-less
 returns-clause-less g c i =
     let Same = g.B.Buffer.IsSameBuffer in
     let buffers = c.args.words.now.key.given.value.items in
-    let me = known_me c.loop-index.token.me in
+    let me = c.loop-index.token.me in
     let out = map g.T.Lifted.pair c.loop-index.out.items in
     let empty : length c.loop-index.hand.items ≡ 0 = omega (arith, c.in_default.ensures.cases.0, c.loop-index.hand.ok) in
     let none = none_left Same buffers me c.loop-index.hand.items out c.loop-index.invariant.2 empty in

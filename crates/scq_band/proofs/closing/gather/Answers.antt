@@ -1,23 +1,22 @@
-use Rattle.std.proofs.Common.{◌≡◌, ◌∙◌, refl, sym, subst, map, length, arith}
+use Rattle.std.proofs.Common.{◌≡◌, ◌∙◌, sym, subst, map, length, arith}
 use Rattle.std.specs.Prelude.{Some}
 use Rattle.std.proofs.lemmas.List.Elements.{All-pop}
 use Rattle.atomic_table.specs.Table.{Me}
 use Rattle.scq_law.specs.Hands.{times}
 use Rattle.scq_band.specs.declared.slot.Slot.{Slot}
 use Rattle.scq_band.specs.Buffers.{LiesIn}
-use Rattle.scq_band.specs.Sights.{Sight, both_sight, spent_sight}
+use Rattle.scq_band.specs.Known.{Known}
 use Rattle.scq_band.specs.Standing.{Standing}
 use Rattle.scq_band.specs.Kept.{identity_of}
 use Rattle.scq_band.specs.Closing.{indices_of, lifted_of}
 use Rattle.scq_band.specs.Homes.{AreGathered}
-use Rattle.scq_band.proofs.RunShown.{joins_run}
 use Rattle.scq_band.proofs.Views.{joins}
 use Rattle.scq_band.proofs.Gathering.{gathered_first, gathered_more, out_some, out_less, none_out, sum_none}
 use Rattle.scq_band.proofs.closing.gather.Goals as goal
 
 pub loop-seat-init : goal.loop-seat-init
 loop-seat-init g c =
-    let w = c.one_home-first.result.me.0.known in
+    let w = c.one_home-first.result.me.0 in
     let e = c.one_home-first.ensures in
     let left = c.pop.new.self.items in
     let bands = All-pop (λ (s : Standing g.row.B.Denot). s.band ≡ identity_of c.args.words.now.table_id c.args.words.now.key) c.args.seats.items left
@@ -31,7 +30,7 @@ loop-seat-init g c =
           (times i (indices_of (map g.T.Lifted.pair c.one_home-first.new.out.items))) (c.requires.lifted i) c.in-Some.ensures.items (e.less i),
       e.given,
       gathered_first c.args.words.now.key.setup.rings c.args.seats.items left c.in-Some.last w c.in-Some.ensures.items e.alone e.member e.numbers.0 e.numbers.1
-          e.gate c.one_home-first.result.me.0.seen e.seen,
+          e.gate,
     )
 
 pub one_home-token-requires-clause-band : goal.one_home-token-requires-clause-band
@@ -49,32 +48,27 @@ pub join_seat-requires : goal.join_seat-requires
 join_seat-requires g c =
     let k = c.args.words.now.key in
     let Lie = LiesIn g.B.Buffer.contents g.B.Buffer.IsSameBuffer k.given.value.items in
-    let v = c.loop-seat.first.me.0 in
-    let w = c.one_home-token.result.me.0 in
     let e = c.one_home-token.ensures in (
       c.loop-seat.invariant.0,
       e.own,
       e.none,
       c.requires.room,
-      joins_run Lie k.setup c.loop-seat.first.id v c.one_home-token.result.id w (both_sight v w) spent_sight refl refl
-          (λ gone run. joins Lie k.setup c.loop-seat.first.id v.known c.one_home-token.result.id w.known c.loop-seat.invariant.4.some),
+      joins Lie k.setup c.loop-seat.first.id c.loop-seat.first.me.0 c.one_home-token.result.id c.one_home-token.result.me.0 c.loop-seat.invariant.4.some,
     )
 
 pub loop-seat-preserved : goal.loop-seat-preserved
 loop-seat-preserved g c =
     let e = c.one_home-token.ensures in
-    let v = c.loop-seat.first.me.0.known in
-    let w = c.one_home-token.result.me.0.known in
-    let told = c.loop-seat.first.me.0.seen in
+    let v = c.loop-seat.first.me.0 in
+    let w = c.one_home-token.result.me.0 in
     let before = c.loop-seat.seats.items in
     let left = c.pop-in-loop-seat.new.self.items in
     let rings = c.args.words.now.key.setup.rings in
     let bands = All-pop (λ (s : Standing g.row.B.Denot). s.band ≡ identity_of c.args.words.now.table_id c.args.words.now.key) before left
     (Some c.in-Some-pop.seat)
     c.in-Some-pop.ensures.items c.loop-seat.invariant.1 in
-    let more = gathered_more rings c.args.seats.items before left c.in-Some-pop.seat v w told c.loop-seat.invariant.4 c.in-Some-pop.ensures.items e.alone
-    e.member
-    e.numbers.0 e.numbers.1 e.gate c.one_home-token.result.me.0.seen e.seen in (
+    let more = gathered_more rings c.args.seats.items before left c.in-Some-pop.seat v w c.loop-seat.invariant.4 c.in-Some-pop.ensures.items e.alone e.member
+    e.numbers.0 e.numbers.1 e.gate in (
       c.join_seat.ensures.0 ∙ c.loop-seat.invariant.0,
       bands.0,
       λ i.
@@ -82,7 +76,7 @@ loop-seat-preserved g c =
           (times i (indices_of (map g.T.Lifted.pair c.loop-seat.out.items)))
           (times i (indices_of (map g.T.Lifted.pair c.one_home-token.new.out.items))) (c.loop-seat.invariant.2 i) c.in-Some-pop.ensures.items (e.less i),
       e.given,
-      subst (λ (m : Me (Slot g.row.B.Denot) Sight). AreGathered rings c.args.seats.items left m.0.known m.0.seen) (sym c.join_seat.ensures.2) more,
+      subst (λ (m : Me (Slot g.row.B.Denot) Known). AreGathered rings c.args.seats.items left m.0) (sym c.join_seat.ensures.2) more,
     )
 
 pub destroy_empty-requires-2 : goal.destroy_empty-requires-2

@@ -12,7 +12,7 @@ invariant-loop-seat g l =
     × All (λ (s : Standing g.row.B.Denot). s.band ≡ identity_of l.words.table_id l.words.key) l.seats.items
     × ((i : ℕ) → times i (indices_of (map g.T.Lifted.pair l.out.items)) ≡ sum_by (λ (s : Standing g.row.B.Denot). times i (lifted_of s.hand)) l.seats.items)
     × AllOutGiven g.B.Buffer.IsSameBuffer l.words.key.given.value.items (map g.T.Lifted.pair l.out.items)
-    × AreGathered l.words.key.setup.rings l.fn.seats.items l.seats.items l.first.me.0.known l.first.me.0.seen
+    × AreGathered l.words.key.setup.rings l.fn.seats.items l.seats.items l.first.me.0
 
 abbrev pub decreases-loop-seat : goal.decreases-loop-seat
 decreases-loop-seat g l = vec_len l.seats

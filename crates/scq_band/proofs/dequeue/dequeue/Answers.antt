@@ -1,11 +1,10 @@
-use Rattle.std.proofs.Common.{◌≡◌, ◌+◌, refl, inr, sym, ◌∙◌, ap, subst, arith}
+use Rattle.std.proofs.Common.{◌≡◌, ◌+◌, refl, sym, ◌∙◌, ap, subst, arith}
 use Rattle.scq_core.specs.Machine.{head_of, threshold_of}
 use Rattle.scq_core.specs.declared.phase.Phase.{Phase}
 use Rattle.scq_core.specs.declared.phase.Phase.TheVariants.{AtD1, AtD2, AtD6}
 use Rattle.scq_core.specs.declared.step.Step.TheVariants.{D2}
 use Rattle.scq_core.specs.Table.{location_of}
 use Rattle.scq_core.proofs.Entries.{zero_level_is}
-use Rattle.scq_band.specs.Sights.{known_me}
 use Rattle.scq_band.specs.Layout.{at, ring_of_word}
 use Rattle.scq_band.specs.Numbers.{changed, passes}
 use Rattle.scq_band.specs.Buffers.{LiesIn, opening_of}
@@ -16,9 +15,8 @@ use Rattle.scq_band.specs.Seats.{IsAlone, at_phase, goes_to, nothing_at, to_draw
 use Rattle.scq_band.proofs.Layouts.{ring_of_word-at}
 use Rattle.scq_band.proofs.RingLemmas.{tail_fits, word_low}
 use Rattle.scq_band.proofs.Grounds.{head_location, threshold_location}
-use Rattle.scq_band.proofs.Outcomes.{may_go, alone_seated, turned_as}
+use Rattle.scq_band.proofs.Outcomes.{may_go, alone_seated, turned_as, came_along}
 use Rattle.scq_band.proofs.Drawn.{may_get, saw_empty, saw_some, drew_one, drew_past_head, drew_above_head, got_then}
-use Rattle.scq_band.proofs.RunShown.{went_on, goes_then}
 use Rattle.scq_band.proofs.dequeue.dequeue.Goals as goal
 
 pub threshold-requires : goal.threshold-requires
@@ -36,7 +34,7 @@ load-requires-clause-may g c κs within =
     let r = c.args.ring.number in
     let ring : ring_of_word k c.threshold.result ≡ r = ap (ring_of_word k) (c.threshold.ensures k c.requires.ring)
     ∙ ring_of_word-at k (threshold_of r) (threshold_location k r c.requires.ring.low) in
-    may_get k c.args.token.now.me.0.known c.threshold.result r c.requires.alone c.requires.idle.0 c.requires.idle.1 ring c.requires.ring.low
+    may_get k c.args.token.now.me.0 c.threshold.result r c.requires.alone c.requires.idle.0 c.requires.idle.1 ring c.requires.ring.low
 
 pub load-requires-clause-word : goal.load-requires-clause-word
 load-requires-clause-word g c κs within =
@@ -57,8 +55,7 @@ returns-then-load-lt-ZERO_LEVEL-clause-nothing g c is =
     let turn = ap (loading (ring_of_word k c.threshold.result)) c.requires.idle.0 ∙ ap AtD1 ring in
     let low = c.if-load-lt-ZERO_LEVEL.true in
     let level = zero_level_is in
-    (saw_empty Lie k c.args.token.now.me.0.known (known_me c.args.token.now.me) (known_me c.load.new.token.me) _ c.load.result r turn c.requires.alone
-    (omega arith)
+    (saw_empty Lie k c.args.token.now.me.0 c.args.token.now.me c.load.new.token.me _ c.load.result r turn c.requires.alone (omega arith)
     c.load.ensures.turned)
 
 pub draws-init : goal.draws-init
@@ -71,16 +68,14 @@ draws-init g c =
     let turn = ap (loading (ring_of_word k c.threshold.result)) c.requires.idle.0 ∙ ap AtD1 ring in
     let high = c.if-load-lt-ZERO_LEVEL.false in
     let level = zero_level_is in
-    let now = saw_some Lie k c.args.token.now.me.0.known (known_me c.args.token.now.me)
-    (known_me c.load.new.token.me) _ c.load.result r turn c.requires.alone (omega arith)
+    let now = saw_some Lie k c.args.token.now.me.0 c.args.token.now.me c.load.new.token.me _ c.load.result r turn c.requires.alone (omega arith)
     c.load.ensures.turned in
-    let least : least_of (my_phase c.load.new.token.me.0.known) ≡ 0 = ap (λ u. least_of (my_phase u)) now in (
+    let least : least_of (my_phase c.load.new.token.me.0) ≡ 0 = ap (λ u. least_of (my_phase u)) now in (
       c.load.ensures.own.0,
       c.load.ensures.own.1,
-      (turned_as Lie k _ (AtD1 r) (known_me c.args.token.now.me) (known_me c.load.new.token.me) c.load.result turn c.load.ensures.turned).slots,
+      (turned_as Lie k _ (AtD1 r) c.args.token.now.me c.load.new.token.me c.load.result turn c.load.ensures.turned).slots,
       now
-          ∙ ap (λ l. to_draw r l c.args.token.now.me.0.known) (sym least),
-      inr c.load.ensures.went,
+          ∙ ap (λ l. to_draw r l c.args.token.now.me.0) (sym least),
     )
 
 pub head-requires : goal.head-requires
@@ -96,8 +91,8 @@ pub draw-ticket-requires-clause-may : goal.draw-ticket-requires-clause-may
 draw-ticket-requires-clause-may g c κs within =
     let k = c.args.words.now.key.setup in
     let r = c.args.ring.number in
-    let v = c.args.token.now.me.0.known in
-    let w = c.draws.token.me.0.known in
+    let v = c.args.token.now.me.0 in
+    let w = c.draws.token.me.0 in
     let l = least_of (my_phase w) in
     let here = c.draws.invariant.3 in
     let phase : my_phase w ≡ AtD2 r l = ap my_phase here in
@@ -111,8 +106,8 @@ returns-then-ticket-ring-clause-spent g c ticket is =
     let k = c.args.words.now.key.setup in
     let r = c.args.ring.number in
     let Lie = LiesIn g.B.Buffer.contents g.B.Buffer.IsSameBuffer c.args.words.now.key.given.value.items in
-    let v = c.args.token.now.me.0.known in
-    let w = c.draws.token.me.0.known in
+    let v = c.args.token.now.me.0 in
+    let w = c.draws.token.me.0 in
     let l = least_of (my_phase w) in
     let here = c.draws.invariant.3 in
     let alone : IsAlone w = alone_seated v w (at_phase (AtD2 r l) (my v)) (changed (passes l) r v.numbers) c.requires.alone.out here in
@@ -121,7 +116,7 @@ returns-then-ticket-ring-clause-spent g c ticket is =
     let limit = c.requires.ring.limit in
     let past = c.if-ticket-ring.true in
     let same : c.draw-ticket.result ≡ ticket = cc in
-    let now = drew_past_head Lie k v (known_me c.draws.token.me) (known_me c.draw-ticket.new.token.me) _ c.draw-ticket.result r l turn alone here (omega arith)
+    let now = drew_past_head Lie k v c.draws.token.me c.draw-ticket.new.token.me _ c.draw-ticket.result r l turn alone here (omega arith)
     c.draw-ticket.ensures.turned in
     rw (← same) (now, (omega arith))
 
@@ -130,14 +125,13 @@ returns-then-ticket-ring-clause-short g c ticket is =
     let k = c.args.words.now.key.setup in
     let r = c.args.ring.number in
     let Lie = LiesIn g.B.Buffer.contents g.B.Buffer.IsSameBuffer c.args.words.now.key.given.value.items in
-    let w = c.draws.token.me.0.known in
+    let w = c.draws.token.me.0 in
     let l = least_of (my_phase w) in
     let here = c.draws.invariant.3 in
     let turn = ap (drawing (ring_of_word k c.head.result) (front_index c.draws.token.me.1) (front_bytes g.B.Buffer.contents c.draws.token.me.1))
     (ap my_phase here) in
     let same : c.draw-ticket.result ≡ ticket = cc in
-    let ready = (turned_as Lie k _ (AtD2 r l) (known_me c.draws.token.me)
-    (known_me c.draw-ticket.new.token.me) c.draw-ticket.result turn c.draw-ticket.ensures.turned).ready in
+    let ready = (turned_as Lie k _ (AtD2 r l) c.draws.token.me c.draw-ticket.new.token.me c.draw-ticket.result turn c.draw-ticket.ensures.turned).ready in
     rw (← same) ready
 
 pub returns-in-Some-clause-got : goal.returns-in-Some-clause-got
@@ -145,8 +139,8 @@ returns-in-Some-clause-got g c =
     let k = c.args.words.now.key.setup in
     let r = c.args.ring.number in
     let Lie = LiesIn g.B.Buffer.contents g.B.Buffer.IsSameBuffer c.args.words.now.key.given.value.items in
-    let v = c.args.token.now.me.0.known in
-    let w = c.draws.token.me.0.known in
+    let v = c.args.token.now.me.0 in
+    let w = c.draws.token.me.0 in
     let l = least_of (my_phase w) in
     let here = c.draws.invariant.3 in
     let alone : IsAlone w = alone_seated v w (at_phase (AtD2 r l) (my v)) (changed (passes l) r v.numbers) c.requires.alone.out here in
@@ -154,33 +148,31 @@ returns-in-Some-clause-got g c =
     (ap my_phase here) in
     let limit = c.requires.ring.limit in
     let low = c.if-ticket-ring.false in
-    let now = drew_one Lie k v (known_me c.draws.token.me) (known_me c.draw-ticket.new.token.me) _ c.draw-ticket.result r l turn alone here (omega arith)
+    let now = drew_one Lie k v c.draws.token.me c.draw-ticket.new.token.me _ c.draw-ticket.result r l turn alone here (omega arith)
     c.draw-ticket.ensures.turned in
-    let slots = (turned_as Lie k _ (AtD2 r l) (known_me c.draws.token.me)
-    (known_me c.draw-ticket.new.token.me) c.draw-ticket.result turn c.draw-ticket.ensures.turned).slots
+    let slots = (turned_as Lie k _ (AtD2 r l) c.draws.token.me c.draw-ticket.new.token.me c.draw-ticket.result turn c.draw-ticket.ensures.turned).slots
     ∙ c.draws.invariant.2 in
-    got_then Lie r c.draw-ticket.result c.in-Some.index v c.args.token.now.me.1 (known_me c.draw-ticket.new.token.me)
-    (known_me c.takes.new.token.me) now slots c.in-Some.ensures.got
+    got_then Lie r c.draw-ticket.result c.in-Some.index v c.args.token.now.me.1 c.draw-ticket.new.token.me c.takes.new.token.me now slots c.in-Some.ensures.got
 
 pub returns-in-Some-clause-above : goal.returns-in-Some-clause-above
 returns-in-Some-clause-above g c =
     let k = c.args.words.now.key.setup in
     let r = c.args.ring.number in
     let Lie = LiesIn g.B.Buffer.contents g.B.Buffer.IsSameBuffer c.args.words.now.key.given.value.items in
-    let v = c.args.token.now.me.0.known in
-    let l = least_of (my_phase c.draws.token.me.0.known) in
+    let v = c.args.token.now.me.0 in
+    let l = least_of (my_phase c.draws.token.me.0) in
     let here = c.draws.invariant.3 in
     let turn = ap (drawing (ring_of_word k c.head.result) (front_index c.draws.token.me.1) (front_bytes g.B.Buffer.contents c.draws.token.me.1))
     (ap my_phase here) in
-    drew_above_head Lie k v (known_me c.draws.token.me) (known_me c.draw-ticket.new.token.me) _ c.draw-ticket.result r l turn here c.draw-ticket.ensures.turned
+    drew_above_head Lie k v c.draws.token.me c.draw-ticket.new.token.me _ c.draw-ticket.result r l turn here c.draw-ticket.ensures.turned
 
 pub returns-then-is_over-clause-nothing_left : goal.returns-then-is_over-clause-nothing_left
 returns-then-is_over-clause-nothing_left g c ticket is =
     let k = c.args.words.now.key.setup in
     let r = c.args.ring.number in
     let Lie = LiesIn g.B.Buffer.contents g.B.Buffer.IsSameBuffer c.args.words.now.key.given.value.items in
-    let v = c.args.token.now.me.0.known in
-    let w = c.draws.token.me.0.known in
+    let v = c.args.token.now.me.0 in
+    let w = c.draws.token.me.0 in
     let l = least_of (my_phase w) in
     let here = c.draws.invariant.3 in
     let alone : IsAlone w = alone_seated v w (at_phase (AtD2 r l) (my v)) (changed (passes l) r v.numbers) c.requires.alone.out here in
@@ -189,23 +181,21 @@ returns-then-is_over-clause-nothing_left g c ticket is =
     let limit = c.requires.ring.limit in
     let low = c.if-ticket-ring.false in
     let h = c.draw-ticket.result in
-    let now = drew_one Lie k v (known_me c.draws.token.me) (known_me c.draw-ticket.new.token.me) _ h r l turn alone here
-    (omega arith) c.draw-ticket.ensures.turned in
+    let now = drew_one Lie k v c.draws.token.me c.draw-ticket.new.token.me _ h r l turn alone here (omega arith) c.draw-ticket.ensures.turned in
     let same : h ≡ ticket = cc in
     rw (← same) (
       c.if-is_over.ensures.over refl ∙ ap (nothing_at r) (c.in_default.ensures.given_up) ∙ ap (λ u. nothing_at r (goes_to (AtD6 r h) u)) now,
       omega arith,
-      drew_above_head Lie k v (known_me c.draws.token.me) (known_me c.draw-ticket.new.token.me) _ h r l turn here c.draw-ticket.ensures.turned,
+      drew_above_head Lie k v c.draws.token.me c.draw-ticket.new.token.me _ h r l turn here c.draw-ticket.ensures.turned,
     )
 
 pub draws-preserved : goal.draws-preserved
 draws-preserved g c =
     let k = c.args.words.now.key.setup in
-    let opening = opening_of g.B.Buffer.contents c.args.words.now.key.given.value.items in
     let r = c.args.ring.number in
     let Lie = LiesIn g.B.Buffer.contents g.B.Buffer.IsSameBuffer c.args.words.now.key.given.value.items in
-    let v = c.args.token.now.me.0.known in
-    let w = c.draws.token.me.0.known in
+    let v = c.args.token.now.me.0 in
+    let w = c.draws.token.me.0 in
     let l = least_of (my_phase w) in
     let here = c.draws.invariant.3 in
     let alone : IsAlone w = alone_seated v w (at_phase (AtD2 r l) (my v)) (changed (passes l) r v.numbers) c.requires.alone.out here in
@@ -214,47 +204,34 @@ draws-preserved g c =
     let limit = c.requires.ring.limit in
     let low = c.if-ticket-ring.false in
     let h = c.draw-ticket.result in
-    let now = drew_one Lie k v (known_me c.draws.token.me) (known_me c.draw-ticket.new.token.me) _ h r l turn alone here
-    (omega arith) c.draw-ticket.ensures.turned in
-    let slots = (turned_as Lie k _ (AtD2 r l) (known_me c.draws.token.me) (known_me c.draw-ticket.new.token.me) h turn c.draw-ticket.ensures.turned).slots
-    ∙ c.draws.invariant.2 in
-    let next : c.is_over.new.token.me.0.known ≡ to_draw r (h + 1) v =
+    let now = drew_one Lie k v c.draws.token.me c.draw-ticket.new.token.me _ h r l turn alone here (omega arith) c.draw-ticket.ensures.turned in
+    let slots = (turned_as Lie k _ (AtD2 r l) c.draws.token.me c.draw-ticket.new.token.me h turn c.draw-ticket.ensures.turned).slots ∙ c.draws.invariant.2 in
+    let next : c.is_over.new.token.me.0 ≡ to_draw r (h + 1) v =
     c.if-is_over.ensures.on refl ∙ ap (goes_to (AtD2 r (h + 1))) (c.in_default.ensures.given_up)
     ∙ ap (λ u. goes_to (AtD2 r (h + 1)) (goes_to (AtD6 r h) u)) now in
-    let least : least_of (my_phase c.is_over.new.token.me.0.known) ≡ h + 1 = ap (λ u. least_of (my_phase u)) next in (
+    let least : least_of (my_phase c.is_over.new.token.me.0) ≡ h + 1 = ap (λ u. least_of (my_phase u)) next in (
       c.is_over.ensures.own.0 ∙ c.takes.ensures.own.0 ∙ c.draw-ticket.ensures.own.0 ∙ c.draws.invariant.0,
       c.is_over.ensures.own.1 ∙ c.takes.ensures.own.1 ∙ c.draw-ticket.ensures.own.1 ∙ c.draws.invariant.1,
       c.is_over.ensures.slots ∙ c.in_default.ensures.slots ∙ slots,
       next ∙ ap (λ n. to_draw r n v) (sym least),
-      inr (goes_then k opening c.args.token.now.me.0 c.draws.token.me.0 c.is_over.new.token.me.0 c.draws.invariant.4
-          (went_on k opening c.draws.token.me.0 c.draw-ticket.new.token.me.0 c.is_over.new.token.me.0 c.draw-ticket.ensures.went
-          (went_on k opening c.draw-ticket.new.token.me.0 c.takes.new.token.me.0 c.is_over.new.token.me.0 c.takes.ensures.went c.is_over.ensures.went))),
     )
 
-pub returns-then-ticket-ring-clause-went : goal.returns-then-ticket-ring-clause-went
-returns-then-ticket-ring-clause-went g c =
-    let key = c.args.words.now.key in
-    let opening = opening_of g.B.Buffer.contents key.given.value.items in
-    let a = c.draws.token.me.0 in
-    let b = c.draw-ticket.new.token.me.0 in
-    goes_then key.setup opening c.args.token.now.me.0 a b c.draws.invariant.4 c.draw-ticket.ensures.went
-
-pub returns-in-Some-clause-went : goal.returns-in-Some-clause-went
-returns-in-Some-clause-went g c =
-    let key = c.args.words.now.key in
-    let opening = opening_of g.B.Buffer.contents key.given.value.items in
-    let a = c.draws.token.me.0 in
-    let b = c.draw-ticket.new.token.me.0 in
-    let d = c.takes.new.token.me.0 in
-    goes_then key.setup opening c.args.token.now.me.0 a d c.draws.invariant.4 (went_on key.setup opening a b d c.draw-ticket.ensures.went c.takes.ensures.went)
-
-pub returns-then-is_over-clause-went : goal.returns-then-is_over-clause-went
-returns-then-is_over-clause-went g c =
-    let key = c.args.words.now.key in
-    let opening = opening_of g.B.Buffer.contents key.given.value.items in
-    let a = c.draws.token.me.0 in
-    let b = c.draw-ticket.new.token.me.0 in
-    let d = c.takes.new.token.me.0 in
-    let e = c.is_over.new.token.me.0 in
-    goes_then key.setup opening c.args.token.now.me.0 a e c.draws.invariant.4 (went_on key.setup opening a b e c.draw-ticket.ensures.went
-    (went_on key.setup opening b d e c.takes.ensures.went c.is_over.ensures.went))
+pub returns-then-is_over-clause-last : goal.returns-then-is_over-clause-last
+returns-then-is_over-clause-last g c drawn is =
+    let k = c.args.words.now.key.setup in
+    let r = c.args.ring.number in
+    let Lie = LiesIn g.B.Buffer.contents g.B.Buffer.IsSameBuffer c.args.words.now.key.given.value.items in
+    let v = c.args.token.now.me.0 in
+    let w = c.draws.token.me.0 in
+    let l = least_of (my_phase w) in
+    let here = c.draws.invariant.3 in
+    let alone : IsAlone w = alone_seated v w (at_phase (AtD2 r l) (my v)) (changed (passes l) r v.numbers) c.requires.alone.out here in
+    let turn = ap (drawing (ring_of_word k c.head.result) (front_index c.draws.token.me.1) (front_bytes g.B.Buffer.contents c.draws.token.me.1))
+    (ap my_phase here) in
+    let limit = c.requires.ring.limit in
+    let low = c.if-ticket-ring.false in
+    let now = drew_one Lie k v c.draws.token.me c.draw-ticket.new.token.me _ c.draw-ticket.result r l turn alone here (omega arith)
+    c.draw-ticket.ensures.turned in
+    came_along k (opening_of g.B.Buffer.contents c.args.words.now.key.given.value.items) (my v).part.calls (my c.takes.new.token.me.0).part.calls
+    (my c.is_over.new.token.me.0) c.is_over.new.token.me.0.numbers
+    (ap (λ (u : Known). (my u).part.calls) c.in_default.ensures.given_up ∙ ap (λ (u : Known). (my u).part.calls) now) (c.if-is_over.ensures.last refl)

@@ -1,16 +1,14 @@
-use Rattle.std.proofs.Common.{rules, inr, sym, ◌∙◌, ap, subst, arith}
+use Rattle.std.proofs.Common.{sym, ◌∙◌, ap, subst, arith}
 use Rattle.scq_core.specs.Machine.{tail_of}
 use Rattle.scq_core.specs.declared.phase.Phase.{Phase}
 use Rattle.scq_core.specs.Table.{location_of}
-use Rattle.scq_band.specs.Sights.{known_me}
 use Rattle.scq_band.specs.Layout.{at}
-use Rattle.scq_band.specs.Buffers.{LiesIn, opening_of}
+use Rattle.scq_band.specs.Buffers.{LiesIn}
 use Rattle.scq_band.specs.Turns.{MayTurn}
 use Rattle.scq_band.specs.Steps.{my_phase, front_bytes}
 use Rattle.scq_band.proofs.RingLemmas.{word_low}
 use Rattle.scq_band.proofs.Grounds.{tail_location}
 use Rattle.scq_band.proofs.Drawing.{turn_of_draw, may_draw, drew_past, drew, drew_above, looks_as}
-use Rattle.scq_band.proofs.RunShown.{went_on, goes_then}
 use Rattle.scq_band.proofs.enqueue.enqueue.Goals as goal
 
 pub draw-ticket-requires-clause-low : goal.draw-ticket-requires-clause-low
@@ -23,11 +21,10 @@ draw-ticket-requires-clause-may g c κs within =
     let k = c.args.words.now.key.setup in
     let contents = g.B.Buffer.contents in
     let slots = c.args.token.now.me.1 in
-    let turn = turn_of_draw contents k c.args.ring (known_me c.draws.token.me) slots c.args.index c.requires.ring c.draws.invariant.2 c.requires.first
+    let turn = turn_of_draw contents k c.args.ring c.draws.token.me slots c.args.index c.requires.ring c.draws.invariant.2 c.requires.first
     c.draws.invariant.4 in
-    subst (λ (t : Phase). MayTurn k c.draws.token.me.0.known t) (sym turn)
-    (may_draw k c.args.token.now.me.0.known c.draws.token.me.0.known c.args.ring.number c.args.index
-    (front_bytes contents slots) c.requires.alone c.draws.invariant.3
+    subst (λ (t : Phase). MayTurn k c.draws.token.me.0 t) (sym turn)
+    (may_draw k c.args.token.now.me.0 c.draws.token.me.0 c.args.ring.number c.args.index (front_bytes contents slots) c.requires.alone c.draws.invariant.3
     c.draws.invariant.4 c.requires.idle.1 c.requires.held.0 c.requires.ring.low c.requires.held.1)
 
 pub draw-ticket-requires-clause-word : goal.draw-ticket-requires-clause-word
@@ -35,7 +32,7 @@ draw-ticket-requires-clause-word g c κs within =
     let k = c.args.words.now.key.setup in
     let contents = g.B.Buffer.contents in
     let slots = c.args.token.now.me.1 in
-    let turn = turn_of_draw contents k c.args.ring (known_me c.draws.token.me) slots c.args.index c.requires.ring c.draws.invariant.2 c.requires.first
+    let turn = turn_of_draw contents k c.args.ring c.draws.token.me slots c.args.index c.requires.ring c.draws.invariant.2 c.requires.first
     c.draws.invariant.4 in
     c.requires.ring.tail ∙ ap (λ t. at k (location_of k t)) (sym turn)
 
@@ -47,10 +44,9 @@ returns-then-ticket-ring-clause-spent g c =
     let slots = c.args.token.now.me.1 in
     let limit = c.requires.ring.limit in
     let past = c.if-ticket-ring.true in
-    let turn = turn_of_draw contents k c.args.ring (known_me c.draws.token.me) slots c.args.index c.requires.ring c.draws.invariant.2 c.requires.first
+    let turn = turn_of_draw contents k c.args.ring c.draws.token.me slots c.args.index c.requires.ring c.draws.invariant.2 c.requires.first
     c.draws.invariant.4 in
-    drew_past Lie k c.args.token.now.me.0.known (known_me c.draws.token.me)
-    (known_me c.draw-ticket.new.token.me) _ c.draw-ticket.result c.args.ring.number c.args.index
+    drew_past Lie k c.args.token.now.me.0 c.draws.token.me c.draw-ticket.new.token.me _ c.draw-ticket.result c.args.ring.number c.args.index
     (front_bytes contents slots) _ turn c.requires.alone c.draws.invariant.3 (omega arith) c.draw-ticket.ensures.turned
 
 pub is_placed-requires-clause-looks : goal.is_placed-requires-clause-looks
@@ -61,12 +57,11 @@ is_placed-requires-clause-looks g c κs within =
     let slots = c.args.token.now.me.1 in
     let limit = c.requires.ring.limit in
     let low = c.if-ticket-ring.false in
-    let turn = turn_of_draw contents k c.args.ring (known_me c.draws.token.me) slots c.args.index c.requires.ring c.draws.invariant.2 c.requires.first
+    let turn = turn_of_draw contents k c.args.ring c.draws.token.me slots c.args.index c.requires.ring c.draws.invariant.2 c.requires.first
     c.draws.invariant.4 in
-    let now = drew Lie k c.args.token.now.me.0.known (known_me c.draws.token.me)
-    (known_me c.draw-ticket.new.token.me) _ c.draw-ticket.result c.args.ring.number c.args.index
+    let now = drew Lie k c.args.token.now.me.0 c.draws.token.me c.draw-ticket.new.token.me _ c.draw-ticket.result c.args.ring.number c.args.index
     (front_bytes contents slots) _ turn c.requires.alone c.draws.invariant.3 (omega arith) c.draw-ticket.ensures.turned in
-    looks_as c.draw-ticket.new.token.me.0.known c.args.ring.number c.args.index (front_bytes contents slots) c.draw-ticket.result 0 (ap my_phase now)
+    looks_as c.draw-ticket.new.token.me.0 c.args.ring.number c.args.index (front_bytes contents slots) c.draw-ticket.result 0 (ap my_phase now)
 
 pub returns-then-is_placed-clause-above : goal.returns-then-is_placed-clause-above
 returns-then-is_placed-clause-above g c =
@@ -76,43 +71,9 @@ returns-then-is_placed-clause-above g c =
     let slots = c.args.token.now.me.1 in
     let limit = c.requires.ring.limit in
     let low = c.if-ticket-ring.false in
-    let turn = turn_of_draw contents k c.args.ring (known_me c.draws.token.me) slots c.args.index c.requires.ring c.draws.invariant.2 c.requires.first
+    let turn = turn_of_draw contents k c.args.ring c.draws.token.me slots c.args.index c.requires.ring c.draws.invariant.2 c.requires.first
     c.draws.invariant.4 in (
       omega arith,
-      drew_above Lie k c.args.token.now.me.0.known (known_me c.draws.token.me)
-          (known_me c.draw-ticket.new.token.me) _ c.draw-ticket.result c.args.ring.number c.args.index
+      drew_above Lie k c.args.token.now.me.0 c.draws.token.me c.draw-ticket.new.token.me _ c.draw-ticket.result c.args.ring.number c.args.index
           (front_bytes contents slots) _ turn c.draws.invariant.3 c.draw-ticket.ensures.turned,
-    )
-
-pub returns-then-ticket-ring-clause-went : goal.returns-then-ticket-ring-clause-went
-returns-then-ticket-ring-clause-went g c =
-    let key = c.args.words.now.key in
-    let opening = opening_of g.B.Buffer.contents key.given.value.items in
-    goes_then key.setup opening c.args.token.now.me.0 c.draws.token.me.0 c.draw-ticket.new.token.me.0 c.draws.invariant.5 c.draw-ticket.ensures.went
-
-pub returns-then-is_placed-clause-went : goal.returns-then-is_placed-clause-went
-returns-then-is_placed-clause-went g c =
-    let key = c.args.words.now.key in
-    let opening = opening_of g.B.Buffer.contents key.given.value.items in
-    let a = c.draws.token.me.0 in
-    let b = c.draw-ticket.new.token.me.0 in
-    let d = c.is_placed.new.token.me.0 in
-    let e = c.ends.new.token.me.0 in
-    goes_then key.setup opening c.args.token.now.me.0 a e c.draws.invariant.5
-    (went_on key.setup opening a b e c.draw-ticket.ensures.went (went_on key.setup opening b d e c.is_placed.ensures.went c.ends.ensures.went))
-
-pub draws-preserved : goal.draws-preserved
-draws-preserved g c =
-    let key = c.args.words.now.key in
-    let opening = opening_of g.B.Buffer.contents key.given.value.items in
-    let a = c.draws.token.me.0 in
-    let b = c.draw-ticket.new.token.me.0 in
-    let d = c.is_placed.new.token.me.0 in (
-      search rules,
-      search rules,
-      search rules,
-      search rules,
-      search rules,
-      inr (goes_then key.setup opening c.args.token.now.me.0 a d c.draws.invariant.5
-          (went_on key.setup opening a b d c.draw-ticket.ensures.went c.is_placed.ensures.went)),
     )

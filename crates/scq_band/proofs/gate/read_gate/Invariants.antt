@@ -1,6 +1,4 @@
 use Rattle.std.proofs.Common.{◌≡◌}
-use Rattle.scq_band.specs.Buffers.{opening_of}
-use Rattle.scq_band.specs.Sights.{Looked}
 use Rattle.scq_band.specs.Standing.{IsReading}
 use Rattle.scq_band.specs.Steps.{my}
 use Rattle.scq_band.specs.Seats.{looked}
@@ -9,8 +7,5 @@ use Rattle.scq_band.proofs.gate.read_gate.Given as goal
 abbrev pub ghosts-load : goal.ghosts-load
 ghosts-load g a =
     record {
-      then =
-          λ st me n later.
-          (later.0.known ≡ looked n me.0.known) × (later.1 ≡ me.1) × IsReading a.self.now.key.setup.seats me.0.known.gate (my me.0.known).retired n
-          × Looked a.self.now.key.setup (opening_of g.B.Buffer.contents a.self.now.key.given.value.items) me.0 later.0 n;
+      then = λ st me n later. (later.0 ≡ looked n me.0) × (later.1 ≡ me.1) × IsReading a.self.now.key.setup.seats me.0.gate (my me.0).retired n;
     }

@@ -3,4 +3,4 @@ use Rattle.scq_band.specs.Seats.{retired_at}
 use Rattle.scq_band.proofs.gate.retire.Given as goal
 
 abbrev pub ghosts-fetch_sub : goal.ghosts-fetch_sub
-ghosts-fetch_sub g a = record { then = λ st me n later. ((later.0.known ≡ retired_at me.0.known) × (later.1 ≡ me.1)) × (later.0.seen ≡ me.0.seen) }
+ghosts-fetch_sub g a = record { then = λ st me n later. (later.0 ≡ retired_at me.0) × (later.1 ≡ me.1) }

@@ -4,7 +4,7 @@ use Rattle.std.proofs.lemmas.List.{reverse-append, append_assoc}
 use Rattle.scq_band.specs.declared.making.Room.{Room}
 use Rattle.scq_band.specs.Standing.{Standing, first_standing, first_standings}
 use Rattle.scq_band.specs.Kept.{identity_of}
-use Rattle.scq_band.specs.Making.{IsRoom, sight_below}
+use Rattle.scq_band.specs.Making.{IsRoom, first_below}
 use Rattle.scq_band.proofs.Starting.{all_last, all_prefix}
 use Rattle.scq_band.proofs.splitting.split_all.Goals as goal
 
@@ -12,7 +12,7 @@ pub peel-requires-clause-some : goal.peel-requires-clause-some
 peel-requires-clause-some g c κs within =
     let n = vec_len c.pop.new.self in
     let many : vec_len c.loop-room.rooms ≡ suc n = let l = c.in-Some.ensures.len in omega (arith, l) in
-    (n, c.loop-room.invariant.1 ∙ ap (sight_below c.args.key.now.setup) many)
+    (n, c.loop-room.invariant.1 ∙ ap (first_below c.args.key.now.setup) many)
 
 pub peel-requires-clause-room : goal.peel-requires-clause-room
 peel-requires-clause-room g c κs within =
@@ -26,7 +26,7 @@ loop-room-preserved g c =
     let band = identity_of c.args.words.now.table_id c.args.key.now in
     let n = vec_len c.pop.new.self in
     let many : vec_len c.loop-room.rooms ≡ suc n = let l = c.in-Some.ensures.len in omega (arith, l) in
-    let next = c.peel.ensures.peeled n (c.loop-room.invariant.1 ∙ ap (sight_below k) many) in
+    let next = c.peel.ensures.peeled n (c.loop-room.invariant.1 ∙ ap (first_below k) many) in
     let seats = c.loop-room.seats.items in
     let turned : reverse c.push_reserved.new.self.items ≡ first_standing band n ∷ reverse seats = ap reverse c.push_reserved.ensures.items
     ∙ reverse-append seats (c.peel.result ∷ []) ∙ ap (λ (s : Standing g.row.B.Denot). s ∷ reverse seats) next.1 in (

@@ -2,12 +2,12 @@ use Rattle.std.proofs.Common.{◌≡◌, ◌+◌, ◌≤◌, ◌++◌, All, reve
 use Rattle.std.specs.Prelude.{vec_len, vec_capacity}
 use Rattle.scq_band.specs.Standing.{first_standings}
 use Rattle.scq_band.specs.Kept.{identity_of}
-use Rattle.scq_band.specs.Making.{IsRoom, sight_below}
+use Rattle.scq_band.specs.Making.{IsRoom, first_below}
 use Rattle.scq_band.proofs.splitting.split_all.Given as goal
 
 abbrev pub invariant-loop-room : goal.invariant-loop-room
 invariant-loop-room g l =
-    (l.rest.table_id ≡ l.words.table_id) × (l.rest.me.0 ≡ sight_below l.key.setup (vec_len l.rooms)) × All (IsRoom l.key.setup) l.rooms.items
+    (l.rest.table_id ≡ l.words.table_id) × (l.rest.me.0 ≡ first_below l.key.setup (vec_len l.rooms)) × All (IsRoom l.key.setup) l.rooms.items
     × (vec_len l.seats + vec_len l.rooms ≤ vec_capacity l.seats)
     × (first_standings (identity_of l.words.table_id l.key) (vec_len l.rooms) ++ reverse l.seats.items
     ≡ first_standings (identity_of l.words.table_id l.key) l.key.setup.seats)

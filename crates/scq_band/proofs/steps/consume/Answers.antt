@@ -1,7 +1,7 @@
 use Rattle.std.specs.Prelude.{bit_or}
 use Rattle.scq_band.specs.Buffers.{LiesIn}
 use Rattle.scq_band.specs.Steps.{my_phase}
-use Rattle.scq_band.proofs.RunShown.{moves}
+use Rattle.scq_band.proofs.Moves.{moves}
 use Rattle.scq_band.proofs.Grounds.{ground}
 use Rattle.scq_band.proofs.Operations.{consume_says, consume_carries}
 use Rattle.scq_band.proofs.steps.consume.Goals as goal
@@ -9,7 +9,7 @@ use Rattle.scq_band.proofs.steps.consume.Goals as goal
 pub fetch_or-requires : goal.fetch_or-requires
 fetch_or-requires g c =
     let k = c.args.words.now.key in
-    let t = my_phase c.args.token.now.me.0.known in
+    let t = my_phase c.args.token.now.me.0 in
     let Lie = LiesIn g.B.Buffer.contents g.B.Buffer.IsSameBuffer k.given.value.items in (
       c.requires.own,
       c.requires.low,

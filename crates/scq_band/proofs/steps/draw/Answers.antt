@@ -1,9 +1,8 @@
 use Rattle.std.proofs.Common.{◌+◌, ◌%◌, ◌^◌}
 use Rattle.scq_core.proofs.Fits.{words_fit}
 use Rattle.scq_band.specs.Buffers.{LiesIn}
-use Rattle.scq_band.specs.Sights.{known_me}
 use Rattle.scq_band.specs.Steps.{draw_turn}
-use Rattle.scq_band.proofs.RunShown.{moves}
+use Rattle.scq_band.proofs.Moves.{moves}
 use Rattle.scq_band.proofs.Grounds.{ground}
 use Rattle.scq_band.proofs.Operations.{draw_says, draw_carries}
 use Rattle.scq_band.proofs.steps.draw.Goals as goal
@@ -11,7 +10,7 @@ use Rattle.scq_band.proofs.steps.draw.Goals as goal
 pub fetch_add-requires : goal.fetch_add-requires
 fetch_add-requires g c =
     let k = c.args.words.now.key in
-    let t = draw_turn g.B.Buffer.contents k.setup c.args.word (known_me c.args.token.now.me) in
+    let t = draw_turn g.B.Buffer.contents k.setup c.args.word c.args.token.now.me in
     let Lie = LiesIn g.B.Buffer.contents g.B.Buffer.IsSameBuffer k.given.value.items in (
       c.requires.own,
       c.requires.low,

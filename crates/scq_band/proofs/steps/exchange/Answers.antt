@@ -2,7 +2,7 @@ use Rattle.std.proofs.Common.{◌==◌}
 use prog.Atomic.{either}
 use Rattle.scq_band.specs.Buffers.{LiesIn}
 use Rattle.scq_band.specs.Steps.{my_phase}
-use Rattle.scq_band.proofs.RunShown.{moves}
+use Rattle.scq_band.proofs.Moves.{moves}
 use Rattle.scq_band.proofs.Grounds.{ground}
 use Rattle.scq_band.proofs.Operations.{exchange_says}
 use Rattle.scq_band.proofs.steps.exchange.Goals as goal
@@ -10,7 +10,7 @@ use Rattle.scq_band.proofs.steps.exchange.Goals as goal
 pub compare_exchange-requires : goal.compare_exchange-requires
 compare_exchange-requires g c =
     let k = c.args.words.now.key in
-    let t = my_phase c.args.token.now.me.0.known in
+    let t = my_phase c.args.token.now.me.0 in
     let Lie = LiesIn g.B.Buffer.contents g.B.Buffer.IsSameBuffer k.given.value.items in (
       c.requires.own,
       c.requires.low,

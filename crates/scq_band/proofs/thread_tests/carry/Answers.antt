@@ -1,7 +1,7 @@
 use Rattle.std.proofs.Common.{◌≡◌, ℕ, List, length, refl, ◌∙◌, ap}
 use Rattle.std.specs.Prelude.{Err}
 use Rattle.scq_band.specs.declared.heap.Heap.{Heap}
-use Rattle.scq_band.specs.Standing.{Standing, in_hand, bytes_in_hand, having_seen, after_spent_put, after_spent_get}
+use Rattle.scq_band.specs.Standing.{Standing, in_hand, bytes_in_hand, after_spent_put, after_spent_get}
 use Rattle.scq_band.proofs.Starting.{in_hand-come}
 use Rattle.scq_band.proofs.NoneLent.{lent_after_get, lent_after_nothing, lent_after_put, lent_after_spent}
 use Rattle.scq_band.proofs.thread_tests.carry.Goals as goal
@@ -27,8 +27,7 @@ returns-in-Ok-enq-clause-laid c =
 
 pub returns-in-Err-enq-clause-laid : goal.returns-in-Err-enq-clause-laid
 returns-in-Err-enq-clause-laid c =
-    lent_after_spent c.deq.new.seat.spent (λ z. having_seen c.enq.new.seat.seen
-    (after_spent_put c.args.to c.in-Err-enq.field-0.ticket z)) c.deq.new.seat c.enq.new.seat refl (λ z. refl)
+    lent_after_spent c.deq.new.seat.spent (after_spent_put c.args.to c.in-Err-enq.field-0.ticket) c.deq.new.seat c.enq.new.seat refl (λ z. refl)
     (λ none. (c.in-Err-enq.ensures.spent none).0) (λ t some. (c.enq.ensures.kept t some).1)
     (lent_after_get Contents Same c.args.from c.in-Ok.field-0-0 c.in-Ok.index c.args.seat.now c.deq.new.seat c.in-Ok.ensures.got c.requires.laid)
 
@@ -39,7 +38,6 @@ returns-in-Empty-clause-laid c =
 
 pub returns-in-Spent-clause-laid : goal.returns-in-Spent-clause-laid
 returns-in-Spent-clause-laid c =
-    lent_after_spent c.args.seat.now.spent (λ z. having_seen c.deq.new.seat.seen
-    (after_spent_get c.args.from c.in-Spent.ticket z)) c.args.seat.now c.deq.new.seat refl (λ z. refl)
+    lent_after_spent c.args.seat.now.spent (after_spent_get c.args.from c.in-Spent.ticket) c.args.seat.now c.deq.new.seat refl (λ z. refl)
     (λ none. (c.deq.ensures.spent c.in-Spent.ticket (c.in-Err.is ∙ ap (λ r. Err r) c.in-Spent.is) none).0) (λ t some. (c.deq.ensures.kept t some).1)
     c.requires.laid

@@ -1,10 +1,8 @@
-use Rattle.std.proofs.Common.{◌≡◌, refl, sym, ap, subst}
+use Rattle.std.proofs.Common.{◌≡◌, sym, ap, subst}
 use Rattle.std.specs.Prelude.{Err}
 use Rattle.scq_band.specs.declared.calls.DeqRefusal.{DeqRefusal}
 use Rattle.scq_band.specs.declared.calls.DeqRefusal.TheVariants.{Empty, Spent}
-use Rattle.scq_band.specs.Buffers.{opening_of}
-use Rattle.scq_band.specs.RunSeen.{Caller, IsCallInRun}
-use Rattle.scq_band.specs.Standing.{Standing, caller_of}
+use Rattle.scq_band.specs.Standing.{Standing}
 use Rattle.scq_queue.specs.Passes.{HasGot}
 use Rattle.scq_queue.specs.Kept.{held_of, pass_over}
 use Rattle.scq_queue.proofs.HeldValues.{refused, refused_lifted, found_nothing, get_spent, value_came, got_lifted, got_value}
@@ -53,13 +51,7 @@ returns-in-Err-clause-spent g c ticket is none =
     let drew = c.in-Err.ensures.spent ticket (ap (λ (r : DeqRefusal). Err r) same) none in
     ((get_spent c.args.seat.now c.deq.new.seat c.args.ring ticket c.requires.lifted drew.0).1, drew.1)
 
-pub returns-in-Err-clause-empty_in_run : goal.returns-in-Err-clause-empty_in_run
-returns-in-Err-clause-empty_in_run g c head is =
+pub returns-in-Err-clause-head : goal.returns-in-Err-clause-head
+returns-in-Err-clause-head g c head is =
     let same : c.in-Err.refusal ≡ Empty head = cc in
-    c.in-Err.ensures.empty_in_run head (ap (λ (r : DeqRefusal). Err r) same)
-
-pub returns-in-Ok-clause-run : goal.returns-in-Ok-clause-run
-returns-in-Ok-clause-run g c none =
-    let band = c.args.band.now in
-    subst (λ (x : Caller). IsCallInRun band.setup (opening_of g.B.Buffer.contents band.given) (caller_of c.args.seat.now) x)
-    (sym (ap (λ (s : Standing g.row.B.Denot). caller_of s) c.lift-buffer.ensures.lifted)) (c.in-Ok.ensures.run none)
+    c.in-Err.ensures.head head (ap (λ (r : DeqRefusal). Err r) same)

@@ -1,10 +1,8 @@
-use Rattle.std.proofs.Common.{◌≡◌, refl, sym, ◌∙◌, ap, subst, inl, inr}
+use Rattle.std.proofs.Common.{◌≡◌, ◌∙◌, ap, inl, inr}
 use Rattle.std.specs.Prelude.{Some, None, Err}
 use Rattle.scq_band.specs.declared.calls.Spent.{Spent}
-use Rattle.scq_band.specs.Buffers.{opening_of}
-use Rattle.scq_band.specs.RunSeen.{Caller, IsCallInRun}
-use Rattle.scq_band.specs.Standing.{Standing, in_hand, caller_of}
-use Rattle.scq_queue.specs.Passes.{HeldStanding, having_seen, after_put}
+use Rattle.scq_band.specs.Standing.{Standing, in_hand}
+use Rattle.scq_queue.specs.Passes.{HeldStanding, after_put}
 use Rattle.scq_queue.specs.Kept.{held_of, pass_over}
 use Rattle.scq_queue.proofs.HeldValues.{value_at, value_laid, value_put, value_spent, value_kept, stays_lifted, cases_spent}
 use Rattle.scq_queue.proofs.values.put.Goals as goal
@@ -40,8 +38,7 @@ returns-in-Ok-clause-put g c fulls =
     let put = value_put g.B.Buffer.contents c.args.seat.now c.lay.new.seat c.enq.new.seat c.args.ring c.held.inside.index c.in-Ok.place c.held.inside.buffer
     c.requires.lifted there c.lay.ensures.laid c.in-Ok.ensures.put in
     put.1 fulls
-    ∙ ap (λ (h : HeldStanding g.row.B.Denot). having_seen c.enq.new.seat.seen (after_put c.args.ring h.index c.in-Ok.place
-    (g.B.Buffer.contents h.buffer) (pass_over c.args.seat.now fulls)))
+    ∙ ap (λ (h : HeldStanding g.row.B.Denot). after_put c.args.ring h.index c.in-Ok.place (g.B.Buffer.contents h.buffer) (pass_over c.args.seat.now fulls))
     c.held.view_is
 
 pub returns-in-Err-clause-lifted : goal.returns-in-Err-clause-lifted
@@ -93,19 +90,3 @@ returns-in-Err-clause-kept g c ticket some =
       value_kept c.args.seat.now c.lay.new.seat c.enq.new.seat c.lift-buffer.new.seat c.held.inside.index c.held.inside.buffer c.requires.lifted
           c.lay.ensures.laid kept.1 c.lift-buffer.ensures.lifted,
     )
-
-pub returns-in-Ok-clause-run : goal.returns-in-Ok-clause-run
-returns-in-Ok-clause-run g c none =
-    let band = c.args.band.now in
-    let still : c.lay.new.seat.spent ≡ None = ap (λ (s : Standing g.row.B.Denot). s.spent) c.lay.ensures.laid ∙ none in
-    subst (λ (x : Caller). IsCallInRun band.setup (opening_of g.B.Buffer.contents band.given) x (caller_of c.enq.new.seat))
-    (ap (λ (s : Standing g.row.B.Denot). caller_of s) c.lay.ensures.laid) (c.in-Ok.ensures.run still)
-
-pub returns-in-Err-clause-run : goal.returns-in-Err-clause-run
-returns-in-Err-clause-run g c none =
-    let band = c.args.band.now in
-    let still : c.lay.new.seat.spent ≡ None = ap (λ (s : Standing g.row.B.Denot). s.spent) c.lay.ensures.laid ∙ none in
-    subst (λ (x : Caller). IsCallInRun band.setup (opening_of g.B.Buffer.contents band.given) (caller_of c.args.seat.now) x)
-    (sym (ap (λ (s : Standing g.row.B.Denot). caller_of s) c.lift-buffer.ensures.lifted))
-    (subst (λ (x : Caller). IsCallInRun band.setup (opening_of g.B.Buffer.contents band.given) x (caller_of c.enq.new.seat))
-    (ap (λ (s : Standing g.row.B.Denot). caller_of s) c.lay.ensures.laid) (c.in-Err.ensures.run still))

@@ -252,7 +252,6 @@ returns-clause-worked g c =
     let closed : HasClosed queue.setup (passes_at ran) (held_at ran) c.close-buffers.result.left.items =
     subst (λ (hs : List (HeldStanding Frame)). HasClosed queue.setup (passes_at ran) hs c.close-buffers.result.left.items) held
     (subst (λ (ps : List (PassStanding Frame)). HasClosed queue.setup ps c.clear.new.left.held.items c.close-buffers.result.left.items) passes (record {
-      run = (_, close.run.one);
       takes = close.takes;
       sent_once = close.sent_once;
       taken_once = close.taken_once;

@@ -24,8 +24,7 @@ count_left-requires-clause-shows g c =
     let items = slots_items c.close_with-closed.result.slots in
     let seats : length c.args.seats.items ≡ c.args.self.setup.seats = omega (arith, c.args.seats.ok, c.requires.all) in
     let e = ended g.B.Buffer.contents g.B.Buffer.IsSameBuffer table.table_id table.key c.args.self c.gather-all.result.id c.gather-all.result.me.0
-    c.args.seats.items words items c.self.view_is c.close_with-closed.ensures.values.2 c.gather-all.ensures.all c.gather-all.ensures.seen seats
-    c.self.invariant.given in
+    c.args.seats.items words items c.self.view_is c.close_with-closed.ensures.values.2 c.gather-all.ensures.all seats c.self.invariant.given in
     let setup : c.self.inside.setup ≡ c.args.self.setup = c.self.invariant.same ∙ ap (λ (b : Identity g.row.B.Denot). b.setup) c.self.view_is in
     subst (λ (k : Setup). (m : Cells) × ShowsWords k words m × HasIndices k m) (sym setup) e.words
 
@@ -36,8 +35,7 @@ unload-requires-clause-laid g c i low =
     let items = slots_items c.close_with-closed.result.slots in
     let seats : length c.args.seats.items ≡ c.args.self.setup.seats = omega (arith, c.args.seats.ok, c.requires.all) in
     let e = ended g.B.Buffer.contents g.B.Buffer.IsSameBuffer table.table_id table.key c.args.self c.gather-all.result.id c.gather-all.result.me.0
-    c.args.seats.items words items c.self.view_is c.close_with-closed.ensures.values.2 c.gather-all.ensures.all c.gather-all.ensures.seen seats
-    c.self.invariant.given in
+    c.args.seats.items words items c.self.view_is c.close_with-closed.ensures.values.2 c.gather-all.ensures.all seats c.self.invariant.given in
     let slots = c.self.invariant.slots in
     let order : n_of c.args.self.setup.order ≡ n_of table.key.setup.order = ap (λ (b : Identity g.row.B.Denot). n_of b.setup.order) (sym c.self.view_is) in
     e.laid i (omega (arith, low, c.close_with-closed.ensures.counts.1, slots, order))
@@ -49,20 +47,8 @@ returns-clause-buffers g c =
     let items = slots_items c.close_with-closed.result.slots in
     let seats : length c.args.seats.items ≡ c.args.self.setup.seats = omega (arith, c.args.seats.ok, c.requires.all) in
     let e = ended g.B.Buffer.contents g.B.Buffer.IsSameBuffer table.table_id table.key c.args.self c.gather-all.result.id c.gather-all.result.me.0
-    c.args.seats.items words items c.self.view_is c.close_with-closed.ensures.values.2 c.gather-all.ensures.all c.gather-all.ensures.seen seats
-    c.self.invariant.given in
+    c.args.seats.items words items c.self.view_is c.close_with-closed.ensures.values.2 c.gather-all.ensures.all seats c.self.invariant.given in
     e.same c.unload.new.buffers.items c.unload.ensures.buffers
-
-pub returns-clause-run : goal.returns-clause-run
-returns-clause-run g c =
-    let table = c.self.inside.table.shared in
-    let words = slots_items c.close_with-closed.result.words in
-    let items = slots_items c.close_with-closed.result.slots in
-    let seats : length c.args.seats.items ≡ c.args.self.setup.seats = omega (arith, c.args.seats.ok, c.requires.all) in
-    let e = ended g.B.Buffer.contents g.B.Buffer.IsSameBuffer table.table_id table.key c.args.self c.gather-all.result.id c.gather-all.result.me.0
-    c.args.seats.items words items c.self.view_is c.close_with-closed.ensures.values.2 c.gather-all.ensures.all c.gather-all.ensures.seen seats
-    c.self.invariant.given in
-    (e.lefts c.unload.new.buffers.items c.unload.ensures.buffers).1
 
 pub returns-clause-gets : goal.returns-clause-gets
 returns-clause-gets g c =
@@ -71,8 +57,7 @@ returns-clause-gets g c =
     let items = slots_items c.close_with-closed.result.slots in
     let seats : length c.args.seats.items ≡ c.args.self.setup.seats = omega (arith, c.args.seats.ok, c.requires.all) in
     let e = ended g.B.Buffer.contents g.B.Buffer.IsSameBuffer table.table_id table.key c.args.self c.gather-all.result.id c.gather-all.result.me.0
-    c.args.seats.items words items c.self.view_is c.close_with-closed.ensures.values.2 c.gather-all.ensures.all c.gather-all.ensures.seen seats
-    c.self.invariant.given in
+    c.args.seats.items words items c.self.view_is c.close_with-closed.ensures.values.2 c.gather-all.ensures.all seats c.self.invariant.given in
     e.gets
 
 pub returns-clause-put_once : goal.returns-clause-put_once
@@ -82,8 +67,7 @@ returns-clause-put_once g c =
     let items = slots_items c.close_with-closed.result.slots in
     let seats : length c.args.seats.items ≡ c.args.self.setup.seats = omega (arith, c.args.seats.ok, c.requires.all) in
     let e = ended g.B.Buffer.contents g.B.Buffer.IsSameBuffer table.table_id table.key c.args.self c.gather-all.result.id c.gather-all.result.me.0
-    c.args.seats.items words items c.self.view_is c.close_with-closed.ensures.values.2 c.gather-all.ensures.all c.gather-all.ensures.seen seats
-    c.self.invariant.given in
+    c.args.seats.items words items c.self.view_is c.close_with-closed.ensures.values.2 c.gather-all.ensures.all seats c.self.invariant.given in
     e.put_once
 
 pub returns-clause-once : goal.returns-clause-once
@@ -93,8 +77,7 @@ returns-clause-once g c =
     let items = slots_items c.close_with-closed.result.slots in
     let seats : length c.args.seats.items ≡ c.args.self.setup.seats = omega (arith, c.args.seats.ok, c.requires.all) in
     let e = ended g.B.Buffer.contents g.B.Buffer.IsSameBuffer table.table_id table.key c.args.self c.gather-all.result.id c.gather-all.result.me.0
-    c.args.seats.items words items c.self.view_is c.close_with-closed.ensures.values.2 c.gather-all.ensures.all c.gather-all.ensures.seen seats
-    c.self.invariant.given in
+    c.args.seats.items words items c.self.view_is c.close_with-closed.ensures.values.2 c.gather-all.ensures.all seats c.self.invariant.given in
     e.once
 
 pub returns-clause-passed : goal.returns-clause-passed
@@ -104,8 +87,7 @@ returns-clause-passed g c =
     let items = slots_items c.close_with-closed.result.slots in
     let seats : length c.args.seats.items ≡ c.args.self.setup.seats = omega (arith, c.args.seats.ok, c.requires.all) in
     let e = ended g.B.Buffer.contents g.B.Buffer.IsSameBuffer table.table_id table.key c.args.self c.gather-all.result.id c.gather-all.result.me.0
-    c.args.seats.items words items c.self.view_is c.close_with-closed.ensures.values.2 c.gather-all.ensures.all c.gather-all.ensures.seen seats
-    c.self.invariant.given in
+    c.args.seats.items words items c.self.view_is c.close_with-closed.ensures.values.2 c.gather-all.ensures.all seats c.self.invariant.given in
     e.passed
 
 pub returns-clause-hands : goal.returns-clause-hands
@@ -115,8 +97,7 @@ returns-clause-hands g c =
     let items = slots_items c.close_with-closed.result.slots in
     let seats : length c.args.seats.items ≡ c.args.self.setup.seats = omega (arith, c.args.seats.ok, c.requires.all) in
     let e = ended g.B.Buffer.contents g.B.Buffer.IsSameBuffer table.table_id table.key c.args.self c.gather-all.result.id c.gather-all.result.me.0
-    c.args.seats.items words items c.self.view_is c.close_with-closed.ensures.values.2 c.gather-all.ensures.all c.gather-all.ensures.seen seats
-    c.self.invariant.given in
+    c.args.seats.items words items c.self.view_is c.close_with-closed.ensures.values.2 c.gather-all.ensures.all seats c.self.invariant.given in
     e.hands
 
 pub returns-clause-spent : goal.returns-clause-spent
@@ -126,8 +107,7 @@ returns-clause-spent g c =
     let items = slots_items c.close_with-closed.result.slots in
     let seats : length c.args.seats.items ≡ c.args.self.setup.seats = omega (arith, c.args.seats.ok, c.requires.all) in
     let e = ended g.B.Buffer.contents g.B.Buffer.IsSameBuffer table.table_id table.key c.args.self c.gather-all.result.id c.gather-all.result.me.0
-    c.args.seats.items words items c.self.view_is c.close_with-closed.ensures.values.2 c.gather-all.ensures.all c.gather-all.ensures.seen seats
-    c.self.invariant.given in
+    c.args.seats.items words items c.self.view_is c.close_with-closed.ensures.values.2 c.gather-all.ensures.all seats c.self.invariant.given in
     e.spent
 
 pub returns-clause-limits : goal.returns-clause-limits
@@ -141,20 +121,8 @@ returns-clause-gate g c =
     let items = slots_items c.close_with-closed.result.slots in
     let seats : length c.args.seats.items ≡ c.args.self.setup.seats = omega (arith, c.args.seats.ok, c.requires.all) in
     let e = ended g.B.Buffer.contents g.B.Buffer.IsSameBuffer table.table_id table.key c.args.self c.gather-all.result.id c.gather-all.result.me.0
-    c.args.seats.items words items c.self.view_is c.close_with-closed.ensures.values.2 c.gather-all.ensures.all c.gather-all.ensures.seen seats
-    c.self.invariant.given in
+    c.args.seats.items words items c.self.view_is c.close_with-closed.ensures.values.2 c.gather-all.ensures.all seats c.self.invariant.given in
     e.gate
-
-pub returns-clause-retirees : goal.returns-clause-retirees
-returns-clause-retirees g c =
-    let table = c.self.inside.table.shared in
-    let words = slots_items c.close_with-closed.result.words in
-    let items = slots_items c.close_with-closed.result.slots in
-    let seats : length c.args.seats.items ≡ c.args.self.setup.seats = omega (arith, c.args.seats.ok, c.requires.all) in
-    let e = ended g.B.Buffer.contents g.B.Buffer.IsSameBuffer table.table_id table.key c.args.self c.gather-all.result.id c.gather-all.result.me.0
-    c.args.seats.items words items c.self.view_is c.close_with-closed.ensures.values.2 c.gather-all.ensures.all c.gather-all.ensures.seen seats
-    c.self.invariant.given in
-    e.retirees
 
 pub returns-clause-balance : goal.returns-clause-balance
 returns-clause-balance g c =
@@ -163,8 +131,7 @@ returns-clause-balance g c =
     let items = slots_items c.close_with-closed.result.slots in
     let seats : length c.args.seats.items ≡ c.args.self.setup.seats = omega (arith, c.args.seats.ok, c.requires.all) in
     let e = ended g.B.Buffer.contents g.B.Buffer.IsSameBuffer table.table_id table.key c.args.self c.gather-all.result.id c.gather-all.result.me.0
-    c.args.seats.items words items c.self.view_is c.close_with-closed.ensures.values.2 c.gather-all.ensures.all c.gather-all.ensures.seen seats
-    c.self.invariant.given in
+    c.args.seats.items words items c.self.view_is c.close_with-closed.ensures.values.2 c.gather-all.ensures.all seats c.self.invariant.given in
     let setup : c.self.inside.setup ≡ c.args.self.setup = c.self.invariant.same ∙ ap (λ (b : Identity g.row.B.Denot). b.setup) c.self.view_is in
     let each = subst (λ (k : Setup). (m : Cells) → ShowsWords k words m → (r : ℕ) → r < k.rings
     → slice_index c.count_left.new.left.items r ≡ left_in k m r) setup
@@ -178,8 +145,7 @@ returns-clause-all_there g c =
     let items = slots_items c.close_with-closed.result.slots in
     let seats : length c.args.seats.items ≡ c.args.self.setup.seats = omega (arith, c.args.seats.ok, c.requires.all) in
     let e = ended g.B.Buffer.contents g.B.Buffer.IsSameBuffer table.table_id table.key c.args.self c.gather-all.result.id c.gather-all.result.me.0
-    c.args.seats.items words items c.self.view_is c.close_with-closed.ensures.values.2 c.gather-all.ensures.all c.gather-all.ensures.seen seats
-    c.self.invariant.given in
+    c.args.seats.items words items c.self.view_is c.close_with-closed.ensures.values.2 c.gather-all.ensures.all seats c.self.invariant.given in
     let setup : c.self.inside.setup ≡ c.args.self.setup = c.self.invariant.same ∙ ap (λ (b : Identity g.row.B.Denot). b.setup) c.self.view_is in
     let each = subst (λ (k : Setup). (m : Cells) → ShowsWords k words m → (r : ℕ) → r < k.rings
     → slice_index c.count_left.new.left.items r ≡ left_in k m r) setup
@@ -193,6 +159,5 @@ returns-clause-left g c =
     let items = slots_items c.close_with-closed.result.slots in
     let seats : length c.args.seats.items ≡ c.args.self.setup.seats = omega (arith, c.args.seats.ok, c.requires.all) in
     let e = ended g.B.Buffer.contents g.B.Buffer.IsSameBuffer table.table_id table.key c.args.self c.gather-all.result.id c.gather-all.result.me.0
-    c.args.seats.items words items c.self.view_is c.close_with-closed.ensures.values.2 c.gather-all.ensures.all c.gather-all.ensures.seen seats
-    c.self.invariant.given in
-    (e.lefts c.unload.new.buffers.items c.unload.ensures.buffers).0
+    c.args.seats.items words items c.self.view_is c.close_with-closed.ensures.values.2 c.gather-all.ensures.all seats c.self.invariant.given in
+    e.lefts c.unload.new.buffers.items c.unload.ensures.buffers

@@ -4,21 +4,21 @@ use Rattle.scq_word.specs.declared.setup.Setup.{Setup}
 use Rattle.scq_word.specs.Sizes.{n_of}
 use Rattle.scq_band.specs.declared.numbers.Numbers.{Numbers}
 use Rattle.scq_band.specs.declared.dequeue.Without.TheVariants as without
+use Rattle.scq_core.specs.declared.ended.Ended.{Ended}
 use Rattle.scq_band.specs.Buffers.{LiesIn, opening_of}
 use Rattle.scq_band.specs.Numbers.{known_of, changed, sees, passes, drew, empties}
 use Rattle.scq_band.specs.Known.{Known}
 use Rattle.scq_band.specs.Seats.{HasGotAfter, nothing_at, drew_head}
-use Rattle.scq_band.specs.Sights.{known_me}
 use Rattle.scq_band.specs.Steps.{my}
-use Rattle.scq_band.specs.Standing.{Identity, Standing}
-use Rattle.scq_band.proofs.Keeping.{call_seen, empty_seen, kept_got, got_standing, found_none, if_drawn, kept_none, none_standing, known_read, known_there, known_here}
+use Rattle.scq_band.specs.Standing.{Identity, LastStep, Standing}
+use Rattle.scq_band.proofs.Keeping.{head_reached, kept_got, got_standing, found_none, if_drawn, kept_none, none_standing, known_read, known_there, known_here}
 use Rattle.scq_band.proofs.band.Band.deq.Goals as goal
 
 pub invariant_of-seat : goal.invariant_of-seat
 invariant_of-seat g c =
     let Same = g.B.Buffer.IsSameBuffer in
     let key = c.seat.inside.key.value in
-    let me = known_me c.seat.inside.token.me in
+    let me = c.seat.inside.token.me in
     let r = c.args.ring in
     let numbers = c.seat.inside.numbers.items in
     let low : r < length numbers =
@@ -26,7 +26,7 @@ invariant_of-seat g c =
     let same = ap (λ (i : Identity g.row.B.Denot). i.setup.rings) (ap (λ (s : Standing g.row.B.Denot). s.band) c.seat.view_is ∙ c.requires.seat) in
     let ring = c.requires.ring in
     omega (arith, rings, same, ring) in
-    let me' = known_me c.dequeue-found.new.token.me in
+    let me' = c.dequeue-found.new.token.me in
     let place = c.in-Ok.place in
     let index = c.in-Ok.index in
     let contents = g.B.Buffer.contents in
@@ -46,7 +46,7 @@ pub returns-in-Ok-clause-got : goal.returns-in-Ok-clause-got
 returns-in-Ok-clause-got g c =
     let Same = g.B.Buffer.IsSameBuffer in
     let key = c.seat.inside.key.value in
-    let me = known_me c.seat.inside.token.me in
+    let me = c.seat.inside.token.me in
     let r = c.args.ring in
     let numbers = c.seat.inside.numbers.items in
     let low : r < length numbers =
@@ -54,7 +54,7 @@ returns-in-Ok-clause-got g c =
     let same = ap (λ (i : Identity g.row.B.Denot). i.setup.rings) (ap (λ (s : Standing g.row.B.Denot). s.band) c.seat.view_is ∙ c.requires.seat) in
     let ring = c.requires.ring in
     omega (arith, rings, same, ring) in
-    let me' = known_me c.dequeue-found.new.token.me in
+    let me' = c.dequeue-found.new.token.me in
     let place = c.in-Ok.place in
     let index = c.in-Ok.index in
     let contents = g.B.Buffer.contents in
@@ -64,15 +64,14 @@ returns-in-Ok-clause-got g c =
     (subst (λ n. HasGotAfter (LiesIn contents Same c.self.inside.table.shared.key.given.value.items) n place index me me') c.ring.ensures.number
     c.in-Ok.ensures.got) in
     let there : r < length me.0.numbers = let same = ap length (sym c.seat.invariant.numbers) in omega (arith, low, same) in
-    got_standing contents Same c.seat.inside.token.me.0.seen c.dequeue-found.new.token.me.0.seen c.seat.inside.token.table_id
-    c.dequeue-found.new.token.table_id key me me' numbers c.args.seat.now r place index c.seat.view_is
+    got_standing contents Same c.seat.inside.token.table_id c.dequeue-found.new.token.table_id key me me' numbers c.args.seat.now r place index c.seat.view_is
     c.dequeue-found.ensures.own.0 got c.in-Ok.ensures.once there
 
 pub returns-in-Ok-clause-place : goal.returns-in-Ok-clause-place
 returns-in-Ok-clause-place g c =
     let Same = g.B.Buffer.IsSameBuffer in
     let key = c.seat.inside.key.value in
-    let me = known_me c.seat.inside.token.me in
+    let me = c.seat.inside.token.me in
     let r = c.args.ring in
     let numbers = c.seat.inside.numbers.items in
     let low : r < length numbers =
@@ -100,7 +99,7 @@ pub invariant_of-seat-in-Nothing : goal.invariant_of-seat-in-Nothing
 invariant_of-seat-in-Nothing g c =
     let Same = g.B.Buffer.IsSameBuffer in
     let key = c.seat.inside.key.value in
-    let me = known_me c.seat.inside.token.me in
+    let me = c.seat.inside.token.me in
     let r = c.args.ring in
     let numbers = c.seat.inside.numbers.items in
     let low : r < length numbers =
@@ -111,20 +110,20 @@ invariant_of-seat-in-Nothing g c =
     let there : r < length me.0.numbers = let same = ap length (sym c.seat.invariant.numbers) in omega (arith, low, same) in
     let found : (t : ℕ) → c.in-Nothing.drawn ≡ Some t → c.dequeue-found.result ≡ Err (without.Nothing (Some t)) =
     λ t is. c.in-Err.is ∙ ap (λ w. Err w) (c.in-Nothing.is ∙ ap without.Nothing is) in
-    let seen = found_none r c.in-Nothing.drawn me.0 c.dequeue-found.new.token.me.0.known there
+    let seen = found_none r c.in-Nothing.drawn me.0 c.dequeue-found.new.token.me.0 there
     (λ is. c.dequeue-found.ensures.nothing (c.in-Err.is ∙ ap (λ w. Err w) (c.in-Nothing.is ∙ ap without.Nothing is))
     ∙ ap (λ n. nothing_at n me.0) c.ring.ensures.number)
     (λ t is. (c.dequeue-found.ensures.nothing_left t (found t is)).0 ∙ ap (λ n. nothing_at n (drew_head n t me.0)) c.ring.ensures.number) in
     let known = known_read numbers r c.index-known.result.now low c.index-known.ensures in
     let drawn = c.in-Nothing.drawn in
     let new = ap (λ (x : Numbers). slice_set numbers r x) (c.finds_none-later.ensures ∙ ap (λ x. empties (drew drawn x)) known) in
-    kept_none Same key me (known_me c.dequeue-found.new.token.me) c.seat.inside.hand.items _ numbers _ _ r drawn c.seat.invariant seen c.in-Err.ensures.kept new
+    kept_none Same key me c.dequeue-found.new.token.me c.seat.inside.hand.items _ numbers _ _ r drawn c.seat.invariant seen c.in-Err.ensures.kept new
 
 pub returns-in-Nothing-clause-empty : goal.returns-in-Nothing-clause-empty
 returns-in-Nothing-clause-empty g c head is =
     let Same = g.B.Buffer.IsSameBuffer in
     let key = c.seat.inside.key.value in
-    let me = known_me c.seat.inside.token.me in
+    let me = c.seat.inside.token.me in
     let r = c.args.ring in
     let numbers = c.seat.inside.numbers.items in
     let low : r < length numbers =
@@ -135,18 +134,17 @@ returns-in-Nothing-clause-empty g c head is =
     let there : r < length me.0.numbers = let same = ap length (sym c.seat.invariant.numbers) in omega (arith, low, same) in
     let found : (t : ℕ) → c.in-Nothing.drawn ≡ Some t → c.dequeue-found.result ≡ Err (without.Nothing (Some t)) =
     λ t is. c.in-Err.is ∙ ap (λ w. Err w) (c.in-Nothing.is ∙ ap without.Nothing is) in
-    let seen = found_none r c.in-Nothing.drawn me.0 c.dequeue-found.new.token.me.0.known there
+    let seen = found_none r c.in-Nothing.drawn me.0 c.dequeue-found.new.token.me.0 there
     (λ is. c.dequeue-found.ensures.nothing (c.in-Err.is ∙ ap (λ w. Err w) (c.in-Nothing.is ∙ ap without.Nothing is))
     ∙ ap (λ n. nothing_at n me.0) c.ring.ensures.number)
     (λ t is. (c.dequeue-found.ensures.nothing_left t (found t is)).0 ∙ ap (λ n. nothing_at n (drew_head n t me.0)) c.ring.ensures.number) in
     let known = known_read numbers r c.index-known.result.now low c.index-known.ensures in
     let drawn = c.in-Nothing.drawn in
     let answered : c.finds_none-later.result.head ≡ head = cc in
-    let stands = none_standing Same c.seat.inside.token.me.0.seen c.dequeue-found.new.token.me.0.seen c.seat.inside.token.table_id
-    c.dequeue-found.new.token.table_id key me (known_me c.dequeue-found.new.token.me) c.args.seat.now r drawn
+    let stands = none_standing Same c.seat.inside.token.table_id c.dequeue-found.new.token.table_id key me c.dequeue-found.new.token.me c.args.seat.now r drawn
     c.seat.view_is c.dequeue-found.ensures.own.0 seen c.in-Err.ensures.kept in
     let later = ap (λ (u : Known). u.numbers) seen in
-    let end : (known_of c.dequeue-found.new.token.me.0.known.numbers r).head ≡ (empties (drew drawn (known_of numbers r))).head =
+    let end : (known_of c.dequeue-found.new.token.me.0.numbers r).head ≡ (empties (drew drawn (known_of numbers r))).head =
     ap (λ (ns : List Numbers). (known_of ns r).head) (later ∙ ap (changed (λ x. empties (drew drawn x)) r) (sym c.seat.invariant.numbers))
     ∙ ap (λ (x : Numbers). x.head) (known_here numbers r (empties (drew drawn (known_of numbers r))) low) in
     let setup = ap (λ (s : Standing g.row.B.Denot). s.band) c.seat.view_is ∙ c.requires.seat ∙ sym c.self.view_is in
@@ -166,76 +164,25 @@ returns-in-Nothing-clause-empty g c head is =
           subst (λ (ns : List Numbers). (known_of ns r).head ≤ t) (ap (λ (s : Standing g.row.B.Denot). s.numbers) c.seat.view_is) above;
     }
 
-pub returns-in-Ok-clause-run : goal.returns-in-Ok-clause-run
-returns-in-Ok-clause-run g c fresh =
+pub returns-in-Nothing-clause-head : goal.returns-in-Nothing-clause-head
+returns-in-Nothing-clause-head g c head is =
     let contents = g.B.Buffer.contents in
-    let shared = c.self.inside.table.shared in
-    let me = c.seat.inside.token.me in
-    let later = c.dequeue-found.new.token.me in
-    let seen = c.in-Ok.ensures.got.view in
-    call_seen contents c.seat.inside.token.table_id c.dequeue-found.new.token.table_id shared.table_id c.seat.inside.key.value shared.key c.args.self.now
-    c.args.seat.now me later c.seat.view_is c.requires.seat c.self.view_is c.dequeue-found.ensures.went c.seat.invariant.idle
-    (ap (λ (u : Known). (my u).part.phase) seen) (ap (λ (u : Known). (my u).number) seen)
-
-pub returns-in-Spent-clause-run : goal.returns-in-Spent-clause-run
-returns-in-Spent-clause-run g c fresh =
-    let contents = g.B.Buffer.contents in
-    let shared = c.self.inside.table.shared in
-    let me = c.seat.inside.token.me in
-    let later = c.dequeue-found.new.token.me in
-    let seen = (c.dequeue-found.ensures.spent c.in-Spent.ticket (c.in-Err.is ∙ ap (λ w. Err w) c.in-Spent.is)).0 in
-    call_seen contents c.seat.inside.token.table_id c.dequeue-found.new.token.table_id shared.table_id c.seat.inside.key.value shared.key c.args.self.now
-    c.args.seat.now me later c.seat.view_is c.requires.seat c.self.view_is c.dequeue-found.ensures.went c.seat.invariant.idle
-    (ap (λ (u : Known). (my u).part.phase) seen) (ap (λ (u : Known). (my u).number) seen)
-
-pub returns-in-Nothing-clause-run : goal.returns-in-Nothing-clause-run
-returns-in-Nothing-clause-run g c fresh =
-    let contents = g.B.Buffer.contents in
-    let shared = c.self.inside.table.shared in
-    let v = c.seat.inside.token.me.0.known in
+    let key = c.self.inside.table.shared.key in
+    let v = c.dequeue-found.new.token.me.0 in
     let r = c.args.ring in
-    let there : r < length v.numbers =
-    let rings = ap length (sym c.seat.invariant.numbers) ∙ c.seat.invariant.rings in
-    let same = ap (λ (i : Identity g.row.B.Denot). i.setup.rings) (ap (λ (s : Standing g.row.B.Denot). s.band) c.seat.view_is ∙ c.requires.seat) in
-    let ring = c.requires.ring in
-    omega (arith, rings, same, ring) in
-    let found : (t : ℕ) → c.in-Nothing.drawn ≡ Some t → c.dequeue-found.result ≡ Err (without.Nothing (Some t)) =
-    λ t is. c.in-Err.is ∙ ap (λ w. Err w) (c.in-Nothing.is ∙ ap without.Nothing is) in
-    let seen = found_none r c.in-Nothing.drawn v c.dequeue-found.new.token.me.0.known there
-    (λ is. c.dequeue-found.ensures.nothing (c.in-Err.is ∙ ap (λ w. Err w) (c.in-Nothing.is ∙ ap without.Nothing is))
-    ∙ ap (λ n. nothing_at n v) c.ring.ensures.number)
-    (λ t is. (c.dequeue-found.ensures.nothing_left t (found t is)).0 ∙ ap (λ n. nothing_at n (drew_head n t v)) c.ring.ensures.number) in
-    call_seen contents c.seat.inside.token.table_id c.dequeue-found.new.token.table_id shared.table_id c.seat.inside.key.value shared.key c.args.self.now
-    c.args.seat.now c.seat.inside.token.me c.dequeue-found.new.token.me c.seat.view_is c.requires.seat c.self.view_is c.dequeue-found.ensures.went
-    c.seat.invariant.idle
-    (ap (λ (u : Known). (my u).part.phase) seen) (ap (λ (u : Known). (my u).number) seen)
-
-pub returns-in-Nothing-clause-empty_in_run : goal.returns-in-Nothing-clause-empty_in_run
-returns-in-Nothing-clause-empty_in_run g c head is_empty =
-    let contents = g.B.Buffer.contents in
-    let shared = c.self.inside.table.shared in
-    let v = c.seat.inside.token.me.0.known in
-    let r = c.args.ring in
-    let there : r < length v.numbers =
-    let rings = ap length (sym c.seat.invariant.numbers) ∙ c.seat.invariant.rings in
-    let same = ap (λ (i : Identity g.row.B.Denot). i.setup.rings) (ap (λ (s : Standing g.row.B.Denot). s.band) c.seat.view_is ∙ c.requires.seat) in
-    let ring = c.requires.ring in
-    omega (arith, rings, same, ring) in
-    let found : (t : ℕ) → c.in-Nothing.drawn ≡ Some t → c.dequeue-found.result ≡ Err (without.Nothing (Some t)) =
-    λ t is. c.in-Err.is ∙ ap (λ w. Err w) (c.in-Nothing.is ∙ ap without.Nothing is) in
-    let seen = found_none r c.in-Nothing.drawn v c.dequeue-found.new.token.me.0.known there
-    (λ is. c.dequeue-found.ensures.nothing (c.in-Err.is ∙ ap (λ w. Err w) (c.in-Nothing.is ∙ ap without.Nothing is))
-    ∙ ap (λ n. nothing_at n v) c.ring.ensures.number)
-    (λ t is. (c.dequeue-found.ensures.nothing_left t (found t is)).0 ∙ ap (λ n. nothing_at n (drew_head n t v)) c.ring.ensures.number) in
     let kept = invariant_of-seat-in-Nothing g c in
-    let low : r < length c.dequeue-found.new.token.me.0.known.numbers =
+    let low : r < length v.numbers =
     let length_is = ap length (sym kept.numbers) in
     let rings = kept.rings in
     let same = ap (λ (i : Identity g.row.B.Denot). i.setup.rings) (ap (λ (s : Standing g.row.B.Denot). s.band) c.seat.view_is ∙ c.requires.seat) in
     let ring = c.requires.ring in
     omega (arith, length_is, rings, same, ring) in
-    empty_seen contents c.seat.inside.token.table_id c.dequeue-found.new.token.table_id shared.table_id c.seat.inside.key.value shared.key c.args.self.now
-    c.args.seat.now c.seat.inside.token.me c.dequeue-found.new.token.me r head c.seat.view_is c.requires.seat c.self.view_is c.dequeue-found.ensures.went
-    c.seat.invariant.idle
-    (ap (λ (u : Known). (my u).part.phase) seen) (ap (λ (u : Known). (my u).number) seen) low (returns-in-Nothing-clause-empty g c head is_empty).known
-    (ap (λ (u : Known). (my u).part.calls) seen)
+    let came = c.dequeue-found.ensures.last c.in-Nothing.drawn (c.in-Err.is ∙ ap (λ w. Err w) c.in-Nothing.is) in
+    let here = head_reached key.setup (opening_of contents key.given.value.items) _ (my v) v.numbers r head came low
+    (returns-in-Nothing-clause-empty g c head is).known in
+    let of_seat : (last : LastStep key.setup (opening_of contents key.given.value.items) (my v).number c.args.seat.now.calls (my v).part.calls)
+    × (head ≤ last.next.cells.head r) =
+    subst (λ (calls : List Ended). (last : LastStep key.setup (opening_of contents key.given.value.items) (my v).number calls (my v).part.calls)
+    × (head ≤ last.next.cells.head r)) (ap (λ (s : Standing g.row.B.Denot). s.calls) c.seat.view_is) here in
+    subst (λ (i : Identity g.row.B.Denot). (last : LastStep i.setup (opening_of contents i.given) (my v).number c.args.seat.now.calls (my v).part.calls)
+    × (head ≤ last.next.cells.head r)) c.self.view_is of_seat

@@ -2,10 +2,8 @@ use Rattle.std.proofs.Common.{List, length, take, refl, sym, ◌∙◌, ap, subs
 use Rattle.scq_band.specs.declared.numbers.Numbers.{Numbers}
 use Rattle.scq_band.specs.Numbers.{joined}
 use Rattle.scq_band.specs.Known.{both_of}
-use Rattle.scq_band.specs.RunSeen.{both_seen}
 use Rattle.scq_band.specs.Standing.{Standing, NoteStanding}
-use Rattle.scq_band.specs.Kept.{AreSmall, standing_of, note_with, note_sight_with, seen_in}
-use Rattle.scq_band.specs.Sights.{known_me, both_sight}
+use Rattle.scq_band.specs.Kept.{AreSmall, standing_of, note_with}
 use Rattle.scq_band.proofs.Views.{joined_length}
 use Rattle.scq_band.proofs.Keeping.{kept_still}
 use Rattle.scq_band.proofs.Joining.{small_joined, take_length}
@@ -20,17 +18,16 @@ slice_bounds-join_all-end g c = take_length c.note.inside.rings c.note.inside.nu
 pub invariant_of-seat : goal.invariant_of-seat
 invariant_of-seat g c =
     let key = c.seat.inside.key.value in
-    let me = known_me c.seat.inside.token.me in
+    let me = c.seat.inside.token.me in
     let theirs = take c.note.inside.rings c.note.inside.numbers in
-    let note = note_sight_with (seen_in c.note.inside.badge.views) theirs in
     let mine = c.seat.inside.numbers.items in
     let new = c.join_all.ensures.joined in
-    kept_still g.B.Buffer.IsSameBuffer key (known_me c.learn.new.token.me) me.0 (both_of me.0 (note_with theirs)) me.1 c.seat.inside.hand.items _ _ mine
+    kept_still g.B.Buffer.IsSameBuffer key c.learn.new.token.me me.0 (both_of me.0 (note_with theirs)) me.1 c.seat.inside.hand.items _ _ mine
     c.join_all.new.numbers.items _ _ c.seat.invariant refl (record { seats = c.seat.invariant.alone.seats; out = c.seat.invariant.alone.out })
     c.seat.invariant.idle refl (new ∙ ap (λ (ns : List Numbers). joined ns theirs) c.seat.invariant.numbers)
     (ap length new ∙ joined_length mine theirs)
     (subst AreSmall (sym new) (small_joined mine theirs c.seat.invariant.small c.note.invariant.small)) c.seat.invariant.spent
-    (ap known_me (c.learn.ensures.learned note c.note.invariant.is))
+    (c.learn.ensures.learned (note_with theirs) c.note.invariant.is)
 
 pub returns : goal.returns
 returns g c =
@@ -38,11 +35,8 @@ returns g c =
     let table = c.seat.inside.token.table_id in
     let me = c.seat.inside.token.me in
     let theirs = take c.note.inside.rings c.note.inside.numbers in
-    let note = note_sight_with (seen_in c.note.inside.badge.views) theirs in
-    let raised : Standing g.row.B.Denot → Standing g.row.B.Denot =
-    λ s. record s { numbers = joined s.numbers theirs; seen = both_seen s.seen note.seen } in
-    ap (standing_of c.learn.new.token.table_id key) (c.learn.ensures.learned note c.note.invariant.is)
-    ∙ ap (λ t. standing_of t key (both_sight me.0 note, me.1)) c.learn.ensures.own.0
+    let raised : Standing g.row.B.Denot → Standing g.row.B.Denot = λ s. record s { numbers = joined s.numbers theirs } in
+    ap (standing_of c.learn.new.token.table_id key) (c.learn.ensures.learned (note_with theirs) c.note.invariant.is)
+    ∙ ap (λ t. standing_of t key (both_of me.0 (note_with theirs), me.1)) c.learn.ensures.own.0
     ∙ ap raised c.seat.view_is
-    ∙ ap (λ (n : NoteStanding). record c.args.seat.now { numbers = joined c.args.seat.now.numbers n.numbers; seen = both_seen c.args.seat.now.seen n.seen })
-    c.note.view_is
+    ∙ ap (λ (n : NoteStanding). record c.args.seat.now { numbers = joined c.args.seat.now.numbers n.numbers }) c.note.view_is

@@ -1,8 +1,7 @@
 use Rattle.std.proofs.Common.{◌≡◌, ℕ, List, ◌∷◌, sym, ◌∙◌, ap, subst}
 use Rattle.std.specs.Prelude.{Some, None, Option}
-use Rattle.atomic_table.specs.Table.{Me, rest}
+use Rattle.atomic_table.specs.Table.{rest}
 use Rattle.scq_band.specs.declared.slot.Slot.{Slot}
-use Rattle.scq_band.specs.Sights.{Sight, known_in, known_me}
 use Rattle.scq_band.specs.Standing.{Identity, Standing, in_hand, IsAsGiven}
 use Rattle.scq_band.proofs.Exchanging.{held, brought, kept_lent, same_slot, lent_standing}
 use Rattle.scq_band.proofs.band.Band.lift.Goals as goal
@@ -11,7 +10,7 @@ pub bring_to_front-requires-clause-held : goal.bring_to_front-requires-clause-he
 bring_to_front-requires-clause-held g c κs within =
     let Same = g.B.Buffer.IsSameBuffer in
     let key = c.seat.inside.key.value in
-    let me = known_me c.seat.inside.token.me in
+    let me = c.seat.inside.token.me in
     let is : in_hand _ c.args.index ≡ Some (Some c.requires.laid.0) =
     ap (λ (s : Standing g.row.B.Denot). in_hand s.hand c.args.index) c.seat.view_is ∙ c.requires.laid.1 in
     held Same key me c.seat.inside.hand.items _ _ _ c.args.index (Some c.requires.laid.0) c.seat.invariant is
@@ -20,7 +19,7 @@ pub exchange-buffer-requires : goal.exchange-buffer-requires
 exchange-buffer-requires g c =
     let Same = g.B.Buffer.IsSameBuffer in
     let key = c.seat.inside.key.value in
-    let me = known_me c.seat.inside.token.me in
+    let me = c.seat.inside.token.me in
     let is : in_hand _ c.args.index ≡ Some (Some c.requires.laid.0) =
     ap (λ (s : Standing g.row.B.Denot). in_hand s.hand c.args.index) c.seat.view_is ∙ c.requires.laid.1 in
     let ms = c.bring_to_front.new.token.me.1 in
@@ -36,7 +35,7 @@ pub unreachable-requires : goal.unreachable-requires
 unreachable-requires g c =
     let Same = g.B.Buffer.IsSameBuffer in
     let key = c.seat.inside.key.value in
-    let me = known_me c.seat.inside.token.me in
+    let me = c.seat.inside.token.me in
     let is : in_hand _ c.args.index ≡ Some (Some c.requires.laid.0) =
     ap (λ (s : Standing g.row.B.Denot). in_hand s.hand c.args.index) c.seat.view_is ∙ c.requires.laid.1 in
     let ms = c.bring_to_front.new.token.me.1 in
@@ -51,25 +50,23 @@ pub invariant_of-seat : goal.invariant_of-seat
 invariant_of-seat g c =
     let Same = g.B.Buffer.IsSameBuffer in
     let key = c.seat.inside.key.value in
-    let me = known_me c.seat.inside.token.me in
+    let me = c.seat.inside.token.me in
     let is : in_hand _ c.args.index ≡ Some (Some c.requires.laid.0) =
     ap (λ (s : Standing g.row.B.Denot). in_hand s.hand c.args.index) c.seat.view_is ∙ c.requires.laid.1 in
     let ms = c.bring_to_front.new.token.me.1 in
     let turned = c.bring_to_front.ensures.turned in
     let b = brought Same key me ms c.seat.inside.hand.items _ _ _ c.args.index (Some c.requires.laid.0) c.seat.invariant turned
     c.bring_to_front.ensures.first is in
-    kept_lent Same key me (known_me c.exchange-buffer.new.seat.me) c.bring_to_front.new.token.me.0.known ms c.seat.inside.hand.items
-    c.bring_to_front.new.hand.items _ _ _ _
+    kept_lent Same key me c.exchange-buffer.new.seat.me c.bring_to_front.new.token.me.0 ms c.seat.inside.hand.items c.bring_to_front.new.hand.items _ _ _ _
     c.args.index (Some c.requires.laid.0)
-    (record { buffer = None }) c.seat.invariant (ap known_in c.bring_to_front.ensures.own.2) turned c.bring_to_front.ensures.order
-    c.bring_to_front.ensures.room b
-    (λ x is. absurd (cc)) (ap known_me c.exchange-buffer.ensures.3)
+    (record { buffer = None }) c.seat.invariant c.bring_to_front.ensures.own.2 turned c.bring_to_front.ensures.order c.bring_to_front.ensures.room b
+    (λ x is. absurd (cc)) c.exchange-buffer.ensures.3
 
 pub returns-clause-buffer : goal.returns-clause-buffer
 returns-clause-buffer g c =
     let Same = g.B.Buffer.IsSameBuffer in
     let key = c.seat.inside.key.value in
-    let me = known_me c.seat.inside.token.me in
+    let me = c.seat.inside.token.me in
     let is : in_hand _ c.args.index ≡ Some (Some c.requires.laid.0) =
     ap (λ (s : Standing g.row.B.Denot). in_hand s.hand c.args.index) c.seat.view_is ∙ c.requires.laid.1 in
     let ms = c.bring_to_front.new.token.me.1 in
@@ -84,7 +81,7 @@ pub returns-clause-given : goal.returns-clause-given
 returns-clause-given g c =
     let Same = g.B.Buffer.IsSameBuffer in
     let key = c.seat.inside.key.value in
-    let me = known_me c.seat.inside.token.me in
+    let me = c.seat.inside.token.me in
     let is : in_hand _ c.args.index ≡ Some (Some c.requires.laid.0) =
     ap (λ (s : Standing g.row.B.Denot). in_hand s.hand c.args.index) c.seat.view_is ∙ c.requires.laid.1 in
     let ms = c.bring_to_front.new.token.me.1 in
@@ -101,15 +98,13 @@ pub returns-clause-lifted : goal.returns-clause-lifted
 returns-clause-lifted g c =
     let Same = g.B.Buffer.IsSameBuffer in
     let key = c.seat.inside.key.value in
-    let me = known_me c.seat.inside.token.me in
+    let me = c.seat.inside.token.me in
     let is : in_hand _ c.args.index ≡ Some (Some c.requires.laid.0) =
     ap (λ (s : Standing g.row.B.Denot). in_hand s.hand c.args.index) c.seat.view_is ∙ c.requires.laid.1 in
     let ms = c.bring_to_front.new.token.me.1 in
     let turned = c.bring_to_front.ensures.turned in
     let b = brought Same key me ms c.seat.inside.hand.items _ _ _ c.args.index (Some c.requires.laid.0) c.seat.invariant turned
     c.bring_to_front.ensures.first is in
-    lent_standing Same c.seat.inside.token.me.0.seen c.exchange-buffer.new.seat.me.0.seen c.seat.inside.token.table_id c.exchange-buffer.new.seat.table_id
-    key me (known_me c.exchange-buffer.new.seat.me) c.bring_to_front.new.token.me.0.known ms
+    lent_standing Same c.seat.inside.token.table_id c.exchange-buffer.new.seat.table_id key me c.exchange-buffer.new.seat.me c.bring_to_front.new.token.me.0 ms
     key.given.value.items c.args.index (Some c.requires.laid.0) (record { buffer = None }) c.args.seat.now c.seat.view_is
-    (ap (λ (m : Me (Slot g.row.B.Denot) Sight). m.0.seen) c.exchange-buffer.ensures.3 ∙ ap (λ (v : Sight). v.seen) c.bring_to_front.ensures.own.2)
-    (c.exchange-buffer.ensures.0 ∙ c.bring_to_front.ensures.own.0) (ap known_in c.bring_to_front.ensures.own.2) b (ap known_me c.exchange-buffer.ensures.3)
+    (c.exchange-buffer.ensures.0 ∙ c.bring_to_front.ensures.own.0) c.bring_to_front.ensures.own.2 b c.exchange-buffer.ensures.3

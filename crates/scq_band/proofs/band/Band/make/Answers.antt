@@ -1,5 +1,4 @@
-use Rattle.std.proofs.Common.{◌≡◌, List, [], All, map, length, sym, ◌∙◌, ap, subst, arith}
-use Rattle.std.specs.Prelude.{None}
+use Rattle.std.proofs.Common.{◌≡◌, List, All, map, length, sym, ◌∙◌, ap, subst, arith}
 use Rattle.scq_word.specs.Sizes.{n_of}
 use Rattle.atomic_table.specs.Table.{opening}
 use Rattle.scq_band.specs.Buffers.{LiesIn, opening_of}
@@ -7,7 +6,6 @@ use Rattle.scq_band.specs.Shown.{Shown, first_view}
 use Rattle.scq_band.specs.Homes.{full_slot}
 use Rattle.scq_band.specs.Making.{lifted, AllLaid}
 use Rattle.scq_band.proofs.Opening.{opens}
-use Rattle.scq_band.proofs.RunShown.{opens_run}
 use Rattle.scq_band.specs.Standing.{Standing, first_standings}
 use Rattle.scq_band.specs.Kept.{identity_of}
 use Rattle.scq_band.proofs.Starting.{stand_all, length-map, first_own}
@@ -23,13 +21,11 @@ new-requires g c =
     let itself = (g.met.B.Buffer g.world.𝓛 g.world.𝓜 g.world.𝓡 ((λ s x. x), (λ x. x), (λ x. x), (λ x. x))).same_as_itself in
     let all : length bs ≡ n_of k.order = let whole = c.args.buffers.ok in let many = c.requires in omega (arith, whole, many) in
     let memory = c.in-Ok.ensures in
-    let base : Shown (LiesIn contents Same bs) (opening_of contents bs) k (λ k. None) [] (opening c.in-Ok.memory.words.items (map full_slot bs)
-    (first_view k)) =
+    let base : Shown (LiesIn contents Same bs) (opening_of contents bs) k (opening c.in-Ok.memory.words.items (map full_slot bs) (first_view k)) =
     opens (LiesIn contents Same bs) k c.in-Ok.memory.words.items (map full_slot bs) (map contents bs) memory.count memory.each_word
     (length-map contents full_slot bs ∙ all)
     (length-map contents contents bs ∙ all) (λ j low. stand_all contents Same itself bs j (omega (arith, all, low))) in
-    rw (c.of.ensures, c.as_slice.ensures.value, c.lay_all.ensures.slots) (opens_run (LiesIn contents Same bs) k c.in-Ok.memory.words.items (map full_slot bs)
-    (map contents bs) base)
+    rw (c.of.ensures, c.as_slice.ensures.value, c.lay_all.ensures.slots) base
 
 pub lift_all-requires-clause-laid : goal.lift_all-requires-clause-laid
 lift_all-requires-clause-laid g c =

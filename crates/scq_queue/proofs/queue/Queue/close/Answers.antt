@@ -3,13 +3,12 @@ use Rattle.std.specs.Prelude.{All, Option}
 use Rattle.scq_core.specs.declared.ended.Ended.{Ended}
 use Rattle.scq_band.specs.declared.numbers.Numbers.{Numbers}
 use Rattle.scq_band.specs.Buffers.{opening_of}
-use Rattle.scq_band.specs.RunSeen.{Caller}
 use Rattle.scq_band.specs.Standing.{Identity, Standing}
 use Rattle.scq_band.specs.Closing as band
 use Rattle.scq_queue.specs.Passes.{PassStanding, HeldStanding}
-use Rattle.scq_queue.specs.Closing.{IsBalance, IsAllThere, records_of, all_held, callers_of}
+use Rattle.scq_queue.specs.Closing.{IsBalance, IsAllThere, records_of, all_held}
 use Rattle.scq_queue.specs.Kept.{seat_of, value_of, IsGiven}
-use Rattle.scq_queue.proofs.Ends.{calls_are, known_are, spent_are, hands_are, takes_are_sends, none_sent_twice, none_taken_twice, sends_passed, balance_of, retired_where_told, retirees_have, seats_own, are_lifted, all_is_there, callers_are}
+use Rattle.scq_queue.proofs.Ends.{calls_are, known_are, spent_are, hands_are, takes_are_sends, none_sent_twice, none_taken_twice, sends_passed, balance_of, retired_where_told, seats_own, are_lifted, all_is_there}
 use Rattle.scq_band.proofs.SpentLimits.{none_spent_within}
 use Rattle.scq_queue.proofs.queue.Queue.close.Goals as goal
 
@@ -27,24 +26,6 @@ close-buffers-requires-clause-out g c κs within =
     (subst (λ (ss : List (Standing g.row.B.Denot)). band.AreTheLifted Same c.self.inside.band ss (map value_of c.args.held.items)) (sym c.unpack.ensures.seats)
     (subst (λ (q : Identity g.row.B.Denot). band.AreTheLifted Same q (map seat_of c.args.passes.items) (map value_of c.args.held.items)) (sym c.self.view_is)
     lifted))
-
-pub returns-clause-run : goal.returns-clause-run
-returns-clause-run g c =
-    let contents = g.B.Buffer.contents in
-    let bytes = map contents c.close-buffers.result.buffers.items in
-    let k = c.self.inside.band in
-    let o = opening_of contents k.given in
-    let passes = c.args.passes.items in
-    let seats = c.unpack.ensures.seats in
-    let calls = ap (λ (ss : List (Standing g.row.B.Denot)). band.all_calls ss) seats ∙ calls_are passes in
-    let hands = ap (λ (ss : List (Standing g.row.B.Denot)). band.all_hands ss) seats ∙ hands_are passes in
-    let callers = callers_are passes c.unpack.new.seats.items seats in
-    subst (λ (q : Identity g.row.B.Denot). band.IsOneRunToTheEnd q.setup (opening_of contents q.given) (callers_of passes) (records_of passes)
-    (all_held passes) bytes) c.self.view_is
-    (subst (λ (l : List Caller). band.IsOneRunToTheEnd k.setup o l (records_of passes) (all_held passes) bytes) callers
-    (subst (λ (hs : List (List ℕ)). band.IsOneRunToTheEnd k.setup o (band.callers_of c.unpack.new.seats.items) (records_of passes) hs bytes) hands
-    (subst (λ (rs : List (List Ended)). band.IsOneRunToTheEnd k.setup o (band.callers_of c.unpack.new.seats.items) rs
-    (band.all_hands c.unpack.new.seats.items) bytes) calls c.close-buffers.ensures.run)))
 
 pub returns-clause-takes : goal.returns-clause-takes
 returns-clause-takes g c =
@@ -141,9 +122,3 @@ returns-clause-gate g c =
     let k = c.self.inside.band in
     retired_where_told k.setup (opening_of g.B.Buffer.contents k.given) c.args.passes.items
     (subst (λ (ss : List (Standing g.row.B.Denot)). band.AllRetiredWhereClosed ss) c.unpack.ensures.seats c.close-buffers.ensures.gate)
-
-pub returns-clause-retirees : goal.returns-clause-retirees
-returns-clause-retirees g c =
-    let k = c.self.inside.band in
-    retirees_have k.setup (opening_of g.B.Buffer.contents k.given) c.args.passes.items
-    (subst (λ (ss : List (Standing g.row.B.Denot)). band.EachSeenRetiredHas ss) c.unpack.ensures.seats c.close-buffers.ensures.retirees)

@@ -1,9 +1,7 @@
 use Rattle.std.proofs.Common.{◌≤◌, true, refl, ◌∙◌, ap, subst}
 use Rattle.scq_core.specs.declared.ended.Ended.TheVariants.{Spent}
-use Rattle.scq_band.specs.Buffers.{opening_of}
-use Rattle.scq_band.specs.RunSeen.{IsCallInRun}
 use Rattle.scq_band.specs.Standing.{Identity}
-use Rattle.scq_queue.specs.Passes.{PassStanding, lists_of, after_spent_put, having_seen, caller_of}
+use Rattle.scq_queue.specs.Passes.{PassStanding, lists_of, after_spent_put}
 use Rattle.scq_queue.specs.Kept.{pass_over, heads_of}
 use Rattle.scq_queue.proofs.PassSteps.{given_adds, spent_adds, same_lists, keeps_same, refused_spent, given_back}
 use Rattle.scq_queue.proofs.queue.Queue.give_back.Goals as goal
@@ -30,7 +28,7 @@ returns-in-Err-clause-spent g c none =
     let heads = heads_of c.pass.inside.fulls.value in
     let ticket = c.in-Err.refused.1.ticket in
     let drew = c.in-Err.ensures.spent (ap (λ (p : PassStanding g.row.B.Denot). p.spent) c.pass.view_is ∙ none) in (
-      drew.0 heads ∙ ap (λ (p : PassStanding g.row.B.Denot). having_seen c.put.new.seat.seen (after_spent_put 0 ticket p)) c.pass.view_is,
+      drew.0 heads ∙ ap (λ (p : PassStanding g.row.B.Denot). after_spent_put 0 ticket p) c.pass.view_is,
       subst (λ (q : Identity g.row.B.Denot). q.setup.limit ≤ ticket) c.self.view_is drew.1,
     )
 
@@ -53,25 +51,3 @@ returns-clause-lists g c =
     same_lists (pass_over c.pass.inside.seat heads) (pass_over c.put.new.seat heads) _ (given_adds c.in-Ok.place (g.B.Buffer.contents c.args.held.buffer))
     (ap (λ (p : PassStanding g.row.B.Denot). p.calls) (c.in-Ok.ensures.put heads)) refl
     ∙ ap (λ (p : PassStanding g.row.B.Denot). lists_of p) c.pass.view_is
-
-pub returns-clause-run : goal.returns-clause-run
-returns-clause-run g c fresh =
-    let contents = g.B.Buffer.contents in
-    let heads = heads_of c.pass.inside.fulls.value in
-    let later = pass_over c.put.new.seat heads in
-    let none = ap (λ (p : PassStanding g.row.B.Denot). p.spent) c.pass.view_is ∙ fresh in
-    subst (λ (q : Identity g.row.B.Denot). IsCallInRun q.setup (opening_of contents q.given) (caller_of c.args.pass.now) (caller_of later)) c.self.view_is
-    (subst (λ (p : PassStanding g.row.B.Denot). IsCallInRun c.self.inside.band.setup (opening_of contents c.self.inside.band.given) (caller_of p)
-    (caller_of later)) c.pass.view_is
-    (c.in-Ok.ensures.run none))
-
-pub returns-in-Err-clause-run : goal.returns-in-Err-clause-run
-returns-in-Err-clause-run g c fresh =
-    let contents = g.B.Buffer.contents in
-    let heads = heads_of c.pass.inside.fulls.value in
-    let later = pass_over c.put.new.seat heads in
-    let none = ap (λ (p : PassStanding g.row.B.Denot). p.spent) c.pass.view_is ∙ fresh in
-    subst (λ (q : Identity g.row.B.Denot). IsCallInRun q.setup (opening_of contents q.given) (caller_of c.args.pass.now) (caller_of later)) c.self.view_is
-    (subst (λ (p : PassStanding g.row.B.Denot). IsCallInRun c.self.inside.band.setup (opening_of contents c.self.inside.band.given) (caller_of p)
-    (caller_of later)) c.pass.view_is
-    (c.in-Err.ensures.run none))

@@ -3,11 +3,9 @@ use Rattle.std.specs.Prelude.{Err}
 use Rattle.scq_core.specs.declared.ended.Ended.TheVariants.{Spent}
 use Rattle.scq_band.specs.declared.calls.DeqRefusal.{DeqRefusal}
 use Rattle.scq_band.specs.Buffers.{opening_of}
-use Rattle.scq_band.specs.RunSeen.{Caller, IsCallInRun, WasEmptyInRun}
-use Rattle.scq_band.specs.Standing.{Identity}
-use Rattle.scq_band.specs.Standing as band
+use Rattle.scq_band.specs.Standing.{Identity, HeadWasPast}
 use Rattle.scq_queue.specs.Lists.{with_full}
-use Rattle.scq_queue.specs.Passes.{PassStanding, lists_of, caller_of, having_seen, after_spent_get}
+use Rattle.scq_queue.specs.Passes.{PassStanding, lists_of, after_spent_get}
 use Rattle.scq_queue.specs.Kept.{pass_over, heads_of}
 use Rattle.scq_queue.proofs.PassSteps.{lent_adds, spent_adds, same_lists, one_full, keeps_same, keeps_full, refused_spent, lent}
 use Rattle.scq_queue.proofs.queue.Queue.lend.Goals as goal
@@ -48,16 +46,17 @@ returns-in-Empty-clause-full_lists g c head is =
     ∙ ap (λ (n : ℕ). with_full n (lists_of (pass_over c.pass.inside.seat heads))) same
     ∙ ap (λ (p : PassStanding g.row.B.Denot). with_full head (lists_of p)) c.pass.view_is
 
-pub returns-in-Empty-clause-full_in_run : goal.returns-in-Empty-clause-full_in_run
-returns-in-Empty-clause-full_in_run g c head is =
+pub returns-in-Empty-clause-head : goal.returns-in-Empty-clause-head
+returns-in-Empty-clause-head g c head is =
     let opening = λ (given : List g.row.B.Denot). opening_of g.B.Buffer.contents given in
-    let of = c.self.inside.band in
-    let later : Caller = band.caller_of c.get.new.seat in
+    let band = c.self.inside.band in
+    let before = c.pass.inside.seat in
+    let later = c.get.new.seat in
     let same : c.in-Empty.head ≡ head = cc in
-    let was = c.in-Err.ensures.empty_in_run c.in-Empty.head (ap (λ (r : DeqRefusal). Err r) c.in-Empty.is) in
-    subst (λ (q : Identity g.row.B.Denot). WasEmptyInRun q.setup (opening q.given) 0 head (caller_of c.args.pass.now) later) c.self.view_is
-    (subst (λ (p : PassStanding g.row.B.Denot). WasEmptyInRun of.setup (opening of.given) 0 head (caller_of p) later) c.pass.view_is
-    (subst (λ (n : ℕ). WasEmptyInRun of.setup (opening of.given) 0 n (band.caller_of c.pass.inside.seat) later) same was))
+    let was = c.in-Err.ensures.head c.in-Empty.head (ap (λ (r : DeqRefusal). Err r) c.in-Empty.is) in
+    subst (λ (q : Identity g.row.B.Denot). HeadWasPast q.setup (opening q.given) later.number c.args.pass.now.calls later.calls 0 head) c.self.view_is
+    (subst (λ (p : PassStanding g.row.B.Denot). HeadWasPast band.setup (opening band.given) later.number p.calls later.calls 0 head) c.pass.view_is
+    (subst (λ (n : ℕ). HeadWasPast band.setup (opening band.given) later.number before.calls later.calls 0 n) same was))
 
 pub invariant_of-pass-in-Spent : goal.invariant_of-pass-in-Spent
 invariant_of-pass-in-Spent g c =
@@ -84,41 +83,8 @@ returns-in-Spent-clause-spent g c ticket is none =
     let same : c.in-Spent.ticket ≡ ticket = cc in
     let drew = c.in-Err.ensures.spent c.in-Spent.ticket (ap (λ (r : DeqRefusal). Err r) c.in-Spent.is)
     (ap (λ (p : PassStanding g.row.B.Denot). p.spent) c.pass.view_is ∙ none) in (
-      drew.0 heads ∙ ap (λ (p : PassStanding g.row.B.Denot). having_seen c.get.new.seat.seen (after_spent_get 0 c.in-Spent.ticket p)) c.pass.view_is
-          ∙ ap (λ (n : ℕ). having_seen c.get.new.seat.seen (after_spent_get 0 n c.args.pass.now)) same,
+      drew.0 heads ∙ ap (λ (p : PassStanding g.row.B.Denot). after_spent_get 0 c.in-Spent.ticket p) c.pass.view_is
+          ∙ ap (λ (n : ℕ). after_spent_get 0 n c.args.pass.now) same,
       subst (λ (n : ℕ). c.args.self.now.setup.limit ≤ n) same
           (subst (λ (q : Identity g.row.B.Denot). q.setup.limit ≤ c.in-Spent.ticket) c.self.view_is drew.1),
     )
-
-pub returns-in-Ok-clause-run : goal.returns-in-Ok-clause-run
-returns-in-Ok-clause-run g c fresh =
-    let contents = g.B.Buffer.contents in
-    let heads = heads_of c.pass.inside.fulls.value in
-    let later = pass_over c.get.new.seat heads in
-    let none = ap (λ (p : PassStanding g.row.B.Denot). p.spent) c.pass.view_is ∙ fresh in
-    subst (λ (q : Identity g.row.B.Denot). IsCallInRun q.setup (opening_of contents q.given) (caller_of c.args.pass.now) (caller_of later)) c.self.view_is
-    (subst (λ (p : PassStanding g.row.B.Denot). IsCallInRun c.self.inside.band.setup (opening_of contents c.self.inside.band.given) (caller_of p)
-    (caller_of later)) c.pass.view_is
-    (c.in-Ok.ensures.run none))
-
-pub returns-in-Empty-clause-run : goal.returns-in-Empty-clause-run
-returns-in-Empty-clause-run g c fresh =
-    let contents = g.B.Buffer.contents in
-    let heads = heads_of c.pass.inside.fulls.value in
-    let later = pass_over c.get.new.seat (heads_of c.once_more.new.fulls.value) in
-    let none = ap (λ (p : PassStanding g.row.B.Denot). p.spent) c.pass.view_is ∙ fresh in
-    subst (λ (q : Identity g.row.B.Denot). IsCallInRun q.setup (opening_of contents q.given) (caller_of c.args.pass.now) (caller_of later)) c.self.view_is
-    (subst (λ (p : PassStanding g.row.B.Denot). IsCallInRun c.self.inside.band.setup (opening_of contents c.self.inside.band.given) (caller_of p)
-    (caller_of later)) c.pass.view_is
-    (c.in-Err.ensures.run none))
-
-pub returns-in-Spent-clause-run : goal.returns-in-Spent-clause-run
-returns-in-Spent-clause-run g c fresh =
-    let contents = g.B.Buffer.contents in
-    let heads = heads_of c.pass.inside.fulls.value in
-    let later = pass_over c.get.new.seat heads in
-    let none = ap (λ (p : PassStanding g.row.B.Denot). p.spent) c.pass.view_is ∙ fresh in
-    subst (λ (q : Identity g.row.B.Denot). IsCallInRun q.setup (opening_of contents q.given) (caller_of c.args.pass.now) (caller_of later)) c.self.view_is
-    (subst (λ (p : PassStanding g.row.B.Denot). IsCallInRun c.self.inside.band.setup (opening_of contents c.self.inside.band.given) (caller_of p)
-    (caller_of later)) c.pass.view_is
-    (c.in-Err.ensures.run none))

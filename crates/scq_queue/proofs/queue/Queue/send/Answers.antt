@@ -1,10 +1,8 @@
 use Rattle.std.proofs.Common.{ℕ, suc, ◌+◌, ◌≤◌, true, [], ◌∷◌, ◌++◌, refl, ◌∙◌, ap, subst, add-one}
 use Rattle.scq_core.specs.declared.ended.Ended.TheVariants.{Done, Spent}
-use Rattle.scq_band.specs.Buffers.{opening_of}
-use Rattle.scq_band.specs.RunSeen.{IsCallInRun}
 use Rattle.scq_band.specs.Standing.{Identity}
 use Rattle.scq_queue.specs.Lists.{with_send}
-use Rattle.scq_queue.specs.Passes.{PassStanding, lists_of, caller_of, having_seen, after_put, after_spent_put}
+use Rattle.scq_queue.specs.Passes.{PassStanding, lists_of, after_put, after_spent_put}
 use Rattle.scq_queue.specs.Kept.{pass_over, heads_of}
 use Rattle.scq_queue.proofs.PassSteps.{spent_adds, one_send, keeps_sent, refused_spent}
 use Rattle.scq_queue.proofs.queue.Queue.send.Goals as goal
@@ -23,9 +21,8 @@ returns-in-Ok-clause-sent g c =
     let heads = heads_of c.pass.inside.fulls.value in
     let w = g.B.Buffer.contents c.args.held.buffer in
     c.in-Ok.ensures.put heads
-    ∙ ap (λ (r : ℕ). having_seen c.put.new.seat.seen (after_put r c.args.held.index c.in-Ok.place w (pass_over c.pass.inside.seat heads)))
-    (add-one c.args.topic)
-    ∙ ap (λ (p : PassStanding g.row.B.Denot). having_seen c.put.new.seat.seen (after_put (suc c.args.topic) c.args.held.index c.in-Ok.place w p)) c.pass.view_is
+    ∙ ap (λ (r : ℕ). after_put r c.args.held.index c.in-Ok.place w (pass_over c.pass.inside.seat heads)) (add-one c.args.topic)
+    ∙ ap (λ (p : PassStanding g.row.B.Denot). after_put (suc c.args.topic) c.args.held.index c.in-Ok.place w p) c.pass.view_is
 
 pub returns-in-Ok-clause-lists : goal.returns-in-Ok-clause-lists
 returns-in-Ok-clause-lists g c =
@@ -60,29 +57,7 @@ returns-in-Err-clause-spent g c none =
     let heads = heads_of c.pass.inside.fulls.value in
     let ticket = c.in-Err.refused.1.ticket in
     let drew = c.in-Err.ensures.spent (ap (λ (p : PassStanding g.row.B.Denot). p.spent) c.pass.view_is ∙ none) in (
-      drew.0 heads ∙ ap (λ (r : ℕ). having_seen c.put.new.seat.seen (after_spent_put r ticket (pass_over c.pass.inside.seat heads))) (add-one c.args.topic)
-          ∙ ap (λ (p : PassStanding g.row.B.Denot). having_seen c.put.new.seat.seen (after_spent_put (suc c.args.topic) ticket p)) c.pass.view_is,
+      drew.0 heads ∙ ap (λ (r : ℕ). after_spent_put r ticket (pass_over c.pass.inside.seat heads)) (add-one c.args.topic)
+          ∙ ap (λ (p : PassStanding g.row.B.Denot). after_spent_put (suc c.args.topic) ticket p) c.pass.view_is,
       subst (λ (q : Identity g.row.B.Denot). q.setup.limit ≤ ticket) c.self.view_is drew.1,
     )
-
-pub returns-in-Ok-clause-run : goal.returns-in-Ok-clause-run
-returns-in-Ok-clause-run g c fresh =
-    let contents = g.B.Buffer.contents in
-    let heads = heads_of c.pass.inside.fulls.value in
-    let later = pass_over c.put.new.seat heads in
-    let none = ap (λ (p : PassStanding g.row.B.Denot). p.spent) c.pass.view_is ∙ fresh in
-    subst (λ (q : Identity g.row.B.Denot). IsCallInRun q.setup (opening_of contents q.given) (caller_of c.args.pass.now) (caller_of later)) c.self.view_is
-    (subst (λ (p : PassStanding g.row.B.Denot). IsCallInRun c.self.inside.band.setup (opening_of contents c.self.inside.band.given) (caller_of p)
-    (caller_of later)) c.pass.view_is
-    (c.in-Ok.ensures.run none))
-
-pub returns-in-Err-clause-run : goal.returns-in-Err-clause-run
-returns-in-Err-clause-run g c fresh =
-    let contents = g.B.Buffer.contents in
-    let heads = heads_of c.pass.inside.fulls.value in
-    let later = pass_over c.put.new.seat heads in
-    let none = ap (λ (p : PassStanding g.row.B.Denot). p.spent) c.pass.view_is ∙ fresh in
-    subst (λ (q : Identity g.row.B.Denot). IsCallInRun q.setup (opening_of contents q.given) (caller_of c.args.pass.now) (caller_of later)) c.self.view_is
-    (subst (λ (p : PassStanding g.row.B.Denot). IsCallInRun c.self.inside.band.setup (opening_of contents c.self.inside.band.given) (caller_of p)
-    (caller_of later)) c.pass.view_is
-    (c.in-Err.ensures.run none))

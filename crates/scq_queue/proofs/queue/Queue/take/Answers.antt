@@ -4,11 +4,9 @@ use Rattle.scq_core.specs.declared.ended.Ended.TheVariants.{Got, Nothing, Spent}
 use Rattle.scq_band.specs.declared.calls.DeqRefusal.{DeqRefusal}
 use Rattle.scq_band.specs.declared.calls.DeqRefusal.TheVariants.{Empty, Spent as DrewSpent}
 use Rattle.scq_band.specs.Buffers.{opening_of}
-use Rattle.scq_band.specs.RunSeen.{Caller, IsCallInRun, WasEmptyInRun}
-use Rattle.scq_band.specs.Standing.{Identity}
-use Rattle.scq_band.specs.Standing as band
+use Rattle.scq_band.specs.Standing.{Identity, HeadWasPast}
 use Rattle.scq_queue.specs.Lists.{with_take}
-use Rattle.scq_queue.specs.Passes.{PassStanding, HasGot, FoundNothing, lists_of, caller_of, having_seen, after_spent_get}
+use Rattle.scq_queue.specs.Passes.{PassStanding, HasGot, FoundNothing, lists_of, after_spent_get}
 use Rattle.scq_queue.specs.Kept.{pass_over, heads_of}
 use Rattle.scq_queue.proofs.PassSteps.{empty_adds, spent_adds, same_lists, one_take, keeps_same, keeps_taken, refused_spent}
 use Rattle.scq_queue.proofs.queue.Queue.take.Goals as goal
@@ -41,20 +39,20 @@ returns-in-Err-Empty-clause-empty g c head is =
     (subst (λ (p : PassStanding g.row.B.Denot). FoundNothing (suc c.args.topic) c.in-Err-Empty.head p later) c.pass.view_is
     (subst (λ (r : ℕ). FoundNothing r c.in-Err-Empty.head (pass_over c.pass.inside.seat heads) later) (add-one c.args.topic) found))
 
-pub returns-in-Err-Empty-clause-empty_in_run : goal.returns-in-Err-Empty-clause-empty_in_run
-returns-in-Err-Empty-clause-empty_in_run g c head is =
+pub returns-in-Err-Empty-clause-head : goal.returns-in-Err-Empty-clause-head
+returns-in-Err-Empty-clause-head g c head is =
     let is_empty : c.in-Err-Empty.field-0 ≡ Empty c.in-Err-Empty.head = cc in
     let opening = λ (given : List g.row.B.Denot). opening_of g.B.Buffer.contents given in
-    let of = c.self.inside.band in
-    let before : Caller = band.caller_of c.pass.inside.seat in
-    let later : Caller = band.caller_of c.get.new.seat in
+    let band = c.self.inside.band in
+    let before = c.pass.inside.seat in
+    let later = c.get.new.seat in
     let ring = suc c.args.topic in
     let same : c.in-Err-Empty.head ≡ head = cc in
-    let was = c.in-Err-Empty.ensures.empty_in_run c.in-Err-Empty.head (ap (λ (r : DeqRefusal). Err r) is_empty) in
-    subst (λ (q : Identity g.row.B.Denot). WasEmptyInRun q.setup (opening q.given) ring head (caller_of c.args.pass.now) later) c.self.view_is
-    (subst (λ (p : PassStanding g.row.B.Denot). WasEmptyInRun of.setup (opening of.given) ring head (caller_of p) later) c.pass.view_is
-    (subst (λ (n : ℕ). WasEmptyInRun of.setup (opening of.given) ring n before later) same
-    (subst (λ (r : ℕ). WasEmptyInRun of.setup (opening of.given) r c.in-Err-Empty.head before later) (add-one c.args.topic) was)))
+    let was = c.in-Err-Empty.ensures.head c.in-Err-Empty.head (ap (λ (r : DeqRefusal). Err r) is_empty) in
+    subst (λ (q : Identity g.row.B.Denot). HeadWasPast q.setup (opening q.given) later.number c.args.pass.now.calls later.calls ring head) c.self.view_is
+    (subst (λ (p : PassStanding g.row.B.Denot). HeadWasPast band.setup (opening band.given) later.number p.calls later.calls ring head) c.pass.view_is
+    (subst (λ (n : ℕ). HeadWasPast band.setup (opening band.given) later.number before.calls later.calls ring n) same
+    (subst (λ (r : ℕ). HeadWasPast band.setup (opening band.given) later.number before.calls later.calls r c.in-Err-Empty.head) (add-one c.args.topic) was)))
 
 pub invariant_of-pass-in-Err-Spent : goal.invariant_of-pass-in-Err-Spent
 invariant_of-pass-in-Err-Spent g c =
@@ -82,13 +80,12 @@ returns-in-Err-Spent-clause-spent g c ticket is none =
     let is_spent : c.in-Err-Spent.field-0 ≡ DrewSpent c.in-Err-Spent.ticket = cc in
     let heads = heads_of c.pass.inside.fulls.value in
     let drawn = c.in-Err-Spent.ticket in
-    let later = pass_over c.get.new.seat heads in
     let same : drawn ≡ ticket = cc in
     let drew = c.in-Err-Spent.ensures.spent drawn (ap (λ (r : DeqRefusal). Err r) is_spent)
     (ap (λ (p : PassStanding g.row.B.Denot). p.spent) c.pass.view_is ∙ none) in (
-      drew.0 heads ∙ ap (λ (r : ℕ). having_seen later.seen (after_spent_get r drawn (pass_over c.pass.inside.seat heads))) (add-one c.args.topic)
-          ∙ ap (λ (p : PassStanding g.row.B.Denot). having_seen later.seen (after_spent_get (suc c.args.topic) drawn p)) c.pass.view_is
-          ∙ ap (λ (n : ℕ). having_seen later.seen (after_spent_get (suc c.args.topic) n c.args.pass.now)) same,
+      drew.0 heads ∙ ap (λ (r : ℕ). after_spent_get r drawn (pass_over c.pass.inside.seat heads)) (add-one c.args.topic)
+          ∙ ap (λ (p : PassStanding g.row.B.Denot). after_spent_get (suc c.args.topic) drawn p) c.pass.view_is
+          ∙ ap (λ (n : ℕ). after_spent_get (suc c.args.topic) n c.args.pass.now) same,
       subst (λ (n : ℕ). c.args.self.now.setup.limit ≤ n) same (subst (λ (q : Identity g.row.B.Denot). q.setup.limit ≤ drawn) c.self.view_is drew.1),
     )
 
@@ -117,36 +114,3 @@ returns-clause-lists g c =
     (ap (λ (p : PassStanding g.row.B.Denot). p.calls) (c.in-Ok.ensures.got heads).pass
     ∙ ap (λ (r : ℕ). c.pass.inside.seat.calls ++ Got r c.in-Ok.got.0 w ∷ []) (add-one c.args.topic)) refl
     ∙ ap (λ (p : PassStanding g.row.B.Denot). with_take c.args.topic c.in-Ok.got.0 w (lists_of p)) c.pass.view_is
-
-pub returns-in-Err-Empty-clause-run : goal.returns-in-Err-Empty-clause-run
-returns-in-Err-Empty-clause-run g c fresh =
-    let contents = g.B.Buffer.contents in
-    let heads = heads_of c.pass.inside.fulls.value in
-    let later = pass_over c.get.new.seat heads in
-    let none = ap (λ (p : PassStanding g.row.B.Denot). p.spent) c.pass.view_is ∙ fresh in
-    subst (λ (q : Identity g.row.B.Denot). IsCallInRun q.setup (opening_of contents q.given) (caller_of c.args.pass.now) (caller_of later)) c.self.view_is
-    (subst (λ (p : PassStanding g.row.B.Denot). IsCallInRun c.self.inside.band.setup (opening_of contents c.self.inside.band.given) (caller_of p)
-    (caller_of later)) c.pass.view_is
-    (c.in-Err-Empty.ensures.run none))
-
-pub returns-in-Err-Spent-clause-run : goal.returns-in-Err-Spent-clause-run
-returns-in-Err-Spent-clause-run g c fresh =
-    let contents = g.B.Buffer.contents in
-    let heads = heads_of c.pass.inside.fulls.value in
-    let later = pass_over c.get.new.seat heads in
-    let none = ap (λ (p : PassStanding g.row.B.Denot). p.spent) c.pass.view_is ∙ fresh in
-    subst (λ (q : Identity g.row.B.Denot). IsCallInRun q.setup (opening_of contents q.given) (caller_of c.args.pass.now) (caller_of later)) c.self.view_is
-    (subst (λ (p : PassStanding g.row.B.Denot). IsCallInRun c.self.inside.band.setup (opening_of contents c.self.inside.band.given) (caller_of p)
-    (caller_of later)) c.pass.view_is
-    (c.in-Err-Spent.ensures.run none))
-
-pub returns-clause-run : goal.returns-clause-run
-returns-clause-run g c fresh =
-    let contents = g.B.Buffer.contents in
-    let heads = heads_of c.pass.inside.fulls.value in
-    let later = pass_over c.get.new.seat heads in
-    let none = ap (λ (p : PassStanding g.row.B.Denot). p.spent) c.pass.view_is ∙ fresh in
-    subst (λ (q : Identity g.row.B.Denot). IsCallInRun q.setup (opening_of contents q.given) (caller_of c.args.pass.now) (caller_of later)) c.self.view_is
-    (subst (λ (p : PassStanding g.row.B.Denot). IsCallInRun c.self.inside.band.setup (opening_of contents c.self.inside.band.given) (caller_of p)
-    (caller_of later)) c.pass.view_is
-    (c.in-Ok.ensures.run none))

@@ -27,7 +27,7 @@ returns-in_err-some-clause-left g c =
     let p = c.args.self.now.pass in
     let at = c.sweeps.self.pass in
     let said = c.closed-over.ensures.looked in
-    let look : HasTaken at c.closed-over.new.pass = subst (λ (q : PassStanding _). HasTaken at q) (sym said.1) (looked at said.0 c.closed-over.new.pass.seen) in
+    let look : HasTaken at c.closed-over.new.pass = subst (λ (q : PassStanding _). HasTaken at q) (sym said.1) (looked at said.0) in
     let is : c.from_residual.result ≡ Err c.in_err-some.field-0.0 = search rules in
     subst (λ (r : Result _ _). IfErr r (λ l. (messages : ℕ) → HasLeft messages messages (after_retire p) c.sweep.new.self.pass l.held)) (sym is)
     (λ messages. left-taken messages messages (after_retire p) c.closed-over.new.pass c.sweep.new.self.pass _
@@ -39,7 +39,7 @@ sweeps-smaller g c =
     let limit = c.args.queue.now.setup.limit in
     let all = length c.args.job.now.topics + 1 in
     let said = c.closed-over.ensures.looked in
-    let look : HasTaken at c.closed-over.new.pass = subst (λ (q : PassStanding _). HasTaken at q) (sym said.1) (looked at said.0 c.closed-over.new.pass.seen) in
+    let look : HasTaken at c.closed-over.new.pass = subst (λ (q : PassStanding _). HasTaken at q) (sym said.1) (looked at said.0) in
     let first = left-falls limit all at c.closed-over.new.pass look.knows in
     let rest = left-falls limit all c.closed-over.new.pass c.sweep.new.self.pass c.in_ok-some.ensures.taken.knows in
     elim c.if-some.branch [
@@ -58,7 +58,7 @@ sweeps-preserved g c =
     let topics = c.args.job.now.topics in
     let xs = c.sweeps.self.members.items in
     let said = c.closed-over.ensures.looked in
-    let look : HasTaken at c.closed-over.new.pass = subst (λ (q : PassStanding _). HasTaken at q) (sym said.1) (looked at said.0 c.closed-over.new.pass.seen) in
+    let look : HasTaken at c.closed-over.new.pass = subst (λ (q : PassStanding _). HasTaken at q) (sym said.1) (looked at said.0) in
     let same : HasAnswered topics at c.closed-over.new.pass xs xs =
     subst (λ (q : PassStanding _). HasAnswered topics at q xs xs) (sym said.1) (record { takes = λ h. h; directs = refl }) in
     record {
@@ -77,7 +77,7 @@ returns-clause-taken g c =
     let p = c.args.self.now.pass in
     let at = c.sweeps.self.pass in
     let said = c.closed-over.ensures.looked in
-    let look : HasTaken at c.closed-over.new.pass = subst (λ (q : PassStanding _). HasTaken at q) (sym said.1) (looked at said.0 c.closed-over.new.pass.seen) in
+    let look : HasTaken at c.closed-over.new.pass = subst (λ (q : PassStanding _). HasTaken at q) (sym said.1) (looked at said.0) in
     taken-along (after_retire p) c.closed-over.new.pass c.sweep.new.self.pass
     (taken-along (after_retire p) at c.closed-over.new.pass c.sweeps.invariant.taken look)
     c.in_ok-some.ensures.taken

@@ -1,6 +1,6 @@
 use Rattle.std.proofs.Common.{rules, ◌≡◌, ◌+◌, ◌++◌, ◌∙◌, ap, refl, suc, length, drop}
 use Rattle.scq_frames.specs.Encoded.{message_bytes}
-use Rattle.scq_queue.specs.Passes.{having_seen, after_put}
+use Rattle.scq_queue.specs.Passes.{after_put}
 use Rattle.scq_work.proofs.worker.Worker.send_in.Goals as goal
 
 -- what was sent are the bytes of the message, and behind them what stood in the buffer
@@ -15,7 +15,7 @@ returns-in-Ok-clause-sent g c =
     let sent = c.in-Ok.ensures.sent in (
       c.in-Ok.field-0,
       bytes,
-      sent ∙ ap (λ w. having_seen c.send.new.pass.seen (after_put (suc m.topic) c.args.held.index c.in-Ok.field-0 w c.args.self.now.pass)) is,
+      sent ∙ ap (λ w. after_put (suc m.topic) c.args.held.index c.in-Ok.field-0 w c.args.self.now.pass) is,
       record {
         topic = refl;
         fits = record { file = search rules; line = search rules; topic = search rules; payload = c.requires.short };

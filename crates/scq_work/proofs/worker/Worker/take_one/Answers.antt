@@ -2,7 +2,7 @@ use Rattle.std.proofs.Common.{◌≡◌, ◌<◌, ◌++◌, ◌∷◌, ◌∙◌
 use Rattle.std.specs.Prelude.{count_by}
 use Rattle.std.proofs.lemmas.List.Sums.{sum_by-append}
 use Rattle.scq_core.specs.declared.ended.Ended.TheVariants.{Nothing}
-use Rattle.scq_queue.specs.Passes.{PassStanding, WasGivenBack, having_seen, after_spent_put}
+use Rattle.scq_queue.specs.Passes.{PassStanding, WasGivenBack, after_spent_put}
 use Rattle.scq_work.specs.Records.{is_take}
 use Rattle.scq_work.proofs.PassLemmas.{took-one, found-none}
 use Rattle.scq_work.proofs.LeftLemmas.{left-at-get, left-at-return}
@@ -22,9 +22,7 @@ returns-in-Err-clause-left g c messages =
     let said = c.in-Err.ensures.spent fresh in
     left-at-return g.B.Buffer.contents messages c.args.topic c.in-Ok.place c.in-Err.field-0-1.ticket c.args.self.now.pass c.take.new.pass
     c.give_back.new.pass c.in-Ok.held c.in-Err.held
-    c.in-Ok.ensures.took (said.0
-    ∙ ap (λ (p : PassStanding _). having_seen c.give_back.new.pass.seen
-    (after_spent_put 0 c.in-Err.field-0-1.ticket p)) c.answer_taken.ensures.same.0) c.in-Err.ensures.back
+    c.in-Ok.ensures.took (said.0 ∙ ap (after_spent_put 0 c.in-Err.field-0-1.ticket) c.answer_taken.ensures.same.0) c.in-Err.ensures.back
 
 pub returns-in-Err-Empty-clause-taken : goal.returns-in-Err-Empty-clause-taken
 returns-in-Err-Empty-clause-taken g c =
