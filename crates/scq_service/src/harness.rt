@@ -84,8 +84,8 @@ pub fn run_words<R: Threads + Sync, F: Files, G: Gate>(
     err_writes: Cut,
     gate: &G,
 ) -> Result<Ran, NoMemory> {
-    let mut out = sink(alloc, writes)?;
-    let mut err = sink(alloc, err_writes)?;
+    let mut out = sink(alloc, 1000, writes)?;
+    let mut err = sink(alloc, 1000, err_writes)?;
     let outcome = serve(rt, alloc, words, files, &mut out, &mut err, gate);
     Ok(Ran {
         status: outcome.status,
@@ -116,6 +116,7 @@ pub fn text_files(alloc: Global, text: &str, reads: Cut) -> TextFiles<'_> {
         alloc,
         text,
         reads,
+        failing: None,
         given: [false; MOST_FILES],
         faults: 0,
     }
@@ -124,14 +125,33 @@ pub fn text_files(alloc: Global, text: &str, reads: Cut) -> TextFiles<'_> {
 /// The most files of a text that are found.
 const MOST_FILES: usize = 8;
 
-/// The files of a text, each of which is given once. Their sources are cut alike.
+/// The files of a text, each of which is given once. Their sources are cut alike, but that a read may fail of one alone.
 #[derive(Drop)]
 pub struct TextFiles<'a> {
     alloc: Global,
     text: &'a str,
     reads: Cut,
+    failing: Option<usize>,
     given: [bool; MOST_FILES],
     faults: u64,
+}
+
+impl TextFiles<'_> {
+    /// The same files, of which reads fail of this one alone.
+    pub fn failing_alone(self, file: usize) -> Self {
+        TextFiles {
+            failing: Some(file),
+            ..self
+        }
+    }
+
+    /// How the reads of a file are cut.
+    fn reads_of(&self, file: usize) -> Cut {
+        match self.failing {
+            Some(failing) if failing != file => (self.reads.0, None),
+            _ => self.reads,
+        }
+    }
 }
 
 impl Files for TextFiles<'_> {
@@ -144,7 +164,7 @@ impl Files for TextFiles<'_> {
     fn source(&mut self, name: &str) -> Result<MemSource, Failed> {
         if let Some(at) = find(self.text, name)
             && !self.given[at]
-            && let Some(source) = source_at(self.alloc, self.text, at, self.reads)
+            && let Some(source) = source_at(self.alloc, self.text, at, self.reads_of(at))
         {
             self.given[at] = true;
             return Ok(source);
@@ -183,10 +203,11 @@ fn source(alloc: Global, bytes: &[u8], reads: Cut) -> Result<MemSource, NoMemory
     Ok(MemSource::new(bytes.to_vec(alloc)?, pieces, failing))
 }
 
-fn sink(alloc: Global, writes: Cut) -> Result<MemSink, NoMemory> {
+/// A sink with so much room.
+pub fn sink(alloc: Global, room: u64, writes: Cut) -> Result<MemSink, NoMemory> {
     let (piece, fails) = writes;
     let pieces = pieces_of(alloc, piece, 1000)?;
-    MemSink::new(alloc, 1000, pieces, numbers(alloc, fails)?)
+    MemSink::new(alloc, room, pieces, numbers(alloc, fails)?)
 }
 
 fn numbers(alloc: Global, number: Option<u32>) -> Result<Vec<u32>, NoMemory> {

@@ -7,6 +7,8 @@
 
 #[cfg(test)]
 mod command_lines;
+#[cfg(test)]
+mod failing_tests;
 mod fault;
 mod generated;
 #[cfg(test)]
