@@ -1,8 +1,8 @@
 -- A slot that is out goes home before the table closes. Plan: its index is in the seat's hand, so it is in no entry and in no
 -- other hand; so no line of the rule speaks of this slot but the seat's own.
-use Rattle.std.proofs.Common.{◌≡◌, ◌≢◌, ◌⊎◌, ℕ, ◌<◌, List, [], ◌∷◌, length, refl, sym, ◌∙◌, ap, subst, inl, inr, arith}
+use Rattle.std.proofs.Common.{◌≡◌, ◌≢◌, ◌⊎◌, ℕ, ◌<◌, List, [], ◌∷◌, length, refl, sym, ◌∙◌, ap, subst, inl, inr, arith, eq-eqb}
 use Rattle.std.specs.Prelude.{Option, slice_set, slice_index}
-use Rattle.std.proofs.lemmas.Bool.{cases_eq}
+use Rattle.std.specs.List.{Contains}
 use Rattle.std.proofs.lemmas.List.{length-set, set-get_or}
 use Rattle.std.proofs.lemmas.List.Elements.{Contains-push_cases}
 use mathlib.Core.Option.{some}
@@ -21,8 +21,19 @@ use Rattle.scq_band.proofs.RunEnds.{reaches}
 use Rattle.scq_band.specs.Known.{Member, Known}
 use Rattle.scq_band.specs.Shown.{Scene, Has, Owns, IsView, Shown}
 use Rattle.scq_band.specs.Steps.{my, front_index}
+use Rattle.scq_band.specs.Closing.{indices_of}
 use Rattle.scq_band.specs.Homes.{at_home, MayBring}
+use Rattle.scq_band.proofs.GoingHome.{contained_cases}
 use Rattle.scq_band.proofs.Handles.{has_else, in_hand_alone, hand_or_entry}
+
+-- what stands in a list has its index there
+times_contained : {A : Type 0} (xs : List (ℕ × A)) (b : ℕ × A) → Contains xs b → 0 < times b.0 (indices_of xs)
+times_contained [] b has = let low = has.1 in absurd (omega (arith, low))
+times_contained {A} (x ∷ xs) b has =
+    elim (contained_cases x b xs has) [
+      | inl same ↦ rw (eq-eqb x.0 b.0 (ap (λ (p : ℕ × A). p.0) same)) (omega arith)
+      | inr there ↦ let rest = times_contained xs b there in omega (arith, rest)
+    ]
 
 module _ {S : Type 0} (Lies : ℕ → S → List ℕ → Type 0) where
   -- the seats of another view
@@ -41,11 +52,11 @@ module _ {S : Type 0} (Lies : ℕ → S → List ℕ → Type 0) where
           brought =
               λ b there.
               let was = x_is.brought b there in
-              let else : b ≢ i =
+              let else : b.0 ≢ i =
               λ e.
               let seen : 0 < times i (z.state.part x.number).hand = rw (x_is.part, ← e) was.0 in
               in_hand_alone Lies c z.state i k x.number one low here seen other in
-              (was.0, (was.1.0, has_else Lies homes i b (some y) was.1.0 else was.1.1));
+              (was.0, has_else Lies homes i b.0 (some y) b.1 else was.1);
         },
         owns_beside c z homes id j k i y one low here mine apart xs owns.1,
       )
@@ -53,9 +64,9 @@ module _ {S : Type 0} (Lies : ℕ → S → List ℕ → Type 0) where
   -- the rule with the slot at home
   brought_shown : {opening : List (List ℕ)} {gone : ℕ → Option ℕ}
       {run : List (ℕ × Step)} (c : Setup) (s : State S Known) (id : ℕ) (v : Known) (i : ℕ) (y : S) (w : List ℕ) → v.seats ≡ my v ∷ []
-      → 0 < times i (my v).part.hand → Lies i y w → (sh : Shown Lies opening c gone run s) → get_elem? s.views id ≡ some v
-      → Shown Lies opening c gone run (record { words = s.words; homes = slice_set s.homes i (some y); views = slice_set s.views id (at_home (i ∷ []) v) })
-  brought_shown {opening} {gone} {run} c s id v i y w alone held lies sh here =
+      → 0 < times i (my v).part.hand → times i (indices_of (my v).brought) ≡ 0 → Lies i y w → (sh : Shown Lies opening c gone run s) → get_elem? s.views id ≡ some v
+      → Shown Lies opening c gone run (record { words = s.words; homes = slice_set s.homes i (some y); views = slice_set s.views id (at_home ((i, w) ∷ []) v) })
+  brought_shown {opening} {gone} {run} c s id v i y w alone held new lies sh here =
       let z = sh.scene in
       let m = z.state in
       let x = my v in
@@ -78,9 +89,9 @@ module _ {S : Type 0} (Lies : ℕ → S → List ℕ → Type 0) where
         room = length-set s.homes i (some y) ∙ sh.room;
         views =
             λ j u e.
-            elim (at_set s.views id j (at_home (i ∷ []) v) u e) [
+            elim (at_set s.views id j (at_home ((i, w) ∷ []) v) u e) [
               | inl at ↦
-                  let view : IsView Lies c z homes (slice_index s.words 0) id (at_home (i ∷ []) v) = record {
+                  let view : IsView Lies c z homes (slice_index s.words 0) id (at_home ((i, w) ∷ []) v) = record {
                     seats = (
                       record {
                         low = x_is.low;
@@ -89,15 +100,17 @@ module _ {S : Type 0} (Lies : ℕ → S → List ℕ → Type 0) where
                         gone = x_is.gone;
                         brought =
                             λ b there.
-                            elim (cases_eq b i) [
-                              | inl same ↦ rw same (held, (w, put))
-                              | inr other ↦
-                                  elim (Contains-push_cases x.brought i b there) [
-                                    | inl before ↦
-                                        let was = x_is.brought b before in
-                                        (was.0, (was.1.0, has_else Lies s.homes i b (some y) was.1.0 other was.1.1))
-                                    | inr now ↦ absurd (other (sym now))
-                                  ]
+                            elim (Contains-push_cases x.brought (i, w) b there) [
+                              | inl before ↦
+                                  let was = x_is.brought b before in
+                                  let other : b.0 ≢ i =
+                                  λ same.
+                                  let some_there = times_contained x.brought b before in
+                                  let none_there : times b.0 (indices_of x.brought) ≡ 0 = rw same new in
+                                  omega (arith, some_there, none_there) in
+                                  (was.0, has_else Lies s.homes i b.0 (some y) b.1 other was.1)
+                              | inr now ↦
+                                  subst (λ (q : ℕ × List ℕ). (0 < times q.0 x.part.hand) × Has Lies homes q.0 q.1) now (held, put)
                             ];
                       },
                       tt,
@@ -123,30 +136,31 @@ module _ {S : Type 0} (Lies : ℕ → S → List ℕ → Type 0) where
             has_else Lies s.homes i _ (some y) _ else (sh.stored r p there full);
       }
     where
-      seated : (v.seats ≡ []) ⊎ (length v.numbers ≡ c.rings) → ((at_home (i ∷ []) v).seats ≡ []) ⊎ (length v.numbers ≡ c.rings)
+      seated : (v.seats ≡ []) ⊎ (length v.numbers ≡ c.rings) → ((at_home ((i, w) ∷ []) v).seats ≡ []) ⊎ (length v.numbers ≡ c.rings)
       seated (inl none) = let no : my v ∷ [] ≡ [] = sym alone ∙ none in absurd (cc)
       seated (inr all) = inr all
 
-  brings_first : {opening : List (List ℕ)} {gone : ℕ → Option ℕ} {run : List (ℕ × Step)} (c : Setup) (slots id : ℕ) (v : Known) (cs : List (ℕ × S))
-      → MayBring Lies (v, cs)
-      → Allows (Shown Lies opening c gone run) slots id (v, cs) 0 (λ n. n) (λ n later. later ≡ (at_home (front_index cs ∷ []) v, rest cs))
-  brings_first c slots id v [] may s sh many here small = absurd may.front
-  brings_first {opening} {gone} {run} c slots id v (x ∷ xs) may s sh many here small =
+  brings_first : {opening : List (List ℕ)} {gone : ℕ → Option ℕ} {run : List (ℕ × Step)} (c : Setup) (slots id : ℕ) (w : List ℕ) (v : Known)
+      (cs : List (ℕ × S)) → MayBring Lies w (v, cs)
+      → Allows (Shown Lies opening c gone run) slots id (v, cs) 0 (λ n. n) (λ n later. later ≡ (at_home ((front_index cs, w) ∷ []) v, rest cs))
+  brings_first c slots id w v [] may s sh many here small = absurd may.front
+  brings_first {opening} {gone} {run} c slots id w v (x ∷ xs) may s sh many here small =
       let same : slice_set s.words 0 (slice_index s.words 0) ≡ s.words = set-get_or s.words 0 0 in
-      let shown = brought_shown {opening = opening} {gone = gone} {run = run} c s id v x.0 x.1 may.content may.seats may.held may.front.1 sh here in
+      let shown = brought_shown {opening = opening} {gone = gone} {run = run} c s id v x.0 x.1 w may.seats may.held may.apart may.front.1 sh here in
       let now : Shown Lies opening c gone run (record {
         words = slice_set s.words 0 (slice_index s.words 0);
         homes = slice_set s.homes x.0 (some x.1);
-        views = slice_set s.views id (at_home (x.0 ∷ []) v);
+        views = slice_set s.views id (at_home ((x.0, w) ∷ []) v);
       }) =
       subst (λ (ws : List ℕ). Shown Lies opening c gone run (record {
         words = ws;
         homes = slice_set s.homes x.0 (some x.1);
-        views = slice_set s.views id (at_home (x.0 ∷ []) v);
+        views = slice_set s.views id (at_home ((x.0, w) ∷ []) v);
       })) (sym same) shown in
-      (at_home (x.0 ∷ []) v, gives, tt, now, refl)
+      (at_home ((x.0, w) ∷ []) v, gives, tt, now, refl)
 
   -- the slot that stands first may go home
-  pub brings : {opening : List (List ℕ)} {gone : ℕ → Option ℕ} {run : List (ℕ × Step)} (c : Setup) (slots id : ℕ) (me : Me S Known) → MayBring Lies me
-      → Allows (Shown Lies opening c gone run) slots id me 0 (λ n. n) (λ n later. later ≡ (at_home (front_index me.1 ∷ []) me.0, rest me.1))
-  brings c slots id me may = brings_first c slots id me.0 me.1 may
+  pub brings : {opening : List (List ℕ)} {gone : ℕ → Option ℕ} {run : List (ℕ × Step)} (c : Setup) (slots id : ℕ) (w : List ℕ) (me : Me S Known)
+      → MayBring Lies w me
+      → Allows (Shown Lies opening c gone run) slots id me 0 (λ n. n) (λ n later. later ≡ (at_home ((front_index me.1, w) ∷ []) me.0, rest me.1))
+  brings c slots id w me may = brings_first c slots id w me.0 me.1 may

@@ -1,10 +1,9 @@
 -- A band that closes: its last state has all seats in one view, with every slot at home. So each clause on records, hands and
 -- buffers is a fact of that state.
-use Rattle.std.proofs.Common.{◌≡◌, ℕ, zero, suc, ◌+◌, ◌<◌, ◌≤◌, Bool, true, false, List, [], ◌∷◌, ◌++◌, map, length, refl, sym, ◌∙◌, ap, subst, inl, inr, arith}
-use Rattle.std.specs.Prelude.{Option, Some, None, is_none, if◌then◌else◌, slice_get, slice_index, slice_index_or}
+use Rattle.std.proofs.Common.{◌≡◌, ℕ, zero, suc, ◌<◌, ◌≤◌, List, [], ◌∷◌, ◌++◌, map, length, refl, sym, ◌∙◌, ap, subst, inl, inr, arith}
+use Rattle.std.specs.Prelude.{All, Option, Some, None, slice_get, slice_index, slice_index_or}
 use Rattle.std.specs.List.{Contains}
-use Rattle.std.proofs.lemmas.Bool.{cases_eq}
-use Rattle.std.proofs.lemmas.List.Elements.{Contains-append_left, Contains-append_right}
+use Rattle.std.proofs.lemmas.List.Elements.{All-nil, All-cons, All-append, Contains-get_or, Contains-append_left, Contains-append_right}
 use Rattle.std.proofs.lemmas.Option.{slice_get_within, get_or_from_slice_get}
 use mathlib.Core.Option.{some}
 use lib.ListN.{get_elem?}
@@ -38,52 +37,54 @@ use Rattle.scq_band.specs.Shown.{ShowsWords, Has, Owns, Shown, awake}
 use Rattle.scq_band.specs.declared.rule.Key.{Key}
 use Rattle.scq_band.specs.Standing.{Identity, Standing, caller_of}
 use Rattle.scq_band.specs.Kept.{identity_of}
-use Rattle.scq_band.specs.Homes.{full_slot, IsMemberOf, AreMembersOf, HeadsKnown, GatesKnown, HasAll, all_seen}
-use Rattle.scq_band.specs.Closing.{indices_of, IsOneRun, EachGetHasItsPut, NoneIsPutTwice, NoneIsGotTwice, EachPutPassedIsGot, IsBalance, IsAllThere, EachIsInOneHand, EachSpentIsPastTheBound, EachLeftIsItsPut, StandsAtItsPut, IsOneRunToTheEnd, IsLeft, AreTheSame, AllRetiredWhereClosed, EachSeenRetiredHas, all_calls, all_hands, all_known, all_spent, callers_of}
+use Rattle.scq_band.specs.Homes.{full_slot, IsBrought, OutOrHome, IsMemberOf, AreMembersOf, HeadsKnown, GatesKnown, HasAll, all_seen}
+use Rattle.scq_band.specs.Closing.{indices_of, IsOneRun, EachGetHasItsPut, NoneIsPutTwice, NoneIsGotTwice, EachPutPassedIsGot, IsBalance, IsAllThere, EachIsInOneHand, EachSpentIsPastTheBound, EachLeftIsItsPut, StandsAtItsPut, IsOneRunToTheEnd, IsLeft, AreTheSame, ComesBackAsItWas, with_laid, laid_of, held_buffers, AllRetiredWhereClosed, EachSeenRetiredHas, all_calls, all_hands, all_known, all_spent, callers_of}
 use Rattle.scq_band.proofs.AllSeats.{AreAll, are_all, member_at, seat_at}
 use Rattle.scq_band.proofs.ClosedRecords.{map_back, map_on, records_of, AllRest, gets_have_puts, none_put_twice, none_twice, passed_is_got}
 use Rattle.scq_band.proofs.ClosedCounts.{hands_of, kept_by, IsLeftOf, is_balance, all_there, spent_past, each_in_one_hand}
 use Rattle.scq_band.proofs.Unloading.{read_some}
+use Rattle.scq_band.proofs.GoingHome.{contains_behind, contains_none}
 use Rattle.scq_band.proofs.LeftBuffers.{AllBrought, all_home, lefts_at_home, lefts_stand}
 
-module _ {B : Type 0} where
+module _ {B : Type 0} (contents : B → List ℕ) where
   -- a member and the seat that it was
-  member_of : (seats : List (Standing B)) (xs : List Member) → AreMembersOf seats xs → (a : ℕ) (x : Member) → slice_get xs a ≡ Some x
-      → (s : Standing B) × (slice_get seats a ≡ Some s) × IsMemberOf s x
+  member_of : (seats : List (Standing B)) (xs : List Member) → AreMembersOf contents seats xs → (a : ℕ) (x : Member) → slice_get xs a ≡ Some x
+      → (s : Standing B) × (slice_get seats a ≡ Some s) × IsMemberOf contents s x
   member_of [] [] are a x e = absurd (cc)
   member_of [] (y ∷ ys) are a x e = absurd are
   member_of (s ∷ ss) [] are a x e = absurd (cc)
-  member_of (s ∷ ss) (y ∷ ys) are zero x e = let same : y ≡ x = cc in (s, refl, subst (λ (u : Member). IsMemberOf s u) same are.0)
+  member_of (s ∷ ss) (y ∷ ys) are zero x e = let same : y ≡ x = cc in (s, refl, subst (λ (u : Member). IsMemberOf contents s u) same are.0)
   member_of (s ∷ ss) (y ∷ ys) are (suc a) x e = member_of ss ys are.1 a x e
 
   -- a seat and the member that it has become
-  seat_member : (seats : List (Standing B)) (xs : List Member) → AreMembersOf seats xs → (a : ℕ) (s : Standing B) → slice_get seats a ≡ Some s
-      → (x : Member) × (slice_get xs a ≡ Some x) × IsMemberOf s x
+  seat_member : (seats : List (Standing B)) (xs : List Member) → AreMembersOf contents seats xs → (a : ℕ) (s : Standing B) → slice_get seats a ≡ Some s
+      → (x : Member) × (slice_get xs a ≡ Some x) × IsMemberOf contents s x
   seat_member [] xs are a s e = absurd (cc)
   seat_member (t ∷ ts) [] are a s e = absurd are
-  seat_member (t ∷ ts) (y ∷ ys) are zero s e = let same : t ≡ s = cc in (y, refl, subst (λ (u : Standing B). IsMemberOf u y) same are.0)
+  seat_member (t ∷ ts) (y ∷ ys) are zero s e = let same : t ≡ s = cc in (y, refl, subst (λ (u : Standing B). IsMemberOf contents u y) same are.0)
   seat_member (t ∷ ts) (y ∷ ys) are (suc a) s e = seat_member ts ys are.1 a s e
 
-  gates_at : (ss : List (Standing B)) (gate : Option ℕ) → GatesKnown ss gate → (a : ℕ) (s : Standing B) → slice_get ss a ≡ Some s → (n : ℕ)
-      → s.gate ≡ Some n → (k : ℕ) × (gate ≡ Some k) × (k ≤ n)
-  gates_at [] gate known a s e n is = absurd (cc)
-  gates_at (t ∷ ts) gate known zero s e n is = let same : t ≡ s = cc in known.0 n (ap (λ (u : Standing B). u.gate) same ∙ is)
-  gates_at (t ∷ ts) gate known (suc a) s e n is = gates_at ts gate known.1 a s e n is
-
-  members_count : (seats : List (Standing B)) (xs : List Member) → AreMembersOf seats xs → length xs ≡ length seats
+  members_count : (seats : List (Standing B)) (xs : List Member) → AreMembersOf contents seats xs → length xs ≡ length seats
   members_count [] [] are = refl
   members_count [] (y ∷ ys) are = absurd are
   members_count (s ∷ ss) [] are = absurd are
   members_count (s ∷ ss) (y ∷ ys) are = ap suc (members_count ss ys are.1)
 
   -- what the members have is what contracts see of the seats
-  same_lists : {A : Type 0} (f : Member → A) (h : Standing B → A) → ((s : Standing B) (x : Member) → IsMemberOf s x → f x ≡ h s)
-      → (seats : List (Standing B)) (xs : List Member) → AreMembersOf seats xs → map f xs ≡ map h seats
+  same_lists : {A : Type 0} (f : Member → A) (h : Standing B → A) → ((s : Standing B) (x : Member) → IsMemberOf contents s x → f x ≡ h s)
+      → (seats : List (Standing B)) (xs : List Member) → AreMembersOf contents seats xs → map f xs ≡ map h seats
   same_lists f h same [] [] are = refl
   same_lists f h same [] (y ∷ ys) are = absurd are
   same_lists f h same (s ∷ ss) [] are = absurd are
   same_lists f h same (s ∷ ss) (y ∷ ys) are =
       ap (λ a. a ∷ map f ys) (same s y are.0) ∙ ap (λ l. h s ∷ l) (same_lists f h same ss ys are.1)
+
+module _ {B : Type 0} where
+  gates_at : (ss : List (Standing B)) (gate : Option ℕ) → GatesKnown ss gate → (a : ℕ) (s : Standing B) → slice_get ss a ≡ Some s → (n : ℕ)
+      → s.gate ≡ Some n → (k : ℕ) × (gate ≡ Some k) × (k ≤ n)
+  gates_at [] gate known a s e n is = absurd (cc)
+  gates_at (t ∷ ts) gate known zero s e n is = let same : t ≡ s = cc in known.0 n (ap (λ (u : Standing B). u.gate) same ∙ is)
+  gates_at (t ∷ ts) gate known (suc a) s e n is = gates_at ts gate known.1 a s e n is
 
   heads_at : (ss : List (Standing B)) (known : List Numbers) → HeadsKnown ss known → (a : ℕ) (numbers : List Numbers)
       → slice_get (all_known ss) a ≡ Some numbers → (r : ℕ) (x : Numbers) → slice_get numbers r ≡ Some x
@@ -114,6 +115,26 @@ retirees_at {B} (t ∷ ts) zero s p e has =
     Contains-append_right (all_seen ts).retirees t.seen.retirees p (subst (λ (u : Standing B). Contains u.seen.retirees p) (sym same) has)
 retirees_at (t ∷ ts) (suc a) s p e has = Contains-append_left (all_seen ts).retirees t.seen.retirees p (retirees_at ts a s p e has)
 
+-- what holds of each buffer that is laid in a hand, and of each that is out
+module _ {B : Type 0} (P : ℕ × B → Type 0) where
+  all_with_laid : (i : ℕ) (held : Option B) (others : List (ℕ × B)) → ((b : B) → held ≡ Some b → P (i, b)) → All P others → All P (with_laid i held others)
+  all_with_laid i None others each rest = rest
+  all_with_laid i (Some b) others each rest = All-cons P (i, b) others (each b refl) rest
+
+  all_laid : (hand : List (ℕ × Option B)) → ((i : ℕ) (b : B) → Contains hand (i, Some b) → P (i, b)) → All P (laid_of hand)
+  all_laid [] each = All-nil P
+  all_laid (x ∷ xs) each =
+      all_with_laid x.0 x.1 (laid_of xs) (λ b is. each x.0 b (0, omega arith, ap (λ (h : Option B). (x.0, h)) is))
+      (all_laid xs (λ i b has. each i b (contains_behind x (i, Some b) xs has)))
+
+  all_held_buffers : (seats : List (Standing B)) (out : List (ℕ × B))
+      → ((a : ℕ) (s : Standing B) → slice_get seats a ≡ Some s → (i : ℕ) (b : B) → Contains s.hand (i, Some b) → P (i, b))
+      → ((o : ℕ × B) → Contains out o → P o) → All P (held_buffers seats out)
+  all_held_buffers [] out each all = λ k d low. all (slice_index_or out k d) (Contains-get_or out k d low)
+  all_held_buffers (s ∷ ss) out each all =
+      All-append P (laid_of s.hand) (held_buffers ss out) (all_laid s.hand (λ i b has. each 0 s refl i b has))
+      (all_held_buffers ss out (λ a t e. each (suc a) t e) all)
+
 length_images : {A C : Type 0} (f : A → C) (xs : List A) → length (map f xs) ≡ length xs
 length_images f [] = refl
 length_images f (x ∷ xs) = ap suc (length_images f xs)
@@ -121,7 +142,7 @@ length_images f (x ∷ xs) = ap suc (length_images f xs)
 module _ {B : Type 0} (contents : B → List ℕ) (IsSame : B → B → Type 0) (given : List B) (c : Setup) (s : State (Slot B) Known) (id : ℕ) (v : Known)
     (seats : List (Standing B)) (gone : ℕ → Option ℕ)
     (run : List (ℕ × Step)) (sh : Shown (LiesIn contents IsSame given) (opening_of contents given) c gone run s) (here : get_elem? s.views id ≡ some v)
-    (has : HasAll c.rings seats v) (count : length seats ≡ c.seats) (many : length given ≡ n_of c.order) where
+    (has : HasAll contents c.rings seats v) (count : length seats ≡ c.seats) (many : length given ≡ n_of c.order) where
   abbrev m : Machine
   m = sh.scene.state
 
@@ -129,25 +150,25 @@ module _ {B : Type 0} (contents : B → List ℕ) (IsSame : B → B → Type 0) 
   owns = (sh.views id v here).seats
 
   all : AreAll c m v.seats
-  all = are_all (LiesIn contents IsSame given) c sh.scene s.homes id v.seats owns (members_count seats v.seats has.members ∙ count)
+  all = are_all (LiesIn contents IsSame given) c sh.scene s.homes id v.seats owns (members_count contents seats v.seats has.members ∙ count)
 
   rest : AllRest v.seats
-  rest a x e = (member_of seats v.seats has.members a x e).2.idle
+  rest a x e = (member_of contents seats v.seats has.members a x e).2.idle
 
   brought : AllBrought v.seats
-  brought a x e = (member_of seats v.seats has.members a x e).2.brought
+  brought a x e = (member_of contents seats v.seats has.members a x e).2.brought
 
   opened : length m.opening ≡ n_of c.order
   opened = ap length (opens_with sh.leads) ∙ length_images contents given ∙ many
 
   calls : records_of v.seats ≡ all_calls seats
-  calls = same_lists (λ (x : Member). x.part.calls) (λ (t : Standing B). t.calls) (λ t x is. is.calls) seats v.seats has.members
+  calls = same_lists contents (λ (x : Member). x.part.calls) (λ (t : Standing B). t.calls) (λ t x is. is.calls) seats v.seats has.members
 
   hands : hands_of v.seats ≡ all_hands seats
-  hands = same_lists (λ (x : Member). x.part.hand) (λ (t : Standing B). indices_of t.hand) (λ t x is. is.hand) seats v.seats has.members
+  hands = same_lists contents (λ (x : Member). x.part.hand) (λ (t : Standing B). indices_of t.hand) (λ t x is. is.hand) seats v.seats has.members
 
   spents : kept_by v.seats ≡ all_spent seats
-  spents = same_lists (λ (x : Member). x.part.spent) (λ (t : Standing B). t.spent) (λ t x is. is.spent) seats v.seats has.members
+  spents = same_lists contents (λ (x : Member). x.part.spent) (λ (t : Standing B). t.spent) (λ t x is. is.spent) seats v.seats has.members
 
   -- each seat of the machine is one of these
   all_idle : (k : ℕ) → k < c.seats → (m.part k).phase ≡ Idle
@@ -175,25 +196,25 @@ module _ {B : Type 0} (contents : B → List ℕ) (IsSame : B → B → Type 0) 
         all =
             λ k low.
             let at = seat_at c m v.seats all k low in
-            let s = member_of seats v.seats has.members at.at at.member at.here in
+            let s = member_of contents seats v.seats has.members at.at at.member at.here in
             (at.at, caller_of s.0, map_on caller_of seats at.at s.0 s.1, sym s.2.number ∙ at.is);
         apart =
             λ a b x y at_a at_b same.
             let t = map_back caller_of seats a x at_a in
             let u = map_back caller_of seats b y at_b in
-            let one = seat_member seats v.seats has.members a t.0 t.1 in
-            let other = seat_member seats v.seats has.members b u.0 u.1 in
+            let one = seat_member contents seats v.seats has.members a t.0 t.1 in
+            let other = seat_member contents seats v.seats has.members b u.0 u.1 in
             all.apart a b one.0 other.0 one.1 other.1
             (one.2.number ∙ ap (λ (z : Caller). z.seat) t.2 ∙ same ∙ sym (ap (λ (z : Caller). z.seat) u.2) ∙ sym other.2.number);
         low =
             λ a x e.
             let t = map_back caller_of seats a x e in
-            let one = seat_member seats v.seats has.members a t.0 t.1 in
+            let one = seat_member contents seats v.seats has.members a t.0 t.1 in
             subst (λ (z : Caller). z.seat < c.seats) t.2 (subst (λ (k : ℕ). k < c.seats) one.2.number (all.low a one.0 one.1));
         records =
             λ a x e.
             let t = map_back caller_of seats a x e in
-            let one = seat_member seats v.seats has.members a t.0 t.1 in
+            let one = seat_member contents seats v.seats has.members a t.0 t.1 in
             subst (λ (z : Caller). (recorded.state.part z.seat).calls ≡ z.calls) t.2
             (ap (λ (n : Machine). (n.part t.0.number).calls) ends ∙ ap (λ (j : ℕ). (m.part j).calls) (sym one.2.number)
             ∙ ap (λ (p : Part). p.calls) (all.part a one.0 one.1) ∙ one.2.calls);
@@ -251,7 +272,7 @@ module _ {B : Type 0} (contents : B → List ℕ) (IsSame : B → B → Type 0) 
       let read = gates_at seats v.gate has.gates a reader at_a 0 is in
       let word = (sh.views id v here).last_gate read.0 read.1 in
       let none : awake sh.scene.gone c.seats ≡ 0 = omega (arith, sh.awake_seats, word, read.2) in
-      let x = seat_member seats v.seats has.members b other at_b in
+      let x = seat_member contents seats v.seats has.members b other at_b in
       let member = member_at (LiesIn contents IsSame given) c sh.scene s.homes id v.seats owns b x.0 x.1 in
       let gone = none_awake sh.scene.gone c.seats none x.0.number member.low in
       (gone.0, sym x.2.retired ∙ sym member.gone ∙ gone.1)
@@ -261,9 +282,26 @@ module _ {B : Type 0} (contents : B → List ℕ) (IsSame : B → B → Type 0) 
   closed_retirees told are rule a b calls one other at_a at_b seen_it =
       let among : Contains told.retirees (other.number, calls) =
       subst (λ (y : Seen). Contains y.retirees (other.number, calls)) (sym are) (retirees_at seats a one (other.number, calls) at_a seen_it) in
-      let x = seat_member seats v.seats has.members b other at_b in
+      let x = seat_member contents seats v.seats has.members b other at_b in
       let member = member_at (LiesIn contents IsSame given) c sh.scene s.homes id v.seats owns b x.0 x.1 in
       sym x.2.retired ∙ sym member.gone ∙ ap (λ (f : ℕ → Option ℕ). f x.0.number) sh.gone_is ∙ ap gone x.2.number ∙ rule (other.number, calls) among
+
+  -- what a seat had laid in its hand, and what was out, is at home with its bytes
+  closed_brought : (b : ℕ × List ℕ) → IsBrought v.seats b → Has (LiesIn contents IsSame given) s.homes b.0 b.1
+  closed_brought b is =
+      ((member_at (LiesIn contents IsSame given) c sh.scene s.homes id v.seats owns is.at is.member is.here).brought b is.brought).1
+
+  pub closed_held : (P : ℕ × B → Type 0) → ((o : ℕ × B) → Has (LiesIn contents IsSame given) s.homes o.0 (contents o.1) → P o) → (out : List (ℕ × B))
+      → OutOrHome contents out [] v.seats → All P (held_buffers seats out)
+  closed_held P home out are =
+      all_held_buffers P seats out
+      (λ a t e i b has.
+      let x = seat_member contents seats v.seats has_members a t e in
+      home (i, b) (closed_brought (i, contents b) record { at = a; member = x.0; here = x.1; brought = x.2.laid i b has }))
+      (λ o has. elim (are o has) [ inl still ↦ absurd (contains_none o still) | inr there ↦ home o (closed_brought (o.0, contents o.1) there) ])
+    where
+      has_members : AreMembersOf contents seats v.seats
+      has_members = has.members
 
   -- each slot is at home
   pub closed_homes : (i : ℕ) → i < n_of c.order → (w : List ℕ) × Has (LiesIn contents IsSame given) s.homes i w
@@ -303,8 +341,8 @@ module _ {B : Type 0} (contents : B → List ℕ) (IsSame : B → B → Type 0) 
       read_some items i h.value (home i h.value h.here) ∙ ap (λ (o : Option B). Some (record { buffer = o })) h.lies.laid
 
 -- what a closed band's words and slots say, beside the seats
-pub record EndsAs {B : Type 0} (contents : B → List ℕ) (IsSame : B → B → Type 0) (given : List B) (c : Setup) (seats : List (Standing B)) (ws : List ℕ)
-    (items : List (Slot B)) : Type 0 where
+pub record EndsAs {B : Type 0} (contents : B → List ℕ) (IsSame : B → B → Type 0) (given : List B) (c : Setup) (seats : List (Standing B))
+    (xs : List Member) (ws : List ℕ) (items : List (Slot B)) : Type 0 where
   pub words : (m : Cells) × ShowsWords c ws m × HasIndices c m
   pub laid : (i : ℕ) → i < n_of c.order → (b : B) × (slice_get items i ≡ Some (full_slot b))
   pub gets : EachGetHasItsPut c (opening_of contents given) (all_calls seats)
@@ -319,6 +357,8 @@ pub record EndsAs {B : Type 0} (contents : B → List ℕ) (IsSame : B → B →
       → ((m : Cells) → ShowsWords c ws m → (r : ℕ) → r < c.rings → slice_index left r ≡ left_in c m r)
       → IsBalance c (all_calls seats) left × IsAllThere c (all_hands seats) left
   pub same : (buffers : List B) → map full_slot buffers ≡ items → AreTheSame IsSame given buffers
+  pub held : (buffers : List B) → map full_slot buffers ≡ items → (out : List (ℕ × B)) → OutOrHome contents out [] xs
+      → All (ComesBackAsItWas contents buffers) (held_buffers seats out)
   pub lefts : (buffers : List B) → map full_slot buffers ≡ items
       → EachLeftIsItsPut c (opening_of contents given) (all_calls seats) (all_hands seats) (map contents buffers)
       × IsOneRunToTheEnd c (opening_of contents given) (callers_of seats) (all_calls seats) (all_hands seats) (map contents buffers)
@@ -334,8 +374,8 @@ module _ {B : Type 0} where
 
   pub ends : (contents : B → List ℕ) (IsSame : B → B → Type 0) (given : List B) (c : Setup) (id : ℕ) (w : Sight) (seats : List (Standing B)) (ws : List ℕ)
       (items : List (Slot B)) → Final (OfView (ShowsRun (LiesIn contents IsSame given) (opening_of contents given) c) id w) ws items
-      → HasAll c.rings seats w.known → w.seen ≡ all_seen seats
-      → length seats ≡ c.seats → length given ≡ n_of c.order → EndsAs contents IsSame given c seats ws items
+      → HasAll contents c.rings seats w.known → w.seen ≡ all_seen seats
+      → length seats ≡ c.seats → length given ≡ n_of c.order → EndsAs contents IsSame given c seats w.known.seats ws items
   unfolding closed_run
   ends contents IsSame given c id w seats ws items f has told count many =
       let v = w.known in
@@ -380,6 +420,12 @@ module _ {B : Type 0} where
                   let other : lies.buffer ≡ last = some_same lies.buffer last (sym at ∙ now) in
                   subst (λ (b : B). IsSame first b) other (subst (λ (b : B). IsSame b lies.buffer) one lies.same),
             );
+        held =
+            λ buffers are.
+            closed_held contents IsSame given c s id v seats gone run sh here has count many (ComesBackAsItWas contents buffers)
+            (λ o h.
+            map_on contents buffers o.0 h.lies.buffer (buffer_at buffers items are o.0 h.lies.buffer (slot o.0 (contents o.1) h))
+            ∙ ap (λ (w : List ℕ). Some w) h.lies.bytes);
         lefts =
             λ buffers are.
             let tells : (i : ℕ) (w : List ℕ) → i < n_of c.order → Has (LiesIn contents IsSame given) s.homes i w
@@ -399,9 +445,9 @@ module _ {B : Type 0} where
   pub ended : (contents : B → List ℕ) (IsSame : B → B → Type 0) (table : TableId) (key : Key B) (band : Identity B) (id : ℕ) (v : Sight)
       (seats : List (Standing B)) (ws : List ℕ) (items : List (Slot B)) → identity_of table key ≡ band
       → Final (OfView (ShowsRun (LiesIn contents IsSame key.given.value.items) (opening_of contents key.given.value.items) key.setup) id v) ws items
-      → HasAll key.setup.rings seats v.known → v.seen ≡ all_seen seats → length seats ≡ band.setup.seats → length key.given.value.items ≡ n_of key.setup.order
-      → EndsAs contents IsSame band.given band.setup seats ws items
+      → HasAll contents key.setup.rings seats v.known → v.seen ≡ all_seen seats → length seats ≡ band.setup.seats → length key.given.value.items ≡ n_of key.setup.order
+      → EndsAs contents IsSame band.given band.setup seats v.known.seats ws items
   ended contents IsSame table key band id v seats ws items is f has told count many =
       let seats_are : length seats ≡ key.setup.seats = count ∙ ap (λ (b : Identity B). b.setup.seats) (sym is) in
-      subst (λ (b : Identity B). EndsAs contents IsSame b.given b.setup seats ws items) is
+      subst (λ (b : Identity B). EndsAs contents IsSame b.given b.setup seats v.known.seats ws items) is
       (ends contents IsSame key.given.value.items key.setup id v seats ws items f has told seats_are many)

@@ -1,6 +1,7 @@
 -- The seats are gathered into one view, one by one, the last one first.
-use Rattle.std.proofs.Common.{◌≡◌, ℕ, ◌+◌, ◌≤◌, List, [], ◌∷◌, ◌++◌, map, length, refl, sym, ◌∙◌, ap, arith, append_assoc, eq-eqb}
-use Rattle.std.specs.Prelude.{sum_by}
+use Rattle.std.proofs.Common.{◌≡◌, ℕ, zero, suc, ◌+◌, ◌≤◌, List, [], ◌∷◌, ◌++◌, map, length, refl, sym, ◌∙◌, ap, subst, inl, inr, arith, append_assoc, eq-eqb}
+use Rattle.std.specs.Prelude.{Some, slice_get, sum_by}
+use Rattle.std.specs.List.{Contains}
 use Rattle.std.proofs.lemmas.List.Sums.{sum_by_push}
 use Rattle.scq_law.specs.Hands.{times}
 use Rattle.scq_band.specs.RunSeen.{Seen, both_seen}
@@ -8,37 +9,61 @@ use Rattle.scq_band.specs.Known.{Member, Known, both_of}
 use Rattle.scq_band.specs.Steps.{my}
 use Rattle.scq_band.specs.Standing.{Standing}
 use Rattle.scq_band.specs.Closing.{indices_of}
-use Rattle.scq_band.specs.Homes.{IsMemberOf, AreGathered, all_seen}
+use Rattle.scq_band.specs.Homes.{IsMemberOf, OutOrHome, AreGathered, all_seen}
 use Rattle.scq_band.proofs.SeatsHome.{has_one, has_more}
 
 module _ {B : Type 0} where
-  pub gathered_first : (rings : ℕ) (all left : List (Standing B)) (s : Standing B) (w : Known) → all ≡ left ++ s ∷ [] → w.seats ≡ my w ∷ []
-      → IsMemberOf s (my w) → w.numbers ≡ s.numbers → length s.numbers ≡ rings → w.gate ≡ s.gate → (told : Seen) → told ≡ s.seen
-      → AreGathered rings all left w told
-  gathered_first rings all left s w split alone member numbers count gate told seen =
+  pub gathered_first : (contents : B → List ℕ) (rings : ℕ) (all left : List (Standing B)) (s : Standing B) (w : Known) → all ≡ left ++ s ∷ [] → w.seats ≡ my w ∷ []
+      → IsMemberOf contents s (my w) → w.numbers ≡ s.numbers → length s.numbers ≡ rings → w.gate ≡ s.gate → (told : Seen) → told ≡ s.seen
+      → AreGathered contents rings all left w told
+  gathered_first contents rings all left s w split alone member numbers count gate told seen =
       record {
         done = s ∷ [];
         split = split;
-        has = has_one rings s w alone member numbers count gate;
+        has = has_one contents rings s w alone member numbers count gate;
         seen = seen;
         some = λ none. let no : my w ∷ [] ≡ [] = sym alone ∙ none in cc;
       }
 
-  pub gathered_more : (rings : ℕ) (all before left : List (Standing B)) (s : Standing B) (v w : Known) (told : Seen)
-      → AreGathered rings all before v told
-      → before ≡ left ++ s ∷ [] → w.seats ≡ my w ∷ [] → IsMemberOf s (my w) → w.numbers ≡ s.numbers → length s.numbers ≡ rings
-      → w.gate ≡ s.gate → (more : Seen) → more ≡ s.seen → AreGathered rings all left (both_of v w) (both_seen told more)
-  gathered_more rings all before left s v w told now last alone member numbers count gate more seen =
+  pub gathered_more : (contents : B → List ℕ) (rings : ℕ) (all before left : List (Standing B)) (s : Standing B) (v w : Known) (told : Seen)
+      → AreGathered contents rings all before v told
+      → before ≡ left ++ s ∷ [] → w.seats ≡ my w ∷ [] → IsMemberOf contents s (my w) → w.numbers ≡ s.numbers → length s.numbers ≡ rings
+      → w.gate ≡ s.gate → (more : Seen) → more ≡ s.seen → AreGathered contents rings all left (both_of v w) (both_seen told more)
+  gathered_more contents rings all before left s v w told now last alone member numbers count gate more seen =
       record {
         done = s ∷ now.done;
         split = now.split ∙ ap (λ (l : List (Standing B)). l ++ now.done) last ∙ append_assoc left (s ∷ []) now.done;
-        has = has_more rings s now.done v w now.has alone member numbers count gate;
+        has = has_more contents rings s now.done v w now.has alone member numbers count gate;
         seen = ap (λ (l : Seen). both_seen l more) now.seen ∙ ap (both_seen (all_seen now.done)) seen;
         some =
             λ none.
             let no : my w ∷ v.seats ≡ [] = ap (λ (xs : List Member). xs ++ v.seats) (sym alone) ∙ none in
             cc;
       }
+
+  -- what is out, where one seat more has its slots at home
+  out_more : (contents : B → List ℕ) (out more left : List (ℕ × B)) (x : Member) (xs : List Member) → OutOrHome contents out more xs
+      → OutOrHome contents more left (x ∷ []) → OutOrHome contents out left (x ∷ xs)
+  out_more contents out more left x xs before now o has =
+      elim (before o has) [
+        | inl there ↦ elim (now o there) [ inl still ↦ inl still | inr b ↦ inr record { at = 0; member = x; here = refl; brought = brought b.at b.member b.here b.brought } ]
+        | inr b ↦ inr record { at = suc b.at; member = b.member; here = b.here; brought = b.brought }
+      ]
+    where
+      brought : (at : ℕ) (y : Member) → slice_get (x ∷ []) at ≡ Some y → Contains y.brought (o.0, contents o.1) → Contains x.brought (o.0, contents o.1)
+      brought zero y e it = let same : x ≡ y = cc in subst (λ (u : Member). Contains u.brought (o.0, contents o.1)) (sym same) it
+      brought (suc at) y e it = absurd (cc)
+
+  pub out_joined : (contents : B → List ℕ) (out more left : List (ℕ × B)) (v w : Known) → w.seats ≡ my w ∷ [] → OutOrHome contents out more v.seats
+      → OutOrHome contents more left (my w ∷ []) → OutOrHome contents out left (both_of v w).seats
+  out_joined contents out more left v w alone before now =
+      subst (λ (xs : List Member). OutOrHome contents out left (xs ++ v.seats)) (sym alone) (out_more contents out more left (my w) v.seats before now)
+
+  -- nothing is out
+  pub all_home_then : (contents : B → List ℕ) (out left : List (ℕ × B)) (xs : List Member) → OutOrHome contents out left xs → length left ≡ 0
+      → OutOrHome contents out [] xs
+  all_home_then contents out [] xs all none = all
+  all_home_then contents out (o ∷ left) xs all none = absurd (omega arith)
 
   -- what is lifted of the last seat is out
   pub out_some : (f : Standing B → ℕ) (seats left : List (Standing B)) (s : Standing B) (n : ℕ) → n ≡ sum_by f seats → seats ≡ left ++ s ∷ []

@@ -1,9 +1,10 @@
 -- A seat whose first slot has its buffer again may bring it home, and goes on with the others; what is out grows less by as many
--- as were lifted.
-use Rattle.std.proofs.Common.{◌≡◌, ◌⊎◌, ℕ, suc, ◌+◌, ◌<◌, ◌==◌, List, [], ◌∷◌, ◌++◌, length, refl, sym, ◌∙◌, ap, subst, inl, inr, arith, append_assoc, append-nil, eq-eqb}
-use Rattle.std.specs.Prelude.{Option, Some, None, is_none, if◌then◌else◌, sum_by, IsTrue}
+-- as were lifted. Each slot goes home with the bytes that its buffer had, in it or where it was out.
+use Rattle.std.proofs.Common.{◌≡◌, ◌⊎◌, ℕ, zero, suc, ◌+◌, ◌<◌, ◌==◌, List, [], ◌∷◌, ◌++◌, length, refl, sym, ◌∙◌, ap, subst, inl, inr, arith, append_assoc, append-nil, eq-eqb}
+use Rattle.std.specs.Prelude.{Option, Some, None, is_none, if◌then◌else◌, slice_index_or, sum_by, IsTrue}
 use Rattle.std.specs.List.{Contains}
 use Rattle.std.specs.List.Sorted.{IsPermutation}
+use Rattle.std.proofs.lemmas.List.Elements.{Contains-append_left, Contains-append_right}
 use Rattle.std.proofs.lemmas.List.Sums.{sum_by-cons}
 use Rattle.std.proofs.lemmas.List.Sorted.{IsPermutation-sym, Contains-permutation, sum_by-IsPermutation}
 use Rattle.atomic_table.specs.Table.{Me, rest}
@@ -11,11 +12,11 @@ use Rattle.scq_law.specs.Hands.{times}
 use Rattle.scq_band.specs.declared.slot.Slot.{Slot}
 use Rattle.scq_band.specs.Buffers.{LiesIn}
 use Rattle.scq_band.specs.Known.{Known}
-use Rattle.scq_band.specs.Steps.{my, front_index}
+use Rattle.scq_band.specs.Steps.{my, front_index, front_bytes}
 use Rattle.scq_band.specs.Standing.{IsAsGiven}
 use Rattle.scq_band.specs.Kept.{in_order}
 use Rattle.scq_band.specs.Closing.{indices_of}
-use Rattle.scq_band.specs.Homes.{at_home, MayBring, times_lifted, IsLaidBack, AllOutGiven, MayLeave}
+use Rattle.scq_band.specs.Homes.{at_home, full_slot, MayBring, times_lifted, IsLaidBack, AreHome, WentHome, AllOutGiven, MayLeave}
 
 -- how often an index stands, as a sum
 times-sum : {A : Type 0} (i : ℕ) (xs : List (ℕ × A)) → times i (indices_of xs) ≡ sum_by (λ (o : ℕ × A). if o.0 == i then 1 else 0) xs
@@ -49,10 +50,24 @@ last_same (x ∷ xs) (y ∷ ys) a b e =
 pub contains_behind : {A : Type 0} (x y : A) (xs : List A) → Contains xs y → Contains (x ∷ xs) y
 contains_behind x y xs has = (suc has.0, (let low = has.1 in omega arith), has.2)
 
--- where no slot is left
-pub home_none : (v : Known) → v.seats ≡ my v ∷ [] → at_home [] v ≡ v
+contained_at : {A : Type 0} (x y : A) (xs : List A) (k : ℕ) → k < length (x ∷ xs) → slice_index_or (x ∷ xs) k y ≡ y → (x ≡ y) ⊎ Contains xs y
+contained_at x y xs zero low is = inl is
+contained_at x y xs (suc k) low is = inr (k, omega arith, is)
+
+pub contained_cases : {A : Type 0} (x y : A) (xs : List A) → Contains (x ∷ xs) y → (x ≡ y) ⊎ Contains xs y
+contained_cases x y xs has = contained_at x y xs has.0 has.1 has.2
+
+pub contains_none : {A : Type 0} (y : A) → Contains [] y → ⊥
+contains_none y has = let low = has.1 in omega (arith, low)
+
+indices-append : {A : Type 0} (xs ys : List (ℕ × A)) → indices_of (xs ++ ys) ≡ indices_of xs ++ indices_of ys
+indices-append [] ys = refl
+indices-append (x ∷ xs) ys = ap (λ (l : List ℕ). x.0 ∷ l) (indices-append xs ys)
+
+-- where no slot has gone home
+home_none : (v : Known) → v.seats ≡ my v ∷ [] → at_home [] v ≡ v
 home_none v alone =
-    ap (λ (h : List ℕ). record v { seats = record (my v) { brought = h } ∷ [] }) (append-nil (my v).brought)
+    ap (λ (h : List (ℕ × List ℕ)). record v { seats = record (my v) { brought = h } ∷ [] }) (append-nil (my v).brought)
     ∙ ap (λ ys. record v { seats = ys }) (sym alone)
 
 module _ {B : Type 0} where
@@ -74,23 +89,75 @@ module _ {B : Type 0} where
       let one : times_lifted i ((i, slot) ∷ rest me.1) ≡ 1 + times_lifted i (rest me.1) = rw (lifted, eq-eqb i i refl) refl in
       omega arith
 
+  pub went_none : (contents : B → List ℕ) (IsSame : B → B → Type 0) (buffers : List B) (me : Me (Slot B) Known) (indices : List ℕ)
+      (out : List (ℕ × B)) → MayLeave IsSame buffers me indices out → WentHome contents me out me out
+  went_none contents IsSame buffers me indices out may =
+      record {
+        gone = [];
+        view = sym (home_none me.0 may.seats);
+        are = record { indices = refl; laid = λ i b has. inl has; lifted = λ o has. inl has };
+      }
+
+  -- more have gone home
+  pub went_more : (contents : B → List ℕ) (me mid next : Me (Slot B) Known) (out more left : List (ℕ × B)) → WentHome contents me out mid more
+      → WentHome contents mid more next left → WentHome contents me out next left
+  went_more contents me mid next out more left first second =
+      let a = first.gone in
+      let b = second.gone in
+      let twice : at_home b (at_home a me.0) ≡ at_home (a ++ b) me.0 =
+      ap (λ (h : List (ℕ × List ℕ)). record me.0 { seats = record (my me.0) { brought = h } ∷ [] }) (append_assoc (my me.0).brought a b) in
+      record {
+        gone = a ++ b;
+        view = second.view ∙ ap (at_home b) first.view ∙ twice;
+        are =
+            record {
+              indices =
+                  ap (λ (l : List ℕ). l ++ indices_of next.1) (indices-append a b) ∙ append_assoc (indices_of a) (indices_of b) (indices_of next.1)
+                  ∙ ap (λ (l : List ℕ). indices_of a ++ l) second.are.indices ∙ first.are.indices;
+              laid =
+                  λ i x has.
+                  elim (first.are.laid i x has) [
+                    | inl there ↦
+                        elim (second.are.laid i x there) [
+                          | inl still ↦ inl still
+                          | inr now ↦ inr (Contains-append_right a b (i, contents x) now)
+                        ]
+                    | inr before ↦ inr (Contains-append_left a b (i, contents x) before)
+                  ];
+              lifted =
+                  λ o has.
+                  elim (first.are.lifted o has) [
+                    | inl there ↦
+                        elim (second.are.lifted o there) [
+                          | inl still ↦ inl still
+                          | inr now ↦ inr (Contains-append_right a b (o.0, contents o.1) now)
+                        ]
+                    | inr before ↦ inr (Contains-append_left a b (o.0, contents o.1) before)
+                  ];
+            };
+      }
+
   -- after the first slot has gone home
   pub record Leaves (contents : B → List ℕ) (IsSame : B → B → Type 0) (buffers : List B) (me : Me (Slot B) Known) (others : List ℕ) (i : ℕ)
       (out : List (ℕ × B)) (later : List (ℕ × Slot B)) (left : List (ℕ × B)) : Type 0 where
-    pub bring : MayBring (LiesIn contents IsSame buffers) (me.0, later)
-    pub may : MayLeave IsSame buffers (at_home (front_index later ∷ []) me.0, rest later) others left
+    pub bring : MayBring (LiesIn contents IsSame buffers) (front_bytes contents later) (me.0, later)
+    pub may : MayLeave IsSame buffers (at_home ((front_index later, front_bytes contents later) ∷ []) me.0, rest later) others left
     pub out_less : (j : ℕ) → times j (indices_of left) + times_lifted j me.1 ≡ times j (indices_of out) + times_lifted j (rest later)
-    pub home : at_home (indices_of (rest later)) (at_home (front_index later ∷ []) me.0) ≡ at_home (indices_of me.1) me.0
+    pub are : AreHome contents ((front_index later, front_bytes contents later) ∷ []) me.1 (rest later) out left
 
   module _ (contents : B → List ℕ) (IsSame : B → B → Type 0) (buffers : List B) (v : Known) (others : List ℕ) (i : ℕ) (b : B) (xs : List (ℕ × Slot B)) where
     -- the slot has its buffer, and those that are left are these
     leaves_with : (slot : Slot B) (out left : List (ℕ × B)) → MayLeave IsSame buffers (v, (i, slot) ∷ xs) (others ++ i ∷ []) out → IsAsGiven IsSame buffers i b
         → AllOutGiven IsSame buffers left
         → ((j : ℕ) → times j (indices_of left) + times_lifted j ((i, slot) ∷ xs) ≡ times j (indices_of out) + times_lifted j xs)
+        → ((x : B) → slot ≡ full_slot x → b ≡ x) → ((o : ℕ × B) → Contains out o → Contains left o ⊎ ((i, b) ≡ o))
         → Leaves contents IsSame buffers (v, (i, slot) ∷ xs) others i out ((i, record { buffer = Some b }) ∷ xs) left
-    leaves_with slot out left may its given less =
+    leaves_with slot out left may its given less same came =
         let rests = last_same others (in_order xs) i i may.order in
         let split = λ (j : ℕ). times-append j others (i ∷ []) in
+        let gone : (j : ℕ) → times j (indices_of ((my v).brought ++ (i, contents b) ∷ [])) ≡ times j (indices_of (my v).brought) + times j (i ∷ []) =
+        λ j.
+        ap (times j) (indices-append (my v).brought ((i, contents b) ∷ [])) ∙ times-append j (indices_of (my v).brought) (i ∷ []) in
         record {
           bring =
               record {
@@ -100,7 +167,11 @@ module _ {B : Type 0} where
                     let one : times i (i ∷ []) ≡ 1 = rw (eq-eqb i i refl) refl in
                     let both = split i in
                     omega arith;
-                content = contents b;
+                apart =
+                    let few = may.once i in
+                    let one : times i (i ∷ []) ≡ 1 = rw (eq-eqb i i refl) refl in
+                    let both = split i in
+                    omega arith;
                 front = (refl, record { first = its.first; buffer = b; was = its.was; laid = refl; same = its.same; bytes = refl });
               };
           may =
@@ -108,6 +179,7 @@ module _ {B : Type 0} where
                 seats = refl;
                 order = rests.0;
                 held = λ j. let more = may.held j in let both = split j in omega arith;
+                once = λ j. let few = may.once j in let both = split j in let now = gone j in omega arith;
                 given = may.given.1;
                 out_given = given;
                 lifted =
@@ -117,7 +189,25 @@ module _ {B : Type 0} where
                     omega arith;
               };
           out_less = less;
-          home = ap (λ (h : List ℕ). record v { seats = record (my v) { brought = h } ∷ [] }) (append_assoc (my v).brought (i ∷ []) (indices_of xs));
+          are =
+              record {
+                indices = refl;
+                laid =
+                    λ j x has.
+                    elim (contained_cases (i, slot) (j, full_slot x) xs has) [
+                      | inl first ↦
+                          let index : i ≡ j = ap (λ (p : ℕ × Slot B). p.0) first in
+                          let bytes = ap contents (same x (ap (λ (p : ℕ × Slot B). p.1) first)) in
+                          inr (0, omega arith, ap (λ (k : ℕ). (k, contents b)) index ∙ ap (λ (w : List ℕ). (j, w)) bytes)
+                      | inr there ↦ inl there
+                    ];
+                lifted =
+                    λ o has.
+                    elim (came o has) [
+                      | inl still ↦ inl still
+                      | inr it ↦ inr (0, omega arith, ap (λ (p : ℕ × B). (p.0, contents p.1)) it)
+                    ];
+              };
         }
 
     left_given : (out left : List (ℕ × B)) → IsPermutation out ((i, b) ∷ left) → AllOutGiven IsSame buffers out
@@ -140,7 +230,9 @@ module _ {B : Type 0} where
             let mine = subst (λ (ys : List (ℕ × Slot B)). MayLeave IsSame buffers (me.0, ys) (others ++ i ∷ []) out) was.0 may in
             let there = leaves_with contents IsSame buffers me.0 others i l.buffer l.others full out left mine (mine.given.0 l.buffer refl)
             (subst (λ (o : List (ℕ × B)). AllOutGiven IsSame buffers o) (sym was.1) mine.out_given)
-            (λ j. let same : times j (indices_of left) ≡ times j (indices_of out) = ap (λ (o : List (ℕ × B)). times j (indices_of o)) was.1 in omega arith) in
+            (λ j. let same : times j (indices_of left) ≡ times j (indices_of out) = ap (λ (o : List (ℕ × B)). times j (indices_of o)) was.1 in omega arith)
+            (λ x same. some_same l.buffer x (ap (λ (t : Slot B). t.buffer) same))
+            (λ o has. inl (subst (λ (os : List (ℕ × B)). Contains os o) (sym was.1) has)) in
             subst (λ (ys : List (ℕ × Slot B)). Leaves contents IsSame buffers (me.0, ys) others i out ((i, full) ∷ l.others) left) (sym was.0) there
         | inr was ↦
             let full : Slot B = record { buffer = Some l.buffer } in
@@ -148,9 +240,21 @@ module _ {B : Type 0} where
             let mine = subst (λ (ys : List (ℕ × Slot B)). MayLeave IsSame buffers (me.0, ys) (others ++ i ∷ []) out) was.0 may in
             let both = left_given contents IsSame buffers me.0 others i l.buffer l.others out left was.1 mine.out_given in
             let there = leaves_with contents IsSame buffers me.0 others i l.buffer l.others empty out left mine both.0 both.1
-            (λ j. let same = times-permuted j out ((i, l.buffer) ∷ left) was.1 in omega arith) in
+            (λ j. let same = times-permuted j out ((i, l.buffer) ∷ left) was.1 in omega arith)
+            (λ x same. absurd (none_some x (ap (λ (t : Slot B). t.buffer) same)))
+            (λ o has.
+            elim (contained_cases (i, l.buffer) o left (Contains-permutation out ((i, l.buffer) ∷ left) o was.1 has)) [
+              | inl it ↦ inr it
+              | inr still ↦ inl still
+            ]) in
             subst (λ (ys : List (ℕ × Slot B)). Leaves contents IsSame buffers (me.0, ys) others i out ((i, full) ∷ l.others) left) (sym was.0) there
       ])
+    where
+      some_same : (a b : B) → Some a ≡ Some b → a ≡ b
+      some_same a b e = cc
+
+      none_some : (a : B) → None ≡ Some a → ⊥
+      none_some a e = cc
 
 module _ {B : Type 0} where
   pub in_order_none : (slots : List (ℕ × Slot B)) → [] ≡ in_order slots → slots ≡ []
@@ -178,30 +282,26 @@ module _ {B : Type 0} where
       }
 
   -- the seat after its first slot has gone home
-  pub record GoneOn (IsSame : B → B → Type 0) (buffers : List B) (me : Me (Slot B) Known) (others : List ℕ) (out : List (ℕ × B)) (next : Me (Slot B) Known)
-      (left : List (ℕ × B)) : Type 0 where
+  pub record GoneOn (contents : B → List ℕ) (IsSame : B → B → Type 0) (buffers : List B) (me : Me (Slot B) Known) (others : List ℕ) (out : List (ℕ × B))
+      (next : Me (Slot B) Known) (left : List (ℕ × B)) : Type 0 where
     pub may : MayLeave IsSame buffers next others left
-    pub home : at_home (indices_of next.1) next.0 ≡ at_home (indices_of me.1) me.0
+    pub went : WentHome contents me out next left
     pub less : (j : ℕ) → times j (indices_of left) + times_lifted j me.1 ≡ times j (indices_of out) + times_lifted j next.1
 
   pub goes_on : (contents : B → List ℕ) (IsSame : B → B → Type 0) (buffers : List B) (me laid next : Me (Slot B) Known) (others : List ℕ) (i : ℕ)
       (out left : List (ℕ × B)) → Leaves contents IsSame buffers me others i out laid.1 left → laid.0 ≡ me.0
-      → next ≡ (at_home (front_index laid.1 ∷ []) laid.0, rest laid.1) → GoneOn IsSame buffers me others out next left
+      → next ≡ (at_home ((front_index laid.1, front_bytes contents laid.1) ∷ []) laid.0, rest laid.1) → GoneOn contents IsSame buffers me others out next left
   goes_on contents IsSame buffers me laid next others i out left l view gone =
-      let here : GoneOn IsSame buffers me others out (at_home (front_index laid.1 ∷ []) me.0, rest laid.1) left =
-      record { may = l.may; home = l.home; less = l.out_less } in
-      let there : (at_home (front_index laid.1 ∷ []) me.0, rest laid.1) ≡ next =
-      ap (λ (v : Known). (at_home (front_index laid.1 ∷ []) v, rest laid.1)) (sym view) ∙ sym gone in
-      subst (λ (n : Me (Slot B) Known). GoneOn IsSame buffers me others out n left) there here
+      let front : List (ℕ × List ℕ) = (front_index laid.1, front_bytes contents laid.1) ∷ [] in
+      let here : GoneOn contents IsSame buffers me others out (at_home front me.0, rest laid.1) left =
+      record { may = l.may; went = record { gone = front; view = refl; are = l.are }; less = l.out_less } in
+      let there : (at_home front me.0, rest laid.1) ≡ next = ap (λ (v : Known). (at_home front v, rest laid.1)) (sym view) ∙ sym gone in
+      subst (λ (n : Me (Slot B) Known). GoneOn contents IsSame buffers me others out n left) there here
 
   -- no index is left
   pub none_left : (IsSame : B → B → Type 0) (buffers : List B) (me : Me (Slot B) Known) (indices : List ℕ) (out : List (ℕ × B))
-      → MayLeave IsSame buffers me indices out → length indices ≡ 0 → me ≡ (at_home (indices_of me.1) me.0, [])
-  none_left IsSame buffers me indices out may none =
-      let empty : me.1 ≡ [] = in_order_none me.1 (sym (no_items indices none) ∙ may.order) in
-      let same : at_home [] me.0 ≡ me.0 = home_none me.0 may.seats in
-      let view : at_home (indices_of me.1) me.0 ≡ me.0 = ap (λ (ys : List (ℕ × Slot B)). at_home (indices_of ys) me.0) empty ∙ same in
-      ap (λ (v : Known). (v, me.1)) (sym view) ∙ ap (λ (ys : List (ℕ × Slot B)). (at_home (indices_of me.1) me.0, ys)) empty
+      → MayLeave IsSame buffers me indices out → length indices ≡ 0 → me.1 ≡ []
+  none_left IsSame buffers me indices out may none = in_order_none me.1 (sym (no_items indices none) ∙ may.order)
     where
       no_items : (l : List ℕ) → length l ≡ 0 → l ≡ []
       no_items [] e = refl

@@ -22,8 +22,8 @@ use Rattle.scq_band.specs.declared.rule.Key.{Key}
 use Rattle.scq_band.specs.Numbers.{known_of, changed, finishes, sees, passes, drew, empties}
 use Rattle.scq_band.specs.Known.{Member, Known}
 use Rattle.scq_band.specs.Sights.{Sight, StandsAfter, Went, Looked, retired_ones}
-use Rattle.scq_law.specs.Prefixes.{IsPrefix, IsRecordAfter}
-use Rattle.scq_band.specs.RunSeen.{Seen, EndsWith, Caller, IsCallInRun, WasEmptyInRun, IsReadingInRun}
+use Rattle.scq_law.specs.Prefixes.{IsRecordAfter}
+use Rattle.scq_band.specs.RunSeen.{Seen, EndsWith, IsCallInRun, WasEmptyInRun, IsReadingInRun}
 use Rattle.scq_band.specs.Steps.{my, bytes_in, front_bytes}
 use Rattle.scq_band.specs.Seats.{IsAlone, looked, HasGotAfter, with_part, seated, put_at, got_at, nothing_at, drew_head, spent_at}
 use Rattle.scq_band.specs.Turns.{Fronts}

@@ -1,5 +1,5 @@
 -- A get that has given its ticket up: it catches Tail up and leaves, or counts a failed attempt and goes on or ends.
-use Rattle.std.proofs.Common.{◌≡◌, ◌≢◌, ℕ, ◌+◌, ◌<◌, ◌≤◌, true, false, List, refl, ◌∙◌, ap, inl, inr, arith, ne_eqb, le-leb, leb-true}
+use Rattle.std.proofs.Common.{◌≡◌, ◌≢◌, ℕ, ◌+◌, ◌<◌, ◌≤◌, false, List, refl, ◌∙◌, ap, inl, inr, arith, ne_eqb, le-leb, leb-true}
 use Rattle.std.specs.Prelude.{nat_le}
 use Rattle.std.proofs.lemmas.Bool.{cases_Bool}
 use Rattle.atomic_table.specs.Table.{Me}

@@ -27,7 +27,8 @@ use Rattle.scq_band.proofs.ClosedCounts.{sum_by-map, hands_of}
 
 -- all slots of each member's hand were brought home
 abbrev pub AllBrought : List Member → Type 0
-AllBrought xs = (a : ℕ) (x : Member) → slice_get xs a ≡ Some x → (i : ℕ) → 0 < times i x.part.hand → Contains x.brought i
+AllBrought xs =
+    (a : ℕ) (x : Member) → slice_get xs a ≡ Some x → (i : ℕ) → 0 < times i x.part.hand → (w : List ℕ) × Contains x.brought (i, w)
 
 -- an index in an entry
 pub record InEntry (c : Setup) (m : Machine) (i : ℕ) : Type 0 where
@@ -68,7 +69,8 @@ module _ {S : Type 0} (Lies : ℕ → S → List ℕ → Type 0) where
           let x = seat.member in
           let part : z.state.part k ≡ x.part = ap z.state.part (sym seat.is) ∙ all.part seat.at x seat.here in
           let held : 0 < times i x.part.hand = let once : times i (z.state.part k).hand ≡ 1 = is.1 in rw (← part) (omega (arith, once)) in
-          ((member_at Lies c z homes id xs owns seat.at x seat.here).brought i (brought seat.at x seat.here i held)).1
+          let home = brought seat.at x seat.here i held in
+          (home.0, ((member_at Lies c z homes id xs owns seat.at x seat.here).brought (i, home.0) home.1).1)
       go (in_slot r s) is =
           let e = in_entry c z.state i r s small is in
           (z.state.cells.entries.content e.ring e.slot, entry_home c z.state homes i stored e)

@@ -132,9 +132,9 @@ module _ {S : Type 0} (Lies : ℕ → S → List ℕ → Type 0) where
           part = updated_else z.state.part k _ x.number other ∙ x_is.part;
           gone = x_is.gone;
           brought =
-              λ i there.
-              let b = x_is.brought i there in
-              (b.0, (b.1.0, stays i x.number b.1.0 other (rw x_is.part b.0) b.1.1));
+              λ b there.
+              let was = x_is.brought b there in
+              (was.0, stays b.0 x.number b.1 other (rw x_is.part was.0) was.1);
         },
         owns_else c z homes homes' id j k t mine apart stays xs owns.1,
       )
@@ -150,7 +150,7 @@ module _ {S : Type 0} (Lies : ℕ → S → List ℕ → Type 0) where
       part = updated_here z.state.part x.number _
           ∙ ap (after c t (read z.state.cells (location_of c t)) (beside z.state.cells (location_of c t))) x_is.part;
       gone = x_is.gone;
-      brought = λ i there. let e : Contains [] i = subst (λ (l : List ℕ). Contains l i) none there in absurd (omega (arith, e.1));
+      brought = λ b there. let e : Contains [] b = subst (λ (l : List (ℕ × List ℕ)). Contains l b) none there in absurd (omega (arith, e.1));
     },
     tt,
   )

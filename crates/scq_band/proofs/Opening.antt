@@ -100,7 +100,7 @@ module _ {S : Type 0} (Lies : ℕ → S → List ℕ → Type 0) where
       owner = ap (λ (f : ℕ → ℕ × ℕ). f n) owner ∙ ap (λ b. (0, b)) (sym (members_length n));
       part = part n;
       gone = ap (λ (f : ℕ → Option ℕ). f n) gone;
-      brought = λ i there. absurd (omega (arith, there.1));
+      brought = λ b there. absurd (omega (arith, there.1));
     },
     owns_first c z homes n (omega arith) owner gone part,
   )

@@ -1,8 +1,8 @@
 -- The rule of the table, of a run: a turn makes it longer by one step, and what else is done leaves it. Plan: what words and views show
 -- of the machine is kept already (Moves, Views, Gates, Bringing), for the run after the step or the same; what a view has seen is a prefix
 -- of each longer run.
-use Rattle.std.proofs.Common.{◌≡◌, ◌≢◌, ◌⊎◌, ℕ, zero, suc, ◌+◌, ◌-◌, ◌%◌, ◌^◌, ◌<◌, ◌≤◌, List, [], ◌∷◌, ◌++◌, map, length, refl, sym, ◌∙◌, ap, subst, inl, inr, arith, append_assoc, append-nil}
-use Rattle.std.specs.Prelude.{Option, Some, None, slice_index, slice_set, slice_get}
+use Rattle.std.proofs.Common.{◌≡◌, ◌≢◌, ℕ, zero, suc, ◌+◌, ◌-◌, ◌%◌, ◌^◌, ◌<◌, ◌≤◌, List, [], ◌∷◌, ◌++◌, map, length, refl, sym, ◌∙◌, ap, subst, inl, inr, arith}
+use Rattle.std.specs.Prelude.{Option, Some, None, slice_index, slice_set}
 use Rattle.std.specs.List.{Contains}
 use Rattle.std.proofs.lemmas.List.Elements.{Contains-append_cases}
 use Rattle.scq_core.specs.Updated.{updated}
@@ -16,14 +16,13 @@ use Rattle.scq_word.specs.declared.setup.Setup.{Setup}
 use Rattle.scq_core.specs.declared.phase.Phase.{Phase}
 use Rattle.scq_core.specs.declared.step.Step.{Step}
 use Rattle.scq_core.specs.Laws.{Busy}
-use Rattle.scq_core.specs.Machine.{Part, Machine, read}
+use Rattle.scq_core.specs.Machine.{Machine, read}
 use Rattle.scq_core.specs.Reach.{IsReachable}
 use Rattle.scq_core.specs.Table.{turn_of, location_of, writes}
 use Rattle.scq_law.proofs.Replays.RunPrefixes.{prefix_whole, prefix_trans, all_prefixes, both_prefixes}
 use Rattle.scq_law.specs.Prefixes.{IsPrefix, AllPrefixes}
 use Rattle.scq_band.specs.Layout.{at}
 use Rattle.scq_band.specs.RunSeen.{Seen, nothing_seen, with_run, both_seen}
-use Rattle.scq_band.specs.declared.numbers.Numbers.{Numbers}
 use Rattle.scq_band.specs.Numbers.{IsTrue}
 use Rattle.scq_band.specs.Known.{Member, Known}
 use Rattle.scq_band.specs.Shown.{Owns, Shown, awake, first_view}
@@ -31,7 +30,7 @@ use Rattle.scq_band.specs.Standing.{IsReading}
 use Rattle.scq_band.specs.Seats.{IsAlone, looked, retired_at}
 use Rattle.scq_band.specs.Sights.{Sight, known_in, known_me, known_state, StandsAfter, Went, GoesOn, Looked, retired_ones, first_sight, ShowsRun}
 use Rattle.scq_band.specs.Steps.{my, my_of}
-use Rattle.scq_band.specs.Turns.{turned_member, made, MayTurn, Carries, Turned}
+use Rattle.scq_band.specs.Turns.{turned_member, MayTurn, Carries, Turned}
 use Rattle.scq_band.proofs.Moves.{Ground, moves_by}
 use Rattle.scq_band.proofs.Gates.{looks, retires, ones_gone, ones_low}
 

@@ -1,5 +1,5 @@
 -- What a seat keeps is what it needs to go home, and what contracts see of it is in the view that it leaves.
-use Rattle.std.proofs.Common.{◌≡◌, ℕ, zero, suc, ◌+◌, ◌<◌, ◌≤◌, Bool, true, false, List, [], ◌∷◌, ◌++◌, length, refl, sym, ◌∙◌, ap, subst, inl, inr, arith, eq-eqb, ne_eqb}
+use Rattle.std.proofs.Common.{◌≡◌, ℕ, zero, suc, ◌+◌, ◌<◌, ◌≤◌, Bool, true, false, List, [], ◌∷◌, ◌++◌, map, length, refl, sym, ◌∙◌, ap, subst, inl, inr, arith, append-nil, eq-eqb, ne_eqb}
 use Rattle.std.specs.Prelude.{Option, Some, None, is_none, if◌then◌else◌, slice_get, min}
 use Rattle.std.specs.List.{Contains}
 use Rattle.std.proofs.lemmas.Bool.{cases_eq, cases_Bool}
@@ -16,19 +16,29 @@ use Rattle.scq_band.specs.Steps.{my}
 use Rattle.scq_band.specs.Standing.{Standing}
 use Rattle.scq_band.specs.Kept.{in_order, buffer_in, hand_of, standing_from, AllGiven, IsKept}
 use Rattle.scq_band.specs.Closing.{indices_of, lifted_of}
-use Rattle.scq_band.specs.Homes.{at_home, times_lifted, AllOutGiven, MayLeave, IsMemberOf, AreMembersOf, HeadsKnown, GatesKnown, HasAll}
-use Rattle.scq_band.proofs.GoingHome.{times-append, contains_behind}
+use Rattle.scq_band.specs.Homes.{full_slot, times_lifted, WentHome, OutOrHome, AllOutGiven, MayLeave, IsMemberOf, AreMembersOf, HeadsKnown, GatesKnown, HasAll}
+use Rattle.scq_band.proofs.GoingHome.{times-append, contains_behind, contained_cases, contains_none}
 use Rattle.scq_band.proofs.Views.{joined_length}
 
--- an index that stands in a list is one of it
-pub contains_times : (xs : List ℕ) (i : ℕ) → 0 < times i xs → Contains xs i
+-- an index that stands in a list has something beside it there
+contains_times : {A : Type 0} (xs : List (ℕ × A)) (i : ℕ) → 0 < times i (indices_of xs) → (w : A) × Contains xs (i, w)
 contains_times [] i some = absurd (omega arith)
-contains_times (x ∷ xs) i some =
-    elim (cases_eq x i) [
-      | inl same ↦ (0, omega arith, same)
+contains_times {A} (x ∷ xs) i some =
+    elim (cases_eq x.0 i) [
+      | inl same ↦ (x.1, (0, omega arith, ap (λ (j : ℕ). (j, x.1)) same))
       | inr other ↦
-          let seen = rw (ne_eqb x i other) at some in
-          contains_behind x i xs (contains_times xs i (omega (arith, seen)))
+          let seen = rw (ne_eqb x.0 i other) at some in
+          let behind = contains_times xs i (omega (arith, seen)) in
+          (behind.0, contains_behind x (i, behind.0) xs behind.1)
+    ]
+
+-- an image is that of something in the list
+contained_image : {A C : Type 0} (f : A → C) (xs : List A) (y : C) → Contains (map f xs) y → (x : A) × (f x ≡ y)
+contained_image f [] y has = absurd (contains_none y has)
+contained_image f (x ∷ xs) y has =
+    elim (contained_cases (f x) y (map f xs) has) [
+      | inl same ↦ (x, same)
+      | inr there ↦ contained_image f xs y there
     ]
 
 -- a number under a test, where both sides are written otherwise
@@ -44,6 +54,27 @@ module _ {B : Type 0} where
       let rest = times-in_order xs i in
       let split = times-append i (in_order xs) (x.0 ∷ []) in
       omega arith
+
+  -- the slot in which the buffer of an index lies
+  slot_of_buffer : (slots : List (ℕ × Slot B)) (i : ℕ) (b : B) → buffer_in slots i ≡ Some b → Contains slots (i, full_slot b)
+  slot_of_buffer [] i b is = absurd (cc)
+  slot_of_buffer (x ∷ xs) i b is =
+      elim (cases_eq x.0 i) [
+        | inl same ↦
+            let here : x.1.buffer ≡ Some b = rw (eq-eqb x.0 i same) at is in
+            (0, omega arith, ap (λ (j : ℕ). (j, x.1)) same ∙ ap (λ (o : Option B). (i, record { buffer = o })) here)
+        | inr other ↦
+            let there : buffer_in xs i ≡ Some b = rw (ne_eqb x.0 i other) at is in
+            contains_behind x (i, full_slot b) xs (slot_of_buffer xs i b there)
+      ]
+
+  -- a buffer that contracts see in a hand lies in a slot
+  slot_of_hand : (slots : List (ℕ × Slot B)) (hand : List ℕ) (i : ℕ) (b : B) → Contains (hand_of slots hand) (i, Some b) → Contains slots (i, full_slot b)
+  slot_of_hand slots hand i b has =
+      let image = contained_image (λ (j : ℕ). (j, buffer_in slots j)) hand (i, Some b) has in
+      let index : image.0 ≡ i = ap (λ (p : ℕ × Option B). p.0) image.1 in
+      let buffer : buffer_in slots image.0 ≡ Some b = ap (λ (p : ℕ × Option B). p.1) image.1 in
+      slot_of_buffer slots i b (ap (buffer_in slots) (sym index) ∙ buffer)
 
   -- the indices of a hand that contracts see
   indices-hand_of : (slots : List (ℕ × Slot B)) (hand : List ℕ) → indices_of (hand_of slots hand) ≡ hand
@@ -128,27 +159,66 @@ module _ {B : Type 0} where
           seats = kept.alone.seats;
           order = kept.order;
           held = λ i. let same = kept.same i in omega (arith, same);
+          once =
+              λ i.
+              let one = kept.once i in
+              let none : times i (indices_of (my me.0).brought) ≡ 0 = ap (λ (h : List (ℕ × List ℕ)). times i (indices_of h)) kept.alone.out in
+              omega (arith, one, none);
           given = subst (λ (bs : List B). AllGiven IsSame bs me.1) (sym are) kept.given;
           out_given = given;
           lifted = λ i. let same = lifted_as i in let few = lifted i in omega (arith, same, few);
         }
 
-    -- what it has become
-    pub is_member : (seen : Seen) (table : TableId) → IsMemberOf (standing_from seen table key me) (my (at_home (indices_of me.1) me.0))
-    is_member seen table =
-        record {
-          number = refl;
-          calls = refl;
-          hand = sym (indices-hand_of me.1 (my me.0).part.hand);
-          spent = refl;
-          retired = refl;
-          idle = kept.idle;
-          brought =
-              λ i some.
-              let hand = times-hand i in
-              let there = contains_times (indices_of me.1) i (omega (arith, hand, some)) in
-              subst (λ (h : List ℕ). Contains (h ++ indices_of me.1) i) (sym kept.alone.out) there;
-        }
+    module _ (contents : B → List ℕ) (out left : List (ℕ × B)) (next : Me (Slot B) Known) (went : WentHome contents me out next left) where
+      -- the view that it leaves is of one seat, which has brought home just these
+      pub leaves_alone : next.0.seats ≡ my next.0 ∷ []
+      leaves_alone = ap (λ (v : Known). v.seats) went.view ∙ ap (λ (v : Known). my v ∷ []) (sym went.view)
+
+      has_brought : (my next.0).brought ≡ went.gone
+      has_brought =
+          ap (λ (v : Known). (my v).brought) went.view ∙ ap (λ (h : List (ℕ × List ℕ)). h ++ went.gone) kept.alone.out
+
+      -- what it has become
+      pub is_member : (seen : Seen) (table : TableId) → next.1 ≡ [] → IsMemberOf contents (standing_from seen table key me) (my next.0)
+      is_member seen table none =
+          record {
+            number = ap (λ (v : Known). (my v).number) went.view;
+            calls = ap (λ (v : Known). (my v).part.calls) went.view;
+            hand = ap (λ (v : Known). (my v).part.hand) went.view ∙ sym (indices-hand_of me.1 (my me.0).part.hand);
+            spent = ap (λ (v : Known). (my v).part.spent) went.view;
+            retired = ap (λ (v : Known). (my v).retired) went.view;
+            idle = ap (λ (v : Known). (my v).part.phase) went.view ∙ kept.idle;
+            brought =
+                λ i some.
+                let part : times i (my next.0).part.hand ≡ times i (my me.0).part.hand = ap (λ (v : Known). times i (my v).part.hand) went.view in
+                let hand = times-hand i in
+                let all : indices_of went.gone ≡ indices_of me.1 =
+                sym (append-nil (indices_of went.gone)) ∙ ap (λ (ys : List (ℕ × Slot B)). indices_of went.gone ++ indices_of ys) (sym none)
+                ∙ went.are.indices in
+                let same = ap (times i) all in
+                let there = contains_times went.gone i (omega (arith, part, hand, same, some)) in
+                (there.0, subst (λ (h : List (ℕ × List ℕ)). Contains h (i, there.0)) (sym has_brought) there.1);
+            laid =
+                λ i b has.
+                elim (went.are.laid i b (slot_of_hand me.1 (my me.0).part.hand i b has)) [
+                  | inl still ↦ absurd (contains_none (i, full_slot b) (subst (λ (ys : List (ℕ × Slot B)). Contains ys (i, full_slot b)) none still))
+                  | inr gone ↦ subst (λ (h : List (ℕ × List ℕ)). Contains h (i, contents b)) (sym has_brought) gone
+                ];
+          }
+
+      -- what was out is out still, or at home
+      pub out_or_home : OutOrHome contents out left (my next.0 ∷ [])
+      out_or_home o has =
+          elim (went.are.lifted o has) [
+            | inl still ↦ inl still
+            | inr gone ↦
+                inr record {
+                  at = 0;
+                  member = my next.0;
+                  here = refl;
+                  brought = subst (λ (h : List (ℕ × List ℕ)). Contains h (o.0, contents o.1)) (sym has_brought) gone;
+                }
+          ]
 
 -- a number of the first list, and one of the second, are no larger than the joined one
 joined_first : (xs ys : List Numbers) (r : ℕ) (x : Numbers) → slice_get xs r ≡ Some x
@@ -206,24 +276,25 @@ module _ {B : Type 0} where
   )
 
   -- the first seat alone
-  pub has_one : (rings : ℕ) (s : Standing B) (v : Known) → v.seats ≡ my v ∷ [] → IsMemberOf s (my v) → v.numbers ≡ s.numbers → length s.numbers ≡ rings
-      → v.gate ≡ s.gate → HasAll rings (s ∷ []) v
-  has_one rings s v alone member numbers count gate =
+  pub has_one : (contents : B → List ℕ) (rings : ℕ) (s : Standing B) (v : Known) → v.seats ≡ my v ∷ [] → IsMemberOf contents s (my v)
+      → v.numbers ≡ s.numbers → length s.numbers ≡ rings → v.gate ≡ s.gate → HasAll contents rings (s ∷ []) v
+  has_one contents rings s v alone member numbers count gate =
       record {
-        members = subst (λ (xs : List Member). AreMembersOf (s ∷ []) xs) (sym alone) (member, tt);
+        members = subst (λ (xs : List Member). AreMembersOf contents (s ∷ []) xs) (sym alone) (member, tt);
         heads = (λ r x e. (x, ap (λ (ns : List Numbers). slice_get ns r) numbers ∙ e, omega arith), tt);
         rings_known = ap length numbers ∙ count;
         gates = (λ n is. (n, gate ∙ is, omega arith), tt);
       }
 
   -- one more seat
-  pub has_more : (rings : ℕ) (s : Standing B) (ss : List (Standing B)) (v w : Known) → HasAll rings ss v → w.seats ≡ my w ∷ [] → IsMemberOf s (my w)
-      → w.numbers ≡ s.numbers → length s.numbers ≡ rings → w.gate ≡ s.gate → HasAll rings (s ∷ ss) (both_of v w)
-  has_more rings s ss v w all alone member numbers count gate =
+  pub has_more : (contents : B → List ℕ) (rings : ℕ) (s : Standing B) (ss : List (Standing B)) (v w : Known) → HasAll contents rings ss v
+      → w.seats ≡ my w ∷ [] → IsMemberOf contents s (my w) → w.numbers ≡ s.numbers → length s.numbers ≡ rings → w.gate ≡ s.gate
+      → HasAll contents rings (s ∷ ss) (both_of v w)
+  has_more contents rings s ss v w all alone member numbers count gate =
       let known = all.rings_known in
       let mine : length w.numbers ≡ length s.numbers = ap length numbers in
       record {
-        members = subst (λ (xs : List Member). AreMembersOf (s ∷ ss) (xs ++ v.seats)) (sym alone) (member, all.members);
+        members = subst (λ (xs : List Member). AreMembersOf contents (s ∷ ss) (xs ++ v.seats)) (sym alone) (member, all.members);
         heads = (
           λ r x e.
               joined_second v.numbers w.numbers r x (omega (arith, known, mine, count))

@@ -1,13 +1,13 @@
 -- Where the limit is enough for the puts that were begun, no ticket was kept: the bound of each ring is within the limit, since it
 -- rises with the puts and the opening puts are in `limit_for`.
-use Rattle.std.proofs.Common.{◌≡◌, refl, ◌∙◌, ap, arith, ℕ, ◌+◌, ◌*◌, ◌<◌, ◌≤◌, List, get_or, Option, Some, None, Bool, true, false}
-use Rattle.std.specs.Prelude.{slice_get, if◌then◌else◌, ◌==◌}
+use Rattle.std.proofs.Common.{◌≡◌, refl, ◌∙◌, ap, arith, ℕ, ◌+◌, ◌*◌, ◌≤◌, List, get_or, Option, Some, None, Bool, true, false}
+use Rattle.std.specs.Prelude.{if◌then◌else◌, ◌==◌}
 use Rattle.std.proofs.Math.Nat.{mul-le-mul_right}
 use Rattle.std.proofs.lemmas.Option.{slice_get-get_or}
 use Rattle.scq_core.specs.declared.ended.Ended.{Ended}
 use Rattle.scq_word.specs.declared.setup.Setup.{Setup}
 use Rattle.scq_word.specs.Sizes.{n_of}
-use Rattle.scq_word.specs.Bounds.{reset_value, ticket_bound, limit_for}
+use Rattle.scq_word.specs.Bounds.{reset_value, ticket_bound}
 use Rattle.scq_law.specs.Bounds.{openings}
 use Rattle.scq_band.specs.Closing.{begun_on, EachSpentIsPastTheBound, NoneIsSpentWithinTheLimit}
 

@@ -1,6 +1,6 @@
 -- What the records of all seats say together once a band is closed, when no seat is in the middle of a call. The records stand in
 -- the order in which the seats were given. A call is told by its seat's number in that order and by its own in the record, from 0.
-use Rattle.std.specs.Prelude.{◌≡◌, ◌⊎◌, ℕ, ◌+◌, ◌<◌, ◌≤◌, Bool, if◌then◌else◌, is_none, List, [], ◌∷◌, map, length, Option, Some, slice_get, slice_index, slice_index_or, sum, sum_by, All, None}
+use Rattle.std.specs.Prelude.{◌≡◌, ◌⊎◌, ℕ, ◌+◌, ◌<◌, ◌≤◌, Bool, if◌then◌else◌, is_none, List, [], ◌∷◌, ◌++◌, map, length, Option, Some, slice_get, slice_index, slice_index_or, sum, sum_by, All, None}
 use Rattle.std.specs.List.{Contains}
 use Rattle.scq_word.specs.declared.setup.Setup.{Setup}
 use Rattle.scq_word.specs.Sizes.{n_of}
@@ -119,6 +119,23 @@ indices_of {A} hand = map (λ (x : ℕ × A). x.0) hand
 abbrev pub lifted_of : {B : Type 0} → List (ℕ × Option B) → List ℕ
 lifted_of [] = []
 lifted_of (x ∷ xs) = if is_none x.1 then x.0 ∷ lifted_of xs else lifted_of xs
+
+-- the buffers that are laid in a hand, each with its index; and those that seats hold: laid in their hands, or out
+abbrev pub with_laid : {B : Type 0} → ℕ → Option B → List (ℕ × B) → List (ℕ × B)
+with_laid i None others = others
+with_laid i (Some b) others = (i, b) ∷ others
+
+abbrev pub laid_of : {B : Type 0} → List (ℕ × Option B) → List (ℕ × B)
+laid_of [] = []
+laid_of (x ∷ xs) = with_laid x.0 x.1 (laid_of xs)
+
+abbrev pub held_buffers : {B : Type 0} → List (Standing B) → List (ℕ × B) → List (ℕ × B)
+held_buffers [] out = out
+held_buffers (s ∷ ss) out = laid_of s.hand ++ held_buffers ss out
+
+-- a buffer that was held: the one that comes back for its index has the bytes that it had
+abbrev pub ComesBackAsItWas : {B : Type 0} → (B → List ℕ) → List B → ℕ × B → Type 0
+ComesBackAsItWas contents buffers held = slice_get (map contents buffers) held.0 ≡ Some (contents held.1)
 
 -- an index that is in no hand
 abbrev pub IsLeft : List (List ℕ) → ℕ → Type 0

@@ -15,16 +15,24 @@ use Rattle.scq_band.specs.Standing.{Standing, IsAsGiven}
 use Rattle.scq_band.specs.Kept.{in_order, AllGiven}
 use Rattle.scq_band.specs.Closing.{indices_of}
 
--- the view of a seat after the slots of these indices have gone home
-abbrev pub at_home : List ℕ → Known → Known
-at_home indices v = record v { seats = record (my v) { brought = (my v).brought ++ indices } ∷ [] }
+-- the view of a seat after the slots of these indices have gone home, with buffers of these bytes
+abbrev pub at_home : List (ℕ × List ℕ) → Known → Known
+at_home gone v = record v { seats = record (my v) { brought = (my v).brought ++ gone } ∷ [] }
+
+-- the slot of an index went home, with a buffer of these bytes, by one of these members
+pub record IsBrought (xs : List Member) (b : ℕ × List ℕ) : Type 0 where
+  pub at : ℕ
+  pub member : Member
+  pub here : slice_get xs at ≡ Some member
+  pub brought : Contains member.brought b
 
 module _ {S : Type 0} (Lies : ℕ → S → List ℕ → Type 0) where
-  -- one seat stands in the view, it has the index of the slot that stands first, and the buffer of that index is in it
-  pub record MayBring (me : Me S Known) : Type 0 where
+  -- one seat stands in the view, it has the index of the slot that stands first, which it hasn't brought home yet, and the buffer of
+  -- that index is in it, with these bytes
+  pub record MayBring (content : List ℕ) (me : Me S Known) : Type 0 where
     pub seats : me.0.seats ≡ my me.0 ∷ []
     pub held : 0 < times (front_index me.1) (my me.0).part.hand
-    pub content : List ℕ
+    pub apart : times (front_index me.1) (indices_of (my me.0).brought) ≡ 0
     pub front : Fronts Lies (front_index me.1) content me.1
 
 module _ {B : Type 0} where
@@ -45,37 +53,57 @@ module _ {B : Type 0} where
     pub was : ((slots ≡ (i, record { buffer = Some buffer }) ∷ others) × (left ≡ out))
         ⊎ ((slots ≡ (i, record { buffer = None }) ∷ others) × IsPermutation out ((i, buffer) ∷ left))
 
+  -- these slots have gone home, each with the bytes that its buffer had in it or where it was out; of the slots, and of the buffers
+  -- that were out, the others are left
+  pub record AreHome (contents : B → List ℕ) (gone : List (ℕ × List ℕ)) (slots later : List (ℕ × Slot B)) (out left : List (ℕ × B)) : Type 0 where
+    pub indices : indices_of gone ++ indices_of later ≡ indices_of slots
+    pub laid : (i : ℕ) (b : B) → Contains slots (i, full_slot b) → Contains later (i, full_slot b) ⊎ Contains gone (i, contents b)
+    pub lifted : (o : ℕ × B) → Contains out o → Contains left o ⊎ Contains gone (o.0, contents o.1)
+
+  -- a seat of whose slots some have gone home
+  pub record WentHome (contents : B → List ℕ) (me : Me (Slot B) Known) (out : List (ℕ × B)) (later : Me (Slot B) Known) (left : List (ℕ × B)) : Type 0 where
+    pub gone : List (ℕ × List ℕ)
+    pub view : later.0 ≡ at_home gone me.0
+    pub are : AreHome contents gone me.1 later.1 out left
+
+  -- each buffer that was out is out still, or its slot is at home with its bytes
+  abbrev pub OutOrHome : (B → List ℕ) → List (ℕ × B) → List (ℕ × B) → List Member → Type 0
+  OutOrHome contents out left xs = (o : ℕ × B) → Contains out o → Contains left o ⊎ IsBrought xs (o.0, contents o.1)
+
   -- each buffer that is out is the one that was given for its index
   abbrev pub AllOutGiven : (B → B → Type 0) → List B → List (ℕ × B) → Type 0
   AllOutGiven IsSame buffers out = (o : ℕ × B) → Contains out o → IsAsGiven IsSame buffers o.0 o.1
 
-  -- a seat stands alone, with the indices of its slots, which are of its hand; their buffers are the ones that were given, and
-  -- those that are lifted are out
+  -- a seat stands alone, with the indices of its slots, which are of its hand and not of those that it has brought home, each once;
+  -- their buffers are the ones that were given, and those that are lifted are out
   pub record MayLeave (IsSame : B → B → Type 0) (buffers : List B) (me : Me (Slot B) Known) (indices : List ℕ) (out : List (ℕ × B)) : Type 0 where
     pub seats : me.0.seats ≡ my me.0 ∷ []
     pub order : indices ≡ in_order me.1
     pub held : (i : ℕ) → times i indices ≤ times i (my me.0).part.hand
+    pub once : (i : ℕ) → times i (indices_of (my me.0).brought) + times i indices ≤ 1
     pub given : AllGiven IsSame buffers me.1
     pub out_given : AllOutGiven IsSame buffers out
     pub lifted : (i : ℕ) → times_lifted i me.1 ≤ times i (indices_of out)
 
 module _ {B : Type 0} where
-  -- the member of a closed view that a seat became: what contracts see of it stays, and all its slots are at home
-  pub record IsMemberOf (s : Standing B) (x : Member) : Type 0 where
+  -- the member of a closed view that a seat became: what contracts see of it stays, and all its slots are at home, with the bytes of
+  -- the buffers that were laid in its hand
+  pub record IsMemberOf (contents : B → List ℕ) (s : Standing B) (x : Member) : Type 0 where
     pub number : x.number ≡ s.number
     pub calls : x.part.calls ≡ s.calls
     pub hand : x.part.hand ≡ indices_of s.hand
     pub spent : x.part.spent ≡ s.spent
     pub retired : x.retired ≡ s.retired
     pub idle : x.part.phase ≡ Idle
-    pub brought : (i : ℕ) → 0 < times i x.part.hand → Contains x.brought i
+    pub brought : (i : ℕ) → 0 < times i x.part.hand → (w : List ℕ) × Contains x.brought (i, w)
+    pub laid : (i : ℕ) (b : B) → Contains s.hand (i, Some b) → Contains x.brought (i, contents b)
 
   -- the members of a view are those of these seats, one by one
-  abbrev pub AreMembersOf : List (Standing B) → List Member → Type 0
-  AreMembersOf [] [] = Unit {0}
-  AreMembersOf [] (x ∷ xs) = ⊥
-  AreMembersOf (s ∷ ss) [] = ⊥
-  AreMembersOf (s ∷ ss) (x ∷ xs) = IsMemberOf s x × AreMembersOf ss xs
+  abbrev pub AreMembersOf : (B → List ℕ) → List (Standing B) → List Member → Type 0
+  AreMembersOf contents [] [] = Unit {0}
+  AreMembersOf contents [] (x ∷ xs) = ⊥
+  AreMembersOf contents (s ∷ ss) [] = ⊥
+  AreMembersOf contents (s ∷ ss) (x ∷ xs) = IsMemberOf contents s x × AreMembersOf contents ss xs
 
   -- what each of these seats knows of Head is known
   abbrev pub HeadsKnown : List (Standing B) → List Numbers → Type 0
@@ -90,8 +118,8 @@ module _ {B : Type 0} where
   GatesKnown (s ∷ ss) gate = ((n : ℕ) → s.gate ≡ Some n → (k : ℕ) × (gate ≡ Some k) × (k ≤ n)) × GatesKnown ss gate
 
   -- the view in which these seats stand, with their slots at home
-  pub record HasAll (rings : ℕ) (seats : List (Standing B)) (v : Known) : Type 0 where
-    pub members : AreMembersOf seats v.seats
+  pub record HasAll (contents : B → List ℕ) (rings : ℕ) (seats : List (Standing B)) (v : Known) : Type 0 where
+    pub members : AreMembersOf contents seats v.seats
     pub heads : HeadsKnown seats v.numbers
     pub rings_known : length v.numbers ≡ rings
     pub gates : GatesKnown seats v.gate
@@ -102,9 +130,9 @@ module _ {B : Type 0} where
   all_seen (s ∷ ss) = both_seen (all_seen ss) s.seen
 
   -- of all these seats some are left, and the others stand in one view with their slots at home
-  pub record AreGathered (rings : ℕ) (all left : List (Standing B)) (v : Known) (told : Seen) : Type 0 where
+  pub record AreGathered (contents : B → List ℕ) (rings : ℕ) (all left : List (Standing B)) (v : Known) (told : Seen) : Type 0 where
     pub done : List (Standing B)
     pub split : all ≡ left ++ done
-    pub has : HasAll rings done v
+    pub has : HasAll contents rings done v
     pub seen : told ≡ all_seen done
     pub some : v.seats ≡ [] → ⊥

@@ -7,12 +7,12 @@ use Rattle.scq_band.specs.declared.numbers.Numbers.{Numbers}
 use Rattle.scq_band.specs.Numbers.{joined}
 
 -- a seat: its number, its part, how many calls stood in its record when it retired, and the indices in its hand whose slots
--- were brought home before the table closes
+-- were brought home before the table closes, each with the bytes of its buffer
 pub record Member : Type 0 where
   pub number : ℕ
   pub part : Part
   pub retired : Option ℕ
-  pub brought : List ℕ
+  pub brought : List (ℕ × List ℕ)
 
 pub record Known : Type 0 where
   pub seats : List Member

@@ -65,7 +65,7 @@ module _ {S : Type 0} (Lies : ℕ → S → List ℕ → Type 0) where
     pub owner : z.owner x.number ≡ (id, behind)
     pub part : z.state.part x.number ≡ x.part
     pub gone : z.gone x.number ≡ x.retired
-    pub brought : (i : ℕ) → Contains x.brought i → (0 < times i x.part.hand) × ((w : List ℕ) × Has homes i w)
+    pub brought : (b : ℕ × List ℕ) → Contains x.brought b → (0 < times b.0 x.part.hand) × Has homes b.0 b.1
 
   abbrev pub Owns : Setup → Scene → List (maybe.Option S) → ℕ → List Member → Type 0
   Owns c z homes id [] = Unit {0}

@@ -5,10 +5,10 @@ ghost use Rattle.atomic_table.specs.Table.{rest};
 ghost use Rattle.scq_law.specs.Hands.{times};
 ghost use Rattle.scq_band.specs.declared.slot.Slot.{Slot};
 ghost use Rattle.scq_band.specs.Buffers.{LiesIn, opening_of};
-ghost use Rattle.scq_band.specs.Steps.{my, front_index};
+ghost use Rattle.scq_band.specs.Steps.{my, front_index, front_bytes};
 ghost use Rattle.scq_band.specs.Kept.{identity_of};
-ghost use Rattle.scq_band.specs.Closing.{indices_of, lifted_of, IsOneRunToTheEnd, EachGetHasItsPut, NoneIsPutTwice, NoneIsGotTwice, EachPutPassedIsGot, IsBalance, IsAllThere, EachIsInOneHand, EachSpentIsPastTheBound, NoneIsSpentWithinTheLimit, EachLeftIsItsPut, AreTheSame, AreTheLifted, AllRetiredWhereClosed, EachSeenRetiredHas, all_calls, all_hands, all_known, all_spent, callers_of};
-ghost use Rattle.scq_band.specs.Homes.{at_home, MayBring, IsLaidBack, times_lifted, AllOutGiven, MayLeave, IsMemberOf, HasAll, all_seen};
+ghost use Rattle.scq_band.specs.Closing.{indices_of, lifted_of, IsOneRunToTheEnd, EachGetHasItsPut, NoneIsPutTwice, NoneIsGotTwice, EachPutPassedIsGot, IsBalance, IsAllThere, EachIsInOneHand, EachSpentIsPastTheBound, NoneIsSpentWithinTheLimit, EachLeftIsItsPut, AreTheSame, AreTheLifted, ComesBackAsItWas, held_buffers, AllRetiredWhereClosed, EachSeenRetiredHas, all_calls, all_hands, all_known, all_spent, callers_of};
+ghost use Rattle.scq_band.specs.Homes.{at_home, MayBring, IsLaidBack, times_lifted, WentHome, OutOrHome, AllOutGiven, MayLeave, IsMemberOf, HasAll, all_seen};
 ghost use Rattle.scq_band.specs.Sights.{known_me};
 
 use crate::band::Band;
@@ -25,9 +25,11 @@ use std::marker::Brand;
 fn bring<B: Buffer>(words: &Words<B>, token: &mut Token<B>)
     requires own { token.old.table_id ≡ words.now.table_id }
     requires room { 0 < words.now.table_id.words }
-    requires may { MayBring (LiesIn B.contents B.IsSameBuffer words.now.key.given.value.items) (known_me token.old.me) }
+    requires may { MayBring (LiesIn B.contents B.IsSameBuffer words.now.key.given.value.items) (front_bytes B.contents token.old.me.1)
+        (known_me token.old.me) }
     ensures own { (token.new.table_id ≡ token.old.table_id) × (token.new.id ≡ token.old.id) }
-    ensures home { known_me token.new.me ≡ (at_home (front_index token.old.me.1 ∷ []) token.old.me.0.known, rest token.old.me.1) }
+    ensures home { known_me token.new.me
+        ≡ (at_home ((front_index token.old.me.1, front_bytes B.contents token.old.me.1) ∷ []) token.old.me.0.known, rest token.old.me.1) }
     ensures seen { token.new.me.0.seen ≡ token.old.me.0.seen }
 {
     words.load::<Brand>(token, 0);
@@ -88,7 +90,8 @@ fn bring_all<B: Buffer, T: Lifted<B>>(
     requires room { 0 < words.now.table_id.words }
     requires may { MayLeave B.IsSameBuffer words.now.key.given.value.items (known_me token.old.me) hand.items (map T.pair out.old.items) }
     ensures own { (token.new.table_id ≡ token.old.table_id) × (token.new.id ≡ token.old.id) }
-    ensures home { known_me token.new.me ≡ (at_home (indices_of token.old.me.1) token.old.me.0.known, []) }
+    ensures home { WentHome B.contents (known_me token.old.me) (map T.pair out.old.items) (known_me token.new.me) (map T.pair out.new.items) }
+    ensures none { token.new.me.1 ≡ [] }
     ensures seen { token.new.me.0.seen ≡ token.old.me.0.seen }
     ensures less { (i : ℕ) → times i (indices_of (map T.pair out.new.items)) + times_lifted i token.old.me.1 ≡ times i (indices_of (map T.pair out.old.items)) }
     ensures given { AllOutGiven B.IsSameBuffer words.now.key.given.value.items (map T.pair out.new.items) }
@@ -107,7 +110,8 @@ fn one_home<B: Buffer, T: Lifted<B>>(words: &Words<B>, seat: Seat<B>, out: &mut 
     requires given { AllOutGiven B.IsSameBuffer words.now.key.given.value.items (map T.pair out.old.items) }
     ensures own { result.table_id ≡ words.now.table_id }
     ensures alone { result.me.0.known.seats ≡ my result.me.0.known ∷ [] }
-    ensures member { IsMemberOf seat (my result.me.0.known) }
+    ensures member { IsMemberOf B.contents seat (my result.me.0.known) }
+    ensures home { OutOrHome B.contents (map T.pair out.old.items) (map T.pair out.new.items) (my result.me.0.known ∷ []) }
     ensures numbers { (result.me.0.known.numbers ≡ seat.numbers) × (length seat.numbers ≡ words.now.key.setup.rings) }
     ensures gate { result.me.0.known.gate ≡ seat.gate }
     ensures seen { result.me.0.seen ≡ seat.seen }
@@ -138,7 +142,8 @@ pub fn gather<B: Buffer, T: Lifted<B>>(
     requires lifted { (i : ℕ) → times i (indices_of (map T.pair out.items)) ≡ sum_by (λ s. times i (lifted_of s.hand)) seats.items }
     requires given { AllOutGiven B.IsSameBuffer words.now.key.given.value.items (map T.pair out.items) }
     ensures own { result.table_id ≡ words.now.table_id }
-    ensures all { HasAll words.now.key.setup.rings seats.items result.me.0.known }
+    ensures all { HasAll B.contents words.now.key.setup.rings seats.items result.me.0.known }
+    ensures home { OutOrHome B.contents (map T.pair out.items) [] result.me.0.known.seats }
     ensures seen { result.me.0.seen ≡ all_seen seats.items }
 {
     let Some(last) = seats.pop() else {
@@ -182,6 +187,7 @@ impl<B: Buffer> Band<B> {
         ensures balance { IsBalance self.setup (all_calls seats.items) result.left.items }
         ensures all_there { IsAllThere self.setup (all_hands seats.items) result.left.items }
         ensures hands { EachIsInOneHand self.setup (all_hands seats.items) }
+        ensures held { All (ComesBackAsItWas B.contents result.buffers.items) (held_buffers seats.items (map T.pair out.items)) }
         ensures left { EachLeftIsItsPut self.setup (opening_of B.contents self.given) (all_calls seats.items) (all_hands seats.items)
             (map B.contents result.buffers.items) }
         ensures gate { AllRetiredWhereClosed seats.items }

@@ -1,11 +1,10 @@
-use Rattle.std.proofs.Common.{◌≡◌, ◌∙◌, sym, ap, subst, ℕ, List, [], map, length, arith}
-use Rattle.atomic_table.specs.Table.{Me}
-use Rattle.scq_band.specs.declared.slot.Slot.{Slot}
+use Rattle.std.proofs.Common.{◌≡◌, ◌∙◌, refl, sym, ap, subst, ℕ, List, map, length, arith}
 use Rattle.scq_band.specs.Buffers.{LiesIn}
 use Rattle.scq_band.specs.Known.{Known}
 use Rattle.scq_band.specs.Sights.{Sight, known_in, known_me}
+use Rattle.scq_band.specs.Steps.{front_bytes}
 use Rattle.scq_band.specs.Homes.{times_lifted, MayBring, MayLeave}
-use Rattle.scq_band.proofs.GoingHome.{first_slot, is_out, leaves, goes_on, none_left}
+use Rattle.scq_band.proofs.GoingHome.{first_slot, is_out, leaves, goes_on, none_left, went_none, went_more}
 use Rattle.scq_band.proofs.closing.bring_all.Goals as goal
 
 pub lay_back-requires-clause-first : goal.lay_back-requires-clause-first
@@ -31,7 +30,8 @@ bring-requires-clause-may g c κs within =
     let may = subst (λ (l : List ℕ). MayLeave Same buffers me l out) c.in-Some.ensures.items c.loop-index.invariant.2 in
     let l = leaves g.B.Buffer.contents Same buffers me others i out c.lay_back.new.token.me.1 (map g.T.Lifted.pair c.lay_back.new.out.items) may
     c.lay_back.ensures.laid in
-    subst (λ (v : Known). MayBring (LiesIn g.B.Buffer.contents Same buffers) (v, c.lay_back.new.token.me.1)) (sym (ap known_in c.lay_back.ensures.view)) l.bring
+    subst (λ (v : Known). MayBring (LiesIn g.B.Buffer.contents Same buffers) (front_bytes g.B.Buffer.contents c.lay_back.new.token.me.1)
+    (v, c.lay_back.new.token.me.1)) (sym (ap known_in c.lay_back.ensures.view)) l.bring
 
 pub loop-index-preserved : goal.loop-index-preserved
 loop-index-preserved g c =
@@ -50,20 +50,31 @@ loop-index-preserved g c =
       c.bring.ensures.own.0 ∙ c.lay_back.ensures.own.0 ∙ c.loop-index.invariant.0,
       c.bring.ensures.own.1 ∙ c.lay_back.ensures.own.1 ∙ c.loop-index.invariant.1,
       n.may,
-      n.home ∙ c.loop-index.invariant.3,
+      went_more g.B.Buffer.contents (known_me c.args.token.now.me) me (known_me c.bring.new.token.me) (map g.T.Lifted.pair c.args.out.now.items) out
+          (map g.T.Lifted.pair c.lay_back.new.out.items) c.loop-index.invariant.3 n.went,
       λ j. let now = n.less j in let before = c.loop-index.invariant.4 j in omega arith,
       c.bring.ensures.seen ∙ ap (λ (v : Sight). v.seen) c.lay_back.ensures.view ∙ c.loop-index.invariant.5,
     )
 
-pub returns-clause-home : goal.returns-clause-home
-returns-clause-home g c =
+pub loop-index-init : goal.loop-index-init
+loop-index-init g c = (
+  refl,
+  refl,
+  c.requires.may,
+  went_none g.B.Buffer.contents g.B.Buffer.IsSameBuffer c.args.words.now.key.given.value.items (known_me c.args.token.now.me) c.args.hand.items
+      (map g.T.Lifted.pair c.args.out.now.items) c.requires.may,
+  λ i. refl,
+  refl,
+)
+
+pub returns-clause-none : goal.returns-clause-none
+returns-clause-none g c =
     let Same = g.B.Buffer.IsSameBuffer in
     let buffers = c.args.words.now.key.given.value.items in
     let me = known_me c.loop-index.token.me in
     let out = map g.T.Lifted.pair c.loop-index.out.items in
     let empty : length c.loop-index.hand.items ≡ 0 = omega (arith, c.in_default.ensures.cases.0, c.loop-index.hand.ok) in
     none_left Same buffers me c.loop-index.hand.items out c.loop-index.invariant.2 empty
-    ∙ ap (λ (v : Known). (v, [])) c.loop-index.invariant.3
 
 pub returns-clause-less : goal.returns-clause-less
 returns-clause-less g c i =
@@ -73,6 +84,6 @@ returns-clause-less g c i =
     let out = map g.T.Lifted.pair c.loop-index.out.items in
     let empty : length c.loop-index.hand.items ≡ 0 = omega (arith, c.in_default.ensures.cases.0, c.loop-index.hand.ok) in
     let none = none_left Same buffers me c.loop-index.hand.items out c.loop-index.invariant.2 empty in
-    let lifted : times_lifted i me.1 ≡ 0 = ap (λ (m : Me (Slot g.row.B.Denot) Known). times_lifted i m.1) none in
+    let lifted : times_lifted i me.1 ≡ 0 = ap (times_lifted i) none in
     let all = c.loop-index.invariant.4 i in
     omega arith

@@ -1,18 +1,20 @@
-use Rattle.std.proofs.Common.{◌≡◌, ◌∙◌, refl, sym, subst, map, length, arith}
+use Rattle.std.proofs.Common.{◌≡◌, ◌∙◌, List, refl, sym, subst, map, length, arith}
 use Rattle.std.specs.Prelude.{Some}
+use Rattle.std.proofs.lemmas.List.{length-map}
 use Rattle.std.proofs.lemmas.List.Elements.{All-pop}
 use Rattle.atomic_table.specs.Table.{Me}
 use Rattle.scq_law.specs.Hands.{times}
 use Rattle.scq_band.specs.declared.slot.Slot.{Slot}
 use Rattle.scq_band.specs.Buffers.{LiesIn}
+use Rattle.scq_band.specs.Known.{Member}
 use Rattle.scq_band.specs.Sights.{Sight, both_sight, spent_sight}
 use Rattle.scq_band.specs.Standing.{Standing}
 use Rattle.scq_band.specs.Kept.{identity_of}
 use Rattle.scq_band.specs.Closing.{indices_of, lifted_of}
-use Rattle.scq_band.specs.Homes.{AreGathered}
+use Rattle.scq_band.specs.Homes.{OutOrHome, AreGathered}
 use Rattle.scq_band.proofs.RunShown.{joins_run}
 use Rattle.scq_band.proofs.Views.{joins}
-use Rattle.scq_band.proofs.Gathering.{gathered_first, gathered_more, out_some, out_less, none_out, sum_none}
+use Rattle.scq_band.proofs.Gathering.{gathered_first, gathered_more, out_joined, all_home_then, out_some, out_less, none_out, sum_none}
 use Rattle.scq_band.proofs.closing.gather.Goals as goal
 
 pub loop-seat-init : goal.loop-seat-init
@@ -30,8 +32,10 @@ loop-seat-init g c =
           (times i (indices_of (map g.T.Lifted.pair c.args.out.items)))
           (times i (indices_of (map g.T.Lifted.pair c.one_home-first.new.out.items))) (c.requires.lifted i) c.in-Some.ensures.items (e.less i),
       e.given,
-      gathered_first c.args.words.now.key.setup.rings c.args.seats.items left c.in-Some.last w c.in-Some.ensures.items e.alone e.member e.numbers.0 e.numbers.1
+      gathered_first g.B.Buffer.contents c.args.words.now.key.setup.rings c.args.seats.items left c.in-Some.last w c.in-Some.ensures.items e.alone e.member e.numbers.0 e.numbers.1
           e.gate c.one_home-first.result.me.0.seen e.seen,
+      subst (λ (xs : List Member). OutOrHome g.B.Buffer.contents (map g.T.Lifted.pair c.args.out.items) (map g.T.Lifted.pair c.one_home-first.new.out.items) xs)
+          (sym e.alone) e.home,
     )
 
 pub one_home-token-requires-clause-band : goal.one_home-token-requires-clause-band
@@ -72,9 +76,12 @@ loop-seat-preserved g c =
     let bands = All-pop (λ (s : Standing g.row.B.Denot). s.band ≡ identity_of c.args.words.now.table_id c.args.words.now.key) before left
     (Some c.in-Some-pop.seat)
     c.in-Some-pop.ensures.items c.loop-seat.invariant.1 in
-    let more = gathered_more rings c.args.seats.items before left c.in-Some-pop.seat v w told c.loop-seat.invariant.4 c.in-Some-pop.ensures.items e.alone
+    let more = gathered_more g.B.Buffer.contents rings c.args.seats.items before left c.in-Some-pop.seat v w told c.loop-seat.invariant.4 c.in-Some-pop.ensures.items e.alone
     e.member
-    e.numbers.0 e.numbers.1 e.gate c.one_home-token.result.me.0.seen e.seen in (
+    e.numbers.0 e.numbers.1 e.gate c.one_home-token.result.me.0.seen e.seen in
+    let out = map g.T.Lifted.pair c.args.out.items in
+    let still = map g.T.Lifted.pair c.one_home-token.new.out.items in
+    let home = out_joined g.B.Buffer.contents out (map g.T.Lifted.pair c.loop-seat.out.items) still v w e.alone c.loop-seat.invariant.5 e.home in (
       c.join_seat.ensures.0 ∙ c.loop-seat.invariant.0,
       bands.0,
       λ i.
@@ -82,7 +89,9 @@ loop-seat-preserved g c =
           (times i (indices_of (map g.T.Lifted.pair c.loop-seat.out.items)))
           (times i (indices_of (map g.T.Lifted.pair c.one_home-token.new.out.items))) (c.loop-seat.invariant.2 i) c.in-Some-pop.ensures.items (e.less i),
       e.given,
-      subst (λ (m : Me (Slot g.row.B.Denot) Sight). AreGathered rings c.args.seats.items left m.0.known m.0.seen) (sym c.join_seat.ensures.2) more,
+      subst (λ (m : Me (Slot g.row.B.Denot) Sight). AreGathered g.B.Buffer.contents rings c.args.seats.items left m.0.known m.0.seen)
+          (sym c.join_seat.ensures.2) more,
+      subst (λ (m : Me (Slot g.row.B.Denot) Sight). OutOrHome g.B.Buffer.contents out still m.0.known.seats) (sym c.join_seat.ensures.2) home,
     )
 
 pub destroy_empty-requires-2 : goal.destroy_empty-requires-2
@@ -94,3 +103,15 @@ destroy_empty-requires-2 g c =
     let empty = sum_none (λ (s : Standing g.row.B.Denot). times i (lifted_of s.hand)) c.loop-seat.seats.items items in
     omega (arith, sums, empty)) in
     omega (arith, none, c.loop-seat.out.ok)
+
+pub returns-clause-home : goal.returns-clause-home
+returns-clause-home g c =
+    let pair = g.T.Lifted.pair in
+    let none = none_out pair c.loop-seat.out.items
+    (λ i.
+    let sums = c.loop-seat.invariant.2 i in
+    let items : length c.loop-seat.seats.items ≡ 0 = omega (arith, c.in_default-pop.ensures.cases.0, c.loop-seat.seats.ok) in
+    let empty = sum_none (λ (s : Standing g.row.B.Denot). times i (lifted_of s.hand)) c.loop-seat.seats.items items in
+    omega (arith, sums, empty)) in
+    all_home_then g.B.Buffer.contents (map pair c.args.out.items) (map pair c.loop-seat.out.items) c.loop-seat.first.me.0.known.seats
+    c.loop-seat.invariant.5 (length-map c.loop-seat.out.items pair ∙ none)

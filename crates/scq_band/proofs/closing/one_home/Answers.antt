@@ -1,15 +1,13 @@
-use Rattle.std.proofs.Common.{◌≡◌, ◌≤◌, ◌∙◌, sym, ap, subst, map, arith}
+use Rattle.std.proofs.Common.{◌≡◌, ◌≤◌, ◌∙◌, sym, ap, subst, map, length, arith}
 use Rattle.std.specs.Prelude.{vec_capacity}
-use Rattle.atomic_table.specs.Table.{Me}
 use Rattle.scq_law.specs.Hands.{times}
-use Rattle.scq_band.specs.declared.slot.Slot.{Slot}
 use Rattle.scq_band.specs.Known.{Known}
 use Rattle.scq_band.specs.Sights.{known_me}
 use Rattle.scq_band.specs.Steps.{my}
 use Rattle.scq_band.specs.Standing.{Standing, Identity}
 use Rattle.scq_band.specs.Closing.{indices_of, lifted_of}
-use Rattle.scq_band.specs.Homes.{at_home, times_lifted, IsMemberOf}
-use Rattle.scq_band.proofs.SeatsHome.{lifted_as, may_leave, is_member}
+use Rattle.scq_band.specs.Homes.{times_lifted, IsMemberOf}
+use Rattle.scq_band.proofs.SeatsHome.{lifted_as, may_leave, leaves_alone, is_member, out_or_home}
 use Rattle.scq_band.proofs.closing.one_home.Goals as goal
 
 pub bring_all-requires-clause-may : goal.bring_all-requires-clause-may
@@ -30,11 +28,39 @@ pub returns-clause-member : goal.returns-clause-member
 returns-clause-member g c =
     let s = c.seat.inside in
     let Same = g.B.Buffer.IsSameBuffer in
+    let contents = g.B.Buffer.contents in
+    let next = known_me c.bring_all.new.token.me in
     let member = is_member Same s.key.value (known_me s.token.me) s.hand.items
-    (vec_capacity s.hand) s.numbers.items s.spent c.seat.invariant s.token.me.0.seen s.token.table_id in
-    let now : IsMemberOf c.args.seat (my (at_home (indices_of s.token.me.1) s.token.me.0.known)) =
-    subst (λ (t : Standing g.row.B.Denot). IsMemberOf t (my (at_home (indices_of s.token.me.1) s.token.me.0.known))) c.seat.view_is member in
-    subst (λ (m : Me (Slot g.row.B.Denot) Known). IsMemberOf c.args.seat (my m.0)) (sym c.bring_all.ensures.home) now
+    (vec_capacity s.hand) s.numbers.items s.spent c.seat.invariant contents (map g.T.Lifted.pair c.args.out.now.items)
+    (map g.T.Lifted.pair c.bring_all.new.out.items) next c.bring_all.ensures.home s.token.me.0.seen s.token.table_id c.bring_all.ensures.none in
+    subst (λ (t : Standing g.row.B.Denot). IsMemberOf contents t (my next.0)) c.seat.view_is member
+
+pub returns-clause-home : goal.returns-clause-home
+returns-clause-home g c =
+    let s = c.seat.inside in
+    out_or_home g.B.Buffer.IsSameBuffer s.key.value (known_me s.token.me) s.hand.items
+    (vec_capacity s.hand) s.numbers.items s.spent c.seat.invariant g.B.Buffer.contents (map g.T.Lifted.pair c.args.out.now.items)
+    (map g.T.Lifted.pair c.bring_all.new.out.items) (known_me c.bring_all.new.token.me) c.bring_all.ensures.home
+
+pub returns-clause-alone : goal.returns-clause-alone
+returns-clause-alone g c =
+    let s = c.seat.inside in
+    leaves_alone g.B.Buffer.IsSameBuffer s.key.value (known_me s.token.me) s.hand.items
+    (vec_capacity s.hand) s.numbers.items s.spent c.seat.invariant g.B.Buffer.contents (map g.T.Lifted.pair c.args.out.now.items)
+    (map g.T.Lifted.pair c.bring_all.new.out.items) (known_me c.bring_all.new.token.me) c.bring_all.ensures.home
+
+pub returns-clause-numbers : goal.returns-clause-numbers
+returns-clause-numbers g c =
+    let view = c.bring_all.ensures.home.view in
+    let is = c.seat.view_is in (
+      ap (λ (v : Known). v.numbers) view ∙ ap (λ (t : Standing g.row.B.Denot). t.numbers) is,
+      ap (λ (t : Standing g.row.B.Denot). length t.numbers) (sym is) ∙ ap length (sym c.seat.invariant.numbers) ∙ c.seat.invariant.rings
+          ∙ ap (λ (b : Identity g.row.B.Denot). b.setup.rings) (ap (λ (t : Standing g.row.B.Denot). t.band) is ∙ c.requires.band),
+    )
+
+pub returns-clause-gate : goal.returns-clause-gate
+returns-clause-gate g c =
+    ap (λ (v : Known). v.gate) c.bring_all.ensures.home.view ∙ ap (λ (t : Standing g.row.B.Denot). t.gate) c.seat.view_is
 
 pub returns-clause-less : goal.returns-clause-less
 returns-clause-less g c i =

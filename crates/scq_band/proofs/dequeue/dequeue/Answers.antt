@@ -9,7 +9,6 @@ use Rattle.scq_band.specs.Sights.{known_me}
 use Rattle.scq_band.specs.Layout.{at, ring_of_word}
 use Rattle.scq_band.specs.Numbers.{changed, passes}
 use Rattle.scq_band.specs.Buffers.{LiesIn, opening_of}
-use Rattle.scq_band.specs.Known.{Known}
 use Rattle.scq_band.specs.Turns.{MayTurn}
 use Rattle.scq_band.specs.Steps.{my, my_phase, front_index, front_bytes, loading, drawing}
 use Rattle.scq_band.specs.Seats.{IsAlone, at_phase, goes_to, nothing_at, to_draw, least_of}

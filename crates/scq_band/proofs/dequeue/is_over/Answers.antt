@@ -1,4 +1,4 @@
-use Rattle.std.proofs.Common.{◌+◌, ◌∙◌, refl, ap, arith, leb-true, leb-false, true, false}
+use Rattle.std.proofs.Common.{◌+◌, refl, ap, arith, leb-true, leb-false, true, false}
 use Rattle.scq_core.specs.Machine.{tail_of, threshold_of}
 use Rattle.scq_core.specs.declared.phase.Phase.TheVariants.{AtD6, AtD7, AtD10}
 use Rattle.scq_core.specs.declared.step.Step.TheVariants.{D6, D10}
@@ -11,7 +11,6 @@ use Rattle.scq_band.specs.Steps.{my, my_phase, loading}
 use Rattle.scq_band.specs.Seats.{IsAlone, at_phase}
 use Rattle.scq_band.proofs.RingLemmas.{tail_fits, word_low}
 use Rattle.scq_band.proofs.Grounds.{tail_location, threshold_location}
-use Rattle.scq_band.specs.Known.{Known}
 use Rattle.scq_band.proofs.Outcomes.{may_load, may_phase, alone_at, alone_seated}
 use Rattle.scq_band.proofs.Leaving.{saw_tail_low, saw_tail_high, ran_out, goes_round}
 use Rattle.scq_band.proofs.RunShown.{went_on}

@@ -1,4 +1,4 @@
-use Rattle.std.proofs.Common.{◌≡◌, ◌<◌, ◌∙◌, sym, ap, subst, ℕ, length, arith}
+use Rattle.std.proofs.Common.{◌≡◌, ◌<◌, ◌∙◌, sym, ap, subst, ℕ, map, length, arith}
 use Rattle.std.specs.Prelude.{slice_index}
 use Rattle.std.specs.Mem.Slots.{slots_items}
 use Rattle.scq_word.specs.declared.setup.Setup.{Setup}
@@ -52,6 +52,17 @@ returns-clause-buffers g c =
     c.args.seats.items words items c.self.view_is c.close_with-closed.ensures.values.2 c.gather-all.ensures.all c.gather-all.ensures.seen seats
     c.self.invariant.given in
     e.same c.unload.new.buffers.items c.unload.ensures.buffers
+
+pub returns-clause-held : goal.returns-clause-held
+returns-clause-held g c =
+    let table = c.self.inside.table.shared in
+    let words = slots_items c.close_with-closed.result.words in
+    let items = slots_items c.close_with-closed.result.slots in
+    let seats : length c.args.seats.items ≡ c.args.self.setup.seats = omega (arith, c.args.seats.ok, c.requires.all) in
+    let e = ended g.B.Buffer.contents g.B.Buffer.IsSameBuffer table.table_id table.key c.args.self c.gather-all.result.id c.gather-all.result.me.0
+    c.args.seats.items words items c.self.view_is c.close_with-closed.ensures.values.2 c.gather-all.ensures.all c.gather-all.ensures.seen seats
+    c.self.invariant.given in
+    e.held c.unload.new.buffers.items c.unload.ensures.buffers (map g.T.Lifted.pair c.args.out.items) c.gather-all.ensures.home
 
 pub returns-clause-run : goal.returns-clause-run
 returns-clause-run g c =

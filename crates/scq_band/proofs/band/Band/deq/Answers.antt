@@ -4,7 +4,7 @@ use Rattle.scq_word.specs.declared.setup.Setup.{Setup}
 use Rattle.scq_word.specs.Sizes.{n_of}
 use Rattle.scq_band.specs.declared.numbers.Numbers.{Numbers}
 use Rattle.scq_band.specs.declared.dequeue.Without.TheVariants as without
-use Rattle.scq_band.specs.Buffers.{LiesIn, opening_of}
+use Rattle.scq_band.specs.Buffers.{LiesIn}
 use Rattle.scq_band.specs.Numbers.{known_of, changed, sees, passes, drew, empties}
 use Rattle.scq_band.specs.Known.{Known}
 use Rattle.scq_band.specs.Seats.{HasGotAfter, nothing_at, drew_head}

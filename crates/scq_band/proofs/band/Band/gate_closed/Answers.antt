@@ -1,5 +1,4 @@
-use Rattle.std.proofs.Common.{◌≡◌, ℕ, ◌∙◌, sym, ap, subst}
-use Rattle.std.specs.Prelude.{Some}
+use Rattle.std.proofs.Common.{◌≡◌, ℕ, ap, subst}
 use Rattle.scq_band.specs.Buffers.{opening_of}
 use Rattle.scq_band.specs.Known.{Known}
 use Rattle.scq_band.specs.RunSeen.{IsReadingInRun}
