@@ -293,3 +293,12 @@ callers_are {B} passes seats are = ap (λ (l : List (Standing B)). band.callers_
     over : (ps : List (PassStanding B)) → band.callers_of (map seat_of ps) ≡ callers_of ps
     over [] = refl
     over (p ∷ ps) = ap (λ (l : List Caller). caller_of p ∷ l) (over ps)
+
+-- what holds of all buffers that seats hold, holds of those that are out
+pub all_out : {B : Type 0} (P : ℕ × B → Type 0) (seats : List (Standing B)) (out : List (ℕ × B)) → All P (band.held_buffers seats out) → All P out
+all_out P [] out all = all
+all_out P (s ∷ ss) out all = all_out P ss out (All-behind P (band.laid_of s.hand) (band.held_buffers ss out) all)
+  where
+    All-behind : {A : Type 0} (Q : A → Type 0) (xs ys : List A) → All Q (xs ++ ys) → All Q ys
+    All-behind Q [] ys all = all
+    All-behind Q (x ∷ xs) ys all = All-behind Q xs ys (All-tail Q x (xs ++ ys) all)

@@ -6,7 +6,7 @@ use Rattle.std.proofs.lemmas.Bool.{cases_eq}
 use Rattle.std.proofs.lemmas.List.{map-append}
 use Rattle.scq_law.specs.Hands.{times}
 use Rattle.scq_band.specs.Standing.{Identity}
-use Rattle.scq_band.proofs.SeatsHome.{contains_times}
+use Rattle.scq_band.proofs.GoingHome.{contains_behind}
 use Rattle.scq_band.proofs.Slots.{times-append}
 use Rattle.scq_queue.specs.declared.calls.LendRefusal.{LendRefusal}
 use Rattle.scq_queue.specs.declared.calls.LendRefusal.TheVariants.{Full, Spent as NoTicket}
@@ -17,6 +17,17 @@ use Rattle.scq_queue.specs.Closing.{AreTheHeld}
 use Rattle.scq_queue.specs.HoldsJust.{AllOf, HoldsJust}
 use Rattle.scq_queue.proofs.Hands.{contains_last}
 use Rattle.scq_queue.proofs.HeldValues.{cases_spent}
+
+-- an index that stands in a list is one of it
+contains_times : (xs : List ℕ) (i : ℕ) → 0 < times i xs → Contains xs i
+contains_times [] i some = absurd (omega arith)
+contains_times (x ∷ xs) i some =
+    elim (cases_eq x i) [
+      | inl same ↦ (0, omega arith, same)
+      | inr other ↦
+          let seen = rw (ne_eqb x i other) at some in
+          contains_behind x i xs (contains_times xs i (omega (arith, seen)))
+    ]
 
 -- no index is held twice, once another came
 once_more : (held : List ℕ) (i : ℕ) → (Contains held i → ⊥) → ((j : ℕ) → times j held ≤ 1) → (j : ℕ) → times j (held ++ i ∷ []) ≤ 1
@@ -74,6 +85,14 @@ none_before [] x y a b e = refl
 none_before (z ∷ []) x y a b e = absurd (cc)
 none_before (z ∷ w ∷ []) x y a b e = absurd (cc)
 none_before (z ∷ w ∷ v ∷ xs) x y a b e = absurd (cc)
+
+-- a list of three
+pub three_of : {A : Type 0} (xs : List A) (x y z a b c : A) → ((xs ++ x ∷ []) ++ y ∷ []) ++ z ∷ [] ≡ a ∷ b ∷ c ∷ [] → (xs ≡ []) × (y ≡ b) × (z ≡ c)
+three_of [] x y z a b c e = let second : y ≡ b = cc in let third : z ≡ c = cc in (refl, second, third)
+three_of (u ∷ []) x y z a b c e = absurd (cc)
+three_of (u ∷ v ∷ []) x y z a b c e = absurd (cc)
+three_of (u ∷ v ∷ w ∷ []) x y z a b c e = absurd (cc)
+three_of (u ∷ v ∷ w ∷ t ∷ xs) x y z a b c e = absurd (cc)
 
 module _ {B : Type 0} where
   all-append : (queue : Identity B) (number : ℕ) (values : List (HeldStanding B)) (h : HeldStanding B) → AllOf queue number values → h.queue ≡ queue
@@ -238,5 +257,19 @@ module _ {B : Type 0} where
             let mine = ap (times i) before.same in
             let empty = ap (times i) none in
             let its = ap (times i) same in
+            omega arith;
+      }
+
+  -- the values of the first of three passes, of which the others hold none
+  pub held_first : (queue : Identity B) (first second third : PassStanding B) (values : List (HeldStanding B)) → HoldsJust queue first values
+      → second.held ≡ [] → third.held ≡ [] → AreTheHeld queue (first ∷ second ∷ third ∷ []) values
+  held_first queue first second third values before none nothing =
+      record {
+        queue_of = all_at queue first.number values before.all;
+        all =
+            λ i.
+            let mine = ap (times i) before.same in
+            let empty = ap (times i) none in
+            let last = ap (times i) nothing in
             omega arith;
       }

@@ -1,11 +1,11 @@
 //! The end of a queue: its passes and the values that are still held come back, and its buffers are handed out.
 ghost use Rattle.std.specs.Prelude.{◌≡◌, ◌≤◌, [], map, All, vec_len, vec_capacity};
-ghost use Rattle.scq_band.specs.Closing.{IsOneRunToTheEnd, AreTheSame, EachIsInOneHand, EachLeftIsItsPut};
+ghost use Rattle.scq_band.specs.Closing.{IsOneRunToTheEnd, AreTheSame, ComesBackAsItWas, EachIsInOneHand, EachLeftIsItsPut};
 ghost use Rattle.scq_band.specs.Buffers.{opening_of};
 ghost use Rattle.scq_queue.specs.Lists.{counts_of};
 ghost use Rattle.scq_queue.specs.Passes.{lists_of};
 ghost use Rattle.scq_queue.specs.Closing.{EachTakeIsASend, NoPlaceIsSentTwice, NoPlaceIsTakenTwice, IsBalance, EachSendPassedIsTaken, IsAllThere, AllFullsStand, EachKeptIsPastTheBound, NoneIsKeptWithinTheLimit, AllRetiredWhereTold, EachSeenRetiredHas, AreTheHeld, records_of, all_held, callers_of};
-ghost use Rattle.scq_queue.specs.Kept.{seat_of, IsGiven};
+ghost use Rattle.scq_queue.specs.Kept.{seat_of, value_of, IsGiven};
 
 use crate::counts::Counts;
 use crate::held::Held;
@@ -78,6 +78,7 @@ impl<B: Buffer> Queue<B> {
         ensures all_there { IsAllThere self.setup held.items result.left.items }
         ensures fulls { AllFullsStand passes.items }
         ensures hands { EachIsInOneHand self.setup (all_held passes.items) }
+        ensures held { All (ComesBackAsItWas B.contents result.buffers.items) (map value_of held.items) }
         ensures left { EachLeftIsItsPut self.setup (opening_of B.contents self.given) (records_of passes.items) (all_held passes.items)
             (map B.contents result.buffers.items) }
         ensures kept { EachKeptIsPastTheBound self.setup passes.items }

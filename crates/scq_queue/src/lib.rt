@@ -30,3 +30,5 @@ pub use scq_band::Spent;
 mod pair_tests;
 #[cfg(test)]
 mod tests;
+#[cfg(test)]
+mod three_tests;

@@ -242,7 +242,7 @@ fn played<B: Buffer>(
 }
 
 /// The replies to a table of calls, line by line.
-fn replies<B: Buffer>(
+pub fn replies<B: Buffer>(
     alloc: Global,
     queue: &Queue<B>,
     pass: &mut Pass<B>,
@@ -284,12 +284,16 @@ fn run<B: Buffer + Drop>(
     Ok(closed)
 }
 
-/// A queue with two rings and one pass over two buffers of two zero bytes.
-fn made(alloc: Global, limit: u64) -> Result<(Queue<HeapBuffer>, Vec<Pass<HeapBuffer>>), Fail>
-    ensures setup { IfOk result (λ made. (made.0.setup.rings ≡ 2) × (made.0.setup.seats ≡ 1)) }
-    ensures passes { IfOk result (λ made. made.1.items ≡ first_passes made.0 1) }
+/// A queue with two rings and so many passes over two buffers of two zero bytes.
+pub fn made(
+    alloc: Global,
+    passes: u32,
+    limit: u64,
+) -> Result<(Queue<HeapBuffer>, Vec<Pass<HeapBuffer>>), Fail>
+    ensures setup { IfOk result (λ made. (made.0.setup.rings ≡ 2) × (made.0.setup.seats ≡ passes)) }
+    ensures passes { IfOk result (λ made. made.1.items ≡ first_passes made.0 passes) }
 {
-    let setup = Setup::new(1, 2, 1, limit)?;
+    let setup = Setup::new(1, 2, passes, limit)?;
     let mut buffers = Vec::with_capacity(alloc, 2)?;
     buffers.push(HeapBuffer::new(alloc, 2)?)?;
     buffers.push(HeapBuffer::new(alloc, 2)?)?;
@@ -309,7 +313,7 @@ fn run_new(
 ) -> Result<(), Fail> {
     let alloc = rt.alloc();
     let values = Vec::with_capacity(alloc, 3)?;
-    let (queue, passes) = match made(alloc, limit) {
+    let (queue, passes) = match made(alloc, 1, limit) {
         Ok(made) => made,
         Err(fail) => {
             values.destroy_empty();

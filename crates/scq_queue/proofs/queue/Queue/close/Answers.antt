@@ -9,7 +9,7 @@ use Rattle.scq_band.specs.Closing as band
 use Rattle.scq_queue.specs.Passes.{PassStanding, HeldStanding}
 use Rattle.scq_queue.specs.Closing.{IsBalance, IsAllThere, records_of, all_held, callers_of}
 use Rattle.scq_queue.specs.Kept.{seat_of, value_of, IsGiven}
-use Rattle.scq_queue.proofs.Ends.{calls_are, known_are, spent_are, hands_are, takes_are_sends, none_sent_twice, none_taken_twice, sends_passed, balance_of, retired_where_told, retirees_have, seats_own, are_lifted, all_is_there, callers_are}
+use Rattle.scq_queue.proofs.Ends.{calls_are, known_are, spent_are, hands_are, takes_are_sends, none_sent_twice, none_taken_twice, sends_passed, balance_of, retired_where_told, retirees_have, seats_own, are_lifted, all_is_there, all_out, callers_are}
 use Rattle.scq_band.proofs.SpentLimits.{none_spent_within}
 use Rattle.scq_queue.proofs.queue.Queue.close.Goals as goal
 
@@ -104,6 +104,11 @@ returns-clause-hands g c =
     let hands = ap (λ (ss : List (Standing g.row.B.Denot)). band.all_hands ss) c.unpack.ensures.seats ∙ hands_are c.args.passes.items in
     subst (λ (q : Identity g.row.B.Denot). band.EachIsInOneHand q.setup (all_held c.args.passes.items)) c.self.view_is
     (subst (λ (hs : List (List ℕ)). band.EachIsInOneHand c.self.inside.band.setup hs) hands c.close-buffers.ensures.hands)
+
+pub returns-clause-held : goal.returns-clause-held
+returns-clause-held g c =
+    all_out (band.ComesBackAsItWas g.B.Buffer.contents c.close-buffers.result.buffers.items) c.unpack.new.seats.items (map value_of c.args.held.items)
+    c.close-buffers.ensures.held
 
 pub returns-clause-left : goal.returns-clause-left
 returns-clause-left g c =
