@@ -57,7 +57,7 @@ gate_word = 0
 
 -- how far hot words stand apart in the table that runs
 abbrev pub distance : ℕ
-distance = 1
+distance = 16
 
 -- the same for this distance
 abbrev pub word_count : Setup → ℕ
