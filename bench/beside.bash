@@ -79,6 +79,11 @@ using Word = std::atomic<uint64_t>;
 
 constexpr uint64_t ZERO_LEVEL = uint64_t(1) << 32;
 
+// How many words the gate, Tail, Head and Threshold stand apart, as in `scq_band`; 1 packs the words.
+#ifndef DISTANCE
+#define DISTANCE size_t(16)
+#endif
+
 // A ring: its Tail, Head and Threshold, behind which the entries stand by slot, and what a call needs of the setup.
 struct Ring {
     Word *tail, *head, *threshold;
@@ -96,7 +101,7 @@ struct Ring {
         const uint64_t rest = ticket & mark();
         return order < 3 ? rest : (rest & (slots() / 8 - 1)) * 8 + (rest >> (order - 2));
     }
-    Word &entry(uint64_t ticket) const { return threshold[1 + slot(ticket)]; }
+    Word &entry(uint64_t ticket) const { return threshold[DISTANCE + slot(ticket)]; }
 };
 
 // All rings, in one list of words. Ring 0 has all indices.
@@ -106,7 +111,7 @@ struct Rings {
     uint64_t limit, level;
 
     Rings(uint32_t order, uint32_t rings, uint32_t seats)
-        : words(1 + rings * (3 + (size_t(2) << order))), order(order), limit(uint64_t(1) << 60) {
+        : words(DISTANCE + rings * ring_words(order)), order(order), limit(uint64_t(1) << 60) {
         const uint64_t n = uint64_t(1) << order;
         level = ZERO_LEVEL + 2 * n - 1 + (n > seats ? n : seats);
         words[0] = seats;
@@ -121,9 +126,10 @@ struct Rings {
             }
         }
     }
+    static size_t ring_words(uint32_t order) { return 4 * DISTANCE - 1 + (size_t(2) << order); }
     Ring ring(uint32_t number) {
-        Word *tail = words.data() + 1 + number * (3 + (size_t(2) << order));
-        return Ring{tail, tail + 1, tail + 2, order, limit, level};
+        Word *tail = words.data() + DISTANCE + number * ring_words(order);
+        return Ring{tail, tail + DISTANCE, tail + 2 * DISTANCE, order, limit, level};
     }
 };
 

@@ -1,44 +1,139 @@
--- The words of two locations are two words, none of them is the gate, and all of them are the table's.
-use Rattle.std.proofs.Common.{◌≡◌, ◌≢◌, ◌+◌, ◌*◌, ◌<◌, refl, sym, ◌∙◌, ap, arith}
+-- The facts of the layout, for each distance: the words of two locations are two words, none of them is the gate, all of them are the
+-- table's, and hot words stand that far apart. Then the same for the table that runs.
+use Rattle.std.proofs.Common.{◌≡◌, ◌≢◌, ℕ, ◌+◌, ◌-◌, ◌*◌, ◌/◌, ◌<◌, ◌≤◌, ◌∙◌, ap, inl, inr, arith}
+use Rattle.std.proofs.lemmas.Bool.{cases_lt}
 use Rattle.std.proofs.lemmas.Nat.{mul-add-lt, div-mul-add, same_from_place}
 use Rattle.scq_word.specs.declared.setup.Setup.{Setup}
 use Rattle.scq_core.specs.Machine.{Location, tail_of, head_of, threshold_of, entry_of}
-use Rattle.scq_band.specs.Layout.{ring_words, word_count, ring_at, offset_of, at, location_in, ring_of_word, IsSlotAt, IsLocation}
+use Rattle.scq_band.specs.Layout.{ring_at, IsSlotAt, IsLocation, offset_of, ring_words, count_by, word_by, ring_by, gate_word, distance, word_count, at, ring_of_word, IsHot, AreApart, HotWordsAreApart}
 
-pub offset_low : (c : Setup) (l : Location) → IsSlotAt c l → offset_of l < ring_words c
-offset_low c (tail_of r) slot = omega arith
-offset_low c (head_of r) slot = omega arith
-offset_low c (threshold_of r) slot = omega arith
-offset_low c (entry_of r s) slot = omega arith
+pub offset_low : (d : ℕ) (c : Setup) (l : Location) → 1 ≤ d → IsSlotAt c l → offset_of d l < ring_words d c
+offset_low d c (tail_of r) some slot = omega arith
+offset_low d c (head_of r) some slot = omega arith
+offset_low d c (threshold_of r) some slot = omega arith
+offset_low d c (entry_of r s) some slot = omega arith
 
 -- the word of a location is one of the table's
+low_by : (d : ℕ) (c : Setup) (l : Location) → 1 ≤ d → IsLocation c l → word_by d c l < count_by d c
+low_by d c l some here =
+    let low = mul-add-lt (ring_at l) (ring_words d c) (offset_of d l) c.rings here.0 (offset_low d c l some here.1) in omega arith
+
+-- in one ring two offsets are the same only where the locations are
+pub same_offset : (d : ℕ) (l k : Location) → 1 ≤ d → ring_at l ≡ ring_at k → offset_of d l ≡ offset_of d k → l ≡ k
+same_offset d (tail_of r) (tail_of q) some ring offset = ap tail_of ring
+same_offset d (tail_of r) (head_of q) some ring offset = absurd (omega (arith, some, offset))
+same_offset d (tail_of r) (threshold_of q) some ring offset = absurd (omega (arith, some, offset))
+same_offset d (tail_of r) (entry_of q z) some ring offset = absurd (omega (arith, some, offset))
+same_offset d (head_of r) (tail_of q) some ring offset = absurd (omega (arith, some, offset))
+same_offset d (head_of r) (head_of q) some ring offset = ap head_of ring
+same_offset d (head_of r) (threshold_of q) some ring offset = absurd (omega (arith, some, offset))
+same_offset d (head_of r) (entry_of q z) some ring offset = absurd (omega (arith, some, offset))
+same_offset d (threshold_of r) (tail_of q) some ring offset = absurd (omega (arith, some, offset))
+same_offset d (threshold_of r) (head_of q) some ring offset = absurd (omega (arith, some, offset))
+same_offset d (threshold_of r) (threshold_of q) some ring offset = ap threshold_of ring
+same_offset d (threshold_of r) (entry_of q z) some ring offset = absurd (omega (arith, some, offset))
+same_offset d (entry_of r s) (tail_of q) some ring offset = absurd (omega (arith, some, offset))
+same_offset d (entry_of r s) (head_of q) some ring offset = absurd (omega (arith, some, offset))
+same_offset d (entry_of r s) (threshold_of q) some ring offset = absurd (omega (arith, some, offset))
+same_offset d (entry_of r s) (entry_of q z) some ring offset =
+    let slot : s ≡ z = omega (arith, offset) in ap (λ i. entry_of i s) ring ∙ ap (entry_of q) slot
+
+-- two locations of one word are one
+apart_by : (d : ℕ) (c : Setup) (l k : Location) → 1 ≤ d → IsLocation c l → IsLocation c k → word_by d c l ≡ word_by d c k → l ≡ k
+apart_by d c l k some here there e =
+    let same : (ring_at l * ring_words d c + offset_of d l) ≡ (ring_at k * ring_words d c + offset_of d k) = omega (arith, e) in
+    let both = same_from_place (ring_at l) (offset_of d l) (ring_at k) (offset_of d k) (ring_words d c) (offset_low d c l some here.1)
+    (offset_low d c k some there.1) same in
+    same_offset d l k some both.0 both.1
+
+-- the ring of its word
+ring_by-word : (d : ℕ) (c : Setup) (l : Location) → 1 ≤ d → IsLocation c l → ring_by d c (word_by d c l) ≡ ring_at l
+ring_by-word d c l some here =
+    let rest : word_by d c l - d ≡ ring_at l * ring_words d c + offset_of d l = omega arith in
+    ap (λ w. w / ring_words d c) rest ∙ div-mul-add (ring_at l) (ring_words d c) (offset_of d l) (offset_low d c l some here.1)
+
+-- Tail of the next ring is that far from the last word of a ring
+offset_far : (d : ℕ) (c : Setup) (k : Location) → IsSlotAt c k → offset_of d k + d ≤ ring_words d c
+offset_far d c (tail_of r) slot = omega arith
+offset_far d c (head_of r) slot = omega arith
+offset_far d c (threshold_of r) slot = omega arith
+offset_far d c (entry_of r s) slot = omega arith
+
+ring_before : (r q w : ℕ) → 1 ≤ w → r < q → r * w + w ≤ q * w
+ring_before r q w some less = let low = mul-add-lt r w (w - 1) q less (omega arith) in omega (arith, low)
+
+hot_low : (d : ℕ) (l : Location) → IsHot l → offset_of d l ≤ 2 * d
+hot_low d (tail_of r) hot = omega arith
+hot_low d (head_of r) hot = omega arith
+hot_low d (threshold_of r) hot = omega arith
+hot_low d (entry_of r s) hot = absurd hot
+
+offsets_apart : (d : ℕ) (l k : Location) → IsHot l → ring_at l ≡ ring_at k → l ≢ k → AreApart d (offset_of d l) (offset_of d k)
+offsets_apart d (tail_of r) (tail_of q) hot ring other = absurd (other (ap tail_of ring))
+offsets_apart d (tail_of r) (head_of q) hot ring other = inl (omega arith)
+offsets_apart d (tail_of r) (threshold_of q) hot ring other = inl (omega arith)
+offsets_apart d (tail_of r) (entry_of q z) hot ring other = inl (omega arith)
+offsets_apart d (head_of r) (tail_of q) hot ring other = inr (omega arith)
+offsets_apart d (head_of r) (head_of q) hot ring other = absurd (other (ap head_of ring))
+offsets_apart d (head_of r) (threshold_of q) hot ring other = inl (omega arith)
+offsets_apart d (head_of r) (entry_of q z) hot ring other = inl (omega arith)
+offsets_apart d (threshold_of r) (tail_of q) hot ring other = inr (omega arith)
+offsets_apart d (threshold_of r) (head_of q) hot ring other = inr (omega arith)
+offsets_apart d (threshold_of r) (threshold_of q) hot ring other = absurd (other (ap threshold_of ring))
+offsets_apart d (threshold_of r) (entry_of q z) hot ring other = inl (omega arith)
+offsets_apart d (entry_of r s) k hot ring other = absurd hot
+
+-- a hot word stands that far from each other word
+hot_by : (d : ℕ) (c : Setup) (l k : Location) → 1 ≤ d → IsHot l → IsLocation c l → IsLocation c k → l ≢ k → AreApart d (word_by d c l) (word_by d c k)
+hot_by d c l k some hot here there other =
+    let w = ring_words d c in
+    elim (cases_lt (ring_at l) (ring_at k)) [
+      | inl less ↦
+          let rings = ring_before (ring_at l) (ring_at k) w (omega arith) less in
+          let low = hot_low d l hot in
+          inl (omega (arith, rings, low))
+      | inr over ↦
+          elim (cases_lt (ring_at k) (ring_at l)) [
+            | inl less ↦
+                let rings = ring_before (ring_at k) (ring_at l) w (omega arith) less in
+                let far = offset_far d c k there.1 in
+                inr (omega (arith, rings, far))
+            | inr under ↦
+                let ring : ring_at l ≡ ring_at k = omega (arith, over, under) in
+                let same = ap (λ r. r * w) ring in
+                elim (offsets_apart d l k hot ring other) [
+                  | inl far ↦ inl (omega (arith, far, same))
+                  | inr far ↦ inr (omega (arith, far, same))
+                ]
+          ]
+    ]
+
 pub at_low : (c : Setup) (l : Location) → IsLocation c l → at c l < word_count c
 unfolding at
-at_low c l here =
-    let low = mul-add-lt (ring_at l) (ring_words c) (offset_of l) c.rings here.0 (offset_low c l here.1) in omega arith
+at_low c l here = low_by distance c l (omega arith) here
 
--- and not the gate
-pub at_some : (c : Setup) (l : Location) → at c l ≢ 0
+pub at_some : (c : Setup) (l : Location) → at c l ≢ gate_word
 unfolding at
 at_some c l e = absurd (omega (arith, e))
 
--- a location is what its ring and its offset say
-pub location_in-at : (l : Location) → location_in (ring_at l) (offset_of l) ≡ l
-location_in-at (tail_of r) = refl
-location_in-at (head_of r) = refl
-location_in-at (threshold_of r) = refl
-location_in-at (entry_of r s) = refl
-
--- two locations of one word are one
 pub at_apart : (c : Setup) (l k : Location) → IsLocation c l → IsLocation c k → at c l ≡ at c k → l ≡ k
 unfolding at
-at_apart c l k here there e =
-    let same : (ring_at l * ring_words c + offset_of l) ≡ (ring_at k * ring_words c + offset_of k) = omega (arith, e) in
-    let both = same_from_place (ring_at l) (offset_of l) (ring_at k) (offset_of k) (ring_words c) (offset_low c l here.1) (offset_low c k there.1) same in
-    sym (location_in-at l) ∙ ap (λ r. location_in r (offset_of l)) both.0 ∙ ap (location_in (ring_at k)) both.1 ∙ location_in-at k
+at_apart c l k here there e = apart_by distance c l k (omega arith) here there e
 
--- the ring of its word
 pub ring_of_word-at : (c : Setup) (l : Location) → IsLocation c l → ring_of_word c (at c l) ≡ ring_at l
 unfolding at ring_of_word
-ring_of_word-at c l here =
-    div-mul-add (ring_at l) (ring_words c) (offset_of l) (offset_low c l here.1)
+ring_of_word-at c l here = ring_by-word distance c l (omega arith) here
+
+-- a ring's words are told from its Tail
+pub from_tail : (c : Setup) (r : ℕ) (l : Location) → ring_at l ≡ r → at c l ≡ at c (tail_of r) + offset_of distance l
+unfolding at
+from_tail c r l ring = rw ring (omega arith)
+
+pub hot_apart : HotWordsAreApart
+unfolding at
+hot_apart c l here = (inl (omega arith), λ hot k there other. hot_by distance c l k (omega arith) hot here there other)
+
+-- where Tail of a ring stands
+pub tail_at : (c : Setup) (r w : ℕ) → w ≡ ring_words distance c → distance + r * w ≡ at c (tail_of r)
+unfolding at
+tail_at c r w is = rw is (omega arith)

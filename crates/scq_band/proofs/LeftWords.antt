@@ -1,5 +1,5 @@
 -- The indices that are left in a ring are counted in its words, slot by slot.
-use Rattle.std.proofs.Common.{◌≡◌, ℕ, suc, ◌+◌, ◌*◌, ◌<◌, List, length, refl, sym, ◌∙◌, ap, subst, inl, inr, arith}
+use Rattle.std.proofs.Common.{◌≡◌, ℕ, suc, ◌+◌, ◌<◌, List, length, refl, sym, ◌∙◌, ap, subst, inl, inr, arith}
 use Rattle.std.specs.Prelude.{Option, is_some, if◌then◌else◌, slice_index}
 use Rattle.std.proofs.lemmas.Bool.{cases_Bool}
 use mathlib.Core.Option.{some}
@@ -13,7 +13,7 @@ use Rattle.scq_core.proofs.Indices.{HasIndices}
 use Rattle.scq_law.specs.Kept.{has_index, left_in}
 use Rattle.scq_law.specs.Sums.{sum_to}
 use Rattle.scq_law.proofs.Balance.Sums.{sum_same}
-use Rattle.scq_band.specs.Layout.{ring_words, at}
+use Rattle.scq_band.specs.Layout.{at}
 use Rattle.scq_band.specs.Shown.{ShowsWords}
 use Rattle.scq_band.proofs.Layouts.{at_low}
 use Rattle.scq_band.proofs.Unloading.{read_word}
@@ -21,13 +21,6 @@ use Rattle.scq_band.proofs.Unloading.{read_word}
 -- whether an index stands in the word of a slot
 abbrev pub counted : Setup → List ℕ → ℕ → ℕ → ℕ
 counted c words r s = has_index c (slice_index words (at c (entry_of r s)))
-
--- where the word of a slot stands
-pub word_of_slot : (c : Setup) (r s slots : ℕ) → slots ≡ ring_slots c → 4 + r * (3 + slots) + s ≡ at c (entry_of r s)
-unfolding at
-word_of_slot c r s slots is =
-    let all : r * (3 + slots) ≡ r * ring_words c = ap (λ k. r * k) (let each : 3 + slots ≡ ring_words c = omega (arith, is) in each) in
-    omega (arith, all)
 
 -- the word that is read has an index or the mark
 pub word_has : (c : Setup) (words : List ℕ) (r s i x : ℕ) → i ≡ at c (entry_of r s) → get_elem? words i ≡ some x → r < c.rings → s < ring_slots c

@@ -1,9 +1,8 @@
 -- The table at the start shows the start of the machine. Plan: each word is the one that the layout puts there; all seats stand in
 -- the first view, idle; and the slot of an index in ring 0 has the opening content.
-use Rattle.std.proofs.Common.{◌≡◌, ◌⊎◌, ℕ, zero, suc, ◌+◌, ◌*◌, ◌%◌, ◌<◌, ◌≤◌, true, false, ◌==◌, List, [], ◌∷◌, ◌++◌, map, length, refl, sym, ◌∙◌, ap, subst, inl, inr, arith, eq-eqb, ne_eqb}
+use Rattle.std.proofs.Common.{◌≡◌, ◌⊎◌, ℕ, zero, suc, ◌<◌, ◌≤◌, true, false, ◌==◌, List, [], ◌∷◌, ◌++◌, map, length, refl, sym, ◌∙◌, ap, subst, inl, inr, arith, eq-eqb, ne_eqb}
 use Rattle.std.specs.Prelude.{Some, None, Option, slice_get, slice_index, slice_index_or}
 use Rattle.std.proofs.lemmas.Bool.{cases_eq}
-use Rattle.std.proofs.lemmas.Nat.{div-mul-add, mod-mul-add}
 use Rattle.std.proofs.lemmas.List.{length-append}
 use mathlib.Core.Option.{some, some-injective, some-ne-none}
 use mathlib.Core.Option as maybe
@@ -21,21 +20,11 @@ use Rattle.scq_core.proofs.Starts.{fills}
 use Rattle.scq_law.specs.Run.{recorded_first}
 use Rattle.scq_law.proofs.Replays.LongerRuns.{run_first}
 use Rattle.scq_band.specs.declared.numbers.Numbers.{Numbers}
-use Rattle.scq_band.specs.Layout.{ring_words, word_count, ring_at, offset_of, at, location_in, first_word, IsLocation}
+use Rattle.scq_band.specs.Layout.{gate_word}
+use Rattle.scq_band.specs.Making.{AreOpened}
 use Rattle.scq_band.specs.Numbers.{first_numbers_of, first_numbers, IsTrue}
 use Rattle.scq_band.specs.Known.{Known}
 use Rattle.scq_band.specs.Shown.{Scene, Has, Owns, IsView, Shown, awake, first_members, first_view}
-use Rattle.scq_band.proofs.Layouts.{offset_low, location_in-at, at_low}
-
--- the first word of a location is what the start has there
-first_word-at : (c : Setup) (l : Location) → IsLocation c l → first_word c (at c l) ≡ read (start_cells c []) l
-unfolding at first_word
-first_word-at c l here =
-    let low = offset_low c l here.1 in
-    ap (λ r. read (start_cells c []) (location_in r ((ring_at l * ring_words c + offset_of l) % ring_words c)))
-    (div-mul-add (ring_at l) (ring_words c) (offset_of l) low)
-    ∙ ap (λ o. read (start_cells c []) (location_in (ring_at l) o)) (mod-mul-add (ring_at l) (ring_words c) (offset_of l) low)
-    ∙ ap (read (start_cells c [])) (location_in-at l)
 
 -- the words of the start are those of any opening contents
 same_words : (c : Setup) (contents : List (List ℕ)) (l : Location) → read (start_cells c []) l ≡ read (start_cells c contents) l
@@ -43,10 +32,6 @@ same_words c contents (tail_of r) = refl
 same_words c contents (head_of r) = refl
 same_words c contents (threshold_of r) = refl
 same_words c contents (entry_of r s) = refl
-
-gate_first : (c : Setup) → first_word c 0 ≡ c.seats
-unfolding first_word
-gate_first c = refl
 
 -- all seats are awake
 awake_all : (n : ℕ) → awake (λ k. None) n ≡ n
@@ -106,19 +91,18 @@ module _ {S : Type 0} (Lies : ℕ → S → List ℕ → Type 0) where
   )
 
   -- the table at the start
-  pub opens : (c : Setup) (ws : List ℕ) (xs : List S) (contents : List (List ℕ)) → length ws ≡ word_count c
-      → ((i : ℕ) → i < word_count c → slice_index ws i ≡ first_word c i)
+  pub opens : (c : Setup) (ws : List ℕ) (xs : List S) (contents : List (List ℕ)) → AreOpened c ws c.rings 0
       → length xs ≡ n_of c.order → length contents ≡ n_of c.order → ((j : ℕ) → j < n_of c.order → Has Lies (map some xs) j (slice_index_or contents j []))
       → Shown Lies contents c (λ k. None) [] (opening ws xs (first_view c))
-  opens c ws xs contents count each many all has =
+  opens c ws xs contents opened many all has =
       let z : Scene = record { state = start_of c contents; gone = λ k. None; owner = λ k. (0, k) } in
-      let gate : slice_index ws 0 ≡ c.seats = each 0 (omega arith) ∙ gate_first c in
+      let gate : slice_index ws gate_word ≡ c.seats = opened.gate in
       record {
         scene = z;
         leads = record { recorded = recorded_first c contents; is_run = run_first c contents all; ends = refl };
         gone_is = refl;
         made = λ k n e. absurd (cc);
-        words = record { count = count; shows = λ l here. each (at c l) (at_low c l here) ∙ first_word-at c l here ∙ same_words c contents l };
+        words = record { count = opened.count; shows = λ l here. opened.shows l here (inl here.0) ∙ same_words c contents l };
         awake_seats = gate ∙ sym (awake_all c.seats);
         room = length_map xs ∙ many;
         views = λ j v e. only j v e (first_is z gate);

@@ -1,25 +1,20 @@
--- The words of a ring are those of its locations, and their numbers are small.
-use Rattle.std.proofs.Common.{◌≡◌, ℕ, ◌+◌, ◌*◌, ◌^◌, ◌<◌, ◌≤◌, arith}
+-- The numbers of words are small.
+use Rattle.std.proofs.Common.{◌≡◌, ℕ, ◌*◌, ◌^◌, ◌<◌, ◌≤◌, arith}
 use Rattle.std.proofs.Math.Nat.{mul-le-mul_right}
 use Rattle.scq_word.specs.declared.setup.Setup.{Setup}
 use Rattle.scq_core.specs.Machine.{Location, tail_of}
 use Rattle.scq_core.proofs.Entries.{few_indices}
 use Rattle.scq_band.specs.declared.ring.Ring.{Ring}
-use Rattle.scq_band.specs.Layout.{ring_words, word_count, ring_at, offset_of, at, IsLocation}
+use Rattle.scq_band.specs.Layout.{ring_words, distance, word_count, at, IsLocation}
 use Rattle.scq_band.specs.Rings.{IsRing}
 use Rattle.scq_band.proofs.Layouts.{at_low}
-
--- a ring's words lie side by side
-pub at_offset : (c : Setup) (r o : ℕ) (l : Location) → ring_at l ≡ r → offset_of l ≡ o → at c l ≡ at c (tail_of r) + o
-unfolding at
-at_offset c r o l ring offset = rw (ring, offset) (omega arith)
 
 -- a table has few words
 pub few_words : (c : Setup) → word_count c < 2 ^ 32
 few_words c =
     let few = few_indices c in
     let rings = c.rings_in_range in
-    let le : c.rings * ring_words c ≤ 18 * ring_words c = mul-le-mul_right (ring_words c) (omega arith) in
+    let le : c.rings * ring_words distance c ≤ 18 * ring_words distance c = mul-le-mul_right (ring_words distance c) (omega arith) in
     omega arith
 
 pub tail_fits : (c : Setup) (ring : Ring) → IsRing c ring → ring.tail < 2 ^ 32

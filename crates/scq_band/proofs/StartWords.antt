@@ -1,36 +1,83 @@
--- The words of the start by their offset in a ring, and lists of buffers turned to slots and back.
-use Rattle.std.proofs.Common.{◌≡◌, ◌≢◌, ℕ, zero, suc, ◌+◌, ◌-◌, ◌/◌, ◌%◌, ◌≤◌, List, [], ◌∷◌, ◌++◌, map, refl, sym, ◌∙◌, ap, arith}
-use Rattle.std.specs.Prelude.{Some, None, Option}
+-- The words of the start are put where they stand one by one, and lists of buffers are turned to slots and back.
+use Rattle.std.proofs.Common.{◌≡◌, ℕ, suc, ◌+◌, List, [], ◌∷◌, ◌++◌, map, length, refl, sym, ◌∙◌, ap, inl, inr, arith}
+use Rattle.std.specs.Prelude.{Some, None, Option, slice_set}
+use Rattle.std.proofs.lemmas.Bool.{cases_eq, cases_lt}
+use Rattle.std.proofs.lemmas.List.{length-set, get_or-set_same, get_or-set_other}
 use Rattle.scq_word.specs.declared.setup.Setup.{Setup}
-use Rattle.scq_core.specs.Machine.{entry_of, read}
+use Rattle.scq_core.specs.Machine.{Location, read}
 use Rattle.scq_core.specs.Start.{start_cells}
+use Rattle.scq_core.specs.Table.{ring_slots}
 use Rattle.scq_band.specs.declared.slot.Slot.{Slot}
-use Rattle.scq_band.specs.Layout.{ring_words, location_in, first_word}
+use Rattle.scq_band.specs.Layout.{ring_at, IsLocation, offset_of, gate_word, word_count, at}
 use Rattle.scq_band.specs.Homes.{full_slot}
-use Rattle.scq_band.specs.Making.{lifted, AllLaid}
+use Rattle.scq_band.specs.Making.{lifted, AllLaid, AreOpened}
+use Rattle.scq_band.proofs.Layouts.{offset_low, same_offset, at_low, at_some, at_apart}
 
--- past the three counters stand the entries by slot
-pub location_in-past : (r o : ℕ) → 3 ≤ o → location_in r o ≡ entry_of r (o - 3)
-location_in-past r zero past = absurd (omega arith)
-location_in-past r (suc zero) past = absurd (omega arith)
-location_in-past r (suc (suc zero)) past = absurd (omega arith)
-location_in-past r (suc (suc (suc s))) past = let same : suc (suc (suc s)) - 3 ≡ s = omega arith in ap (entry_of r) (sym same)
+-- one word more is put where it stands
+pub opens_next : (c : Setup) (words : List ℕ) (r o i x : ℕ) (l : Location) → AreOpened c words r o → IsLocation c l → ring_at l ≡ r → offset_of 1 l ≡ o
+    → i ≡ at c l → x ≡ read (start_cells c []) l → AreOpened c (slice_set words i x) r (suc o)
+opens_next c words r o i x l before here ring offset at_l is =
+    rw at_l (record {
+      count = length-set words (at c l) x ∙ before.count;
+      gate = get_or-set_other words (at c l) gate_word x 0 (λ e. at_some c l (sym e)) ∙ before.gate;
+      shows =
+          λ k there past.
+          elim (cases_eq (at c k) (at c l)) [
+            | inl same ↦
+                rw (at_apart c k l there here same) (get_or-set_same words (at c l) x 0 (rw before.count (at_low c l here)) ∙ is)
+            | inr apart ↦
+                get_or-set_other words (at c l) (at c k) x 0 apart
+                ∙ before.shows k there (elim past [
+                  | inl lower ↦ inl lower
+                  | inr near ↦
+                      inr (
+                        near.0,
+                        elim (cases_lt (offset_of 1 k) o) [
+                          | inl low ↦ low
+                          | inr high ↦
+                              let last : offset_of 1 k ≡ offset_of 1 l = let less = near.1 in omega (arith, less, high, offset) in
+                              absurd (apart (ap (at c) (same_offset 1 k l (omega arith) (near.0 ∙ sym ring) last)))
+                        ],
+                      )
+                ])
+          ];
+    })
 
--- a word past the gate
-pub first_word-past : (c : Setup) (w : ℕ) → w ≢ 0
-    → first_word c w ≡ read (start_cells c []) (location_in ((w - 1) / ring_words c) ((w - 1) % ring_words c))
-unfolding first_word
-first_word-past c zero apart = absurd (apart refl)
-first_word-past c (suc i) apart =
-    let same : suc i - 1 ≡ i = omega arith in
-    ap (λ j. read (start_cells c []) (location_in (j / ring_words c) (j % ring_words c))) (sym same)
+-- a ring whose words all stand there
+pub opens_ring : (c : Setup) (words : List ℕ) (r o : ℕ) → o ≡ 3 + ring_slots c → AreOpened c words r o → AreOpened c words (r + 1) 0
+opens_ring c words r o all before =
+    record {
+      count = before.count;
+      gate = before.gate;
+      shows =
+          λ k there past.
+          before.shows k there (elim past [
+            | inl lower ↦
+                elim (cases_lt (ring_at k) r) [
+                  | inl low ↦ inl low
+                  | inr high ↦
+                      inr (
+                        (omega (arith, lower, high)),
+                        (let low = offset_low 1 c k (omega arith) there.1 in omega (arith, low, all)),
+                      )
+                ]
+            | inr near ↦ absurd (let never = near.1 in omega (arith, never))
+          ]);
+    }
 
-pub gate_first : (c : Setup) → first_word c 0 ≡ c.seats
-unfolding first_word
-gate_first c = refl
-
-pub three_more : (x : ℕ) → 3 + x ≡ suc (suc (suc x))
-three_more x = omega arith
+-- a table in which none but the gate stands there yet
+pub opens_gate : (c : Setup) (words : List ℕ) (i x : ℕ) → length words ≡ word_count c → i ≡ gate_word → x ≡ c.seats → AreOpened c (slice_set words i x) 0 0
+opens_gate c words i x count at_gate is =
+    rw at_gate (record {
+      count = length-set words gate_word x ∙ count;
+      gate = get_or-set_same words gate_word x 0 (omega (arith, count)) ∙ is;
+      shows =
+          λ k there past.
+          elim past [
+            | inl lower ↦ absurd (omega (arith, lower))
+            | inr near ↦ absurd (let never = near.1 in omega (arith, never))
+          ];
+    })
 
 module _ {B : Type 0} where
   pub all_laid : (bs : List B) → AllLaid (map full_slot bs)

@@ -1,19 +1,16 @@
 -- What a band is made with: its first seats, and the slots of its buffers.
-use Rattle.std.proofs.Common.{◌≡◌, ℕ, zero, suc, ◌+◌, ◌*◌, ◌^◌, ◌<◌, List, [], ◌∷◌, ◌++◌, map, length, refl, sym, ◌∙◌, ap, subst, inl, inr, arith, eq-eqb, ne_eqb, ◌⊎◌}
+use Rattle.std.proofs.Common.{◌≡◌, ℕ, zero, suc, ◌^◌, ◌<◌, List, [], ◌∷◌, ◌++◌, map, length, refl, sym, ◌∙◌, ap, subst, inl, inr, arith, eq-eqb, ne_eqb, ◌⊎◌}
 use Rattle.std.proofs.lemmas.List.{length-append}
 use Rattle.std.specs.Prelude.{Some, None, Option, All, slice_get, slice_index_or, vec_capacity}
 use Rattle.std.proofs.lemmas.Bool.{cases_eq, cases_lt}
 use mathlib.Core.Option.{some}
 use lib.ListN.{get_elem?}
 use Rattle.scq_word.specs.declared.setup.Setup.{Setup}
-use Rattle.scq_core.specs.Machine.{tail_of}
-use Rattle.scq_core.specs.Table.{ring_slots}
 use Rattle.scq_law.specs.Hands.{times}
 use Rattle.scq_band.specs.declared.numbers.Numbers.{Numbers}
 use Rattle.scq_band.specs.declared.rule.Key.{Key}
 use Rattle.scq_band.specs.declared.making.Room.{Room}
 use Rattle.scq_band.specs.Numbers.{known_of, before_places, first_numbers_of, first_numbers}
-use Rattle.scq_band.specs.Layout.{at}
 use Rattle.scq_band.specs.Known.{first_of}
 use Rattle.scq_band.specs.Buffers.{LiesIn}
 use Rattle.scq_band.specs.Shown.{Has}
@@ -112,15 +109,6 @@ module _ {A : Type 0} (P : A → Type 0) where
 
   pub all_prefix : (xs ys : List A) → All P (xs ++ ys) → All P xs
   all_prefix xs ys all = λ k d low. subst P (at_prefix xs ys k d low) (all k d (omega (arith, length-append xs ys)))
-
--- where Tail of a ring stands
-pub tail_at : (c : Setup) (r slots : ℕ) → slots ≡ ring_slots c → 1 + r * (3 + slots) ≡ at c (tail_of r)
-unfolding at
-tail_at c r slots same =
-    let three : 3 + slots ≡ suc (suc (suc (ring_slots c))) = omega (arith, same) in
-    let there = ap (λ w. 1 + r * w) three in
-    let start : 1 + r * suc (suc (suc (ring_slots c))) ≡ suc (r * suc (suc (suc (ring_slots c))) + 0) = omega arith in
-    there ∙ start
 
 -- the seats of a new band are its own
 pub first_own : {B : Type 0} (band : Identity B) (n : ℕ) → All (λ (s : Standing B). s.band ≡ band) (first_standings band n)

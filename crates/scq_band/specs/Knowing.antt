@@ -10,7 +10,7 @@ use Rattle.scq_core.specs.Machine.{Machine, tail_of, head_of}
 use Rattle.scq_law.specs.Bounds.{IsFinished}
 use Rattle.scq_band.specs.declared.numbers.Numbers.{Numbers}
 use Rattle.scq_band.specs.Numbers.{before_places}
-use Rattle.scq_band.specs.Layout.{at}
+use Rattle.scq_band.specs.Layout.{gate_word, at}
 use Rattle.scq_band.specs.Known.{Known}
 use Rattle.scq_band.specs.Shown.{Shown}
 
@@ -22,7 +22,7 @@ pub record KnowsTruth (c : Setup) (m : Machine) (words : List ℕ) (v : Known) :
   -- each finished number is the place of a put that has ended, or what is known at the start
   pub finished : (r : ℕ) (x : Numbers) → slice_get v.numbers r ≡ Some x → (x.finished ≡ before_places c r) ⊎ IsFinished c m r x.finished
   -- the gate is no higher than when it was last read
-  pub gate : (n : ℕ) → v.gate ≡ Some n → slice_index words 0 ≤ n
+  pub gate : (n : ℕ) → v.gate ≡ Some n → slice_index words gate_word ≤ n
 
 -- each view does, whatever words and views the rule allows
 abbrev pub EachViewKnowsTruth : {S : Type 0} → (ℕ → S → List ℕ → Type 0) → List (List ℕ) → Setup → Type 0

@@ -1,13 +1,14 @@
 -- For private calls: what a band is made of.
-use Rattle.std.specs.Prelude.{◌≡◌, ℕ, ◌<◌, ◌≤◌, List, [], ◌∷◌, length, All, slice_index, Option, Some, None, vec_capacity}
+use Rattle.std.specs.Prelude.{◌≡◌, ◌⊎◌, ℕ, ◌<◌, ◌≤◌, List, [], ◌∷◌, length, All, slice_index, Option, Some, None, vec_capacity}
 use Rattle.scq_word.specs.declared.setup.Setup.{Setup}
 use Rattle.scq_word.specs.Sizes.{n_of}
-use Rattle.scq_core.specs.Start.{start_of}
+use Rattle.scq_core.specs.Machine.{Location, read}
+use Rattle.scq_core.specs.Start.{start_cells, start_of}
 use Rattle.scq_core.specs.StateLists.{StateLists, machine_of}
 use Rattle.scq_band.specs.declared.slot.Slot.{Slot}
 use Rattle.scq_band.specs.declared.making.Room.{Room}
 use Rattle.scq_band.specs.declared.making.Memory.{Memory}
-use Rattle.scq_band.specs.Layout.{word_count, first_word}
+use Rattle.scq_band.specs.Layout.{ring_at, IsLocation, offset_of, gate_word, word_count, at}
 use Rattle.scq_band.specs.Known.{Known}
 use Rattle.scq_band.specs.Shown.{first_view, first_members}
 use Rattle.scq_band.specs.Numbers.{first_numbers}
@@ -37,10 +38,19 @@ pub record IsRoom (c : Setup) (room : Room) : Type 0 where
   pub holds_all : n_of c.order ≤ vec_capacity room.hand
   pub known : room.numbers.items ≡ first_numbers c c.rings
 
+-- a location of a ring before r, or in r one of the first o of Tail, Head, Threshold and the entries by slot
+abbrev pub IsBefore : ℕ → ℕ → Location → Type 0
+IsBefore r o l = (ring_at l < r) ⊎ ((ring_at l ≡ r) × (offset_of 1 l < o))
+
+-- the words of a table, of which the gate and those before stand as they do at the start
+pub record AreOpened (c : Setup) (words : List ℕ) (r o : ℕ) : Type 0 where
+  pub count : length words ≡ word_count c
+  pub gate : slice_index words gate_word ≡ c.seats
+  pub shows : (l : Location) → IsLocation c l → IsBefore r o l → slice_index words (at c l) ≡ read (start_cells c []) l
+
 -- the memory of a band
 pub record IsMemory (c : Setup) (memory : Memory) : Type 0 where
-  pub count : length memory.words.items ≡ word_count c
-  pub each_word : (i : ℕ) → i < word_count c → slice_index memory.words.items i ≡ first_word c i
+  pub opened : AreOpened c memory.words.items c.rings 0
   pub none_left : memory.left.items ≡ []
   pub each_ring : c.rings ≤ vec_capacity memory.left
   pub seats : length memory.rooms.items ≡ c.seats

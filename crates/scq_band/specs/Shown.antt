@@ -18,7 +18,7 @@ use Rattle.scq_core.specs.declared.step.Step.{Step}
 use Rattle.scq_law.specs.Run.{Recorded, IsRun}
 use Rattle.scq_law.specs.Hands.{times}
 use Rattle.scq_band.specs.declared.numbers.Numbers.{Numbers}
-use Rattle.scq_band.specs.Layout.{at, word_count, IsLocation}
+use Rattle.scq_band.specs.Layout.{gate_word, at, word_count, IsLocation}
 use Rattle.scq_band.specs.Known.{Member, Known}
 use Rattle.scq_band.specs.Numbers.{IsTrue, first_numbers}
 
@@ -71,7 +71,7 @@ module _ {S : Type 0} (Lies : ℕ → S → List ℕ → Type 0) where
   Owns c z homes id [] = Unit {0}
   Owns c z homes id (x ∷ xs) = IsMember c z homes id (length xs) x × Owns c z homes id xs
 
-  -- what a view knows is true, where `word` is word 0
+  -- what a view knows is true, where `word` is the gate's word
   pub record IsView (c : Setup) (z : Scene) (homes : List (maybe.Option S)) (word id : ℕ) (v : Known) : Type 0 where
     pub seats : Owns c z homes id v.seats
     pub rings : (v.seats ≡ []) ⊎ (length v.numbers ≡ c.rings)
@@ -86,9 +86,9 @@ module _ {S : Type 0} (Lies : ℕ → S → List ℕ → Type 0) where
     pub gone_is : scene.gone ≡ gone
     pub made : (k n : ℕ) → gone k ≡ Some n → n ≤ length (scene.state.part k).calls
     pub words : ShowsWords c s.words scene.state.cells
-    pub awake_seats : slice_index s.words 0 ≡ awake scene.gone c.seats
+    pub awake_seats : slice_index s.words gate_word ≡ awake scene.gone c.seats
     pub room : length s.homes ≡ n_of c.order
-    pub views : (id : ℕ) (v : Known) → get_elem? s.views id ≡ some v → IsView c scene s.homes (slice_index s.words 0) id v
+    pub views : (id : ℕ) (v : Known) → get_elem? s.views id ≡ some v → IsView c scene s.homes (slice_index s.words gate_word) id v
     pub stored : Stored c scene.state.cells.entries s.homes
 
 -- the view of the first seat of the table: all seats of the setup stand in it, idle with empty hands, the last one first

@@ -7,6 +7,7 @@ ghost use Rattle.scq_band.specs.RunSeen.{IsReadingInRun};
 ghost use Rattle.scq_band.specs.Standing.{first_standings, after_look, having_seen, caller_of};
 
 use crate::gate::{read_gate, retire};
+use crate::layout::tail_word;
 use crate::making::{Memory, lay_all, lift_all, reserved};
 use crate::ring::Ring;
 use crate::rule::{Key, Rule};
@@ -102,12 +103,11 @@ impl<B: Buffer> Band<B> {
         ensures number { result.number ≡ number }
         ensures ring { IsRing self.now.setup result }
     {
-        let shape = self.setup.shape();
         Ring {
             number,
-            shape,
+            shape: self.setup.shape(),
             limit: self.setup.limit(),
-            tail: 1 + number as usize * (3 + shape.slots() as usize),
+            tail: tail_word(&self.setup, number),
             level: reset_level(&self.setup),
         }
     }
@@ -121,7 +121,7 @@ impl<B: Buffer> Band<B> {
         retire(&self.table.shared, &mut seat.token);
     }
 
-    /// Whether every seat had retired when word 0 was read. The number that is read there, of the seats that haven't retired,
+    /// Whether every seat had retired when the gate was read. The number that is read there, of the seats that haven't retired,
     /// never rises. The seat has then seen the whole run, and with it all calls that seats made before they retired.
     pub fn gate_closed(&self, seat: &mut Seat<B>) -> bool
         requires seat { seat.old.band ≡ self.now }

@@ -8,6 +8,7 @@ ghost use Rattle.scq_band.specs.Layout.{word_count};
 ghost use Rattle.scq_band.specs.Shown.{ShowsWords};
 ghost use Rattle.scq_band.specs.Homes.{full_slot};
 
+use crate::layout::{entry_word, tail_word};
 use crate::slot::Slot;
 use atomic_table::Closed;
 use scq_word::{Setup, unpack};
@@ -21,11 +22,10 @@ fn left_in_ring<B>(closed: &Closed<Slot<B>, Global>, setup: &Setup, ring: u32) -
     ensures { (m : Cells) → ShowsWords setup.now (slots_items closed.now.words) m → result ≡ left_in setup.now m ring }
 {
     let shape = setup.shape();
-    let slots = shape.slots();
-    let first = 4 + ring as usize * (3 + slots as usize);
+    let tail = tail_word(setup, ring);
     let mut left = 0;
-    for slot in 0..slots {
-        if unpack(shape, closed.word(first + slot as usize))
+    for slot in 0..shape.slots() {
+        if unpack(shape, closed.word(entry_word(tail, slot)))
             .index
             .is_some()
         {

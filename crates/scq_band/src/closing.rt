@@ -13,6 +13,7 @@ ghost use Rattle.scq_band.specs.Sights.{known_me};
 
 use crate::band::Band;
 use crate::closed::{count_left, unload};
+use crate::layout::GATE;
 use crate::lifted::Lifted;
 use crate::notes::Gathers;
 use crate::rule::{Token, Words};
@@ -32,7 +33,7 @@ fn bring<B: Buffer>(words: &Words<B>, token: &mut Token<B>)
         ≡ (at_home ((front_index token.old.me.1, front_bytes B.contents token.old.me.1) ∷ []) token.old.me.0.known, rest token.old.me.1) }
     ensures seen { token.new.me.0.seen ≡ token.old.me.0.seen }
 {
-    words.load::<Brand>(token, 0);
+    words.load::<Brand>(token, GATE);
 }
 
 /// The buffer of an index, taken from those that are out.

@@ -1,4 +1,4 @@
-//! The gate, word 0: how many seats have not retired.
+//! The gate: how many seats have not retired.
 ghost use Rattle.std.specs.Prelude.{◌≡◌, ◌<◌, None};
 ghost use Rattle.scq_band.specs.Standing.{IsReading};
 ghost use Rattle.scq_band.specs.Buffers.{opening_of};
@@ -6,6 +6,7 @@ ghost use Rattle.scq_band.specs.Sights.{Looked};
 ghost use Rattle.scq_band.specs.Steps.{my};
 ghost use Rattle.scq_band.specs.Seats.{IsAlone, looked, retired_at};
 
+use crate::layout::GATE;
 use crate::rule::{Token, Words};
 use scq_word::Buffer;
 use std::marker::Brand;
@@ -21,7 +22,7 @@ pub fn read_gate<B: Buffer>(words: &Words<B>, token: &mut Token<B>) -> u64
     ensures slots { token.new.me.1 ≡ token.old.me.1 }
     ensures reading { IsReading words.now.key.setup.seats token.old.me.0.known.gate (my token.old.me.0.known).retired result }
 {
-    words.load::<Brand>(token, 0)
+    words.load::<Brand>(token, GATE)
 }
 
 /// The seat retires: the gate falls by one.
@@ -35,5 +36,5 @@ pub fn retire<B: Buffer>(words: &Words<B>, token: &mut Token<B>)
     ensures retired { token.new.me.0.known ≡ retired_at token.old.me.0.known }
     ensures slots { token.new.me.1 ≡ token.old.me.1 }
 {
-    words.fetch_sub::<Brand>(token, 0, 1);
+    words.fetch_sub::<Brand>(token, GATE, 1);
 }

@@ -20,6 +20,7 @@ mod hand;
 #[cfg(test)]
 mod heap;
 pub mod laws;
+mod layout;
 mod lending;
 mod lifted;
 mod making;

@@ -1,13 +1,13 @@
 //! The memory and the words that a band is made with.
-ghost use Rattle.std.specs.Prelude.{◌≡◌, ℕ, ◌<◌, ◌≤◌, [], map, All, IfOk, slice_index, vec_len, vec_capacity};
+ghost use Rattle.std.specs.Prelude.{◌≡◌, ◌+◌, ◌<◌, ◌≤◌, [], map, All, IfOk, vec_len, vec_capacity};
 ghost use Rattle.scq_word.specs.Sizes.{n_of};
-ghost use Rattle.scq_core.specs.Machine.{read};
+ghost use Rattle.scq_core.specs.Machine.{read, threshold_of};
 ghost use Rattle.scq_core.specs.Start.{start_cells};
 ghost use Rattle.scq_band.specs.Numbers.{first_numbers};
-ghost use Rattle.scq_band.specs.Layout.{ring_words, word_count, location_in, first_word};
 ghost use Rattle.scq_band.specs.Homes.{full_slot};
-ghost use Rattle.scq_band.specs.Making.{lifted, AllLaid, IsRoom, IsMemory, IsOfStart};
+ghost use Rattle.scq_band.specs.Making.{lifted, AllLaid, IsRoom, IsMemory, IsOfStart, AreOpened};
 
+use crate::layout::{GATE, entry_word, head_word, tail_word, threshold_word, word_count};
 use crate::numbers::Numbers;
 use crate::slot::Slot;
 use scq_core::{State, ZERO_LEVEL, reset_level};
@@ -76,69 +76,44 @@ fn no_contents(alloc: Global, setup: &Setup) -> Result<Vec<Bytes>, NoMemory>
     Ok(contents)
 }
 
-// Tail, Head or Threshold of a ring at the start.
+// Threshold of a ring at the start.
 #[tactic(auto, unfolding(scq_core::specs::Table::zero_level))]
-fn counter(setup: &Setup, ring: u32, offset: usize) -> u64
-    requires { offset < 3 }
-    ensures { result ≡ read (start_cells setup.now []) (location_in ring offset) }
+fn first_threshold(setup: &Setup, ring: u32) -> u64
+    ensures { result ≡ read (start_cells setup.now []) (threshold_of ring) }
 {
-    let slots = u64::from(setup.shape().slots());
-    let opening = if ring == 0 {
-        u64::from(setup.shape().n())
+    if ring == 0 {
+        reset_level(setup)
     } else {
-        0
-    };
-    match offset {
-        0 => slots + opening,
-        1 => slots,
-        _ if ring == 0 => reset_level(setup),
-        _ => ZERO_LEVEL - 1,
+        ZERO_LEVEL - 1
     }
 }
 
-// A word of a ring at the start.
-fn ring_word(state: &State, ring: u32, offset: usize) -> u64
+// Puts the words of a ring at the start where they stand.
+fn open_ring(words: &mut Vec<u64>, state: &State, ring: u32)
     requires start { IsOfStart state.now }
     requires ring { ring < state.now.setup.rings }
-    requires offset { offset < ring_words state.now.setup }
-    ensures { result ≡ read (start_cells state.now.setup []) (location_in ring offset) }
-{
-    if offset < 3 {
-        counter(&state.setup(), ring, offset)
-    } else {
-        state.entry(ring, (offset - 3) as u32)
-    }
-}
-
-// A word of the table at the start.
-fn first_word(state: &State, word: usize) -> u64
-    requires start { IsOfStart state.now }
-    requires low { word < word_count state.now.setup }
-    ensures { result ≡ first_word state.now.setup word }
+    requires before { AreOpened state.now.setup words.old.items ring 0 }
+    ensures { AreOpened state.now.setup words.new.items (ring + 1) 0 }
 {
     let setup = state.setup();
-    if word == 0 {
-        return u64::from(setup.seats());
+    let tail = tail_word(&setup, ring);
+    words[tail] = state.tail(ring);
+    words[head_word(tail)] = state.head(ring);
+    words[threshold_word(tail)] = first_threshold(&setup, ring);
+    for slot in 0..setup.shape().slots() {
+        words[entry_word(tail, slot)] = state.entry(ring, slot);
     }
-    let ring_words = 3 + setup.shape().slots() as usize;
-    ring_word(
-        state,
-        ((word - 1) / ring_words) as u32,
-        (word - 1) % ring_words,
-    )
 }
 
 // The words of the table at the start.
 fn first_words(alloc: Global, setup: Setup) -> Result<Vec<u64>, NoMemory>
-    ensures count { IfOk result (λ v. vec_len v ≡ word_count setup) }
-    ensures words { IfOk result (λ v. (i : ℕ) → i < word_count setup → slice_index v.items i ≡ first_word setup i) }
+    ensures { IfOk result (λ v. AreOpened setup v.items setup.rings 0) }
 {
     let state = State::start(alloc, setup, no_contents(alloc, &setup)?)?;
-    let count = 1 + setup.rings() as usize * (3 + setup.shape().slots() as usize);
-    let mut words = Vec::new(alloc);
-    words.reserve_exact(count)?;
-    for word in 0..count {
-        words.push(first_word(&state, word))?;
+    let mut words = vec![in alloc; 0; word_count(&setup)]?;
+    words[GATE] = u64::from(setup.seats());
+    for ring in 0..setup.rings() {
+        open_ring(&mut words, &state, ring);
     }
     Ok(words)
 }

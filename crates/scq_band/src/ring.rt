@@ -5,9 +5,10 @@ ghost use Rattle.scq_word.specs.declared.setup.Setup.{Setup};
 ghost use Rattle.scq_band.specs.Layout.{at, entry_at};
 ghost use Rattle.scq_band.specs.Rings.{IsRing};
 
+use crate::layout::{entry_word, head_word, threshold_word};
 use scq_word::{Shape, slot_of};
 
-/// `tail` is the word of its Tail; Head, Threshold and the entries by slot follow. `level` is what Threshold is reset to.
+/// `tail` is the word of its Tail, which tells where its other words are. `level` is what Threshold is reset to.
 #[derive(Clone, Copy)]
 pub struct Ring {
     pub number: u32,
@@ -23,7 +24,7 @@ impl Ring {
         requires { self.now.tail < 2 ^ 32 }
         ensures { (c : Setup) → IsRing c self.now → result ≡ at c (head_of self.now.number) }
     {
-        self.tail + 1
+        head_word(self.tail)
     }
 
     #[inline(always)]
@@ -31,7 +32,7 @@ impl Ring {
         requires { self.now.tail < 2 ^ 32 }
         ensures { (c : Setup) → IsRing c self.now → result ≡ at c (threshold_of self.now.number) }
     {
-        self.tail + 2
+        threshold_word(self.tail)
     }
 
     /// The word of the entry of a ticket's slot.
@@ -40,6 +41,6 @@ impl Ring {
         requires { self.now.tail < 2 ^ 32 }
         ensures { (c : Setup) → IsRing c self.now → result ≡ at c (entry_at c self.now.number ticket) }
     {
-        self.tail + 3 + slot_of(self.shape, ticket) as usize
+        entry_word(self.tail, slot_of(self.shape, ticket))
     }
 }

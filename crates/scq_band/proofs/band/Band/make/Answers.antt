@@ -25,7 +25,7 @@ new-requires g c =
     let memory = c.in-Ok.ensures in
     let base : Shown (LiesIn contents Same bs) (opening_of contents bs) k (λ k. None) [] (opening c.in-Ok.memory.words.items (map full_slot bs)
     (first_view k)) =
-    opens (LiesIn contents Same bs) k c.in-Ok.memory.words.items (map full_slot bs) (map contents bs) memory.count memory.each_word
+    opens (LiesIn contents Same bs) k c.in-Ok.memory.words.items (map full_slot bs) (map contents bs) memory.opened
     (length-map contents full_slot bs ∙ all)
     (length-map contents contents bs ∙ all) (λ j low. stand_all contents Same itself bs j (omega (arith, all, low))) in
     rw (c.of.ensures, c.as_slice.ensures.value, c.lay_all.ensures.slots) (opens_run (LiesIn contents Same bs) k c.in-Ok.memory.words.items (map full_slot bs)

@@ -1,0 +1,7 @@
+use Rattle.std.proofs.Common.{refl, arith}
+use Rattle.scq_core.specs.Machine.{threshold_of}
+use Rattle.scq_band.proofs.Layouts.{from_tail}
+use Rattle.scq_band.proofs.layout.threshold_word.Goals as goal
+
+pub returns : goal.returns
+returns c k r is = let there = from_tail k r (threshold_of r) refl in omega (arith, is, there)
