@@ -1,13 +1,17 @@
 //! The command `judge`, which reads recordings.
-ghost use Rattle.std.specs.Prelude.{◌≡◌, ◌≤◌, None, length, map, string_bytes};
+
+ghost use Rattle.std.specs.Prelude.{◌≡◌, ◌-◌, ◌<◌, ◌≤◌, ◌^◌, ℕ, List, None, length, map, slice_get, string_bytes, IfOk, IfErr, IsErrOf, IsSomeAnd};
+ghost use Rattle.scq_judge.specs.Files.{HaveContents};
+ghost use Rattle.scq_judge.specs.Judged.{IsJudged, IsCause};
 ghost use Rattle.scq_service.specs.Ends.{EndsJudged};
 ghost use Rattle.scq_service.specs.Faults.{status_of};
 
 use crate::reading::get_sources;
 use crate::writing::write_all;
 use crate::{Fault, Outcome};
-use scq_judge::judge_recordings;
-use scq_outside::{Failed, Files, Sink};
+use scq_judge::{JudgeFault, judge_recordings};
+use scq_outside::{Failed, Files, Sink, Source};
+use scq_word::Bytes;
 use std::alloc::Global;
 
 /// Gets the files of recordings, reads them, and writes the report of their merged history.
@@ -35,15 +39,32 @@ pub fn run_judge<F: Files, K: Sink>(
     let Ok(mut sources) = Vec::with_capacity(alloc, names.len()) else {
         return Outcome::at(Vec::new(alloc), Fault::NoMemory);
     };
-    if !get_sources(names, files, &mut sources) {
+    let all = get_sources(names, files, &mut sources);
+    if all {
+        let (sources, report) = report_on(alloc, sources);
+        match report {
+            Ok(text) => match write_all(out, text.bytes()) {
+                Ok(()) => Outcome::whole(sources),
+                Err(Failed) => Outcome::at(sources, Fault::WriteFault),
+            },
+            Err(fault) => Outcome::at(sources, Fault::from(fault)),
+        }
+    } else {
         let file = sources.len() as u32 + 1;
-        return Outcome::at(sources, Fault::OpenFault { file });
+        Outcome::at(sources, Fault::OpenFault { file })
     }
-    match judge_recordings(alloc, &mut sources) {
-        Ok(text) => match write_all(out, text.bytes()) {
-            Ok(()) => Outcome::whole(sources),
-            Err(Failed) => Outcome::at(sources, Fault::WriteFault),
-        },
-        Err(fault) => Outcome::at(sources, Fault::from(fault)),
-    }
+}
+
+/// The sources once they were read, and the report of their merged history, or why they were not judged.
+fn report_on<S: Source>(alloc: Global, sources: Vec<S>) -> (Vec<S>, Result<Bytes, JudgeFault>)
+    requires { length sources.items < 2 ^ 31 }
+    ensures count { length result.0.items ≡ length sources.items }
+    ensures judged { IfOk result.1 (λ text. (contents : List (List ℕ)) → HaveContents S.left sources.items contents → IsJudged contents text) }
+    ensures refused { IfErr result.1 (λ fault. (contents : List (List ℕ)) → HaveContents S.left sources.items contents → IsCause contents fault) }
+    ensures read_fault { (file : ℕ) → IsErrOf result.1 (JudgeFault.ReadFault file)
+        → IsSomeAnd (slice_get result.0.items (file - 1)) (λ source. 0 < S.faults source) }
+{
+    let mut sources = sources;
+    let report = judge_recordings(alloc, &mut sources);
+    (sources, report)
 }
