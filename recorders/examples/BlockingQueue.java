@@ -1,5 +1,6 @@
 import java.nio.file.Path;
 import java.util.concurrent.ArrayBlockingQueue;
+import java.util.concurrent.CyclicBarrier;
 import java.util.concurrent.ThreadLocalRandom;
 
 /**
@@ -58,9 +59,18 @@ public final class BlockingQueue {
         Recorder recorder = new Recorder();
         Recorder.Seat[] seats = new Recorder.Seat[THREADS];
         Thread[] threads = new Thread[THREADS];
+        // All begin together: a thread that is done before the next has begun overlaps with none.
+        CyclicBarrier start = new CyclicBarrier(THREADS);
         for (int i = 0; i < THREADS; i++) {
             Recorder.Seat seat = seats[i] = recorder.seat(i, 4 * calls);
-            threads[i] = new Thread(() -> queue.run(seat, calls));
+            threads[i] = new Thread(() -> {
+                try {
+                    start.await();
+                } catch (Exception stopped) {
+                    throw new IllegalStateException(stopped);
+                }
+                queue.run(seat, calls);
+            });
         }
         for (Thread thread : threads) {
             thread.start();

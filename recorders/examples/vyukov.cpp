@@ -77,9 +77,13 @@ int main(int argc, char **argv) {
     for (int i = 0; i < THREADS; i++)
         if (!scq_seat_init(&seats[i], &recorder, i, 4 * calls)) return fprintf(stderr, "no memory\n"), 1;
     std::vector<std::thread> threads;
+    // All begin together: a thread that is done before the next has begun overlaps with none.
+    std::atomic<int> here(0);
     for (int i = 0; i < THREADS; i++)
-        threads.emplace_back([&queue, &seats, i, calls] {
+        threads.emplace_back([&queue, &seats, &here, i, calls] {
             scq_seat *seat = &seats[i];
+            here++;
+            while (here.load() < THREADS) std::this_thread::yield();
             for (size_t k = 0; k < calls; k++) {
                 uint64_t value = scq_put_start(seat, 0);
                 if (queue.put(value)) scq_put_done(seat);

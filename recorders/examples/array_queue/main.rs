@@ -9,6 +9,7 @@ use crossbeam_queue::ArrayQueue;
 use recorder::Recorder;
 use std::env::args;
 use std::process::exit;
+use std::sync::Barrier;
 use std::thread::scope;
 
 const THREADS: u32 = 4;
@@ -45,10 +46,13 @@ fn main() {
     let queue = Queue::new(words.len() > 3);
     let recorder = Recorder::new();
     let mut seats: Vec<_> = (0..THREADS).map(|seat| recorder.seat(seat, 4 * calls)).collect();
+    // All begin together: a thread that is done before the next has begun overlaps with none.
+    let start = Barrier::new(THREADS as usize);
     scope(|threads| {
         for seat in &mut seats {
-            let queue = &queue;
+            let (queue, start) = (&queue, &start);
             threads.spawn(move || {
+                start.wait();
                 for _ in 0..calls {
                     let value = seat.put_start(0);
                     if queue.put(value) {
