@@ -13,7 +13,7 @@ use Rattle.scq_work.specs.Ends.{all_left}
 use Rattle.scq_outside.specs.Counts.{Rose}
 use Rattle.scq_service.specs.Ends.{Left, Wrote, EndsAlone, EndsOver, EndsWhole, IsCalm, IsCalmText, IsOfTextAlone, most_text}
 use Rattle.scq_service.specs.declared.fault.Fault.{Fault}
-use Rattle.scq_service.specs.declared.fault.Fault.TheVariants.{Words, OpenFault, ReadFault, TooLong, TooLarge, WriteFault, BadLine, NotEnabled, Unlawful, Unfinished, NoMemory}
+use Rattle.scq_service.specs.declared.fault.Fault.TheVariants.{Words, OpenFault, ReadFault, TooLong, TooLarge, WriteFault, BadLine, NotEnabled, Unlawful, Unfinished, BadLineOf, UnlawfulOf, NoMemory}
 
 -- an element that is there meets what all meet
 all-at : {X : Type 0} (P Q : X → Type 0) (xs : List X) (k : ℕ) → All P xs → IsSomeAnd (slice_get xs k) Q → (x : X) × P x × Q x
@@ -58,6 +58,8 @@ complete size text faults end_count left names got r w (Some (BadLine line)) e c
 complete size text faults end_count left names got r w (Some (NotEnabled line)) e calm = absurd (e.0)
 complete size text faults end_count left names got r w (Some (Unlawful line)) e calm = absurd (e.0)
 complete size text faults end_count left names got r w (Some (Unfinished seat)) e calm = absurd (e.0)
+complete size text faults end_count left names got r w (Some (BadLineOf file line)) e calm = absurd (e.0)
+complete size text faults end_count left names got r w (Some (UnlawfulOf file line)) e calm = absurd (e.0)
 
 -- a run over no file of the outside, none of whose writes failed, ends likewise
 pub complete-alone : (text : List ℕ) (w : Wrote) (end : Option Fault) → EndsAlone text w end → ¬ Rose w.faults.old w.faults.new
@@ -74,6 +76,8 @@ complete-alone text w (Some (BadLine line)) e calm = absurd e
 complete-alone text w (Some (NotEnabled line)) e calm = absurd e
 complete-alone text w (Some (Unlawful line)) e calm = absurd e
 complete-alone text w (Some (Unfinished seat)) e calm = absurd e
+complete-alone text w (Some (BadLineOf file line)) e calm = absurd e
+complete-alone text w (Some (UnlawfulOf file line)) e calm = absurd e
 
 -- the one source has not both counts
 one-apart : {S : Type 0} (faults : S → ℕ) (sources : List S) → length sources ≡ 1 → All (λ source. faults source ≡ 0) sources
@@ -114,5 +118,7 @@ complete-text command faults left name r w (Some (BadLine line)) e calm = inr (i
 complete-text command faults left name r w (Some (NotEnabled line)) e calm = inr (inr e.0)
 complete-text command faults left name r w (Some (Unlawful line)) e calm = inr (inr e.0)
 complete-text command faults left name r w (Some (Unfinished seat)) e calm = inr (inr e.0)
+complete-text command faults left name r w (Some (BadLineOf file line)) e calm = inr (inr e.0)
+complete-text command faults left name r w (Some (UnlawfulOf file line)) e calm = inr (inr e.0)
 complete-text command faults left name r w (Some (TooLong file line len limit)) e calm = inr (inr e.0)
 complete-text command faults left name r w (Some (Words fault)) e calm = inr (inr e.0)

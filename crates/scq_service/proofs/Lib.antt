@@ -8,3 +8,4 @@ pub mod Seen
 mod Rows
 pub mod Working
 pub mod Writings
+mod Judging

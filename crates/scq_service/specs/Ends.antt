@@ -11,16 +11,20 @@ use Rattle.scq_collect.specs.Judged.{file_trouble}
 use Rattle.scq_collect.specs.Output.{one_thread_output}
 use Rattle.scq_lines.specs.Lines.{lines_of}
 use Rattle.scq_self.specs.Summary.{self_summary}
-use Rattle.scq_words.specs.Asked.{Asked, run, generated, whole}
+use Rattle.scq_judge.specs.Judged.{IsJudged, IsCause}
+use Rattle.scq_judge.specs.declared.judging.JudgeFault.{JudgeFault}
+use Rattle.scq_judge.specs.declared.judging.JudgeFault.TheVariants as judge
+use Rattle.scq_words.specs.Asked.{Asked, run, generated, judged, whole}
 use Rattle.scq_words.specs.declared.fault.WordsFault.{WordsFault}
 use Rattle.scq_words.specs.declared.text_request.TextCommand.{TextCommand}
 use Rattle.scq_work.specs.Ends.{HasMoved, all_left}
 use Rattle.scq_service.specs.Causes.{first_file_fault, IsTroubled, HaveRest}
+use Rattle.scq_service.specs.Faults.{fault_of_judge}
 use Rattle.scq_service.specs.Contents.{IfVisible, IsMissing, without_names}
 use Rattle.scq_service.specs.Telling.{Tells, IsOfText}
 use Rattle.scq_service.specs.Writing.{written_with, WrotePart}
 use Rattle.scq_service.specs.declared.fault.Fault.{Fault}
-use Rattle.scq_service.specs.declared.fault.Fault.TheVariants.{Words, OpenFault, ReadFault, TooLong, TooLarge, WriteFault, BadLine, NotEnabled, Unlawful, Unfinished, NoMemory}
+use Rattle.scq_service.specs.declared.fault.Fault.TheVariants.{Words, OpenFault, ReadFault, TooLong, TooLarge, WriteFault, BadLine, NotEnabled, Unlawful, Unfinished, BadLineOf, UnlawfulOf, NoMemory}
 
 -- a count or what is visible of an object, before a call and after it
 pub record Change (A : Type 0) : Type 0 where
@@ -136,6 +140,8 @@ ReadsOver size faults end_count left names got r (Some (BadLine line)) = ⊥
 ReadsOver size faults end_count left names got r (Some (NotEnabled line)) = ⊥
 ReadsOver size faults end_count left names got r (Some (Unlawful line)) = ⊥
 ReadsOver size faults end_count left names got r (Some (Unfinished seat)) = ⊥
+ReadsOver size faults end_count left names got r (Some (BadLineOf file line)) = ⊥
+ReadsOver size faults end_count left names got r (Some (UnlawfulOf file line)) = ⊥
 ReadsOver size faults end_count left names got r (Some (Words fault)) = ⊥
 
 -- how a run over files of these names ends: with the text written, with a front of it where out failed,
@@ -221,17 +227,48 @@ EndsWhole command faults left name r w (Some NoMemory) = (length r.sources ≤ 1
 EndsWhole command faults left name r w (Some fault) =
     IsOfText command fault × IsWhole faults left name r × IfContent r name (λ content. Tells command (lines_of content) (Err fault)) × IsUnwritten w
 
+-- A run over recordings, whose texts are read in order and judged together
+
+-- the files of all names were got
+pub record HaveAll {S : Type 0} (names : List (List ℕ)) (r : Left S) : Type 0 where
+  pub all : length r.sources ≡ length names
+  pub opens : IsUnchanged r.opens
+  pub table : r.table.new ≡ option_map (without_names names) r.table.old
+  pub read : r.read ≡ 0
+
+-- what recordings tell meets P
+abbrev pub IsReported : {S : Type 0} → List (List ℕ) → Left S → (List ℕ → Type 0) → Type 0
+IsReported names r P = IfVisible r.table.old names (λ contents. (text : List ℕ) × IsJudged contents text × P text)
+
+-- recordings were refused: by what they say, or by a read that failed
+abbrev pub IsRefusedBy : {S : Type 0} → (S → ℕ) → List (List ℕ) → Left S → JudgeFault → Type 0
+IsRefusedBy faults names r (judge.ReadFault file) = IsSomeAnd (slice_get r.sources (file - 1)) (λ source. 0 < faults source)
+IsRefusedBy faults names r refused = IfVisible r.table.old names (λ contents. IsCause contents refused)
+
+-- how a run over recordings of these names ends
+abbrev pub EndsJudged : {S : Type 0} → (S → ℕ) → List (List ℕ) → Left S → Wrote → Option Fault → Type 0
+EndsJudged faults names r w None =
+    HaveAll names r × IsUnchanged w.faults × IsReported names r (λ text. w.written.new ≡ written_with w.written.old text)
+EndsJudged faults names r w (Some WriteFault) =
+    HaveAll names r × Rose w.faults.old w.faults.new × IsReported names r (λ text. WrotePart w.written.old w.written.new text)
+EndsJudged faults names r w (Some (OpenFault file)) =
+    (file ≡ length r.sources + 1) × (length r.sources < length names) × HasMissed names r × (r.read ≡ 0) × IsUnwritten w
+EndsJudged faults names r w (Some NoMemory) = (length r.sources ≤ length names) × (r.read ≡ 0) × IsUnwritten w
+EndsJudged faults names r w (Some fault) =
+    HaveAll names r × ((refused : JudgeFault) × (fault ≡ fault_of_judge refused) × IsRefusedBy faults names r refused) × IsUnwritten w
+
 -- no file was asked for
 abbrev pub IsClosed : {S : Type 0} → Left S → Type 0
 IsClosed r = IsUnchanged r.table × IsUnchanged r.opens × (r.sources ≡ []) × (r.read ≡ 0)
 
--- how a run ends that is asked for this: refused words, files, a generated file, or one whole file. The sources of files are told as they were
--- when they were got
+-- how a run ends that is asked for this: refused words, files, a generated file, recordings, or one whole file. The sources of files are
+-- told as they were when they were got
 abbrev pub EndsAs : {S : Type 0} → (S → ℕ) → (S → ℕ) → (S → Option (List ℕ)) → Result Asked WordsFault → List S → Left S → Wrote → Option Fault → Type 0
 EndsAs faults end_count left (Err fault) got r w end = IsClosed r × IsUnwritten w × ((end ≡ Some (Words fault)) ⊎ (end ≡ Some NoMemory))
 EndsAs faults end_count left (Ok (run a)) got r w end =
     HasGot faults left a.files got r × EndsOver a.size (one_thread_output a.topics) faults end_count left a.files got r w end
 EndsAs faults end_count left (Ok (generated a)) got r w end = IsClosed r × EndsAlone (self_summary a.seed a.lines) w end
+EndsAs faults end_count left (Ok (judged a)) got r w end = EndsJudged faults a.files r w end
 EndsAs faults end_count left (Ok (whole a)) got r w end = EndsWhole a.command faults left a.file r w end
 
 -- nothing stood in the way of a run over these files: each was got, no count rose, each told its content, and none has trouble

@@ -1,5 +1,5 @@
 -- What the program ends with.
-use Rattle.std.specs.Prelude.{ℕ, ◌^◌, List, ◌++◌, Option, Some, None, codes, decimal}
+use Rattle.std.specs.Prelude.{ℕ, ◌-◌, ◌^◌, List, ◌++◌, Option, Some, None, codes, decimal}
 use Rattle.scq_topics.specs.declared.topics.TopicFault.{TopicFault}
 use Rattle.scq_topics.specs.declared.topics.TopicFault.TheVariants.{TooMany, BadName, BadKind, Twice}
 use Rattle.scq_words.specs.declared.fault.WordsFault.{WordsFault}
@@ -7,11 +7,13 @@ use Rattle.scq_words.specs.declared.fault.WordsFault.TheVariants.{NotUnderstood,
 use Rattle.scq_work.specs.declared.worked.WorkFault.{WorkFault}
 use Rattle.scq_work.specs.declared.worked.WorkFault.TheVariants as work
 use Rattle.scq_service.specs.declared.fault.Fault.{Fault}
-use Rattle.scq_service.specs.declared.fault.Fault.TheVariants.{Words, OpenFault, ReadFault, TooLong, TooLarge, WriteFault, BadLine, NotEnabled, Unlawful, Unfinished, NoMemory}
+use Rattle.scq_service.specs.declared.fault.Fault.TheVariants.{Words, OpenFault, ReadFault, TooLong, TooLarge, WriteFault, BadLine, NotEnabled, Unlawful, Unfinished, BadLineOf, UnlawfulOf, NoMemory}
 use Rattle.scq_outside.specs.declared.read_all_fault.ReadAllFault.{ReadAllFault}
 use Rattle.scq_outside.specs.declared.read_all_fault.ReadAllFault.TheVariants as whole
 use Rattle.scq_check.specs.declared.history.HistoryFault.{HistoryFault}
 use Rattle.scq_check.specs.declared.history.HistoryFault.TheVariants as history
+use Rattle.scq_judge.specs.declared.judging.JudgeFault.{JudgeFault}
+use Rattle.scq_judge.specs.declared.judging.JudgeFault.TheVariants as judge
 use Rattle.scq_replay.specs.declared.replaying.ScheduleFault.{ScheduleFault}
 use Rattle.scq_replay.specs.declared.replaying.ScheduleFault.TheVariants as schedule
 
@@ -27,6 +29,8 @@ status_of_fault (BadLine line) = 8
 status_of_fault (NotEnabled line) = 9
 status_of_fault (Unlawful line) = 10
 status_of_fault (Unfinished seat) = 11
+status_of_fault (BadLineOf file line) = 8
+status_of_fault (UnlawfulOf file line) = 10
 status_of_fault NoMemory = 5
 
 -- the status that the program ends with
@@ -71,6 +75,10 @@ payload_line line len limit = (decimal line ++ codes ": payload of ") ++ limit_l
 abbrev pub text_line : ℕ → List ℕ → List ℕ
 text_line line what = codes "line " ++ decimal line ++ what
 
+-- what is said of a line of a recording
+abbrev pub place_line : ℕ → ℕ → List ℕ → List ℕ
+place_line file line what = file_line file (codes " line ") ++ (decimal line ++ what)
+
 -- what is said of a seat of a schedule
 abbrev pub seat_line : ℕ → List ℕ → List ℕ
 seat_line seat what = codes "seat " ++ decimal seat ++ what
@@ -87,6 +95,8 @@ fault_line (BadLine line) = text_line line (codes ": not understood\n")
 fault_line (NotEnabled line) = text_line line (codes ": step not enabled\n")
 fault_line (Unlawful line) = text_line line (codes ": event out of place\n")
 fault_line (Unfinished seat) = seat_line seat (codes ": call not ended\n")
+fault_line (BadLineOf file line) = place_line file line (codes ": not understood\n")
+fault_line (UnlawfulOf file line) = place_line file line (codes ": event out of place\n")
 fault_line NoMemory = codes "out of memory\n"
 
 -- a fault of the workers, where a payload may have `size` bytes
@@ -122,3 +132,11 @@ fault_of_schedule (schedule.BadLine line) = BadLine line
 fault_of_schedule (schedule.NotEnabled line) = NotEnabled line
 fault_of_schedule (schedule.Unfinished seat) = Unfinished seat
 fault_of_schedule schedule.NoMemory = NoMemory
+
+-- a fault of recordings
+abbrev pub fault_of_judge : JudgeFault → Fault
+fault_of_judge (judge.BadLine file line) = BadLineOf file line
+fault_of_judge (judge.Unlawful file line) = UnlawfulOf file line
+fault_of_judge (judge.ReadFault file) = ReadFault file
+fault_of_judge (judge.TooLarge file) = TooLarge file (2 ^ 31 - 2)
+fault_of_judge judge.NoMemory = NoMemory

@@ -1,7 +1,11 @@
 use scq_check::HistoryFault;
+use scq_judge::JudgeFault;
 use scq_replay::ScheduleFault;
 use scq_word::NoMemory;
 use scq_words::WordsFault;
+
+/// The greatest number of bytes of a recording.
+const MOST_RECORDING: u64 = (1 << 31) - 2;
 
 /// Why the program ends with another status than 0. Files and lines are numbered from 1.
 #[derive(Clone, Copy, Debug, PartialEq, Eq)]
@@ -44,6 +48,16 @@ pub enum Fault {
     Unlawful {
         line: u32,
     },
+    /// This line of this file of recordings is not of the form, or may not stand there, or has the stamp of another.
+    BadLineOf {
+        file: u32,
+        line: u32,
+    },
+    /// The event of this line of this file of recordings is out of place.
+    UnlawfulOf {
+        file: u32,
+        line: u32,
+    },
     NoMemory,
 }
 
@@ -61,9 +75,9 @@ impl Fault {
             Fault::WriteFault => 4,
             Fault::NoMemory => 5,
             Fault::TooLarge { .. } => 6,
-            Fault::BadLine { .. } => 8,
+            Fault::BadLine { .. } | Fault::BadLineOf { .. } => 8,
             Fault::NotEnabled { .. } => 9,
-            Fault::Unlawful { .. } => 10,
+            Fault::Unlawful { .. } | Fault::UnlawfulOf { .. } => 10,
             Fault::Unfinished { .. } => 11,
         }
     }
@@ -107,6 +121,26 @@ impl From<ScheduleFault> for Fault {
             ScheduleFault::NotEnabled { line } => Fault::NotEnabled { line },
             ScheduleFault::Unfinished { seat } => Fault::Unfinished { seat },
             ScheduleFault::NoMemory => Fault::NoMemory,
+        }
+    }
+}
+
+impl From<JudgeFault> for Fault {
+    ghost use Rattle.std.specs.Prelude.{◌≡◌};
+    ghost use Rattle.scq_service.specs.Faults.{fault_of_judge};
+
+    ghost from_gives = { λ refused fault. fault ≡ fault_of_judge refused };
+
+    fn from(refused: JudgeFault) -> Fault {
+        match refused {
+            JudgeFault::BadLine { file, line } => Fault::BadLineOf { file, line },
+            JudgeFault::Unlawful { file, line } => Fault::UnlawfulOf { file, line },
+            JudgeFault::ReadFault { file } => Fault::ReadFault { file },
+            JudgeFault::TooLarge { file } => Fault::TooLarge {
+                file,
+                limit: MOST_RECORDING,
+            },
+            JudgeFault::NoMemory => Fault::NoMemory,
         }
     }
 }

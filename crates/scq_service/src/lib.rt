@@ -1,6 +1,6 @@
 //! The service: what a command line asks for, answered and written. It stands on `scq_words` for what is
 //! asked, on `scq_work` for workers, on `scq_collect` for the text of answers, on `scq_self` for a
-//! generated file, and on `scq_outside` for files and sinks. The program calls `serve`, whose contract is the promise of the
+//! generated file, on `scq_judge` for recordings, and on `scq_outside` for files and sinks. The program calls `serve`, whose contract is the promise of the
 //! whole: at status 0 the output is that of one thread, and each other status comes only where its cause
 //! holds.
 #![tactic(auto)]
@@ -10,6 +10,7 @@ mod generated;
 mod job;
 mod outcome;
 mod reading;
+mod recordings;
 mod reporting;
 mod run;
 mod serving;

@@ -15,7 +15,11 @@ use std::thread::Threads;
 
 /// Gets the sources of the files in order, up to the first that isn't got, and says whether all were got.
 /// Each is asked for once, and none is read.
-fn get_sources<F: Files>(names: &[String], files: &mut F, sources: &mut Vec<F::Src>) -> bool
+pub(crate) fn get_sources<F: Files>(
+    names: &[String],
+    files: &mut F,
+    sources: &mut Vec<F::Src>,
+) -> bool
     requires none { (sources.old.items ≡ []) × (vec_len sources.old ≡ 0) }
     requires room { length names.now ≤ vec_capacity sources.old }
     ensures count { (vec_len sources.new ≡ length sources.new.items) × (vec_len sources.new ≤ length names.now) }

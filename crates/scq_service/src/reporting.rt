@@ -1,6 +1,6 @@
 ghost use Rattle.std.specs.Prelude.{◌≡◌, ◌++◌, codes, decimal, OnOk, OnErr};
 ghost use Rattle.scq_outside.specs.Counts.{Rose};
-ghost use Rattle.scq_service.specs.Faults.{entry_line, fault_line, file_line, limit_line, payload_line, seat_line, text_line, topics_line, words_line};
+ghost use Rattle.scq_service.specs.Faults.{entry_line, fault_line, file_line, limit_line, payload_line, place_line, seat_line, text_line, topics_line, words_line};
 ghost use Rattle.scq_service.specs.Writing.{written_with, WrotePart};
 
 use crate::Fault;
@@ -33,6 +33,15 @@ pub fn report<K: Sink>(sink: &mut K, fault: &Fault) -> Result<(), Failed>
         Fault::NotEnabled { line } => write_of_line(sink, *line, b": step not enabled\n"),
         Fault::Unlawful { line } => write_of_line(sink, *line, b": event out of place\n"),
         Fault::Unfinished { seat } => write_of_seat(sink, *seat, b": call not ended\n"),
+        Fault::BadLineOf { file, line } => write_of_place(
+            sink,
+            *file,
+            *line,
+            b": not understood\n",
+        ),
+        Fault::UnlawfulOf { file, line } => {
+            write_of_place(sink, *file, *line, b": event out of place\n")
+        }
         Fault::NoMemory => write_all(sink, b"out of memory\n"),
     }
 }
@@ -133,6 +142,16 @@ fn write_of_line<K: Sink>(sink: &mut K, line: u32, what: &[u8]) -> Result<(), Fa
     ensures rose { OnErr result (Rose (K.faults sink.old) (K.faults sink.new)) }
 {
     write_numbered(sink, b"line ", line, what)
+}
+
+fn write_of_place<K: Sink>(sink: &mut K, file: u32, line: u32, what: &[u8]) -> Result<(), Failed>
+    ensures whole { OnOk result (K.written sink.new ≡ written_with (K.written sink.old) (place_line file line what.now)) }
+    ensures part { WrotePart (K.written sink.old) (K.written sink.new) (place_line file line what.now) }
+    ensures kept { OnOk result (K.faults sink.new ≡ K.faults sink.old) }
+    ensures rose { OnErr result (Rose (K.faults sink.old) (K.faults sink.new)) }
+{
+    write_about(sink, file, b" line ")?;
+    write_count(sink, u64::from(line), what)
 }
 
 fn write_of_seat<K: Sink>(sink: &mut K, seat: u32, what: &[u8]) -> Result<(), Failed>

@@ -11,6 +11,7 @@ ghost use Rattle.scq_service.specs.Writing.{written_with, WrotePart};
 
 use crate::generated::run_self;
 use crate::job::job_of;
+use crate::recordings::run_judge;
 use crate::run::run_files;
 use crate::whole::run_text;
 use crate::worker_report::report_run;
@@ -182,6 +183,10 @@ fn run<R: Threads + Sync, F: Files, K: Sink, G: Gate>(
                 workers,
             } = asked;
             Ran::quiet(run_self(rt, alloc, seed, lines, workers, out, gate))
+        }
+        Ok(Request::Judge(asked)) => {
+            let names = asked.files.as_slice();
+            Ran::quiet(run_judge(alloc, names, files, out))
         }
         Ok(Request::Text(asked)) => {
             let name = asked.file.as_str();

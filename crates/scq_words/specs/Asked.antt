@@ -7,12 +7,13 @@ use Rattle.clap.specs.Words.{App, Row, all_of, first_of, matches_of}
 use Rattle.clap.specs.Faults.{fault_of}
 use Rattle.scq_topics.specs.declared.kind.Kind.{Kind}
 use Rattle.scq_topics.specs.Topics.{declared_by, entries_of, first_fault}
-use Rattle.scq_words.specs.Commands.{run_app, self_app, text_app}
+use Rattle.scq_words.specs.Commands.{run_app, self_app, judge_app, text_app}
 use Rattle.scq_words.specs.Numbers.{number_or, refused_outside}
 use Rattle.scq_words.specs.declared.fault.WordsFault.{WordsFault}
 use Rattle.scq_words.specs.declared.fault.WordsFault.TheVariants.{NotUnderstood, Workers, Order, Size, Topics, TooManyFiles, NoName, Seed, Lines}
 use Rattle.scq_words.specs.declared.request.Request.{Request}
-use Rattle.scq_words.specs.declared.request.Request.TheVariants.{Run, SelfRun, Text}
+use Rattle.scq_words.specs.declared.request.Request.TheVariants.{Run, SelfRun, Judge, Text}
+use Rattle.scq_words.specs.declared.request.JudgeRequest.{JudgeRequest}
 use Rattle.scq_words.specs.declared.request.RunRequest.{RunRequest}
 use Rattle.scq_words.specs.declared.request.SelfRequest.{SelfRequest}
 use Rattle.scq_words.specs.declared.text_request.TextCommand.{TextCommand}
@@ -69,6 +70,10 @@ pub record SelfAsked : Type 0 where
   pub lines : ℕ
   pub workers : ℕ
 
+-- what is asked of recordings
+pub record JudgeAsked : Type 0 where
+  pub files : List (List ℕ)
+
 -- what is asked of one whole file
 pub record TextAsked : Type 0 where
   pub command : TextCommand
@@ -77,6 +82,7 @@ pub record TextAsked : Type 0 where
 pub data Asked : Type 0 where
   run : RunAsked → Asked
   generated : SelfAsked → Asked
+  judged : JudgeAsked → Asked
   whole : TextAsked → Asked
 
 -- the texts of `run`'s arguments
@@ -176,12 +182,23 @@ asked_of_text command words = let rows = matches_of (text_app command) words in 
     answered_by (first_of_tests (refused_by_clap (text_app command) words ∷ refused_names (file ∷ []) ∷ []))
     (whole (record { command = text_command command rows; file = file }))
 
+abbrev pub judge_files : List Row → List (List ℕ)
+judge_files rows = unwrap_or (all_of (codes "files") rows) []
+
+abbrev pub judge_tests : List (List ℕ) → List (Option WordsFault)
+judge_tests files = refused_if (nat_lt 64 (length files)) TooManyFiles ∷ refused_names files ∷ []
+
+unfoldable pub asked_of_judge : List (List ℕ) → Result Asked WordsFault
+asked_of_judge words = let files = judge_files (matches_of judge_app words) in
+    answered_by (first_of_tests (refused_by_clap judge_app words ∷ judge_tests files)) (judged (record { files = files }))
+
 -- what the words ask for: the first is a command, and those after it are its arguments
 abbrev pub asked : List (List ℕ) → Result Asked WordsFault
 asked [] = Err NotUnderstood
 asked (command ∷ words) =
     if bytes_eq command (codes "run") then asked_of_run words
     else if bytes_eq command (codes "self") then asked_of_self words
+    else if bytes_eq command (codes "judge") then asked_of_judge words
     else if bytes_eq command (codes "check") then asked_of_text Check words
     else if bytes_eq command (codes "replay") then asked_of_text Replay words
     else Err NotUnderstood
@@ -200,10 +217,14 @@ run_of r = record {
 abbrev pub self_of : SelfRequest → SelfAsked
 self_of r = record { seed = r.seed; lines = r.lines; workers = r.workers }
 
+abbrev pub judge_of : JudgeRequest → JudgeAsked
+judge_of r = record { files = map string_bytes r.files.items }
+
 abbrev pub text_of : TextRequest → TextAsked
 text_of r = record { command = r.command; file = string_bytes r.file }
 
 abbrev pub asked_by : Request → Asked
 asked_by (Run r) = run (run_of r)
 asked_by (SelfRun r) = generated (self_of r)
+asked_by (Judge r) = judged (judge_of r)
 asked_by (Text r) = whole (text_of r)

@@ -1,5 +1,5 @@
--- The commands as `clap` knows them: `run` and `self` with their options and files, `check` and `replay` with one file, and `replay`
--- with a flag besides.
+-- The commands as `clap` knows them: `run` and `self` with their options and files, `judge` with files, `check` and `replay` with one
+-- file, and `replay` with a flag besides.
 use Rattle.std.specs.Prelude.{ℕ, List, Some, true, codes}
 use Rattle.clap.specs.Words.{App, Rule, new_app, new_rule, with_rule}
 use Rattle.scq_words.specs.declared.text_request.TextCommand.{TextCommand}
@@ -40,6 +40,10 @@ abbrev pub self_app : App
 self_app =
     with_rule (with_rule (with_rule (plain_app (codes "self")) (required_rule (codes "seed"))) (required_rule (codes "lines")))
     (option_rule (codes "workers"))
+
+-- recordings: files alone
+abbrev pub judge_app : App
+judge_app = with_rule (plain_app (codes "judge")) files_rule
 
 -- the one file
 abbrev pub file_rule : Rule

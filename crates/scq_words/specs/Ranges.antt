@@ -3,8 +3,8 @@ use Rattle.std.specs.Prelude.{ℕ, ◌<◌, ◌≤◌, Bool, false, List, [], �
 use Rattle.std.specs.List.{All}
 use Rattle.std.specs.Str.{bytes_eq}
 use Rattle.clap.specs.Words.{takes}
-use Rattle.scq_words.specs.Commands.{run_app, self_app, text_app}
-use Rattle.scq_words.specs.Asked.{Asked, RunAsked, SelfAsked, run, generated, whole}
+use Rattle.scq_words.specs.Commands.{run_app, self_app, judge_app, text_app}
+use Rattle.scq_words.specs.Asked.{Asked, RunAsked, SelfAsked, JudgeAsked, run, generated, judged, whole}
 use Rattle.scq_words.specs.declared.text_request.TextCommand.TheVariants.{Check, Replay}
 
 -- the first word is a command, and `clap` takes those after it as its arguments
@@ -13,6 +13,7 @@ is_taken [] = false
 is_taken (command ∷ words) =
     if bytes_eq command (codes "run") then takes run_app words
     else if bytes_eq command (codes "self") then takes self_app words
+    else if bytes_eq command (codes "judge") then takes judge_app words
     else if bytes_eq command (codes "check") then takes (text_app Check) words
     else if bytes_eq command (codes "replay") then takes (text_app Replay) words
     else false
@@ -32,7 +33,13 @@ pub record IsSelfInRange (a : SelfAsked) : Type 0 where
   pub lines : (1 ≤ a.lines) × (a.lines ≤ 1000000)
   pub workers : (1 ≤ a.workers) × (a.workers ≤ 4096)
 
+-- recordings are at most 64 files, and each has a name
+pub record IsJudgeInRange (a : JudgeAsked) : Type 0 where
+  pub files : length a.files ≤ 64
+  pub names : All (λ name. 0 < length name) a.files
+
 abbrev pub IsInRange : Asked → Type 0
 IsInRange (run a) = IsRunInRange a
 IsInRange (generated a) = IsSelfInRange a
+IsInRange (judged a) = IsJudgeInRange a
 IsInRange (whole a) = 0 < length a.file

@@ -6,6 +6,7 @@
 
 mod fault;
 mod files;
+mod judge_words;
 mod number;
 mod parsing;
 mod reading;
@@ -19,5 +20,5 @@ mod workers;
 
 pub use fault::{WordsError, WordsFault};
 pub use reading::read_words;
-pub use request::{Request, RunRequest, SelfRequest};
+pub use request::{JudgeRequest, Request, RunRequest, SelfRequest};
 pub use text_request::{TextCommand, TextRequest};

@@ -1,7 +1,7 @@
 ghost use Rattle.std.specs.Prelude.{◌≡◌, ◌≢◌, IfOk, IfErr, map, string_bytes, false};
 ghost use Rattle.clap.specs.Words.{app_of, found_of, kind_of, matches_of, rows_of, rule_of, takes};
 ghost use Rattle.scq_words.specs.Asked.{refused_by_clap};
-ghost use Rattle.scq_words.specs.Commands.{files_rule, flag_rule, named_app, option_rule, plain_app, run_app, run_numbers_app, self_app, text_app};
+ghost use Rattle.scq_words.specs.Commands.{files_rule, flag_rule, judge_app, named_app, option_rule, plain_app, run_app, run_numbers_app, self_app, text_app};
 
 use crate::{TextCommand, WordsError, WordsFault};
 use clap::error::ErrorKind;
@@ -73,6 +73,27 @@ fn self_command<'a>(alloc: Global) -> Result<Command<'a>, AllocError>
         .arg(option(alloc, "seed").required(true))?
         .arg(option(alloc, "lines").required(true))?
         .arg(option(alloc, "workers"))
+}
+
+/// The matches of `judge`'s words, or the one fault of words that `clap` refuses.
+pub fn judge_matches<'a>(alloc: Global, words: &'a [String]) -> Result<ArgMatches<'a>, WordsError>
+    ensures rows { IfOk result (λ m. rows_of (found_of m) ≡ matches_of judge_app (map string_bytes words.entry.now)) }
+    ensures passes { IfOk result (λ m. refused_by_clap judge_app (map string_bytes words.entry.now) ≡ None) }
+    ensures refused { IfErr result (λ error. (error ≢ WordsError.NoMemory) → (error ≡ WordsError.Refused WordsFault.NotUnderstood)
+        × (refused_by_clap judge_app (map string_bytes words.entry.now) ≡ Some WordsFault.NotUnderstood)
+        × (takes judge_app (map string_bytes words.entry.now) ≡ false)) }
+{
+    let command = judge_command(alloc)?;
+    match command.try_get_matches_from(words) {
+        Ok(matches) => Ok(matches),
+        Err(error) => Err(error_of(&error)),
+    }
+}
+
+fn judge_command<'a>(alloc: Global) -> Result<Command<'a>, AllocError>
+    ensures { IfOk result (λ command. app_of command ≡ judge_app) }
+{
+    plain_command(alloc, "judge").arg(files(alloc))
 }
 
 /// The matches of the words of a command that takes one file.

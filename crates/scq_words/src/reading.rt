@@ -3,6 +3,7 @@ ghost use Rattle.scq_words.specs.declared.fault.WordsFault.{WordsFault as TheFau
 ghost use Rattle.scq_words.specs.Asked.{asked, asked_by};
 ghost use Rattle.scq_words.specs.Ranges.{IsInRange, is_taken};
 
+use crate::judge_words::read_judge;
 use crate::run::read_run;
 use crate::self_words::read_self;
 use crate::text_request::read_text;
@@ -24,6 +25,7 @@ pub fn read_words(alloc: Global, words: &[String]) -> Result<Request, WordsError
         [command, rest @ ..] => match command.as_str() {
             "run" => Ok(Request::Run(read_run(alloc, rest)?)),
             "self" => Ok(Request::SelfRun(read_self(alloc, rest)?)),
+            "judge" => Ok(Request::Judge(read_judge(alloc, rest)?)),
             "check" => Ok(Request::Text(read_text(alloc, TextCommand::Check, rest)?)),
             "replay" => Ok(Request::Text(read_text(alloc, TextCommand::Replay, rest)?)),
             _ => Err(WordsError::Refused(WordsFault::NotUnderstood)),

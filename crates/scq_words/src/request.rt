@@ -27,10 +27,18 @@ pub struct SelfRequest {
     ghost seed_in_range: { seed < 2 ^ 31 },
 }
 
+/// Recordings to judge: 1 to 64 files, each with a name.
+#[derive(Debug, Drop)]
+pub struct JudgeRequest {
+    pub files: Vec<String>,
+    ghost few: { vec_len files ≤ 64 },
+}
+
 /// What the words of a command line ask for.
 #[derive(Debug, Drop)]
 pub enum Request {
     Run(RunRequest),
     SelfRun(SelfRequest),
+    Judge(JudgeRequest),
     Text(TextRequest),
 }

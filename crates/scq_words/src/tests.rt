@@ -3,7 +3,7 @@ use crate::{Request, RunRequest, SelfRequest, TextRequest, WordsError, WordsFaul
 use std::alloc::Global;
 use std::test::Fail;
 
-static COMMANDS: [(&str, &str); 52] = [
+static COMMANDS: [(&str, &str); 57] = [
     ("", "words not understood"),
     ("run", "words not understood"),
     ("walk f", "words not understood"),
@@ -28,6 +28,11 @@ static COMMANDS: [(&str, &str); 52] = [
     ("replay --order f g", "words not understood"),
     ("replay --order ", "file 1 has no name"),
     ("check --order f", "words not understood"),
+    ("judge f", "judge f"),
+    ("judge f -- -g", "judge f,-g"),
+    ("judge", "words not understood"),
+    ("judge --order f", "words not understood"),
+    ("judge f ", "file 2 has no name"),
     ("stages f", "words not understood"),
     (" run f", "words not understood"),
     ("run f", "run 4 6 65536 0 f"),
@@ -357,6 +362,10 @@ fn answer(alloc: Global, line: &str) -> Result<String, Fail> {
                 },
             ),
         ) => write!(text, "self {seed} {lines} {workers}")?,
+        Ok(Request::Judge(judge)) => {
+            text.push_str("judge ")?;
+            write_files(&mut text, &judge.files)?;
+        }
         Ok(Request::Text(TextRequest { command, file })) => {
             write!(text, "{command:?} {}", file.as_str())?
         }
@@ -372,7 +381,11 @@ fn write_run(text: &mut String, run: &RunRequest) -> Result<(), Fail> {
     if run.report {
         text.push_str("report ")?;
     }
-    for (at, file) in run.files.iter().enumerate() {
+    write_files(text, &run.files)
+}
+
+fn write_files(text: &mut String, files: &[String]) -> Result<(), Fail> {
+    for (at, file) in files.iter().enumerate() {
         if at > 0 {
             text.push(',')?;
         }

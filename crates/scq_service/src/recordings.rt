@@ -1,0 +1,70 @@
+//! The command `judge`, which reads recordings.
+
+ghost use Rattle.std.specs.Prelude.{◌≡◌, ◌-◌, ◌<◌, ◌≤◌, ◌^◌, ℕ, List, None, length, map, slice_get, string_bytes, IfOk, IfErr, IsErrOf, IsSomeAnd};
+ghost use Rattle.scq_judge.specs.Files.{HaveContents};
+ghost use Rattle.scq_judge.specs.Judged.{IsJudged, IsCause};
+ghost use Rattle.scq_service.specs.Ends.{EndsJudged};
+ghost use Rattle.scq_service.specs.Faults.{status_of};
+
+use crate::reading::get_sources;
+use crate::writing::write_all;
+use crate::{Fault, Outcome};
+use scq_judge::{JudgeFault, judge_recordings};
+use scq_outside::{Failed, Files, Sink, Source};
+use scq_word::Bytes;
+use std::alloc::Global;
+
+/// Gets the files of recordings, reads them, and writes the report of their merged history.
+pub fn run_judge<F: Files, K: Sink>(
+    alloc: Global,
+    names: &[String],
+    files: &mut F,
+    out: &mut K,
+) -> Outcome<F::Src>
+    requires { length names.now ≤ 64 }
+    ensures status { result.status ≡ status_of result.fault }
+    ensures ends { EndsJudged F.Src.faults (map string_bytes names.now) (record {
+      table = record { old = F.table files.old; new = F.table files.new };
+      opens = record { old = F.faults files.old; new = F.faults files.new };
+      sources = result.sources.items;
+      read = result.read;
+    })
+        (record {
+          written = record { old = K.written out.old; new = K.written out.new };
+          faults = record { old = K.faults out.old; new = K.faults out.new };
+        }) result.fault }
+    ensures worked { result.worked ≡ None }
+    ensures left { result.left ≡ None }
+{
+    let Ok(mut sources) = Vec::with_capacity(alloc, names.len()) else {
+        return Outcome::at(Vec::new(alloc), Fault::NoMemory);
+    };
+    let all = get_sources(names, files, &mut sources);
+    if all {
+        let (sources, report) = report_on(alloc, sources);
+        match report {
+            Ok(text) => match write_all(out, text.bytes()) {
+                Ok(()) => Outcome::whole(sources),
+                Err(Failed) => Outcome::at(sources, Fault::WriteFault),
+            },
+            Err(fault) => Outcome::at(sources, Fault::from(fault)),
+        }
+    } else {
+        let file = sources.len() as u32 + 1;
+        Outcome::at(sources, Fault::OpenFault { file })
+    }
+}
+
+/// The sources once they were read, and the report of their merged history, or why they were not judged.
+fn report_on<S: Source>(alloc: Global, sources: Vec<S>) -> (Vec<S>, Result<Bytes, JudgeFault>)
+    requires { length sources.items < 2 ^ 31 }
+    ensures count { length result.0.items ≡ length sources.items }
+    ensures judged { IfOk result.1 (λ text. (contents : List (List ℕ)) → HaveContents S.left sources.items contents → IsJudged contents text) }
+    ensures refused { IfErr result.1 (λ fault. (contents : List (List ℕ)) → HaveContents S.left sources.items contents → IsCause contents fault) }
+    ensures read_fault { (file : ℕ) → IsErrOf result.1 (JudgeFault.ReadFault file)
+        → IsSomeAnd (slice_get result.0.items (file - 1)) (λ source. 0 < S.faults source) }
+{
+    let mut sources = sources;
+    let report = judge_recordings(alloc, &mut sources);
+    (sources, report)
+}
