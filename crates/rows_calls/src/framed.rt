@@ -1,0 +1,138 @@
+//! Messages framed from a source that gives its bytes in pieces, and messages as bytes.
+ghost use Rattle.std.specs.Prelude.{◌^◌, ◌≤◌, None};
+
+use anyhow::{Result, ensure};
+use rows_text::{add_bytes, field};
+use scq_frames::{Framer, Message, decode, encode};
+use scq_outside::{Failed, Source};
+use scq_topics::Topics;
+use scq_word::Bytes;
+use std::alloc::Global;
+
+/// Gives its bytes in pieces of at most one size; none are visible. After so many reads one fails.
+#[derive(Drop)]
+struct Pieces<'a> {
+    rest: &'a [u8],
+    size: usize,
+    reads: u64,
+    faults: u64,
+    ends: u64,
+}
+
+impl Source for Pieces<'_> {
+    ghost faults = { λ s. s.faults };
+
+    ghost ends = { λ s. s.ends };
+
+    ghost left = { λ _. None };
+
+    fn read(&mut self, into: &mut [u8]) -> Result<usize, Failed> {
+        if self.reads == 0 {
+            self.faults = self.faults.saturating_add(1);
+            return Err(Failed);
+        }
+        self.reads -= 1;
+        let count = self.rest.len().min(self.size).min(into.len());
+        let (piece, rest) = self.rest.split_at(count);
+        into[..count].copy_from_slice(piece);
+        self.rest = rest;
+        if count == 0 {
+            self.ends = self.ends.saturating_add(1);
+        }
+        Ok(count)
+    }
+}
+
+/// What a framer of file 7 is asked for.
+#[derive(Drop)]
+struct Limits {
+    size: u32,
+    most: u64,
+    ghost small: { most ≤ 2 ^ 30 },
+}
+
+/// `TOPICS SIZE MOST PIECE READS TEXT`, where 0 reads are as many as there are and `-` is no topic: each message with its file, its
+/// line, its topic and its payload, and then how the framer ended.
+pub fn framed(alloc: Global, given: &str) -> Result<String> {
+    let topics = match field(given, 0) {
+        "-" => Topics::none(),
+        declared => Topics::read(declared)?,
+    };
+    let limits = Limits {
+        size: field(given, 1).parse::<u32>()?,
+        most: field(given, 2).parse::<u64>()?.min(1 << 30),
+    };
+    let reads = field(given, 4).parse::<u64>()?;
+    let mut text = Vec::new(alloc);
+    add_bytes(&mut text, field(given, 5))?;
+    let source = Pieces {
+        rest: text.as_slice(),
+        size: field(given, 3).parse::<u32>()? as usize,
+        reads: if reads == 0 { u64::MAX } else { reads - 1 },
+        faults: 0,
+        ends: 0,
+    };
+    listed(alloc, &topics, &limits, source)
+}
+
+fn listed(
+    alloc: Global,
+    topics: &Topics,
+    limits: &Limits,
+    mut source: Pieces<'_>,
+) -> Result<String> {
+    let mut framer = Framer::new(alloc, 7, limits.size, limits.most)?;
+    let mut out = String::new(alloc);
+    for _ in 0..100u32 {
+        if framer.failed() {
+            break;
+        }
+        match framer.next(topics, &mut source) {
+            Ok(Some(message)) => {
+                let Message {
+                    file,
+                    line,
+                    topic,
+                    payload,
+                } = message;
+                let text = String::from_utf8_lossy(alloc, payload.bytes())?;
+                write!(out, "{file}:{line} {topic} {text};")?;
+            }
+            Ok(None) => {
+                write!(out, "end")?;
+                break;
+            }
+            Err(fault) => write!(out, "{fault:?}")?,
+        }
+    }
+    Ok(out)
+}
+
+/// `FILE LINE TOPIC PAYLOAD`: the message's bytes in a room of 20.
+pub fn encoded(alloc: Global, given: &str) -> Result<String> {
+    let payload = field(given, 3).as_bytes();
+    ensure!(payload.len() <= 4, "a short payload");
+    let message = Message {
+        file: field(given, 0).parse::<u32>()?,
+        line: field(given, 1).parse::<u32>()?,
+        topic: field(given, 2).parse::<u32>()?,
+        payload: Bytes::copy_of(alloc, payload)?,
+    };
+    let mut bytes = [9u8; 20];
+    encode(&message, &mut bytes);
+    Ok(hex::encode(alloc, bytes)?)
+}
+
+/// `BYTES`: the message that they begin with.
+pub fn decoded(alloc: Global, given: &str) -> Result<String> {
+    let mut bytes = Vec::new(alloc);
+    add_bytes(&mut bytes, given)?;
+    Ok(match decode(bytes.as_slice()) {
+        Some(view) => {
+            let payload = String::from_utf8_lossy(alloc, view.payload)?;
+            let (file, line, topic) = (view.file, view.line, view.topic);
+            format!(in alloc; "{file} {line} {topic} {payload}")?
+        }
+        None => String::from_str(alloc, "none")?,
+    })
+}

@@ -1,0 +1,61 @@
+//! What command lines ask for, and sources read whole.
+
+use anyhow::Result;
+use rows_text::{add_bytes, field, word_of};
+use scq_outside::{MemSource, read_all};
+use scq_words::{Request, RunRequest, SelfRequest, TextRequest, read_words};
+use std::alloc::Global;
+
+/// `WORDS`: what they ask for, or why they are refused.
+pub fn request(alloc: Global, given: &str) -> Result<String> {
+    let mut words = Vec::new(alloc);
+    for word in given.split(' ') {
+        words.push(word_of(alloc, word)?)?;
+    }
+    let mut text = String::new(alloc);
+    match read_words(alloc, words.as_slice()) {
+        Ok(Request::Run(run)) => write_run(&mut text, &run)?,
+        Ok(Request::SelfRun(asked)) => {
+            let SelfRequest {
+                seed,
+                lines,
+                workers,
+            } = asked;
+            write!(text, "self {seed} {lines} {workers}")?;
+        }
+        Ok(Request::Text(TextRequest { command, file })) => {
+            write!(text, "{command:?} {file}")?;
+        }
+        Err(error) => write!(text, "{error}")?,
+    }
+    Ok(text)
+}
+
+/// The workers, the order, the size, the number of topics, whether a report is asked for, and the files.
+fn write_run(text: &mut String, run: &RunRequest) -> Result<()> {
+    let (workers, order, size) = (run.workers, run.order, run.size);
+    let topics = run.topics.len();
+    write!(text, "run {workers} {order} {size} {topics}")?;
+    if run.report {
+        text.push_str(" report")?;
+    }
+    for file in &run.files {
+        write!(text, " {file}")?;
+    }
+    Ok(())
+}
+
+/// `FAILS MOST TEXT`: what comes of reading a source whole that gives two bytes at a time, and whose read of this number fails.
+pub fn read_whole(alloc: Global, given: &str) -> Result<String> {
+    let mut fails = Vec::new(alloc);
+    fails.push(field(given, 0).parse::<u32>()?)?;
+    let most = field(given, 1).parse::<u64>()?.min(1 << 30);
+    let pieces = vec![in alloc; 2; 9]?;
+    let mut text = Vec::new(alloc);
+    add_bytes(&mut text, field(given, 2))?;
+    let mut source = MemSource::new(text, pieces, fails);
+    Ok(match read_all(alloc, &mut source, most) {
+        Ok(bytes) => String::from_utf8_lossy(alloc, bytes.bytes())?,
+        Err(fault) => format!(in alloc; "{fault}")?,
+    })
+}

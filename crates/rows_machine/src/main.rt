@@ -1,0 +1,39 @@
+//! Runs the machine over rows that stand in files: steps made one by one, schedules replayed, and orders of their calls. It prints each
+//! row whose answer is another, and how many rows of each file ran. `rows_text` has the form of a row.
+#![tactic(auto)]
+
+mod orders;
+mod replays;
+mod schedules;
+mod steps;
+
+use anyhow::{Result, anyhow};
+use orders::ordered;
+use replays::replayed_lines;
+use rows_text::{Calls, run_rows};
+use std::alloc::Global;
+use std::{env, fs};
+use steps::stepped_through;
+
+/// The calls of the machine.
+struct Machine;
+
+impl Calls for Machine {
+    fn answer_to(&self, alloc: Global, call: &str, given: &str) -> Result<String> {
+        match call {
+            "steps" => stepped_through(alloc, given),
+            "replayed" => replayed_lines(alloc, given),
+            "ordered" => ordered(alloc, given),
+            _ => Err(anyhow!("no such call")),
+        }
+    }
+}
+
+fn main(rt: HostRuntime) -> Result<()> {
+    for name in env::args(&rt)?.skip(1) {
+        let text = fs::read_to_string(&rt, &name)?;
+        let rows = run_rows(&rt, rt.alloc(), &Machine, &name, &text)?;
+        println!(rt; "{name}: {rows} rows")?;
+    }
+    Ok(())
+}

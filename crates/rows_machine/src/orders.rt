@@ -1,0 +1,82 @@
+//! One-thread orders of the calls of schedules.
+ghost use Rattle.std.specs.Prelude.{◌≡◌, ℕ, ◌<◌, IfOk};
+ghost use Rattle.std.specs.List.{All};
+ghost use Rattle.scq_core.specs.declared.step.Step.{Step as StepOf};
+
+use crate::schedules::{opening, push_steps};
+use crate::steps::number;
+use anyhow::{Context, Result, anyhow, ensure};
+use scq_core::Step;
+use scq_law::{OrderFault, Ordered, one_order};
+use scq_word::Setup;
+use std::alloc::Global;
+
+/// The steps of one seat.
+fn push_piece(alloc: Global, piece: &str, steps: &mut Vec<(u32, Step)>) -> Result<()>
+    requires { All (λ (x : ℕ × StepOf). x.0 < 2) steps.old.items }
+    ensures { All (λ (x : ℕ × StepOf). x.0 < 2) steps.new.items }
+{
+    let (seat, words) = piece.split_once(' ').context("no seat")?;
+    let seat = number(Some(seat))?;
+    if seat >= 2 {
+        return Err(anyhow!("no such seat"));
+    }
+    push_steps(alloc, seat, words, steps)
+}
+
+fn steps_of(alloc: Global, text: &str) -> Result<Vec<(u32, Step)>>
+    ensures { IfOk result (λ steps. All (λ (x : ℕ × StepOf). x.0 < 2) steps.items) }
+{
+    let mut steps = Vec::new(alloc);
+    for piece in text.split("; ") {
+        push_piece(alloc, piece, &mut steps)?;
+    }
+    Ok(steps)
+}
+
+/// The order of a ring, from the start of a setup with two indices, rings and seats, where 16 is the limit of tickets.
+fn order_of(alloc: Global, steps: &[(u32, Step)], queue: u32) -> Result<Vec<Ordered>, OrderFault>
+    requires seats { All (λ (x : ℕ × StepOf). x.0 < 2) steps.now }
+    requires queue { queue < 2 }
+{
+    let setup = Setup {
+        order: 1,
+        rings: 2,
+        seats: 2,
+        limit: 16,
+    };
+    one_order(alloc, setup, opening(alloc)?, steps, queue)
+}
+
+/// An order, or why there is none.
+fn shown(alloc: Global, text: &str, queue: u32) -> Result<String>
+    requires { queue < 2 }
+{
+    let steps = steps_of(alloc, text)?;
+    let mut shown = String::new(alloc);
+    match order_of(alloc, &steps, queue) {
+        Ok(order) => {
+            for ordered in &order {
+                match ordered {
+                    Ordered::Opening { number } => {
+                        shown.push_str(&format!(in alloc; "t{number} ")?)?;
+                    }
+                    Ordered::Call { seat, number } => {
+                        shown.push_str(&format!(in alloc; "{seat}.{number} ")?)?;
+                    }
+                }
+            }
+        }
+        Err(fault) => shown.push_str(&format!(in alloc; "{fault}")?)?,
+    }
+    Ok(shown)
+}
+
+/// `RING; SEAT STEPS; ..`: the order of the ring's calls, or why there is none. `t0` is the first opening put, and `1.2` the second
+/// call of seat 1. The limit of tickets is 16.
+pub fn ordered(alloc: Global, given: &str) -> Result<String> {
+    let (ring, pieces) = given.split_once("; ").context("a ring and pieces")?;
+    let ring = number(Some(ring))?;
+    ensure!(ring < 2, "a ring");
+    shown(alloc, pieces, ring)
+}

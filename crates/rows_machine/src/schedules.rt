@@ -1,0 +1,29 @@
+//! Steps of seats in a setup with two indices, rings and seats.
+ghost use Rattle.std.specs.Prelude.{◌≡◌, ℕ, ◌<◌, IfOk, vec_len};
+ghost use Rattle.std.specs.List.{All};
+ghost use Rattle.scq_core.specs.declared.step.Step.{Step as StepOf};
+
+use crate::steps::step_of;
+use anyhow::Result;
+use scq_core::Step;
+use scq_word::{Bytes, NoMemory};
+use std::alloc::Global;
+
+/// The opening contents.
+pub fn opening(alloc: Global) -> Result<Vec<Bytes>, NoMemory>
+    ensures { IfOk result (λ opening. vec_len opening ≡ 2) }
+{
+    Ok(vec![in alloc; Bytes::copy_of(alloc, b"a")?, Bytes::copy_of(alloc, b"b")?]?)
+}
+
+/// Steps of this seat.
+pub fn push_steps(alloc: Global, seat: u32, text: &str, steps: &mut Vec<(u32, Step)>) -> Result<()>
+    requires seat { seat < 2 }
+    requires seats { All (λ (x : ℕ × StepOf). x.0 < 2) steps.old.items }
+    ensures { All (λ (x : ℕ × StepOf). x.0 < 2) steps.new.items }
+{
+    for word in text.split_whitespace() {
+        steps.push((seat, step_of(alloc, word)?))?;
+    }
+    Ok(())
+}
