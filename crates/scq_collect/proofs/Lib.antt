@@ -1,8 +1,11 @@
+mod Rows
+pub mod Distinct
+pub mod FromSlots
+pub mod InChunks
 pub mod Judging
 pub mod Lines
 pub mod Merged
 pub mod Orders
 pub mod Positions
-mod Rows
 pub mod Sums
 pub mod Threads

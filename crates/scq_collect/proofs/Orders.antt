@@ -16,7 +16,7 @@ is_place p q = (p.0 == q.0) && (p.1 == q.1)
 pub before-before : (p q r : ℕ × ℕ) → IsBefore p q → IsBefore q r → IsBefore p r
 before-before p q r first second = grind arith
 
-not-before-itself : (p : ℕ × ℕ) → ¬ IsBefore p p
+pub not-before-itself : (p : ℕ × ℕ) → ¬ IsBefore p p
 not-before-itself p before = grind arith
 
 before-other : (p q : ℕ × ℕ) → IsBefore p q → is_place p q ≡ false

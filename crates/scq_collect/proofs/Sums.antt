@@ -1,32 +1,29 @@
--- The totals of a front of some answers, and of the front with one answer more.
-use Rattle.std.proofs.Common.{◌≡◌, ◌≢◌, ◌∙◌, refl, sym, ap, inl, inr, arith, true, false, ℕ, ◌+◌, ◌*◌, ◌<◌, ◌≤◌, Bool, List, length, take, set, get_or, cond, eqb, get_or-set_same, get_or-set_other}
-use Rattle.std.specs.Prelude.{◌==◌, count_by, sum_by}
+-- The totals of some answers, of those with one more, and of those with others behind them.
+use Rattle.std.proofs.Common.{◌≡◌, ◌≢◌, ◌∙◌, sym, ap, inl, inr, arith, true, false, ℕ, ◌+◌, ◌*◌, ◌<◌, ◌≤◌, Bool, List, [], ◌∷◌, ◌++◌, length, set, get_or, cond, eqb, get_or-set_same, get_or-set_other}
 use Rattle.std.proofs.lemmas.Bool.Decides.{eqb_tells}
-use Rattle.std.proofs.lemmas.List.Sums.{count_by_more_yes, count_by_more_no, sum_by_more}
+use Rattle.std.proofs.lemmas.List.{length-append}
+use Rattle.std.proofs.lemmas.List.Sums.{sum_by_push}
 use Rattle.scq_collect.specs.declared.answered.Answered.{Answered}
+use Rattle.std.proofs.lemmas.List.Folds.{fold-map}
+use Rattle.std.specs.Prelude.{map}
+use Rattle.scq_collect.specs.Output.{Answer, bytes_on, count_on, without_way}
+use Rattle.scq_collect.specs.Sums.{bytes_in, count_in}
 
--- how many members are on the topic
-abbrev pub count_in : ℕ → List Answered → ℕ
-count_in topic members = count_by (λ a. a.topic == topic) members
+-- they are those of the answers without the ways
+pub count-on : (topic : ℕ) (members : List Answered) → count_in topic members ≡ count_on topic (map without_way members)
+count-on topic members = sym (fold-map (λ (s : ℕ) (a : Answer). s + cond (eqb a.topic topic) 1 0) without_way 0 members)
 
--- how many bytes their payloads have
-abbrev pub bytes_in : ℕ → List Answered → ℕ
-bytes_in topic members = sum_by (λ a. cond (a.topic == topic) a.bytes 0) members
+pub bytes-on : (topic : ℕ) (members : List Answered) → bytes_in topic members ≡ bytes_on topic (map without_way members)
+bytes-on topic members = sym (fold-map (λ (s : ℕ) (a : Answer). s + cond (eqb a.topic topic) a.bytes 0) without_way 0 members)
 
 -- how many answers are on the topic, with one more
-pub count-more : (answers : List Answered) (i topic : ℕ) (a : Answered) → i < length answers → a ≡ get_or answers i a
-    → count_in topic (take (i + 1) answers) ≡ count_in topic (take i answers) + cond (eqb a.topic topic) 1 0
-count-more answers i topic a within is = at (eqb a.topic topic) refl where
-  at : (b : Bool) → eqb a.topic topic ≡ b → count_in topic (take (i + 1) answers) ≡ count_in topic (take i answers) + cond b 1 0
-  at true e = count_by_more_yes (λ a. eqb a.topic topic) answers i a within (ap (λ a. eqb a.topic topic) (sym is) ∙ e)
-  at false e = let same = count_by_more_no (λ a. eqb a.topic topic) answers i a within (ap (λ a. eqb a.topic topic) (sym is) ∙ e) in omega (arith, same)
+pub count-push : (members : List Answered) (a : Answered) (topic : ℕ) → count_in topic (members ++ a ∷ []) ≡ count_in topic members + cond (eqb a.topic topic) 1 0
+count-push members a topic = sum_by_push (λ (a : Answered). cond (eqb a.topic topic) 1 0) members a
 
 -- how many bytes they have
-pub bytes-more : (answers : List Answered) (i topic : ℕ) (a : Answered) → i < length answers → a ≡ get_or answers i a
-    → bytes_in topic (take (i + 1) answers) ≡ bytes_in topic (take i answers) + cond (eqb a.topic topic) a.bytes 0
-bytes-more answers i topic a within is =
-    sum_by_more (λ a. cond (eqb a.topic topic) a.bytes 0) answers i a within
-    ∙ ap (λ (x : Answered). bytes_in topic (take i answers) + cond (eqb x.topic topic) x.bytes 0) (sym is)
+pub bytes-push : (members : List Answered) (a : Answered) (topic : ℕ)
+    → bytes_in topic (members ++ a ∷ []) ≡ bytes_in topic members + cond (eqb a.topic topic) a.bytes 0
+bytes-push members a topic = sum_by_push (λ (a : Answered). cond (eqb a.topic topic) a.bytes 0) members a
 
 -- a table of one number for each topic, in which what is added to one of them is added
 pub added : (table : List ℕ) (before after : ℕ → ℕ) (at more : ℕ) → length table ≡ 17 → at < 17 → ((k : ℕ) → k < 17 → get_or table k 0 ≡ before k)
@@ -45,14 +42,11 @@ added table before after at more long within was grows k small = elim (eqb_tells
 ]
 
 -- each answer adds less than 2 ^ 64
-pub bytes-small : (answers : List Answered) (i topic : ℕ) (a : Answered) → i < length answers → a ≡ get_or answers i a → a.bytes ≤ 18446744073709551615
-    → bytes_in topic (take i answers) ≤ i * 18446744073709551615 → bytes_in topic (take (i + 1) answers) ≤ (i + 1) * 18446744073709551615
-bytes-small answers i topic a within is few small = at (eqb a.topic topic) refl where
-  at : (b : Bool) → eqb a.topic topic ≡ b → bytes_in topic (take (i + 1) answers) ≤ (i + 1) * 18446744073709551615
-  at b e =
-      let more = bytes-more answers i topic a within is ∙ ap (λ b. bytes_in topic (take i answers) + cond b a.bytes 0) e in
-      elim b as (λ b. bytes_in topic (take (i + 1) answers) ≡ bytes_in topic (take i answers) + cond b a.bytes 0
-      → bytes_in topic (take (i + 1) answers) ≤ (i + 1) * 18446744073709551615) [
-        | true ↦ λ grown. omega (arith, grown, few, small)
-        | false ↦ λ grown. omega (arith, grown, small)
-      ] more
+pub bytes-small : (members : List Answered) (a : Answered) (topic : ℕ) → a.bytes ≤ 18446744073709551615
+    → bytes_in topic members ≤ length members * 18446744073709551615
+    → bytes_in topic (members ++ a ∷ []) ≤ length (members ++ a ∷ []) * 18446744073709551615
+bytes-small members a topic few small = at (eqb a.topic topic) (bytes-push members a topic) where
+  at : (b : Bool) → bytes_in topic (members ++ a ∷ []) ≡ bytes_in topic members + cond b a.bytes 0
+      → bytes_in topic (members ++ a ∷ []) ≤ length (members ++ a ∷ []) * 18446744073709551615
+  at true grown = omega (arith, grown, few, small, length-append members (a ∷ []))
+  at false grown = omega (arith, grown, small, length-append members (a ∷ []))

@@ -10,6 +10,8 @@ mod answered;
 #[cfg(test)]
 mod merge_tests;
 mod merging;
+mod ordering;
+mod pieces;
 #[cfg(test)]
 mod tests;
 mod text;
@@ -17,4 +19,5 @@ mod totals;
 
 pub use answered::{Answered, Way};
 pub use merging::merge;
+pub use pieces::output_in_pieces;
 pub use text::{output, push_totals};

@@ -1,5 +1,4 @@
 ghost use Rattle.std.specs.Prelude.{◌≡◌, List, ℕ, map, IfOk};
-ghost use Rattle.std.specs.List.{All};
 ghost use Rattle.std.specs.List.Sorted.{IsPermutation};
 ghost use Rattle.scq_topics.specs.declared.kind.Kind.{Kind as TheKind};
 ghost use Rattle.scq_collect.specs.declared.answered.Answered.{Answered as TheAnswered};
@@ -7,6 +6,7 @@ ghost use Rattle.scq_collect.specs.Merging.{AreApart, IsInOrder, IsMerged, membe
 ghost use Rattle.scq_collect.specs.Output.{answers_to, without_way};
 
 use crate::Answered;
+use crate::ordering::ordered;
 use scq_word::NoMemory;
 use std::alloc::Global;
 
@@ -23,34 +23,16 @@ pub fn merge(alloc: Global, lists: &[Vec<Answered>]) -> Result<Vec<Answered>, No
         → IsPermutation (map without_way (members_in lists.now)) (answers_to topics 1 contents)
         → IfOk result (λ all. map without_way all.items ≡ answers_to topics 1 contents) }
 {
-    let mut members = members_of(alloc, lists)?;
-    members.sort_by_key(|(file, line, _)| (*file, *line))?;
+    let members = ordered(alloc, lists)?;
     copies_of(alloc, members.as_slice())
 }
 
-/// A member, and before it its file and line, so that a sort looks at no member itself.
-type Placed<'a> = (u32, u32, &'a Answered);
-
-/// The members of all lists, one list behind the other.
-fn members_of<'a>(alloc: Global, lists: &'a [Vec<Answered>]) -> Result<Vec<Placed<'a>>, NoMemory>
-    ensures members { IfOk result (λ members. map (λ m. m.2.now) members.items ≡ members_in lists.entry.now) }
-    ensures placed { IfOk result (λ members. All (λ m. (m.0, m.1) ≡ place_of_answered m.2.now) members.items) }
-{
-    let mut members = Vec::new(alloc);
-    'lists: for list in lists {
-        'members: for member in list {
-            members.push((member.file, member.line, member))?;
-        }
-    }
-    Ok(members)
-}
-
 /// Copies of members, in their order.
-fn copies_of(alloc: Global, members: &[Placed<'_>]) -> Result<Vec<Answered>, NoMemory>
-    ensures { IfOk result (λ copies. copies.items ≡ map (λ m. m.2.now) members.now) }
+fn copies_of(alloc: Global, members: &[&Answered]) -> Result<Vec<Answered>, NoMemory>
+    ensures { IfOk result (λ copies. copies.items ≡ map (λ m. m.now) members.now) }
 {
     let mut copies = Vec::with_capacity(alloc, members.len())?;
-    'members: for (_, _, member) in members {
+    'members: for member in members {
         copies.push_reserved(member.copy(alloc)?);
     }
     Ok(copies)

@@ -1,5 +1,7 @@
-ghost use Rattle.std.specs.Prelude.{◌≡◌, ℕ, ◌<◌, ◌≤◌, ◌++◌, List, length, map, slice_index, codes, decimal, IfOk, OnOk};
+ghost use Rattle.std.specs.Prelude.{◌≡◌, ℕ, ◌+◌, ◌<◌, ◌≤◌, ◌++◌, List, length, map, slice_index, codes, decimal, IfOk, OnOk};
 ghost use Rattle.std.specs.List.{All};
+ghost use Rattle.scq_collect.specs.declared.answered.Answered.{Answered as TheAnswered};
+ghost use Rattle.scq_collect.specs.Sums.{AreTotals};
 ghost use Rattle.scq_collect.specs.Output.{Answer, answers_to, count_on, bytes_on, one_thread_output, reply_line, text_of_answers, total_line, total_lines, without_way};
 
 use crate::Answered;
@@ -38,15 +40,28 @@ pub fn push_totals(
     ensures { OnOk result (text.new.items ≡ text.old.items ++ total_lines topics.now (map without_way answered.now)) }
 {
     let numbers = topics.len() + 1;
-    let totals = totals_of(answered);
+    push_all_totals(text, topics, numbers, &totals_of(answered))
+}
+
+/// Adds the lines for these totals, of so many topics with that of all others.
+pub fn push_all_totals(
+    text: &mut Vec<u8>,
+    topics: &Topics,
+    numbers: u32,
+    totals: &Totals,
+) -> Result<(), NoMemory>
+    requires numbers { (numbers ≡ length topics.now + 1) × (numbers ≤ 17) }
+    ensures { (members : List TheAnswered) → AreTotals totals.now members
+        → OnOk result (text.new.items ≡ text.old.items ++ total_lines topics.now (map without_way members)) }
+{
     for topic in 0..numbers {
-        push_total(text, topics, topic, &totals)?;
+        push_total(text, topics, topic, totals)?;
     }
     Ok(())
 }
 
 /// Adds the line for an answer: `file:line topic reply`.
-fn push_line(text: &mut Vec<u8>, topics: &Topics, member: &Answered) -> Result<(), NoMemory>
+pub fn push_line(text: &mut Vec<u8>, topics: &Topics, member: &Answered) -> Result<(), NoMemory>
     requires { member.now.topic ≤ length topics.now }
     ensures { OnOk result (text.new.items ≡ text.old.items ++ reply_line topics.now (without_way member.now)) }
 {

@@ -1,6 +1,6 @@
-ghost use Rattle.std.specs.Prelude.{◌≡◌, ℕ, ◌<◌, ◌≤◌, length, map, slice_index};
+ghost use Rattle.std.specs.Prelude.{◌≡◌, ◌<◌, ◌≤◌};
 ghost use Rattle.std.specs.List.{All};
-ghost use Rattle.scq_collect.specs.Output.{count_on, bytes_on, without_way};
+ghost use Rattle.scq_collect.specs.Sums.{AreTotals};
 
 use crate::Answered;
 
@@ -15,20 +15,53 @@ pub struct Totals {
     pub bytes: [u128; MOST_NUMBERS],
 }
 
+impl Totals {
+    ghost use Rattle.std.specs.Prelude.{◌++◌, [], ◌∷◌, ◌+◌, ◌<◌, ◌^◌, List, length};
+    ghost use Rattle.scq_collect.specs.declared.answered.Answered.{Answered as TheAnswered};
+
+    /// Those of no answers.
+    pub fn none() -> Totals
+        ensures { AreTotals result [] }
+    {
+        Totals {
+            counts: [0; MOST_NUMBERS],
+            bytes: [0; MOST_NUMBERS],
+        }
+    }
+
+    /// Counts one answer more.
+    pub fn count(&mut self, member: &Answered)
+        requires known { member.now.topic < 17 }
+        requires room { (members : List TheAnswered) × AreTotals self.old members × (length members + 1 < 2 ^ 64) }
+        ensures { (members : List TheAnswered) → AreTotals self.old members → AreTotals self.new (members ++ member.now ∷ []) }
+    {
+        let topic = member.topic as usize;
+        self.counts[topic] += 1;
+        self.bytes[topic] += wide(member.bytes);
+    }
+
+    /// Counts what others counted.
+    pub fn add(&mut self, others: &Totals)
+        requires room { (members more : List TheAnswered) × AreTotals self.old members × AreTotals others.now more × (length members + length more < 2 ^ 64) }
+        ensures { (members more : List TheAnswered) → AreTotals self.old members → AreTotals others.now more → AreTotals self.new (members ++ more) }
+    {
+        for topic in 0..MOST_NUMBERS {
+            self.counts[topic] += others.counts[topic];
+            self.bytes[topic] += others.bytes[topic];
+        }
+    }
+}
+
 /// The totals of all topics, in one pass.
 pub fn totals_of(answered: &[Answered]) -> Totals
     requires { All (λ a. a.topic < 17) answered.now }
-    ensures counts { (topic : ℕ) → topic < 17 → slice_index result.counts topic ≡ count_on topic (map without_way answered.now) }
-    ensures bytes { (topic : ℕ) → topic < 17 → slice_index result.bytes topic ≡ bytes_on topic (map without_way answered.now) }
+    ensures { AreTotals result answered.now }
 {
-    let mut counts = [0; MOST_NUMBERS];
-    let mut bytes = [0; MOST_NUMBERS];
+    let mut totals = Totals::none();
     for member in answered {
-        let topic = member.topic as usize;
-        counts[topic] += 1;
-        bytes[topic] += wide(member.bytes);
+        totals.count(member);
     }
-    Totals { counts, bytes }
+    totals
 }
 
 fn wide(number: u64) -> u128

@@ -1,4 +1,3 @@
-mod Distinct
 mod SendsAndTakes
 mod Splits
 mod Blocks

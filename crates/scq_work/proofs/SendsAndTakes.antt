@@ -11,7 +11,7 @@ use Rattle.scq_queue.specs.Lists.{Placed, sends_of, takes_of}
 use Rattle.scq_queue.specs.Passes.{PassStanding}
 use Rattle.scq_queue.specs.Closing.{WasSent, EachTakeIsASend, NoPlaceIsSentTwice, NoPlaceIsTakenTwice, EachSendPassedIsTaken, IsBalance, sends_on, takes_on}
 use Rattle.scq_work.specs.Together.{Apart, all_sends, all_takes, SendsAreTakes, NoPlaceStandsTwice, NothingIsLeft, HasSwept}
-use Rattle.scq_work.proofs.Distinct.{IsDistinct, same-members, pairs-append, included-length}
+use Rattle.scq_collect.proofs.Distinct.{IsDistinct, same-members, pairs-append, included-length}
 
 -- a member at a position, and where a member stands
 pub stands-at : {A : Type 0} (xs : List A) (x : A) (k : ℕ) → slice_get xs k ≡ Some x → Contains xs x

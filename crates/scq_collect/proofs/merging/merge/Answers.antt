@@ -1,18 +1,16 @@
-use Rattle.std.proofs.Common.{rules, ◌≡◌, ◌∙◌, ap, map}
+use Rattle.std.proofs.Common.{◌≡◌, ◌∙◌, sym, ap, subst, List, map}
 use Rattle.std.proofs.lemmas.Result.{IfOk-weaker}
-use Rattle.std.proofs.lemmas.List.Sorted.{answers_always}
+use Rattle.scq_collect.specs.declared.answered.Answered.{Answered}
 use Rattle.scq_collect.specs.Merging.{IsInOrder, IsMerged, members_in, place_of_answered}
 use Rattle.scq_collect.specs.Output.{answers_to, without_way}
-use Rattle.scq_collect.proofs.Merged.{merged-by, merged-in-order, merged-exactly, merged-one-thread}
+use Rattle.scq_collect.proofs.Merged.{merged-in-order, merged-exactly, merged-one-thread}
 use Rattle.scq_collect.proofs.merging.merge.Goals as goal
 
 pub returns-clause-merged : goal.returns-clause-merged
 returns-clause-merged c =
-    IfOk-weaker c.copies_of.result _ (λ all. IsMerged place_of_answered (members_in c.args.lists.now) all.items)
-    (λ all e. merged-by (members_in c.args.lists.now) all.items c.in_ok-members.members.items c.sort_by_key.new.self.items
-    c.in_ok-members.ensures.members c.in_ok-members.ensures.placed c.in_ok-sort_by_key.ensures.permutation
-    (c.in_ok-sort_by_key.ensures.sorted (λ m. (m.0, m.1)) (answers_always _ _ _ (λ f a r f' k. search rules)))
-    (e ∙ ap (map (λ m. m.2.now)) c.as_slice.ensures.value)) c.copies_of.ensures
+    let P : List Answered → Type 0 = IsMerged place_of_answered (members_in c.args.lists.now) in
+    IfOk-weaker c.copies_of.result _ (λ all. P all.items)
+    (λ all e. subst P (sym (e ∙ ap (map (λ m. m.now)) c.as_slice.ensures.value)) c.in_ok-members.ensures) c.copies_of.ensures
 
 pub returns-clause-in_order : goal.returns-clause-in_order
 returns-clause-in_order c apart =

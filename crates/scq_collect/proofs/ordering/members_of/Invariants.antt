@@ -2,7 +2,7 @@ use Rattle.std.proofs.Common.{◌≡◌, ◌++◌, map, take}
 use Rattle.std.specs.Prelude.{flat_map}
 use Rattle.std.specs.List.{All}
 use Rattle.scq_collect.specs.Merging.{place_of_answered}
-use Rattle.scq_collect.proofs.merging.members_of.Given as goal
+use Rattle.scq_collect.proofs.ordering.members_of.Given as goal
 
 -- the members of the lists so far
 abbrev pub invariant-lists : goal.invariant-lists
