@@ -8,8 +8,8 @@ rooms=$work/scq.rooms
 kept=$work/scq.kept
 # How many lines first proofs go through in a minute: of a crate that has the machine, and of one processor
 # where many crates share it.
-pace_alone=5000
-pace_shared=2300
+pace_alone=3000
+pace_shared=1450
 
 # Waits until no other start builds here.
 take_turn() {
