@@ -1,11 +1,14 @@
 -- What is said of a merged history
-use Rattle.std.specs.Prelude.{◌≡◌, ℕ, List, ◌++◌, Option, Some, None, length, slice_index_or, codes, decimal}
+use Rattle.std.specs.Prelude.{◌≡◌, ℕ, ◌+◌, List, [], ◌++◌, Option, Some, None, length, slice_index_or, codes, decimal}
 use Rattle.scq_hist.specs.Aspects.{IsFreshAt, IsOnceAt, IsInOrderAt, IsEmptyRightAt}
 use Rattle.scq_hist.specs.Counts.{IsCount}
 use Rattle.scq_hist.specs.declared.events.Event.{Event}
 use Rattle.scq_check.specs.Failures.{AreFailures}
 use Rattle.scq_check.specs.Refused.{IsAcceptedAt}
+use Rattle.scq_check.specs.Verdicts.{HaveCounterparts}
 use Rattle.scq_check.specs.declared.failures.Failures.{Failures}
+use Rattle.scq_check.specs.declared.verdicts.Breaches.{Breaches}
+use Rattle.scq_check.specs.declared.waiting.Waiting.{Waiting}
 use Rattle.scq_judge.specs.Counted.{IsStart, IsNamed, Overlaps}
 use Rattle.scq_judge.specs.declared.counting.Named.TheVariants.{Seat, Queue}
 use Rattle.scq_judge.specs.declared.judging.Report.{Report}
@@ -18,6 +21,7 @@ pub record IsReport (opening : List (List ℕ)) (history : List Event) (report :
   pub in_order : AreFailures (IsInOrderAt opening history) report.breaches.in_order
   pub empty_right : AreFailures (IsEmptyRightAt opening history) report.breaches.empty_right
   pub accepted : AreFailures (IsAcceptedAt history) report.breaches.accepted
+  pub against : HaveCounterparts opening history report.breaches
   pub events : report.counts.events ≡ length history
   pub queues : IsCount (IsNamed Queue history) report.counts.queues
   pub seats : IsCount (IsNamed Seat history) report.counts.seats
@@ -32,14 +36,47 @@ place_text place = codes "file " ++ decimal place.file ++ codes " line " ++ deci
 abbrev pub place_at : List Place → ℕ → Place
 place_at places e = slice_index_or places e (record { file = 0; line = 0 })
 
--- the line of an aspect: its name, and ` holds` or ` fails at` the place of the first event that breaks it, and how many do
-abbrev pub failures_line : List ℕ → List Place → Option ℕ → ℕ → List ℕ
-failures_line name places None count = name ++ codes " holds\n"
-failures_line name places (Some e) count =
-    name ++ codes " fails at " ++ place_text (place_at places e) ++ codes ", " ++ decimal count ++ codes " in all\n"
+-- the verdict on an aspect: its name, and ` holds` or ` fails at` the place of the first event that breaks it, and how many do
+abbrev pub failures_text : List ℕ → List Place → Option ℕ → ℕ → List ℕ
+failures_text name places None count = name ++ codes " holds"
+failures_text name places (Some e) count =
+    name ++ codes " fails at " ++ place_text (place_at places e) ++ codes ", " ++ decimal count ++ codes " in all"
 
-abbrev pub aspect_line : List ℕ → List Place → Failures → List ℕ
-aspect_line name places failures = failures_line name places failures.first failures.count
+abbrev pub verdict_text : List ℕ → List Place → Failures → List ℕ
+verdict_text name places failures = failures_text name places failures.first failures.count
+
+-- these words and the place of this event, where there is one
+abbrev pub beside_text : List ℕ → List Place → Option ℕ → List ℕ
+beside_text words places None = []
+beside_text words places (Some e) = words ++ place_text (place_at places e)
+
+-- where a put that waits was put: the line of its opening token, which stands in file 1 behind those before it, or that of its End
+abbrev pub put_text : List Place → Option ℕ → Option ℕ → List ℕ
+put_text places (Some number) put = codes "file 1 line " ++ decimal (number + 1)
+put_text places None (Some d) = place_text (place_at places d)
+put_text places None None = []
+
+-- where it is got
+abbrev pub got_text : List Place → Option ℕ → List ℕ
+got_text places None = codes ", never got"
+got_text places (Some e) = codes ", got at " ++ place_text (place_at places e)
+
+-- how many puts wait, and of the first where it was put and where it is got
+abbrev pub waiting_text : List Place → Option Waiting → List ℕ
+waiting_text places None = []
+waiting_text places (Some w) =
+    codes "; " ++ decimal (w.tokens.count + w.puts.count) ++ codes " waiting, the first put at "
+    ++ put_text places w.tokens.first w.puts.first ++ got_text places w.got
+
+-- the lines of the aspects, each with what its first event stands against
+abbrev pub aspect_lines : List Place → Breaches → List ℕ
+aspect_lines places b =
+    verdict_text (codes "fresh") places b.fresh
+    ++ verdict_text (codes "\nonce") places b.once ++ beside_text (codes "; named before at ") places b.counterparts.once
+    ++ verdict_text (codes "\nin order") places b.in_order ++ waiting_text places b.counterparts.in_order
+    ++ verdict_text (codes "\nempty") places b.empty_right ++ waiting_text places b.counterparts.empty_right
+    ++ verdict_text (codes "\nrefused") places b.accepted ++ beside_text (codes "; put refused at ") places b.counterparts.accepted
+    ++ codes "\n"
 
 -- the line of a count: its name and the number
 abbrev pub count_line : List ℕ → ℕ → List ℕ
@@ -48,8 +85,6 @@ count_line name count = name ++ codes " " ++ decimal count ++ codes "\n"
 -- the report as text
 abbrev pub report_lines : List Place → Report → List ℕ
 report_lines places r =
-    aspect_line (codes "fresh") places r.breaches.fresh ++ aspect_line (codes "once") places r.breaches.once
-    ++ aspect_line (codes "in order") places r.breaches.in_order ++ aspect_line (codes "empty") places r.breaches.empty_right
-    ++ aspect_line (codes "refused") places r.breaches.accepted ++ count_line (codes "events") r.counts.events
-    ++ count_line (codes "queues") r.counts.queues ++ count_line (codes "seats") r.counts.seats
+    aspect_lines places r.breaches
+    ++ count_line (codes "events") r.counts.events ++ count_line (codes "queues") r.counts.queues ++ count_line (codes "seats") r.counts.seats
     ++ count_line (codes "calls") r.counts.calls ++ count_line (codes "overlapping") r.counts.overlapping

@@ -1,17 +1,19 @@
 //! A report as text.
 
-ghost use Rattle.std.specs.Prelude.{◌≡◌, ◌<◌, ◌++◌, decimal, length, IfOk, IfSome, OnOk};
+ghost use Rattle.std.specs.Prelude.{◌≡◌, ◌<◌, ◌^◌, ◌++◌, decimal, length, IfOk, IfSome, OnOk};
 ghost use Rattle.scq_check.specs.Verdicts.{AreWithin};
-ghost use Rattle.scq_judge.specs.Report.{aspect_line, count_line, place_text, report_lines};
+ghost use Rattle.scq_check.specs.Waiting.{IsToldWithin};
+ghost use Rattle.scq_judge.specs.Report.{aspect_lines, beside_text, count_line, place_text, put_text, report_lines, verdict_text, waiting_text};
 
 use crate::judging::Report;
 use crate::recorded::Place;
 use itoa::Buffer;
-use scq_check::Failures;
+use scq_check::{Breaches, Failures, Waiting};
 use scq_word::{Bytes, NoMemory};
 use std::alloc::Global;
 
-/// A report as text: a line for each aspect, `NAME holds` or `NAME fails at file F line L, COUNT in all`, and one for each count.
+/// A report as text: a line for each aspect and one for each count. `NAME holds`, or `NAME fails at file F line L, COUNT in all`, and
+/// behind that what the event at that line stands against.
 pub(crate) fn report_text(
     alloc: Global,
     places: &[Place],
@@ -21,11 +23,7 @@ pub(crate) fn report_text(
     ensures { IfOk result (λ text. text ≡ report_lines places.now report.now) }
 {
     let mut text = Vec::new(alloc);
-    add_aspect(&mut text, b"fresh", places, &report.breaches.fresh)?;
-    add_aspect(&mut text, b"once", places, &report.breaches.once)?;
-    add_aspect(&mut text, b"in order", places, &report.breaches.in_order)?;
-    add_aspect(&mut text, b"empty", places, &report.breaches.empty_right)?;
-    add_aspect(&mut text, b"refused", places, &report.breaches.accepted)?;
+    add_aspects(&mut text, places, &report.breaches)?;
     add_count(&mut text, b"events", report.counts.events)?;
     add_count(&mut text, b"queues", report.counts.queues)?;
     add_count(&mut text, b"seats", report.counts.seats)?;
@@ -34,27 +32,106 @@ pub(crate) fn report_text(
     Ok(Bytes::from(text))
 }
 
-fn add_aspect(
+// The five lines of the aspects.
+fn add_aspects(text: &mut Vec<u8>, places: &[Place], breaches: &Breaches) -> Result<(), NoMemory>
+    requires { AreWithin (length places.now) breaches.now }
+    ensures { OnOk result (text.new.items ≡ text.old.items ++ aspect_lines places.now breaches.now) }
+{
+    let told = &breaches.counterparts;
+    add_verdict(text, b"fresh", places, &breaches.fresh)?;
+    add_verdict(text, b"\nonce", places, &breaches.once)?;
+    add_beside(text, b"; named before at ", places, told.once)?;
+    add_verdict(text, b"\nin order", places, &breaches.in_order)?;
+    add_waiting(text, places, told.in_order)?;
+    add_verdict(text, b"\nempty", places, &breaches.empty_right)?;
+    add_waiting(text, places, told.empty_right)?;
+    add_verdict(text, b"\nrefused", places, &breaches.accepted)?;
+    add_beside(text, b"; put refused at ", places, told.accepted)?;
+    text.extend_from_slice(b"\n")?;
+    Ok(())
+}
+
+fn add_verdict(
     text: &mut Vec<u8>,
     name: &[u8],
     places: &[Place],
     failures: &Failures,
 ) -> Result<(), NoMemory>
     requires { IfSome failures.now.first (λ e. e < length places.now) }
-    ensures { OnOk result (text.new.items ≡ text.old.items ++ aspect_line name.now places.now failures.now) }
+    ensures { OnOk result (text.new.items ≡ text.old.items ++ verdict_text name.now places.now failures.now) }
 {
     text.extend_from_slice(name)?;
     match failures.first {
-        None => text.extend_from_slice(b" holds\n")?,
+        None => text.extend_from_slice(b" holds")?,
         Some(e) => {
             text.extend_from_slice(b" fails at ")?;
             add_place(text, places[e])?;
             text.extend_from_slice(b", ")?;
             add_number(text, failures.count as u64)?;
-            text.extend_from_slice(b" in all\n")?;
+            text.extend_from_slice(b" in all")?;
         }
     }
     Ok(())
+}
+
+// These words and the place of this event, where there is one.
+fn add_beside(
+    text: &mut Vec<u8>,
+    words: &[u8],
+    places: &[Place],
+    event: Option<usize>,
+) -> Result<(), NoMemory>
+    requires { IfSome event (λ e. e < length places.now) }
+    ensures { OnOk result (text.new.items ≡ text.old.items ++ beside_text words.now places.now event) }
+{
+    if let Some(at) = event {
+        text.extend_from_slice(words)?;
+        add_place(text, places[at])?;
+    }
+    Ok(())
+}
+
+// How many puts wait, where the first was put, and where it is got.
+fn add_waiting(
+    text: &mut Vec<u8>,
+    places: &[Place],
+    waiting: Option<Waiting>,
+) -> Result<(), NoMemory>
+    requires { IfSome waiting (IsToldWithin (length places.now)) }
+    ensures { OnOk result (text.new.items ≡ text.old.items ++ waiting_text places.now waiting) }
+{
+    if let Some(Waiting { tokens, puts, got }) = waiting {
+        text.extend_from_slice(b"; ")?;
+        add_number(text, tokens.count as u64 + puts.count as u64)?;
+        text.extend_from_slice(b" waiting, the first put at ")?;
+        add_put(text, places, tokens.first, puts.first)?;
+        match got {
+            None => text.extend_from_slice(b", never got")?,
+            Some(_) => add_beside(text, b", got at ", places, got)?,
+        }
+    }
+    Ok(())
+}
+
+// Where the first of them was put: the line of its opening token, or that of its End.
+fn add_put(
+    text: &mut Vec<u8>,
+    places: &[Place],
+    token: Option<usize>,
+    put: Option<usize>,
+) -> Result<(), NoMemory>
+    requires token { IfSome token (λ number. number < 2 ^ 32) }
+    requires put { IfSome put (λ d. d < length places.now) }
+    ensures { OnOk result (text.new.items ≡ text.old.items ++ put_text places.now token put) }
+{
+    match (token, put) {
+        (Some(number), _) => {
+            text.extend_from_slice(b"file 1 line ")?;
+            add_number(text, number as u64 + 1)
+        }
+        (None, Some(d)) => add_place(text, places[d]),
+        (None, None) => Ok(()),
+    }
 }
 
 fn add_place(text: &mut Vec<u8>, place: Place) -> Result<(), NoMemory>
