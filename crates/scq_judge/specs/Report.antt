@@ -7,7 +7,6 @@ use Rattle.scq_check.specs.Failures.{AreFailures}
 use Rattle.scq_check.specs.Refused.{IsAcceptedAt}
 use Rattle.scq_check.specs.Verdicts.{HaveCounterparts}
 use Rattle.scq_check.specs.declared.failures.Failures.{Failures}
-use Rattle.scq_check.specs.declared.verdicts.Breaches.{Breaches}
 use Rattle.scq_check.specs.declared.waiting.Waiting.{Waiting}
 use Rattle.scq_judge.specs.Counted.{IsStart, IsNamed, Overlaps}
 use Rattle.scq_judge.specs.declared.counting.Named.TheVariants.{Seat, Queue}
@@ -46,9 +45,9 @@ abbrev pub verdict_text : List ℕ → List Place → Failures → List ℕ
 verdict_text name places failures = failures_text name places failures.first failures.count
 
 -- these words and the place of this event, where there is one
-abbrev pub beside_text : List ℕ → List Place → Option ℕ → List ℕ
-beside_text words places None = []
-beside_text words places (Some e) = words ++ place_text (place_at places e)
+abbrev pub event_text : List ℕ → List Place → Option ℕ → List ℕ
+event_text words places None = []
+event_text words places (Some e) = words ++ place_text (place_at places e)
 
 -- where a put that waits was put: the line of its opening token, which stands in file 1 behind those before it, or that of its End
 abbrev pub put_text : List Place → Option ℕ → Option ℕ → List ℕ
@@ -68,15 +67,15 @@ waiting_text places (Some w) =
     codes "; " ++ decimal (w.tokens.count + w.puts.count) ++ codes " waiting, the first put at "
     ++ put_text places w.tokens.first w.puts.first ++ got_text places w.got
 
--- the lines of the aspects, each with what its first event stands against
-abbrev pub aspect_lines : List Place → Breaches → List ℕ
-aspect_lines places b =
-    verdict_text (codes "fresh") places b.fresh
-    ++ verdict_text (codes "\nonce") places b.once ++ beside_text (codes "; named before at ") places b.counterparts.once
-    ++ verdict_text (codes "\nin order") places b.in_order ++ waiting_text places b.counterparts.in_order
-    ++ verdict_text (codes "\nempty") places b.empty_right ++ waiting_text places b.counterparts.empty_right
-    ++ verdict_text (codes "\nrefused") places b.accepted ++ beside_text (codes "; put refused at ") places b.counterparts.accepted
-    ++ codes "\n"
+-- the lines of aspects: the verdict, and behind it what its first event stands against, which is nothing, an event, or puts that wait
+abbrev pub plain_line : List ℕ → List Place → Failures → List ℕ
+plain_line name places failures = verdict_text name places failures ++ codes "\n"
+
+abbrev pub beside_line : List ℕ → List Place → Failures → List ℕ → Option ℕ → List ℕ
+beside_line name places failures words event = verdict_text name places failures ++ event_text words places event ++ codes "\n"
+
+abbrev pub waiting_line : List ℕ → List Place → Failures → Option Waiting → List ℕ
+waiting_line name places failures waiting = verdict_text name places failures ++ waiting_text places waiting ++ codes "\n"
 
 -- the line of a count: its name and the number
 abbrev pub count_line : List ℕ → ℕ → List ℕ
@@ -85,6 +84,12 @@ count_line name count = name ++ codes " " ++ decimal count ++ codes "\n"
 -- the report as text
 abbrev pub report_lines : List Place → Report → List ℕ
 report_lines places r =
-    aspect_lines places r.breaches
-    ++ count_line (codes "events") r.counts.events ++ count_line (codes "queues") r.counts.queues ++ count_line (codes "seats") r.counts.seats
-    ++ count_line (codes "calls") r.counts.calls ++ count_line (codes "overlapping") r.counts.overlapping
+    let told = r.breaches.counterparts in
+    plain_line (codes "fresh") places r.breaches.fresh
+    ++ beside_line (codes "once") places r.breaches.once (codes "; named before at ") told.once
+    ++ waiting_line (codes "in order") places r.breaches.in_order told.in_order
+    ++ waiting_line (codes "empty") places r.breaches.empty_right told.empty_right
+    ++ beside_line (codes "refused") places r.breaches.accepted (codes "; put refused at ") told.accepted
+    ++ count_line (codes "events") r.counts.events ++ count_line (codes "queues") r.counts.queues
+    ++ count_line (codes "seats") r.counts.seats ++ count_line (codes "calls") r.counts.calls
+    ++ count_line (codes "overlapping") r.counts.overlapping

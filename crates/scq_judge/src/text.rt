@@ -3,12 +3,12 @@
 ghost use Rattle.std.specs.Prelude.{◌≡◌, ◌<◌, ◌^◌, ◌++◌, decimal, length, IfOk, IfSome, OnOk};
 ghost use Rattle.scq_check.specs.Verdicts.{AreWithin};
 ghost use Rattle.scq_check.specs.Waiting.{IsToldWithin};
-ghost use Rattle.scq_judge.specs.Report.{aspect_lines, beside_text, count_line, place_text, put_text, report_lines, verdict_text, waiting_text};
+ghost use Rattle.scq_judge.specs.Report.{beside_line, count_line, event_text, got_text, place_text, plain_line, put_text, report_lines, verdict_text, waiting_line, waiting_text};
 
 use crate::judging::Report;
 use crate::recorded::Place;
 use itoa::Buffer;
-use scq_check::{Breaches, Failures, Waiting};
+use scq_check::{Failures, Waiting};
 use scq_word::{Bytes, NoMemory};
 use std::alloc::Global;
 
@@ -22,8 +22,40 @@ pub(crate) fn report_text(
     requires { AreWithin (length places.now) report.now.breaches }
     ensures { IfOk result (λ text. text ≡ report_lines places.now report.now) }
 {
+    let breaches = &report.breaches;
+    let told = &breaches.counterparts;
     let mut text = Vec::new(alloc);
-    add_aspects(&mut text, places, &report.breaches)?;
+    add_plain(&mut text, b"fresh", places, &breaches.fresh)?;
+    add_beside(
+        &mut text,
+        b"once",
+        places,
+        &breaches.once,
+        b"; named before at ",
+        told.once,
+    )?;
+    add_waiting(
+        &mut text,
+        b"in order",
+        places,
+        &breaches.in_order,
+        told.in_order,
+    )?;
+    add_waiting(
+        &mut text,
+        b"empty",
+        places,
+        &breaches.empty_right,
+        told.empty_right,
+    )?;
+    add_beside(
+        &mut text,
+        b"refused",
+        places,
+        &breaches.accepted,
+        b"; put refused at ",
+        told.accepted,
+    )?;
     add_count(&mut text, b"events", report.counts.events)?;
     add_count(&mut text, b"queues", report.counts.queues)?;
     add_count(&mut text, b"seats", report.counts.seats)?;
@@ -32,21 +64,54 @@ pub(crate) fn report_text(
     Ok(Bytes::from(text))
 }
 
-// The five lines of the aspects.
-fn add_aspects(text: &mut Vec<u8>, places: &[Place], breaches: &Breaches) -> Result<(), NoMemory>
-    requires { AreWithin (length places.now) breaches.now }
-    ensures { OnOk result (text.new.items ≡ text.old.items ++ aspect_lines places.now breaches.now) }
+// The line of an aspect whose breach stands against nothing.
+fn add_plain(
+    text: &mut Vec<u8>,
+    name: &[u8],
+    places: &[Place],
+    failures: &Failures,
+) -> Result<(), NoMemory>
+    requires { IfSome failures.now.first (λ e. e < length places.now) }
+    ensures { OnOk result (text.new.items ≡ text.old.items ++ plain_line name.now places.now failures.now) }
 {
-    let told = &breaches.counterparts;
-    add_verdict(text, b"fresh", places, &breaches.fresh)?;
-    add_verdict(text, b"\nonce", places, &breaches.once)?;
-    add_beside(text, b"; named before at ", places, told.once)?;
-    add_verdict(text, b"\nin order", places, &breaches.in_order)?;
-    add_waiting(text, places, told.in_order)?;
-    add_verdict(text, b"\nempty", places, &breaches.empty_right)?;
-    add_waiting(text, places, told.empty_right)?;
-    add_verdict(text, b"\nrefused", places, &breaches.accepted)?;
-    add_beside(text, b"; put refused at ", places, told.accepted)?;
+    add_verdict(text, name, places, failures)?;
+    text.extend_from_slice(b"\n")?;
+    Ok(())
+}
+
+// The line of an aspect whose first breach stands against an event.
+fn add_beside(
+    text: &mut Vec<u8>,
+    name: &[u8],
+    places: &[Place],
+    failures: &Failures,
+    words: &[u8],
+    event: Option<usize>,
+) -> Result<(), NoMemory>
+    requires first { IfSome failures.now.first (λ e. e < length places.now) }
+    requires event { IfSome event (λ e. e < length places.now) }
+    ensures { OnOk result (text.new.items ≡ text.old.items ++ beside_line name.now places.now failures.now words.now event) }
+{
+    add_verdict(text, name, places, failures)?;
+    add_event(text, words, places, event)?;
+    text.extend_from_slice(b"\n")?;
+    Ok(())
+}
+
+// The line of an aspect whose first breach stands against puts that wait.
+fn add_waiting(
+    text: &mut Vec<u8>,
+    name: &[u8],
+    places: &[Place],
+    failures: &Failures,
+    waiting: Option<Waiting>,
+) -> Result<(), NoMemory>
+    requires first { IfSome failures.now.first (λ e. e < length places.now) }
+    requires waiting { IfSome waiting (IsToldWithin (length places.now)) }
+    ensures { OnOk result (text.new.items ≡ text.old.items ++ waiting_line name.now places.now failures.now waiting) }
+{
+    add_verdict(text, name, places, failures)?;
+    add_puts(text, places, waiting)?;
     text.extend_from_slice(b"\n")?;
     Ok(())
 }
@@ -75,14 +140,14 @@ fn add_verdict(
 }
 
 // These words and the place of this event, where there is one.
-fn add_beside(
+fn add_event(
     text: &mut Vec<u8>,
     words: &[u8],
     places: &[Place],
     event: Option<usize>,
 ) -> Result<(), NoMemory>
     requires { IfSome event (λ e. e < length places.now) }
-    ensures { OnOk result (text.new.items ≡ text.old.items ++ beside_text words.now places.now event) }
+    ensures { OnOk result (text.new.items ≡ text.old.items ++ event_text words.now places.now event) }
 {
     if let Some(at) = event {
         text.extend_from_slice(words)?;
@@ -92,11 +157,7 @@ fn add_beside(
 }
 
 // How many puts wait, where the first was put, and where it is got.
-fn add_waiting(
-    text: &mut Vec<u8>,
-    places: &[Place],
-    waiting: Option<Waiting>,
-) -> Result<(), NoMemory>
+fn add_puts(text: &mut Vec<u8>, places: &[Place], waiting: Option<Waiting>) -> Result<(), NoMemory>
     requires { IfSome waiting (IsToldWithin (length places.now)) }
     ensures { OnOk result (text.new.items ≡ text.old.items ++ waiting_text places.now waiting) }
 {
@@ -105,9 +166,20 @@ fn add_waiting(
         add_number(text, tokens.count as u64 + puts.count as u64)?;
         text.extend_from_slice(b" waiting, the first put at ")?;
         add_put(text, places, tokens.first, puts.first)?;
-        match got {
-            None => text.extend_from_slice(b", never got")?,
-            Some(_) => add_beside(text, b", got at ", places, got)?,
+        add_got(text, places, got)?;
+    }
+    Ok(())
+}
+
+fn add_got(text: &mut Vec<u8>, places: &[Place], got: Option<usize>) -> Result<(), NoMemory>
+    requires { IfSome got (λ e. e < length places.now) }
+    ensures { OnOk result (text.new.items ≡ text.old.items ++ got_text places.now got) }
+{
+    match got {
+        None => text.extend_from_slice(b", never got")?,
+        Some(at) => {
+            text.extend_from_slice(b", got at ")?;
+            add_place(text, places[at])?;
         }
     }
     Ok(())
