@@ -8,3 +8,5 @@ mod QueueLemmas
 mod Saved
 mod FailureLemmas
 mod RefusedLemmas
+mod WaitingLemmas
+mod CounterpartLemmas

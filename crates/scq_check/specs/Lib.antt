@@ -9,3 +9,5 @@ pub mod Tables
 pub mod Queues
 pub mod Failures
 pub mod Refused
+pub mod Waiting
+pub mod Counterparts

@@ -2,6 +2,9 @@
 use Rattle.std.specs.Prelude.{◌≡◌, ℕ, ◌+◌, ◌<◌, List, ◌++◌, Option, Some, None, IfSome, codes, decimal}
 use Rattle.std.specs.Option.{option_map}
 use Rattle.scq_hist.specs.First.{IsFirstFailing}
+use Rattle.scq_hist.specs.declared.events.Event.{Event}
+use Rattle.scq_check.specs.Counterparts.{AtFirst, IsRepeatOf, IsOvertaking, IsEmptyBeside, IsOfRefused}
+use Rattle.scq_check.specs.Waiting.{IsToldWithin}
 use Rattle.scq_check.specs.declared.verdicts.Breaches.{Breaches}
 use Rattle.scq_check.specs.declared.verdicts.Verdict.{Verdict}
 
@@ -10,13 +13,24 @@ use Rattle.scq_check.specs.declared.verdicts.Verdict.{Verdict}
 abbrev pub IsVerdict : (ℕ → Type 0) → Option ℕ → Type 0
 IsVerdict Holds verdict = (first : Option ℕ) × (verdict ≡ option_map (λ e. e + 1) first) × IsFirstFailing Holds first
 
--- each first event that breaks an aspect stands below position m
+-- what the first event that breaks each aspect stands against. (A Got that isn't fresh stands against none)
+pub record HaveCounterparts (opening : List (List ℕ)) (events : List Event) (breaches : Breaches) : Type 0 where
+  pub once : AtFirst (IsRepeatOf events) breaches.once.first breaches.counterparts.once
+  pub in_order : AtFirst (IsOvertaking opening events) breaches.in_order.first breaches.counterparts.in_order
+  pub empty_right : AtFirst (IsEmptyBeside opening events) breaches.empty_right.first breaches.counterparts.empty_right
+  pub accepted : AtFirst (IsOfRefused events) breaches.accepted.first breaches.counterparts.accepted
+
+-- each first event that breaks an aspect stands below position m, and so does what is told beside it
 pub record AreWithin (m : ℕ) (breaches : Breaches) : Type 0 where
   pub fresh : IfSome breaches.fresh.first (λ e. e < m)
   pub once : IfSome breaches.once.first (λ e. e < m)
   pub in_order : IfSome breaches.in_order.first (λ e. e < m)
   pub empty_right : IfSome breaches.empty_right.first (λ e. e < m)
   pub accepted : IfSome breaches.accepted.first (λ e. e < m)
+  pub named : IfSome breaches.counterparts.once (λ d. d < m)
+  pub overtaken : IfSome breaches.counterparts.in_order (IsToldWithin m)
+  pub waiting : IfSome breaches.counterparts.empty_right (IsToldWithin m)
+  pub refused : IfSome breaches.counterparts.accepted (λ d. d < m)
 
 -- the line of an aspect: its name, and ` holds` or ` fails at` and the number
 abbrev pub aspect_line : List ℕ → Option ℕ → List ℕ

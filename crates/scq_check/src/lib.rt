@@ -9,6 +9,7 @@
 
 mod by_name;
 mod calls;
+mod counterparts;
 mod failures;
 mod freshness;
 mod gots;
@@ -23,9 +24,12 @@ mod tables;
 #[cfg(test)]
 mod tests;
 mod verdicts;
+mod waiting;
 
+pub use counterparts::Counterparts;
 pub use failures::Failures;
 pub use history::{History, HistoryFault, read_history};
 pub use lawful::first_unlawful;
 pub use line::{Bounds, Line, read_fields};
 pub use verdicts::{Breaches, Verdict, find_breaches, judge, verdict_text};
+pub use waiting::Waiting;

@@ -35,7 +35,7 @@ fn tallies_before(
 }
 
 // The seat's put that the get which ends at this position has got: the position of its Start, and its queue.
-fn put_got_at(tables: &Tables, events: &[Event], e: usize) -> Option<(usize, u32)>
+pub(crate) fn put_got_at(tables: &Tables, events: &[Event], e: usize) -> Option<(usize, u32)>
     requires tables { IsTables events.now tables.now }
     requires lawful { IsLawful events.now }
     requires within { e < length events.now }
@@ -105,7 +105,7 @@ pub(crate) fn out_of_order(
 }
 
 // The get that ends with Nothing at this position: the position of its Start, and its queue.
-fn empty_at(tables: &Tables, events: &[Event], e: usize) -> Option<(usize, u32)>
+pub(crate) fn empty_at(tables: &Tables, events: &[Event], e: usize) -> Option<(usize, u32)>
     requires tables { IsTables events.now tables.now }
     requires lawful { IsLawful events.now }
     requires within { e < length events.now }

@@ -36,7 +36,7 @@ fn spent_at(tables: &Tables, events: &[Event], e: usize) -> Option<(u32, u64)>
 }
 
 // Where each put that ended with Spent did.
-fn refusals(alloc: Global, tables: &Tables, events: &[Event]) -> Result<ByName, NoMemory>
+pub(crate) fn refusals(alloc: Global, tables: &Tables, events: &[Event]) -> Result<ByName, NoMemory>
     requires tables { IsTables events.now tables.now }
     requires lawful { IsLawful events.now }
     ensures { IfOk result (IsRefusals events.now (length events.now)) }
@@ -68,7 +68,7 @@ fn add_refusal(
 }
 
 // The seat and the number of the put that a Got names.
-fn named_put(event: &Event) -> Option<(u32, u64)>
+pub(crate) fn named_put(event: &Event) -> Option<(u32, u64)>
     ensures { MatchOption result (NamesNoPut event.now) (λ put. got_name event.now ≡ Some (Of put.0 put.1)) }
 {
     match event {

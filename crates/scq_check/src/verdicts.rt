@@ -5,8 +5,9 @@ ghost use Rattle.std.specs.Option.{option_map};
 ghost use Rattle.scq_hist.specs.Aspects.{IsLawful, IsFreshAt, IsFresh, IsOnceAt, IsOnce, IsInOrderAt, IsInOrder, IsEmptyRightAt, IsEmptyRight};
 ghost use Rattle.scq_check.specs.Failures.{AreFailures};
 ghost use Rattle.scq_check.specs.Refused.{IsAcceptedAt};
-ghost use Rattle.scq_check.specs.Verdicts.{AreWithin, IsVerdict, aspect_line, verdict_lines};
+ghost use Rattle.scq_check.specs.Verdicts.{AreWithin, HaveCounterparts, IsVerdict, aspect_line, verdict_lines};
 
+use crate::counterparts::{Counterparts, named_first, overtaken, refused_first, waiting_beside};
 use crate::failures::Failures;
 use crate::freshness::{repeated, unfresh};
 use crate::order::{out_of_order, wrong_empties};
@@ -44,6 +45,8 @@ pub struct Breaches {
     pub empty_right: Failures,
     /// The Gots that name puts which ended with Spent.
     pub accepted: Failures,
+    /// What the first of each stands against.
+    pub counterparts: Counterparts,
 }
 
 /// Of a lawful history the events that break each aspect. `opening` has the contents of the tokens that stand in queue 0
@@ -59,15 +62,27 @@ pub fn find_breaches(
     ensures in_order { IfOk result (λ breaches. AreFailures (IsInOrderAt opening.now events.now) breaches.in_order) }
     ensures empty_right { IfOk result (λ breaches. AreFailures (IsEmptyRightAt opening.now events.now) breaches.empty_right) }
     ensures accepted { IfOk result (λ breaches. AreFailures (IsAcceptedAt events.now) breaches.accepted) }
+    ensures counterparts { IfOk result (HaveCounterparts opening.now events.now) }
     ensures within { IfOk result (λ breaches. AreWithin (length events.now) breaches) }
 {
     let tables = Tables::new(alloc, events)?;
+    let once = repeated(&tables, events);
+    let in_order = out_of_order(alloc, &tables, opening, events)?;
+    let empty_right = wrong_empties(alloc, &tables, opening, events)?;
+    let accepted = refused_gots(alloc, &tables, events)?;
+    let counterparts = Counterparts {
+        once: named_first(&tables, events, &once),
+        in_order: overtaken(&tables, opening, events, &in_order),
+        empty_right: waiting_beside(&tables, opening, events, &empty_right),
+        accepted: refused_first(alloc, &tables, events, &accepted)?,
+    };
     Ok(Breaches {
         fresh: unfresh(&tables, opening, events),
-        once: repeated(&tables, events),
-        in_order: out_of_order(alloc, &tables, opening, events)?,
-        empty_right: wrong_empties(alloc, &tables, opening, events)?,
-        accepted: refused_gots(alloc, &tables, events)?,
+        once,
+        in_order,
+        empty_right,
+        accepted,
+        counterparts,
     })
 }
 

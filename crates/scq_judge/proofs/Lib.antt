@@ -2,3 +2,4 @@ pub mod ReadLemmas
 pub mod MergeLemmas
 pub mod CountLemmas
 pub mod JudgeLemmas
+pub mod TextLemmas

@@ -1,11 +1,13 @@
 -- What is said of a merged history
-use Rattle.std.specs.Prelude.{◌≡◌, ℕ, List, ◌++◌, Option, Some, None, length, slice_index_or, codes, decimal}
+use Rattle.std.specs.Prelude.{◌≡◌, ℕ, ◌+◌, List, [], ◌++◌, Option, Some, None, length, slice_index_or, codes, decimal}
 use Rattle.scq_hist.specs.Aspects.{IsFreshAt, IsOnceAt, IsInOrderAt, IsEmptyRightAt}
 use Rattle.scq_hist.specs.Counts.{IsCount}
 use Rattle.scq_hist.specs.declared.events.Event.{Event}
 use Rattle.scq_check.specs.Failures.{AreFailures}
 use Rattle.scq_check.specs.Refused.{IsAcceptedAt}
+use Rattle.scq_check.specs.Verdicts.{HaveCounterparts}
 use Rattle.scq_check.specs.declared.failures.Failures.{Failures}
+use Rattle.scq_check.specs.declared.waiting.Waiting.{Waiting}
 use Rattle.scq_judge.specs.Counted.{IsStart, IsNamed, Overlaps}
 use Rattle.scq_judge.specs.declared.counting.Named.TheVariants.{Seat, Queue}
 use Rattle.scq_judge.specs.declared.judging.Report.{Report}
@@ -18,6 +20,7 @@ pub record IsReport (opening : List (List ℕ)) (history : List Event) (report :
   pub in_order : AreFailures (IsInOrderAt opening history) report.breaches.in_order
   pub empty_right : AreFailures (IsEmptyRightAt opening history) report.breaches.empty_right
   pub accepted : AreFailures (IsAcceptedAt history) report.breaches.accepted
+  pub against : HaveCounterparts opening history report.breaches
   pub events : report.counts.events ≡ length history
   pub queues : IsCount (IsNamed Queue history) report.counts.queues
   pub seats : IsCount (IsNamed Seat history) report.counts.seats
@@ -32,14 +35,47 @@ place_text place = codes "file " ++ decimal place.file ++ codes " line " ++ deci
 abbrev pub place_at : List Place → ℕ → Place
 place_at places e = slice_index_or places e (record { file = 0; line = 0 })
 
--- the line of an aspect: its name, and ` holds` or ` fails at` the place of the first event that breaks it, and how many do
-abbrev pub failures_line : List ℕ → List Place → Option ℕ → ℕ → List ℕ
-failures_line name places None count = name ++ codes " holds\n"
-failures_line name places (Some e) count =
-    name ++ codes " fails at " ++ place_text (place_at places e) ++ codes ", " ++ decimal count ++ codes " in all\n"
+-- the verdict on an aspect: its name, and ` holds` or ` fails at` the place of the first event that breaks it, and how many do
+abbrev pub failures_text : List ℕ → List Place → Option ℕ → ℕ → List ℕ
+failures_text name places None count = name ++ codes " holds"
+failures_text name places (Some e) count =
+    name ++ codes " fails at " ++ place_text (place_at places e) ++ codes ", " ++ decimal count ++ codes " in all"
 
-abbrev pub aspect_line : List ℕ → List Place → Failures → List ℕ
-aspect_line name places failures = failures_line name places failures.first failures.count
+abbrev pub verdict_text : List ℕ → List Place → Failures → List ℕ
+verdict_text name places failures = failures_text name places failures.first failures.count
+
+-- these words and the place of this event, where there is one
+abbrev pub event_text : List ℕ → List Place → Option ℕ → List ℕ
+event_text words places None = []
+event_text words places (Some e) = words ++ place_text (place_at places e)
+
+-- where a put that waits was put: the line of its opening token, which stands in file 1 behind those before it, or that of its End
+abbrev pub put_text : List Place → Option ℕ → Option ℕ → List ℕ
+put_text places (Some number) put = codes "file 1 line " ++ decimal (number + 1)
+put_text places None (Some d) = place_text (place_at places d)
+put_text places None None = []
+
+-- where it is got
+abbrev pub got_text : List Place → Option ℕ → List ℕ
+got_text places None = codes ", never got"
+got_text places (Some e) = codes ", got at " ++ place_text (place_at places e)
+
+-- how many puts wait, and of the first where it was put and where it is got
+abbrev pub waiting_text : List Place → Option Waiting → List ℕ
+waiting_text places None = []
+waiting_text places (Some w) =
+    codes "; " ++ decimal (w.tokens.count + w.puts.count) ++ codes " waiting, the first put at "
+    ++ put_text places w.tokens.first w.puts.first ++ got_text places w.got
+
+-- the lines of aspects: the verdict, and behind it what its first event stands against, which is nothing, an event, or puts that wait
+abbrev pub plain_line : List ℕ → List Place → Failures → List ℕ
+plain_line name places failures = verdict_text name places failures ++ codes "\n"
+
+abbrev pub beside_line : List ℕ → List Place → Failures → List ℕ → Option ℕ → List ℕ
+beside_line name places failures words event = verdict_text name places failures ++ event_text words places event ++ codes "\n"
+
+abbrev pub waiting_line : List ℕ → List Place → Failures → Option Waiting → List ℕ
+waiting_line name places failures waiting = verdict_text name places failures ++ waiting_text places waiting ++ codes "\n"
 
 -- the line of a count: its name and the number
 abbrev pub count_line : List ℕ → ℕ → List ℕ
@@ -48,8 +84,12 @@ count_line name count = name ++ codes " " ++ decimal count ++ codes "\n"
 -- the report as text
 abbrev pub report_lines : List Place → Report → List ℕ
 report_lines places r =
-    aspect_line (codes "fresh") places r.breaches.fresh ++ aspect_line (codes "once") places r.breaches.once
-    ++ aspect_line (codes "in order") places r.breaches.in_order ++ aspect_line (codes "empty") places r.breaches.empty_right
-    ++ aspect_line (codes "refused") places r.breaches.accepted ++ count_line (codes "events") r.counts.events
-    ++ count_line (codes "queues") r.counts.queues ++ count_line (codes "seats") r.counts.seats
-    ++ count_line (codes "calls") r.counts.calls ++ count_line (codes "overlapping") r.counts.overlapping
+    let told = r.breaches.counterparts in
+    plain_line (codes "fresh") places r.breaches.fresh
+    ++ beside_line (codes "once") places r.breaches.once (codes "; named before at ") told.once
+    ++ waiting_line (codes "in order") places r.breaches.in_order told.in_order
+    ++ waiting_line (codes "empty") places r.breaches.empty_right told.empty_right
+    ++ beside_line (codes "refused") places r.breaches.accepted (codes "; put refused at ") told.accepted
+    ++ count_line (codes "events") r.counts.events ++ count_line (codes "queues") r.counts.queues
+    ++ count_line (codes "seats") r.counts.seats ++ count_line (codes "calls") r.counts.calls
+    ++ count_line (codes "overlapping") r.counts.overlapping

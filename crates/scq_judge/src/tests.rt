@@ -44,7 +44,8 @@ fn recordings_are_merged_and_judged(rt: HostRuntime) -> Result<(), Fail> {
                 "1 start 0 put 1 61\n2 end 0 done\n5 start 0 put 1 63\n6 end 0 done\n7 start 0 get 1\n8 end 0 got 0 2 63\n11 start 0 get 1\n12 end 0 got 0 1 61",
                 "3 start 1 put 1 62\n4 end 1 done\n9 start 1 get 1\n10 end 1 got 1 1 62\n",
             ],
-            "fresh holds\nonce holds\nin order fails at file 1 line 6, 2 in all\nempty holds\nrefused holds\n\
+            "fresh holds\nonce holds\nin order fails at file 1 line 6, 2 in all; 2 waiting, the first put at file 1 line 2, \
+             got at file 1 line 8\nempty holds\nrefused holds\n\
              events 12\nqueues 1\nseats 2\ncalls 6\noverlapping 0\n",
         ),
         // Two gets at once have the same value, and later two find nothing although one stands there.
@@ -53,13 +54,15 @@ fn recordings_are_merged_and_judged(rt: HostRuntime) -> Result<(), Fail> {
                 "10 start 0 put 0 -\n20 end 0 done\n30 start 0 get 0\n50 end 0 got 0 1 -\n70 start 0 put 0 -\n80 end 0 done\n90 start 0 get 0\n100 end 0 nothing\n",
                 "40 start 1 get 0\n60 end 1 got 0 1 -\n110 start 1 get 0\n120 end 1 nothing\n",
             ],
-            "fresh holds\nonce fails at file 2 line 2, 1 in all\nin order holds\nempty fails at file 1 line 8, 2 in all\nrefused holds\n\
+            "fresh holds\nonce fails at file 2 line 2, 1 in all; named before at file 1 line 4\nin order holds\nempty fails at file 1 line 8, 2 in all; \
+             1 waiting, the first put at file 1 line 6, never got\nrefused holds\n\
              events 12\nqueues 1\nseats 2\ncalls 6\noverlapping 2\n",
         ),
         // A put that was refused is got all the same, which the four aspects let pass.
         (
             &["start 0 put 3 61\nend 0 spent\nstart 0 get 3\nend 0 got 0 1 61\n"],
-            "fresh holds\nonce holds\nin order holds\nempty holds\nrefused fails at file 1 line 4, 1 in all\n\
+            "fresh holds\nonce holds\nin order holds\nempty holds\nrefused fails at file 1 line 4, 1 in all; \
+             put refused at file 1 line 2\n\
              events 4\nqueues 1\nseats 1\ncalls 2\noverlapping 0\n",
         ),
         // Each file alone is right: the value that the second gets was put in the first.
@@ -76,7 +79,8 @@ fn recordings_are_merged_and_judged(rt: HostRuntime) -> Result<(), Fail> {
                 "opening 61\nopening 62\n2 start 0 get 0\n5 end 0 got o 1 62\n",
                 "1 start 1 get 0\n3 end 1 nothing\n",
             ],
-            "fresh holds\nonce holds\nin order holds\nempty fails at file 2 line 2, 1 in all\nrefused holds\n\
+            "fresh holds\nonce holds\nin order holds\nempty fails at file 2 line 2, 1 in all; \
+             1 waiting, the first put at file 1 line 1, never got\nrefused holds\n\
              events 4\nqueues 1\nseats 2\ncalls 2\noverlapping 2\n",
         ),
     ];

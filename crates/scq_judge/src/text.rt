@@ -1,17 +1,19 @@
 //! A report as text.
 
-ghost use Rattle.std.specs.Prelude.{◌≡◌, ◌<◌, ◌++◌, decimal, length, IfOk, IfSome, OnOk};
+ghost use Rattle.std.specs.Prelude.{◌≡◌, ◌<◌, ◌^◌, ◌++◌, decimal, length, IfOk, IfSome, OnOk};
 ghost use Rattle.scq_check.specs.Verdicts.{AreWithin};
-ghost use Rattle.scq_judge.specs.Report.{aspect_line, count_line, place_text, report_lines};
+ghost use Rattle.scq_check.specs.Waiting.{IsToldWithin};
+ghost use Rattle.scq_judge.specs.Report.{beside_line, count_line, event_text, got_text, place_text, plain_line, put_text, report_lines, verdict_text, waiting_line, waiting_text};
 
 use crate::judging::Report;
 use crate::recorded::Place;
 use itoa::Buffer;
-use scq_check::Failures;
+use scq_check::{Failures, Waiting};
 use scq_word::{Bytes, NoMemory};
 use std::alloc::Global;
 
-/// A report as text: a line for each aspect, `NAME holds` or `NAME fails at file F line L, COUNT in all`, and one for each count.
+/// A report as text: a line for each aspect and one for each count. `NAME holds`, or `NAME fails at file F line L, COUNT in all`, and
+/// behind that what the event at that line stands against.
 pub(crate) fn report_text(
     alloc: Global,
     places: &[Place],
@@ -20,12 +22,40 @@ pub(crate) fn report_text(
     requires { AreWithin (length places.now) report.now.breaches }
     ensures { IfOk result (λ text. text ≡ report_lines places.now report.now) }
 {
+    let breaches = &report.breaches;
+    let told = &breaches.counterparts;
     let mut text = Vec::new(alloc);
-    add_aspect(&mut text, b"fresh", places, &report.breaches.fresh)?;
-    add_aspect(&mut text, b"once", places, &report.breaches.once)?;
-    add_aspect(&mut text, b"in order", places, &report.breaches.in_order)?;
-    add_aspect(&mut text, b"empty", places, &report.breaches.empty_right)?;
-    add_aspect(&mut text, b"refused", places, &report.breaches.accepted)?;
+    add_plain(&mut text, b"fresh", places, &breaches.fresh)?;
+    add_beside(
+        &mut text,
+        b"once",
+        places,
+        &breaches.once,
+        b"; named before at ",
+        told.once,
+    )?;
+    add_waiting(
+        &mut text,
+        b"in order",
+        places,
+        &breaches.in_order,
+        told.in_order,
+    )?;
+    add_waiting(
+        &mut text,
+        b"empty",
+        places,
+        &breaches.empty_right,
+        told.empty_right,
+    )?;
+    add_beside(
+        &mut text,
+        b"refused",
+        places,
+        &breaches.accepted,
+        b"; put refused at ",
+        told.accepted,
+    )?;
     add_count(&mut text, b"events", report.counts.events)?;
     add_count(&mut text, b"queues", report.counts.queues)?;
     add_count(&mut text, b"seats", report.counts.seats)?;
@@ -34,27 +64,146 @@ pub(crate) fn report_text(
     Ok(Bytes::from(text))
 }
 
-fn add_aspect(
+// The line of an aspect whose breach stands against nothing.
+fn add_plain(
     text: &mut Vec<u8>,
     name: &[u8],
     places: &[Place],
     failures: &Failures,
 ) -> Result<(), NoMemory>
     requires { IfSome failures.now.first (λ e. e < length places.now) }
-    ensures { OnOk result (text.new.items ≡ text.old.items ++ aspect_line name.now places.now failures.now) }
+    ensures { OnOk result (text.new.items ≡ text.old.items ++ plain_line name.now places.now failures.now) }
+{
+    add_verdict(text, name, places, failures)?;
+    text.extend_from_slice(b"\n")?;
+    Ok(())
+}
+
+// The line of an aspect whose first breach stands against an event.
+fn add_beside(
+    text: &mut Vec<u8>,
+    name: &[u8],
+    places: &[Place],
+    failures: &Failures,
+    words: &[u8],
+    event: Option<usize>,
+) -> Result<(), NoMemory>
+    requires first { IfSome failures.now.first (λ e. e < length places.now) }
+    requires event { IfSome event (λ e. e < length places.now) }
+    ensures { OnOk result (text.new.items ≡ text.old.items ++ beside_line name.now places.now failures.now words.now event) }
+{
+    add_verdict(text, name, places, failures)?;
+    add_event(text, words, places, event)?;
+    text.extend_from_slice(b"\n")?;
+    Ok(())
+}
+
+// The line of an aspect whose first breach stands against puts that wait.
+fn add_waiting(
+    text: &mut Vec<u8>,
+    name: &[u8],
+    places: &[Place],
+    failures: &Failures,
+    waiting: Option<Waiting>,
+) -> Result<(), NoMemory>
+    requires first { IfSome failures.now.first (λ e. e < length places.now) }
+    requires waiting { IfSome waiting (IsToldWithin (length places.now)) }
+    ensures { OnOk result (text.new.items ≡ text.old.items ++ waiting_line name.now places.now failures.now waiting) }
+{
+    add_verdict(text, name, places, failures)?;
+    add_puts(text, places, waiting)?;
+    text.extend_from_slice(b"\n")?;
+    Ok(())
+}
+
+fn add_verdict(
+    text: &mut Vec<u8>,
+    name: &[u8],
+    places: &[Place],
+    failures: &Failures,
+) -> Result<(), NoMemory>
+    requires { IfSome failures.now.first (λ e. e < length places.now) }
+    ensures { OnOk result (text.new.items ≡ text.old.items ++ verdict_text name.now places.now failures.now) }
 {
     text.extend_from_slice(name)?;
     match failures.first {
-        None => text.extend_from_slice(b" holds\n")?,
+        None => text.extend_from_slice(b" holds")?,
         Some(e) => {
             text.extend_from_slice(b" fails at ")?;
             add_place(text, places[e])?;
             text.extend_from_slice(b", ")?;
             add_number(text, failures.count as u64)?;
-            text.extend_from_slice(b" in all\n")?;
+            text.extend_from_slice(b" in all")?;
         }
     }
     Ok(())
+}
+
+// These words and the place of this event, where there is one.
+fn add_event(
+    text: &mut Vec<u8>,
+    words: &[u8],
+    places: &[Place],
+    event: Option<usize>,
+) -> Result<(), NoMemory>
+    requires { IfSome event (λ e. e < length places.now) }
+    ensures { OnOk result (text.new.items ≡ text.old.items ++ event_text words.now places.now event) }
+{
+    if let Some(at) = event {
+        text.extend_from_slice(words)?;
+        add_place(text, places[at])?;
+    }
+    Ok(())
+}
+
+// How many puts wait, where the first was put, and where it is got.
+fn add_puts(text: &mut Vec<u8>, places: &[Place], waiting: Option<Waiting>) -> Result<(), NoMemory>
+    requires { IfSome waiting (IsToldWithin (length places.now)) }
+    ensures { OnOk result (text.new.items ≡ text.old.items ++ waiting_text places.now waiting) }
+{
+    if let Some(Waiting { tokens, puts, got }) = waiting {
+        text.extend_from_slice(b"; ")?;
+        add_number(text, tokens.count as u64 + puts.count as u64)?;
+        text.extend_from_slice(b" waiting, the first put at ")?;
+        add_put(text, places, tokens.first, puts.first)?;
+        add_got(text, places, got)?;
+    }
+    Ok(())
+}
+
+fn add_got(text: &mut Vec<u8>, places: &[Place], got: Option<usize>) -> Result<(), NoMemory>
+    requires { IfSome got (λ e. e < length places.now) }
+    ensures { OnOk result (text.new.items ≡ text.old.items ++ got_text places.now got) }
+{
+    match got {
+        None => text.extend_from_slice(b", never got")?,
+        Some(at) => {
+            text.extend_from_slice(b", got at ")?;
+            add_place(text, places[at])?;
+        }
+    }
+    Ok(())
+}
+
+// Where the first of them was put: the line of its opening token, or that of its End.
+fn add_put(
+    text: &mut Vec<u8>,
+    places: &[Place],
+    token: Option<usize>,
+    put: Option<usize>,
+) -> Result<(), NoMemory>
+    requires token { IfSome token (λ number. number < 2 ^ 32) }
+    requires put { IfSome put (λ d. d < length places.now) }
+    ensures { OnOk result (text.new.items ≡ text.old.items ++ put_text places.now token put) }
+{
+    match (token, put) {
+        (Some(number), _) => {
+            text.extend_from_slice(b"file 1 line ")?;
+            add_number(text, number as u64 + 1)
+        }
+        (None, Some(d)) => add_place(text, places[d]),
+        (None, None) => Ok(()),
+    }
 }
 
 fn add_place(text: &mut Vec<u8>, place: Place) -> Result<(), NoMemory>

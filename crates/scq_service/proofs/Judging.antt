@@ -1,6 +1,6 @@
 -- The sources of recordings that were got, and their contents.
-use Rattle.std.proofs.Common.{◌≡◌, ◌∙◌, refl, sym, ap, subst, arith, ℕ, suc, zero, ◌+◌, ◌-◌, ◌<◌, true}
-use Rattle.std.proofs.Common.{List, [], ◌∷◌, length, take, map, slice_get, Option, Some, None, IfSome}
+use Rattle.std.proofs.Common.{◌≡◌, ◌∙◌, refl, sym, ap, subst, arith, ℕ, suc, zero, ◌-◌, ◌<◌, true}
+use Rattle.std.proofs.Common.{List, [], ◌∷◌, length, take, slice_get, Option, Some, None}
 use Rattle.std.specs.Prelude.{IsSomeAnd}
 use Rattle.std.specs.Option.{option_map}
 use Rattle.std.proofs.Math.Seq.{take-length}
@@ -12,7 +12,7 @@ use Rattle.scq_judge.specs.declared.judging.JudgeFault.TheVariants as judge
 use Rattle.scq_work.specs.Ends.{all_left}
 use Rattle.scq_service.specs.Answers.{HaveCome, HaveAllCome}
 use Rattle.scq_service.specs.Contents.{contents_of, IfVisible, without_names}
-use Rattle.scq_service.specs.Ends.{Left, Change, Wrote, HaveAll, EndsJudged, IsRefusedBy, IsReported, IsUnwritten}
+use Rattle.scq_service.specs.Ends.{Change, Wrote, HaveAll, EndsJudged, IsRefusedBy, IsReported, IsUnwritten}
 use Rattle.scq_service.specs.Faults.{fault_of_judge}
 use Rattle.scq_service.specs.declared.fault.Fault.{Fault}
 use Rattle.scq_service.proofs.Files.{parts}

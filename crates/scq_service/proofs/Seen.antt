@@ -1,7 +1,7 @@
 -- What is seen of the queue of a run's workers, and that a run that was asked for doesn't end with refused words.
 use Rattle.std.proofs.Common.{◌≡◌, refl, subst, true, false, List, ℕ, Option, Some, None, Result, Ok, Err}
 use Rattle.std.specs.Prelude.{is_some}
-use Rattle.scq_words.specs.Asked.{Asked, run, generated, whole}
+use Rattle.scq_words.specs.Asked.{Asked, run, generated, judged, whole}
 use Rattle.scq_words.specs.declared.fault.WordsFault.{WordsFault}
 use Rattle.scq_words.specs.declared.text_request.TextCommand.{TextCommand}
 use Rattle.scq_words.specs.declared.text_request.TextCommand.TheVariants.{Check, Replay, Order}
@@ -15,6 +15,7 @@ pub unseen : (asked : Result Asked WordsFault) → IsSeenAt asked (Some NoMemory
 unseen (Err fault) = refl
 unseen (Ok (run a)) = λ none. refl
 unseen (Ok (generated a)) = λ none. refl
+unseen (Ok (judged a)) = refl
 unseen (Ok (whole a)) = refl
 
 -- what is not there

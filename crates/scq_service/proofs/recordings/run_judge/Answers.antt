@@ -1,10 +1,9 @@
-use Rattle.std.proofs.Common.{◌≡◌, ◌∙◌, ap, subst, refl, map, ℕ, Bool, List, Option, Some, Result, Ok, Err}
-use Rattle.std.specs.Prelude.{string_bytes, IfOk, IfErr, IsErrOf}
+use Rattle.std.proofs.Common.{◌≡◌, ◌∙◌, ap, subst, refl, map, ℕ, Bool, List, Option, Some, Result, Err}
+use Rattle.std.specs.Prelude.{string_bytes, IfOk, IfErr}
 use Rattle.scq_outside.specs.Table.{Table}
 use Rattle.scq_judge.specs.Files.{HaveContents}
 use Rattle.scq_judge.specs.Judged.{IsJudged, IsCause}
 use Rattle.scq_judge.specs.declared.judging.JudgeFault.{JudgeFault}
-use Rattle.scq_judge.specs.declared.judging.JudgeFault.TheVariants.{ReadFault}
 use Rattle.scq_service.specs.Answers.{HaveAllCome}
 use Rattle.scq_service.specs.Ends.{Change}
 use Rattle.scq_service.specs.Writing.{written_with, WrotePart}

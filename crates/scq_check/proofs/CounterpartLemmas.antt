@@ -1,0 +1,60 @@
+-- What is told beside the first event that breaks an aspect
+use Rattle.std.proofs.Common.{◌≡◌, ℕ, ◌<◌, List, Option, Some, None, length, slice_get, sym, subst, refl}
+use Rattle.std.specs.Prelude.{IfSome, MatchOption}
+use Rattle.std.proofs.lemmas.Option.{slice_get_within}
+use Rattle.scq_hist.specs.Aspects.{IsOnceAt, IsEmptyRightAt}
+use Rattle.scq_hist.specs.Calls.{IsGot}
+use Rattle.scq_hist.specs.First.{IsFirstFailing}
+use Rattle.scq_hist.specs.Lookups.{got_name, IsFirstNamed}
+use Rattle.scq_hist.specs.Tallies.{NoEmptyAt}
+use Rattle.scq_hist.specs.declared.events.Event.{Event}
+use Rattle.scq_hist.specs.declared.events.PutName.{PutName}
+use Rattle.scq_hist.specs.declared.events.PutName.TheVariants.{Of}
+use Rattle.scq_hist.proofs.NamesLemmas.{names_there, named_there}
+use Rattle.scq_check.specs.ByName.{place_in}
+use Rattle.scq_check.specs.Counterparts.{AtFirst, IsRepeatOf, IsOfRefused}
+use Rattle.scq_check.specs.Refused.{IsAcceptedAt, IsRefusals, NotSpentBefore, IsSpentAt}
+use Rattle.scq_check.specs.declared.by_name.ByName.{ByName}
+use Rattle.scq_check.proofs.RefusedLemmas.{accepted_there}
+
+-- the first event breaks the aspect
+pub fails_there : (Holds : ℕ → Type 0) (first : Option ℕ) (e : ℕ) → first ≡ Some e → IsFirstFailing Holds first → ¬ Holds e
+fails_there Holds first e is failing = let there = subst (IsFirstFailing Holds) is failing in there.0
+
+pub told_there : {X : Type 0} (P : ℕ → X → Type 0) (first : Option ℕ) (e : ℕ) (told : Option X) → first ≡ Some e → AtFirst P (Some e) told → AtFirst P first told
+told_there P first e told is at = subst (λ o. AtFirst P o told) (sym is) at
+
+-- a Got that names a put, and the first that does
+pub repeat_there : (events : List Event) (e : ℕ) (event : Event) (name : PutName) (told : Option ℕ) → slice_get events e ≡ Some event → got_name event ≡ Some name
+    → MatchOption told (¬ IsGot events name) (IsFirstNamed events name) → AtFirst (IsRepeatOf events) (Some e) told
+repeat_there events e event name None at named none = absurd (none (e, names_there events e event name at named))
+repeat_there events e event name (Some d) at named first = record { name = name; again = names_there events e event name at named; first = first }
+
+pub no_repeat : (events : List Event) (e : ℕ) (event : Event) → slice_get events e ≡ Some event → got_name event ≡ None → IsOnceAt events e
+no_repeat events e event at none name d names lt before = let n = named_there events e event name at names in absurd cc
+
+-- no get ends there with Nothing
+pub no_empty : (opening : List (List ℕ)) (events : List Event) (e : ℕ) → NoEmptyAt events e → IsEmptyRightAt opening events e
+no_empty opening events e none s seat queue call = absurd (none.none s seat queue call)
+
+-- a Got that names a put, and where that was refused
+pub refused_there : (events : List Event) (e seat number : ℕ) (event : Event) (names : ByName) (told : Option ℕ) → told ≡ place_in names seat number
+    → slice_get events e ≡ Some event → got_name event ≡ Some (Of seat number) → IsRefusals events (length events) names → (¬ IsAcceptedAt events e)
+    → AtFirst (IsOfRefused events) (Some e) told
+refused_there events e seat number event names None is at named refusals fails =
+    let accepted = accepted_there events e seat number event names at named refusals in
+    absurd (fails ((rw (sym is) at accepted).0 refl))
+refused_there events e seat number event names (Some d) is at named refusals fails = record {
+  seat = seat;
+  number = number;
+  named = names_there events e event (Of seat number) at named;
+  spent = subst (λ o. MatchOption o (NotSpentBefore events (length events) seat number) (IsSpentAt events seat number)) (sym is) (refusals.each seat number);
+}
+
+pub refused_within : (events : List Event) (seat number : ℕ) (names : ByName) (told : Option ℕ) → told ≡ place_in names seat number
+    → IsRefusals events (length events) names → IfSome told (λ d. d < length events)
+refused_within events seat number names None is refusals = tt
+refused_within events seat number names (Some d) is refusals =
+    let spent : IsSpentAt events seat number d =
+    subst (λ o. MatchOption o (NotSpentBefore events (length events) seat number) (IsSpentAt events seat number)) (sym is) (refusals.each seat number) in
+    slice_get_within events d _ spent.call.ends

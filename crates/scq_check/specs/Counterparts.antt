@@ -1,0 +1,44 @@
+-- What the first event that breaks an aspect stands against
+use Rattle.std.specs.Prelude.{◌≡◌, ℕ, List, Option, Some, None}
+use Rattle.scq_hist.specs.Calls.{Names}
+use Rattle.scq_hist.specs.Lookups.{IsFirstNamed}
+use Rattle.scq_hist.specs.Tallies.{IsPutGotAt, IsEmptyAt}
+use Rattle.scq_hist.specs.declared.events.Event.{Event}
+use Rattle.scq_hist.specs.declared.events.PutName.{PutName}
+use Rattle.scq_hist.specs.declared.events.PutName.TheVariants.{Of}
+use Rattle.scq_check.specs.Refused.{IsSpentAt}
+use Rattle.scq_check.specs.Waiting.{AreWaiting}
+use Rattle.scq_check.specs.declared.waiting.Waiting.{Waiting}
+
+-- once: the Got at position e names a put that was named before, first at position d
+pub record IsRepeatOf (events : List Event) (e d : ℕ) : Type 0 where
+  pub name : PutName
+  pub again : Names events e name
+  pub first : IsFirstNamed events name d
+
+-- in order: the get that ends at position e has got a put, and these that were finished when it started wait for gets
+pub record IsOvertaking (opening : List (List ℕ)) (events : List Event) (e : ℕ) (waiting : Waiting) : Type 0 where
+  pub queue : ℕ
+  pub start : ℕ
+  pub got : IsPutGotAt events e queue start
+  pub waits : AreWaiting opening events queue start e waiting
+
+-- empty: the get that ends at position e has found nothing, and these that were finished by then wait for gets
+pub record IsEmptyBeside (opening : List (List ℕ)) (events : List Event) (e : ℕ) (waiting : Waiting) : Type 0 where
+  pub queue : ℕ
+  pub start : ℕ
+  pub empty : IsEmptyAt events e queue start
+  pub waits : AreWaiting opening events queue e e waiting
+
+-- refused: the Got at position e names a put that ended with Spent at position d
+pub record IsOfRefused (events : List Event) (e d : ℕ) : Type 0 where
+  pub seat : ℕ
+  pub number : ℕ
+  pub named : Names events e (Of seat number)
+  pub spent : IsSpentAt events seat number d
+
+-- P of the first event and of what is told beside it; nothing is told where there is none
+abbrev pub AtFirst : {X : Type 0} → (ℕ → X → Type 0) → Option ℕ → Option X → Type 0
+AtFirst P None told = told ≡ None
+AtFirst P (Some e) None = ⊥
+AtFirst P (Some e) (Some x) = P e x

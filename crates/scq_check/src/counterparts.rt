@@ -1,0 +1,107 @@
+//! What the first event that breaks an aspect stands against.
+
+ghost use Rattle.std.specs.Prelude.{◌<◌, length, IfOk, IfSome};
+ghost use Rattle.scq_hist.specs.Aspects.{IsLawful, IsOnceAt, IsInOrderAt, IsEmptyRightAt};
+ghost use Rattle.scq_check.specs.Counterparts.{IsRepeatOf, IsOvertaking, IsEmptyBeside, IsOfRefused, AtFirst};
+ghost use Rattle.scq_check.specs.Failures.{AreFailures};
+ghost use Rattle.scq_check.specs.Refused.{IsAcceptedAt};
+ghost use Rattle.scq_check.specs.Tables.{IsTables};
+ghost use Rattle.scq_check.specs.Waiting.{IsToldWithin};
+
+use crate::failures::Failures;
+use crate::gots::got_name;
+use crate::order::{empty_at, put_got_at};
+use crate::refused::{named_put, refusals};
+use crate::tables::Tables;
+use crate::waiting::{Waiting, find_waiting};
+use scq_hist::Event;
+use scq_word::{Bytes, NoMemory};
+use std::alloc::Global;
+
+/// What the first event that breaks an aspect stands against, where one does.
+#[derive(Clone, Copy, Debug, PartialEq, Eq)]
+pub struct Counterparts {
+    /// The position of the first Got that names the same put.
+    pub once: Option<usize>,
+    /// The puts that were finished before the one that was got had started, and wait when its get ends.
+    pub in_order: Option<Waiting>,
+    /// The puts that are finished when the get ends with Nothing, and wait then.
+    pub empty_right: Option<Waiting>,
+    /// The position at which the put that the Got names ended with Spent.
+    pub accepted: Option<usize>,
+}
+
+/// Of the Gots that name the put of an earlier one: the first Got that names the put of the first of them.
+pub(crate) fn named_first(tables: &Tables, events: &[Event], repeated: &Failures) -> Option<usize>
+    requires tables { IsTables events.now tables.now }
+    requires failures { AreFailures (IsOnceAt events.now) repeated.now }
+    requires within { IfSome repeated.now.first (λ e. e < length events.now) }
+    ensures first { AtFirst (IsRepeatOf events.now) repeated.now.first result }
+    ensures within { IfSome result (λ d. d < length events.now) }
+{
+    let e = repeated.first?;
+    let name = got_name(&events[e])?;
+    tables.first_named(events, name)
+}
+
+/// Of the Gots that overtake: the puts that the first of them has overtaken.
+pub(crate) fn overtaken(
+    tables: &Tables,
+    opening: &[Bytes],
+    events: &[Event],
+    overtaking: &Failures,
+) -> Option<Waiting>
+    requires tables { IsTables events.now tables.now }
+    requires lawful { IsLawful events.now }
+    requires failures { AreFailures (IsInOrderAt opening.now events.now) overtaking.now }
+    requires within { IfSome overtaking.now.first (λ e. e < length events.now) }
+    ensures first { AtFirst (IsOvertaking opening.now events.now) overtaking.now.first result }
+    ensures within { IfSome result (IsToldWithin (length events.now)) }
+{
+    let e = overtaking.first?;
+    let (start, queue) = put_got_at(tables, events, e)?;
+    Some(find_waiting(tables, opening, events, queue, start, e))
+}
+
+/// Of the wrong Empties: the puts that wait when the first of them ends.
+pub(crate) fn waiting_beside(
+    tables: &Tables,
+    opening: &[Bytes],
+    events: &[Event],
+    wrong: &Failures,
+) -> Option<Waiting>
+    requires tables { IsTables events.now tables.now }
+    requires lawful { IsLawful events.now }
+    requires failures { AreFailures (IsEmptyRightAt opening.now events.now) wrong.now }
+    requires within { IfSome wrong.now.first (λ e. e < length events.now) }
+    ensures first { AtFirst (IsEmptyBeside opening.now events.now) wrong.now.first result }
+    ensures within { IfSome result (IsToldWithin (length events.now)) }
+{
+    let e = wrong.first?;
+    let (_, queue) = empty_at(tables, events, e)?;
+    Some(find_waiting(tables, opening, events, queue, e, e))
+}
+
+/// Of the Gots that name refused puts: where the put of the first of them was refused.
+pub(crate) fn refused_first(
+    alloc: Global,
+    tables: &Tables,
+    events: &[Event],
+    refused: &Failures,
+) -> Result<Option<usize>, NoMemory>
+    requires tables { IsTables events.now tables.now }
+    requires lawful { IsLawful events.now }
+    requires failures { AreFailures (IsAcceptedAt events.now) refused.now }
+    requires within { IfSome refused.now.first (λ e. e < length events.now) }
+    ensures first { IfOk result (AtFirst (IsOfRefused events.now) refused.now.first) }
+    ensures within { IfOk result (λ told. IfSome told (λ d. d < length events.now)) }
+{
+    let Some(e) = refused.first else {
+        return Ok(None);
+    };
+    let refusals = refusals(alloc, tables, events)?;
+    match named_put(&events[e]) {
+        Some((seat, number)) => Ok(refusals.get(seat, number)),
+        None => Ok(None),
+    }
+}

@@ -1,0 +1,164 @@
+//! The puts that wait: they were finished, and no get that had started by then has got them.
+
+ghost use Rattle.std.specs.Prelude.{◌≡◌, ◌<◌, ◌≤◌, ◌^◌, ◌↔◌, ℕ, IsTrue, IfSome, MatchOption, length};
+ghost use Rattle.scq_hist.specs.Aspects.{IsLawful};
+ghost use Rattle.scq_hist.specs.Calls.{IsGot, IsGotBefore};
+ghost use Rattle.scq_hist.specs.Lookups.{IsFirstNamed};
+ghost use Rattle.scq_hist.specs.declared.events.PutName.{PutName as ThePutName};
+ghost use Rattle.scq_check.specs.Failures.{AreFailures};
+ghost use Rattle.scq_check.specs.Tables.{IsTables};
+ghost use Rattle.scq_check.specs.Waiting.{IsTokenTaken, IsPutTaken, IsFirstWaiting, AreWaiting, IsToldWithin};
+
+use crate::failures::Failures;
+use crate::tables::Tables;
+use scq_hist::{Event, PutName};
+use scq_word::Bytes;
+
+/// Finished puts that no get which had started by then has got.
+#[derive(Clone, Copy, Debug, PartialEq, Eq)]
+pub struct Waiting {
+    /// The opening tokens: the number of the first, from 0, and how many they are.
+    pub tokens: Failures,
+    /// The others: the position at which the first ended with Done, and how many they are.
+    pub puts: Failures,
+    /// The position of the Got that names the first of them, tokens before others, if one does.
+    pub got: Option<usize>,
+}
+
+// Whether a get that started before position e has got this put.
+fn is_taken(tables: &Tables, events: &[Event], name: PutName, e: usize) -> bool
+    requires tables { IsTables events.now tables.now }
+    requires lawful { IsLawful events.now }
+    ensures { IsTrue result ↔ IsGotBefore events.now e name }
+{
+    match tables.get_of(events, name) {
+        Some(start) => start < e,
+        None => false,
+    }
+}
+
+// Whether one has got the opening token of this number, if it stands in the queue.
+fn is_token_taken(
+    tables: &Tables,
+    opening: &[Bytes],
+    events: &[Event],
+    queue: u32,
+    e: usize,
+    number: usize,
+) -> bool
+    requires tables { IsTables events.now tables.now }
+    requires lawful { IsLawful events.now }
+    requires within { number < length opening.now }
+    ensures { IsTrue result ↔ IsTokenTaken opening.now events.now queue e number }
+{
+    if queue != 0 {
+        return true;
+    }
+    if number > u32::MAX as usize {
+        return true;
+    }
+    let number = number as u32;
+    is_taken(tables, events, PutName::Opening { number }, e)
+}
+
+// Whether one has got the put of the queue that ends with Done at position d, if one does.
+fn is_put_taken(tables: &Tables, events: &[Event], queue: u32, e: usize, d: usize) -> bool
+    requires tables { IsTables events.now tables.now }
+    requires lawful { IsLawful events.now }
+    requires within { d < length events.now }
+    ensures { (m : ℕ) → d < m → (IsTrue result ↔ IsPutTaken events.now queue m e d) }
+{
+    match tables.done_put(events, queue, d) {
+        Some(name) => is_taken(tables, events, name, e),
+        None => true,
+    }
+}
+
+// The opening tokens that wait in the queue at position e.
+fn waiting_tokens(
+    tables: &Tables,
+    opening: &[Bytes],
+    events: &[Event],
+    queue: u32,
+    e: usize,
+) -> Failures
+    requires tables { IsTables events.now tables.now }
+    requires lawful { IsLawful events.now }
+    ensures failures { AreFailures (IsTokenTaken opening.now events.now queue e) result }
+    ensures few { result.count ≤ length opening.now }
+{
+    let mut failures = Failures::none();
+    for number in 0..opening.len() {
+        failures = failures.with(
+            number,
+            is_token_taken(tables, opening, events, queue, e, number),
+        );
+    }
+    failures
+}
+
+// The puts of the queue that were finished at moment m and wait at position e.
+fn waiting_puts(tables: &Tables, events: &[Event], queue: u32, m: usize, e: usize) -> Failures
+    requires tables { IsTables events.now tables.now }
+    requires lawful { IsLawful events.now }
+    requires within { m ≤ length events.now }
+    ensures failures { AreFailures (IsPutTaken events.now queue m e) result }
+    ensures within { IfSome result.first (λ d. d < length events.now) }
+    ensures few { result.count ≤ length events.now }
+{
+    let mut failures = Failures::none();
+    for d in 0..m {
+        failures = failures.with(d, is_put_taken(tables, events, queue, e, d));
+    }
+    failures
+}
+
+// The position of the first Got that names the first of those that wait.
+fn got_of_first(
+    tables: &Tables,
+    events: &[Event],
+    queue: u32,
+    token: Option<usize>,
+    put: Option<usize>,
+) -> Option<usize>
+    requires tables { IsTables events.now tables.now }
+    requires lawful { IsLawful events.now }
+    requires token { IfSome token (λ number. number < 2 ^ 32) }
+    requires put { IfSome put (λ d. d < length events.now) }
+    ensures got { (name : ThePutName) → IsFirstWaiting events.now queue token put name
+        → MatchOption result (¬ IsGot events.now name) (IsFirstNamed events.now name) }
+    ensures within { IfSome result (λ d. d < length events.now) }
+{
+    match (token, put) {
+        (Some(number), _) => {
+            let number = number as u32;
+            tables.first_named(events, PutName::Opening { number })
+        }
+        (None, Some(d)) => {
+            let name = tables.done_put(events, queue, d)?;
+            tables.first_named(events, name)
+        }
+        (None, None) => None,
+    }
+}
+
+/// The puts of the queue that were finished at moment m and that no get which started before position e has got.
+pub(crate) fn find_waiting(
+    tables: &Tables,
+    opening: &[Bytes],
+    events: &[Event],
+    queue: u32,
+    m: usize,
+    e: usize,
+) -> Waiting
+    requires tables { IsTables events.now tables.now }
+    requires lawful { IsLawful events.now }
+    requires within { m ≤ length events.now }
+    ensures waiting { AreWaiting opening.now events.now queue m e result }
+    ensures within { IsToldWithin (length events.now) result }
+{
+    let tokens = waiting_tokens(tables, opening, events, queue, e);
+    let puts = waiting_puts(tables, events, queue, m, e);
+    let got = got_of_first(tables, events, queue, tokens.first, puts.first);
+    Waiting { tokens, puts, got }
+}
