@@ -15,6 +15,7 @@ pub struct Ending {
     status: u8,
     output: MemSink,
     errors: MemSink,
+    left: Option<Vec<u64>>,
 }
 
 /// Runs a row.
@@ -36,6 +37,7 @@ pub fn ending_of<R: Threads + Sync>(rt: &R, alloc: Global, row: &Row) -> Result<
         status: outcome.status,
         output,
         errors,
+        left: outcome.left,
     })
 }
 
@@ -53,10 +55,21 @@ impl Ending {
         } else {
             self.errors.bytes() == row.errors.as_slice()
         };
-        if right {
+        if !right {
+            return Some("what is written to the errors");
+        }
+        if row.left.is_empty() || self.has_left(row.left.as_slice()) {
             None
         } else {
-            Some("what is written to the errors")
+            Some("what is left in the queue")
+        }
+    }
+
+    /// Whether so many buffers are left in each ring of the workers' queue.
+    fn has_left(&self, rings: &[u64]) -> bool {
+        match &self.left {
+            Some(left) => left.as_slice() == rings,
+            None => false,
         }
     }
 }

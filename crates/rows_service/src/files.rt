@@ -75,6 +75,8 @@ impl Cut {
 pub struct RowFile {
     name: String,
     pub content: Vec<u8>,
+    /// How its reads are cut, where not as those of all files.
+    pub reads: Option<Cut>,
 }
 
 impl RowFile {
@@ -83,11 +85,12 @@ impl RowFile {
         RowFile {
             name,
             content: Vec::new(alloc),
+            reads: None,
         }
     }
 }
 
-/// The files of a row, each of which is given once. Their sources are cut alike.
+/// The files of a row, each of which is given once. Their sources are cut alike, but for those that have cuts of their own.
 #[derive(Drop)]
 pub struct RowFiles<'a> {
     alloc: Global,
@@ -116,7 +119,8 @@ impl RowFiles<'_> {
         for (file, given) in self.files.iter().zip(self.given.iter_mut()) {
             if file.name.as_str() == name && !*given {
                 *given = true;
-                return self.reads.source(self.alloc, file.content.as_slice()).ok();
+                let reads = file.reads.unwrap_or(self.reads);
+                return reads.source(self.alloc, file.content.as_slice()).ok();
             }
         }
         None

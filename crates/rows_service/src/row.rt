@@ -1,11 +1,12 @@
 //! A row: what the service is given, and what is to come of it. Its lines, each a mark and, after a space, a text:
 //!
 //! - `$` words of the command line, with a space between them, and `+` more of the last of them;
-//! - `<` the name of a file, then for each line of its content a `|`;
+//! - `<` the name of a file, then for each line of its content a `|`, and `cut` where its reads alone go otherwise than `reads` says;
 //! - `>` a line of the output, `!` a line of the errors; `?` in place of these where the errors are a report,
 //!   which has to add up;
 //! - `reads`, `writes`, `errors`: the greatest piece that a read or a write moves, and which call of each object fails, 0 for none;
 //! - `room`: how many bytes fit the output;
+//! - `left`: how many buffers are left in each ring of the workers' queue; without this line that isn't compared;
 //! - `=` the status, which ends the row.
 //!
 //! `rows_text` has what stands for bytes that aren't seen.
@@ -30,6 +31,8 @@ pub struct Row {
     pub errors: Vec<u8>,
     /// The errors are a report of workers.
     pub reports: bool,
+    /// What is left in each ring, where it is compared.
+    pub left: Vec<u64>,
 }
 
 impl Row {
@@ -45,6 +48,7 @@ impl Row {
             output: Vec::new(alloc),
             errors: Vec::new(alloc),
             reports: false,
+            left: Vec::new(alloc),
         }
     }
 
@@ -69,6 +73,15 @@ impl Row {
             ">" => add_line(&mut self.output, text)?,
             "!" => add_line(&mut self.errors, text)?,
             "?" => self.reports = true,
+            "cut" => {
+                let file = self.files.last_mut().context("a cut of no file")?;
+                file.reads = Some(Cut::of(text)?);
+            }
+            "left" => {
+                for number in text.split(' ') {
+                    self.left.push(number.parse::<u64>()?)?;
+                }
+            }
             "reads" => self.reads = Cut::of(text)?,
             "writes" => self.writes = Cut::of(text)?,
             "errors" => self.error_writes = Cut::of(text)?,

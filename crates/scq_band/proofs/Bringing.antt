@@ -64,7 +64,8 @@ module _ {S : Type 0} (Lies : ℕ → S → List ℕ → Type 0) where
   -- the rule with the slot at home
   brought_shown : {opening : List (List ℕ)} {gone : ℕ → Option ℕ}
       {run : List (ℕ × Step)} (c : Setup) (s : State S Known) (id : ℕ) (v : Known) (i : ℕ) (y : S) (w : List ℕ) → v.seats ≡ my v ∷ []
-      → 0 < times i (my v).part.hand → times i (indices_of (my v).brought) ≡ 0 → Lies i y w → (sh : Shown Lies opening c gone run s) → get_elem? s.views id ≡ some v
+      → 0 < times i (my v).part.hand → times i (indices_of (my v).brought) ≡ 0 → Lies i y w → (sh : Shown Lies opening c gone run s)
+      → get_elem? s.views id ≡ some v
       → Shown Lies opening c gone run (record { words = s.words; homes = slice_set s.homes i (some y); views = slice_set s.views id (at_home ((i, w) ∷ []) v) })
   brought_shown {opening} {gone} {run} c s id v i y w alone held new lies sh here =
       let z = sh.scene in

@@ -445,7 +445,8 @@ module _ {B : Type 0} where
   pub ended : (contents : B → List ℕ) (IsSame : B → B → Type 0) (table : TableId) (key : Key B) (band : Identity B) (id : ℕ) (v : Sight)
       (seats : List (Standing B)) (ws : List ℕ) (items : List (Slot B)) → identity_of table key ≡ band
       → Final (OfView (ShowsRun (LiesIn contents IsSame key.given.value.items) (opening_of contents key.given.value.items) key.setup) id v) ws items
-      → HasAll contents key.setup.rings seats v.known → v.seen ≡ all_seen seats → length seats ≡ band.setup.seats → length key.given.value.items ≡ n_of key.setup.order
+      → HasAll contents key.setup.rings seats v.known → v.seen ≡ all_seen seats → length seats ≡ band.setup.seats
+      → length key.given.value.items ≡ n_of key.setup.order
       → EndsAs contents IsSame band.given band.setup seats v.known.seats ws items
   ended contents IsSame table key band id v seats ws items is f has told count many =
       let seats_are : length seats ≡ key.setup.seats = count ∙ ap (λ (b : Identity B). b.setup.seats) (sym is) in

@@ -13,8 +13,8 @@ use Rattle.scq_band.specs.Homes.{IsMemberOf, OutOrHome, AreGathered, all_seen}
 use Rattle.scq_band.proofs.SeatsHome.{has_one, has_more}
 
 module _ {B : Type 0} where
-  pub gathered_first : (contents : B → List ℕ) (rings : ℕ) (all left : List (Standing B)) (s : Standing B) (w : Known) → all ≡ left ++ s ∷ [] → w.seats ≡ my w ∷ []
-      → IsMemberOf contents s (my w) → w.numbers ≡ s.numbers → length s.numbers ≡ rings → w.gate ≡ s.gate → (told : Seen) → told ≡ s.seen
+  pub gathered_first : (contents : B → List ℕ) (rings : ℕ) (all left : List (Standing B)) (s : Standing B) (w : Known) → all ≡ left ++ s ∷ []
+      → w.seats ≡ my w ∷ [] → IsMemberOf contents s (my w) → w.numbers ≡ s.numbers → length s.numbers ≡ rings → w.gate ≡ s.gate → (told : Seen) → told ≡ s.seen
       → AreGathered contents rings all left w told
   gathered_first contents rings all left s w split alone member numbers count gate told seen =
       record {
@@ -46,7 +46,11 @@ module _ {B : Type 0} where
       → OutOrHome contents more left (x ∷ []) → OutOrHome contents out left (x ∷ xs)
   out_more contents out more left x xs before now o has =
       elim (before o has) [
-        | inl there ↦ elim (now o there) [ inl still ↦ inl still | inr b ↦ inr record { at = 0; member = x; here = refl; brought = brought b.at b.member b.here b.brought } ]
+        | inl there ↦
+            elim (now o there) [
+              | inl still ↦ inl still
+              | inr b ↦ inr record { at = 0; member = x; here = refl; brought = brought b.at b.member b.here b.brought }
+            ]
         | inr b ↦ inr record { at = suc b.at; member = b.member; here = b.here; brought = b.brought }
       ]
     where

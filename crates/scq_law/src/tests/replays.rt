@@ -193,14 +193,14 @@ fn replayed_text(
     Ok(format!(in alloc; "{words} {counts} {call}:{events}")?)
 }
 
-/// What a line has to say of the steps up to it, and how many events there are then. A line that stops is the last.
+/// What a line has to say of the steps up to it, and how many events there are then. A line that stops is the last, and has none.
 fn line_text(
     alloc: Global,
     limit: u64,
     line: &Line,
     seen: usize,
     steps: &[(u32, Step)],
-) -> Result<(String, usize), Fail>
+) -> Result<(String, Option<usize>), Fail>
     requires seat { line.now.seat < 2 }
     requires ring { line.now.ring < 2 }
     requires seats { All (λ (x : ℕ × StepOf). x.0 < 2) steps.now }
@@ -209,32 +209,42 @@ fn line_text(
     match replayed(alloc, limit, steps) {
         Ok(replayed) => Ok((
             replayed_text(alloc, line, seen, &replayed)?,
-            replayed.events.len(),
+            Some(replayed.events.len()),
         )),
         Err(ReplayFault::NotEnabled { at }) => {
-            Ok((format!(in alloc; "{} stops at {at}:", line.ring)?, seen))
+            Ok((format!(in alloc; "{} stops at {at}:", line.ring)?, None))
         }
         Err(ReplayFault::NoMemory) => Err(Fail::from("memory")),
     }
 }
 
-/// Replays a table line by line, and judges the history of each cut. Where a line stops, it is the last, by its last step.
+/// Replays a table line by line, and judges the history of each cut, the last behind all steps. Where a line stops, it is the last
+/// line, by its last step, which no cut has.
 fn run(rt: &(impl Abort + AllocGlobal), limit: u64, table: &str) -> Result<(), Fail>
     requires { (16 ≤ limit) × (limit ≤ 2 ^ 60) }
 {
     let alloc = rt.alloc();
     let mut steps = Vec::new(alloc);
     let mut seen = 0;
+    let mut whole = true;
     for line in table.lines() {
         let line = parse(line)?;
         push_steps(alloc, line.seat, line.steps, &mut steps)?;
         let (text, events) = line_text(alloc, limit, &line, seen, &steps)?;
         same(rt, text.as_str(), line.want)?;
-        seen = events;
+        match events {
+            Some(events) => seen = events,
+            None => whole = false,
+        }
     }
-    judge_cuts(rt, limit, &steps)
+    judge_cuts(rt, limit, &steps)?;
+    if whole {
+        judge(rt, limit, &steps)?;
+    }
+    Ok(())
 }
 
+/// The history of each cut in front of some step.
 fn judge_cuts(
     rt: &(impl Abort + AllocGlobal),
     limit: u64,

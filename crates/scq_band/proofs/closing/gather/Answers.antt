@@ -32,8 +32,8 @@ loop-seat-init g c =
           (times i (indices_of (map g.T.Lifted.pair c.args.out.items)))
           (times i (indices_of (map g.T.Lifted.pair c.one_home-first.new.out.items))) (c.requires.lifted i) c.in-Some.ensures.items (e.less i),
       e.given,
-      gathered_first g.B.Buffer.contents c.args.words.now.key.setup.rings c.args.seats.items left c.in-Some.last w c.in-Some.ensures.items e.alone e.member e.numbers.0 e.numbers.1
-          e.gate c.one_home-first.result.me.0.seen e.seen,
+      gathered_first g.B.Buffer.contents c.args.words.now.key.setup.rings c.args.seats.items left c.in-Some.last w c.in-Some.ensures.items e.alone e.member
+          e.numbers.0 e.numbers.1 e.gate c.one_home-first.result.me.0.seen e.seen,
       subst (λ (xs : List Member). OutOrHome g.B.Buffer.contents (map g.T.Lifted.pair c.args.out.items) (map g.T.Lifted.pair c.one_home-first.new.out.items) xs)
           (sym e.alone) e.home,
     )
@@ -76,8 +76,8 @@ loop-seat-preserved g c =
     let bands = All-pop (λ (s : Standing g.row.B.Denot). s.band ≡ identity_of c.args.words.now.table_id c.args.words.now.key) before left
     (Some c.in-Some-pop.seat)
     c.in-Some-pop.ensures.items c.loop-seat.invariant.1 in
-    let more = gathered_more g.B.Buffer.contents rings c.args.seats.items before left c.in-Some-pop.seat v w told c.loop-seat.invariant.4 c.in-Some-pop.ensures.items e.alone
-    e.member
+    let more = gathered_more g.B.Buffer.contents rings c.args.seats.items before left c.in-Some-pop.seat v w told c.loop-seat.invariant.4
+    c.in-Some-pop.ensures.items e.alone e.member
     e.numbers.0 e.numbers.1 e.gate c.one_home-token.result.me.0.seen e.seen in
     let out = map g.T.Lifted.pair c.args.out.items in
     let still = map g.T.Lifted.pair c.one_home-token.new.out.items in
