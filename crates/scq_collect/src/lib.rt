@@ -7,11 +7,7 @@
 #![tactic(auto)]
 
 mod answered;
-#[cfg(test)]
-mod merge_tests;
 mod merging;
-#[cfg(test)]
-mod tests;
 mod text;
 mod totals;
 
