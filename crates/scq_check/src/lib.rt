@@ -20,8 +20,6 @@ mod puts;
 mod queues;
 mod refused;
 mod tables;
-#[cfg(test)]
-mod tests;
 mod verdicts;
 
 pub use failures::Failures;
