@@ -26,6 +26,10 @@ pub fn request(alloc: Global, given: &str) -> Result<String> {
         Ok(Request::Text(TextRequest { command, file })) => {
             write!(text, "{command:?} {file}")?;
         }
+        Ok(Request::Judge(judge)) => {
+            text.push_str("judge")?;
+            write_files(&mut text, &judge.files)?;
+        }
         Err(error) => write!(text, "{error}")?,
     }
     Ok(text)
@@ -39,7 +43,11 @@ fn write_run(text: &mut String, run: &RunRequest) -> Result<()> {
     if run.report {
         text.push_str(" report")?;
     }
-    for file in &run.files {
+    write_files(text, &run.files)
+}
+
+fn write_files(text: &mut String, files: &[String]) -> Result<()> {
+    for file in files {
         write!(text, " {file}")?;
     }
     Ok(())

@@ -21,8 +21,6 @@ mod puts;
 mod queues;
 mod refused;
 mod tables;
-#[cfg(test)]
-mod tests;
 mod verdicts;
 mod waiting;
 

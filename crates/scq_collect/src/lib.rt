@@ -7,13 +7,9 @@
 #![tactic(auto)]
 
 mod answered;
-#[cfg(test)]
-mod merge_tests;
 mod merging;
 mod ordering;
 mod pieces;
-#[cfg(test)]
-mod tests;
 mod text;
 mod totals;
 

@@ -23,6 +23,3 @@ pub use phase::Phase;
 pub use state::State;
 pub use step::Step;
 pub use table::{ZERO_LEVEL, filled, passed, reset_level};
-
-#[cfg(test)]
-mod tests;

@@ -13,8 +13,6 @@ mod fault;
 mod framer;
 mod message;
 mod room;
-#[cfg(test)]
-mod tests;
 mod window;
 
 pub use encoded::{View, decode, encode};

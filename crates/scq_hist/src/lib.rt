@@ -13,8 +13,6 @@ mod lawful;
 mod names;
 mod order;
 mod tallies;
-#[cfg(test)]
-mod tests;
 
 pub use emptiness::{empty_right, first_wrong_empty};
 pub use events::{Call, Event, PutName, Reply};

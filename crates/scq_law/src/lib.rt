@@ -24,8 +24,6 @@ mod recording;
 mod replayed;
 mod replaying;
 pub mod runs;
-#[cfg(test)]
-mod tests;
 
 pub use act::ended;
 pub use ordered::{OrderFault, Ordered};

@@ -8,8 +8,6 @@ mod contents;
 mod fields;
 mod lines;
 mod numbers;
-#[cfg(test)]
-mod tests;
 
 pub use contents::content;
 pub use fields::{first_field, next_field};

@@ -1,10 +1,10 @@
 ghost use Rattle.std.specs.Prelude.{◌≡◌, IfOk};
 
 use crate::{
-    DiskFiles, Failed, Files, MemFiles, MemSink, MemSource, PlainSource, ReadAllFault, Sink,
-    Source, StdSink, StdStream, read_all,
+    DiskFiles, Failed, Files, MemFiles, MemSink, MemSource, PlainSource, Sink, Source, StdSink,
+    StdStream,
 };
-use scq_word::{Bytes, NoMemory};
+use scq_word::NoMemory;
 use std::alloc::{AllocError, Global};
 use std::fs;
 use std::io::{self, Write};
@@ -178,60 +178,4 @@ fn a_stream_that_takes_a_part_or_fails(rt: HostRuntime) {
             "at most {most}"
         );
     }
-}
-
-/// What `read_all` answers where a source has `text`, gives two bytes at a time and fails at the
-/// reads of these numbers.
-fn all_of(
-    alloc: Global,
-    text: &str,
-    fails: Vec<u32>,
-    most: u64,
-) -> Result<Result<Bytes, ReadAllFault>, Fail> {
-    let pieces = vec![in alloc; 2; 9]?;
-    let mut source = MemSource::new(text.as_bytes().to_vec(alloc)?, pieces, fails);
-    Ok(read_all(alloc, &mut source, most.min(100)))
-}
-
-#[test]
-fn a_source_is_read_to_its_end_or_to_one_byte_past_the_limit(rt: HostRuntime) -> Result<(), Fail> {
-    let alloc = rt.alloc();
-    // A text, the number of the read that fails, the limit, and how the call ends.
-    let rows = [
-        ("", 0, 0, "read"),
-        ("", 1, 0, "a read failed"),
-        ("a", 0, 0, "more bytes than the limit: 1 were read"),
-        ("abcde", 0, 5, "read"),
-        ("abcde", 0, 4, "more bytes than the limit: 5 were read"),
-        ("abcde", 0, 3, "more bytes than the limit: 4 were read"),
-        ("abcde", 2, 1, "more bytes than the limit: 2 were read"),
-        ("abcde", 2, 2, "a read failed"),
-        ("abcde", 4, 5, "a read failed"),
-    ];
-    for (row, (text, fails, most, want)) in rows.iter().enumerate() {
-        let fails = vec![in alloc; *fails]?;
-        let said = match all_of(alloc, *text, fails, *most)? {
-            Ok(bytes) => {
-                assert_eq!(rt; bytes.bytes(), text.as_bytes(), "row {row}");
-                "read".to_string(alloc)?
-            }
-            Err(fault) => fault.to_string(alloc)?,
-        };
-        assert_eq!(rt; said.as_str(), *want, "row {row}");
-    }
-    let pieces = Vec::new(alloc);
-    let mut long = MemSource::new(vec![in alloc; b'x'; 10_000]?, pieces, Vec::new(alloc));
-    let bytes = read_all(alloc, &mut long, 10_000).map_err(|_| "not read")?;
-    assert_eq!(rt; bytes.bytes().len(), 10_000);
-    Ok(())
-}
-
-#[test]
-fn faults_say_what_they_are(rt: HostRuntime) -> Result<(), Fail> {
-    let alloc = rt.alloc();
-    let failed = Failed.to_string(alloc)?;
-    assert_eq!(rt; failed.as_str(), "reading, writing or opening failed");
-    let wanted = ReadAllFault::NoMemory.to_string(alloc)?;
-    assert_eq!(rt; wanted.as_str(), "out of memory");
-    Ok(())
 }

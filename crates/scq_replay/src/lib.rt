@@ -11,8 +11,6 @@ mod printing;
 mod replaying;
 mod schedule;
 mod stepping;
-#[cfg(test)]
-mod tests;
 
 pub use judging::judge_run;
 pub use ordering::order_text;

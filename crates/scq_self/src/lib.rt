@@ -6,8 +6,6 @@
 
 mod generator;
 mod summary;
-#[cfg(test)]
-mod tests;
 
 pub use generator::{generate, self_topics};
 pub use summary::summary_text;

@@ -10,8 +10,6 @@ mod kind;
 mod replies;
 mod reply_bytes;
 mod sum;
-#[cfg(test)]
-mod tests;
 mod topics;
 mod words;
 

@@ -11,8 +11,6 @@ mod entry;
 pub mod laws;
 mod setup;
 mod shape;
-#[cfg(test)]
-mod tests;
 mod words;
 
 pub use bounds::limit_for;

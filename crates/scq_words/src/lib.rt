@@ -13,8 +13,6 @@ mod reading;
 mod request;
 mod run;
 mod self_words;
-#[cfg(test)]
-mod tests;
 mod text_request;
 mod workers;
 
