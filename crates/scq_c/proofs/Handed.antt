@@ -1,0 +1,71 @@
+-- Handles and the ports that they have, as ports are put into them.
+use Rattle.std.proofs.Common.{◌≡◌, ℕ, zero, suc, ◌+◌, ◌<◌, ◌≤◌, List, [], ◌∷◌, ◌++◌, length, map, replicate, refl, sym, ◌∙◌, ap, subst, arith, append-nil, append_assoc}
+use Rattle.std.specs.Prelude.{All, Option, Some, None, slice_get, slice_set, slice_index_or}
+use Rattle.std.proofs.lemmas.List.{map-append}
+use Rattle.scq_port.specs.Ports.{PortStanding}
+use Rattle.scq_c.specs.declared.handle.Handle.{Handle}
+use Rattle.scq_c.specs.Answers.{ports_of}
+
+-- the port of the handle at a place
+pub port_at : (hs : List Handle) (k : ℕ) (h : Handle) → slice_get hs k ≡ Some h → slice_get (ports_of hs) k ≡ Some h.port
+port_at [] k h is = absurd (cc)
+port_at (x ∷ xs) zero h is = let same : x ≡ h = cc in ap (λ (y : Handle). Some y.port) same
+port_at (x ∷ xs) (suc k) h is = port_at xs k h is
+
+-- one handle with another port
+pub ports_set : (hs : List Handle) (k : ℕ) (h : Handle) → ports_of (slice_set hs k h) ≡ slice_set (ports_of hs) k h.port
+ports_set [] k h = refl
+ports_set (x ∷ xs) zero h = refl
+ports_set (x ∷ xs) (suc k) h = ap (λ (l : List (Option PortStanding)). x.port ∷ l) (ports_set xs k h)
+
+set_same : (os : List (Option PortStanding)) (k : ℕ) (o : Option PortStanding) → slice_get os k ≡ Some o → slice_set os k o ≡ os
+set_same [] k o is = refl
+set_same (x ∷ xs) zero o is = let same : x ≡ o = cc in ap (λ y. y ∷ xs) (sym same)
+set_same (x ∷ xs) (suc k) o is = ap (λ l. x ∷ l) (set_same xs k o is)
+
+pub ports_same : (hs : List Handle) (k : ℕ) (old new : Handle) → slice_get hs k ≡ Some old → new.port ≡ old.port → ports_of (slice_set hs k new) ≡ ports_of hs
+ports_same hs k old new is same =
+    ports_set hs k new ∙ ap (λ o. slice_set (ports_of hs) k o) same ∙ set_same (ports_of hs) k old.port (port_at hs k old is)
+
+pub length_ports : (hs : List Handle) → length (ports_of hs) ≡ length hs
+length_ports [] = refl
+length_ports (x ∷ xs) = ap suc (length_ports xs)
+
+-- closed are those below a place
+abbrev pub NoneBelow : ℕ → List (Option PortStanding) → Type 0
+NoneBelow k os = (i : ℕ) → i < k → slice_get os i ≡ Some None
+
+pub all_closed : (hs : List Handle) → NoneBelow (length hs) (ports_of hs) → All (λ (h : Handle). h.port ≡ None) hs
+all_closed [] none k d low = absurd (omega (arith, low))
+all_closed (x ∷ xs) none zero d low = let first = none 0 (omega arith) in cc
+all_closed (x ∷ xs) none (suc k) d low = all_closed xs (λ i lt. none (suc i) (omega (arith, lt))) k d (omega (arith, low))
+
+pub none_closed : (hs : List Handle) (k : ℕ) (h : Handle) → All (λ (h : Handle). h.port ≡ None) hs → slice_get hs k ≡ Some h → h.port ≡ None
+none_closed [] k h all is = absurd (cc)
+none_closed (x ∷ xs) zero h all is = let same : x ≡ h = cc in subst (λ (y : Handle). y.port ≡ None) same (all 0 x (omega arith))
+none_closed (x ∷ xs) (suc k) h all is = none_closed xs k h (λ i d low. all (suc i) d (omega (arith, low))) is
+
+-- the ports of handles that are closed
+pub closed_ports : (hs : List Handle) → All (λ (h : Handle). h.port ≡ None) hs → ports_of hs ≡ replicate (length hs) None
+closed_ports [] all = refl
+closed_ports (x ∷ xs) all =
+    ap (λ (o : Option PortStanding). o ∷ ports_of xs) (all 0 x (omega arith))
+    ∙ ap (λ (l : List (Option PortStanding)). None ∷ l) (closed_ports xs (λ k d low. all (suc k) d (omega (arith, low))))
+
+-- the last of those that are closed
+pub last_closed : (n k : ℕ) (os rest : List (Option PortStanding)) → os ≡ replicate n None ++ rest → n ≡ k + 1 → slice_get os k ≡ Some None
+last_closed n k os rest is one =
+    ap (λ l. slice_get l k) is ∙ ap (λ m. slice_get (replicate m None ++ rest) k) one ∙ by k
+  where
+    by : (j : ℕ) → slice_get (replicate (j + 1) None ++ rest) j ≡ Some None
+    by zero = refl
+    by (suc j) = by j
+
+pub last_filled : (n k : ℕ) (os rest : List (Option PortStanding)) (o : Option PortStanding) → os ≡ replicate n None ++ rest → n ≡ k + 1
+    → slice_set os k o ≡ replicate k None ++ o ∷ rest
+last_filled n k os rest o is one =
+    ap (λ l. slice_set l k o) is ∙ ap (λ m. slice_set (replicate m None ++ rest) k o) one ∙ by k
+  where
+    by : (j : ℕ) → slice_set (replicate (j + 1) None ++ rest) j o ≡ replicate j None ++ o ∷ rest
+    by zero = refl
+    by (suc j) = ap (λ (l : List (Option PortStanding)). None ∷ l) (by j)
