@@ -1,7 +1,7 @@
 -- Handles and the ports that they have, as ports are put into them.
 use Rattle.std.proofs.Common.{◌≡◌, ℕ, zero, suc, ◌+◌, ◌<◌, ◌≤◌, List, [], ◌∷◌, ◌++◌, length, map, replicate, refl, sym, ◌∙◌, ap, subst, arith, append-nil, append_assoc}
-use Rattle.std.specs.Prelude.{All, Option, Some, None, slice_get, slice_set, slice_index_or}
-use Rattle.std.proofs.lemmas.List.{map-append}
+use Rattle.std.specs.Prelude.{All, Option, Some, None, slice_get, slice_set, slice_index_or, reverse}
+use Rattle.std.proofs.lemmas.List.{map-append, reverse-append}
 use Rattle.scq_port.specs.Ports.{PortStanding}
 use Rattle.scq_c.specs.declared.handle.Handle.{Handle}
 use Rattle.scq_c.specs.Answers.{ports_of}
@@ -69,3 +69,27 @@ last_filled n k os rest o is one =
     by : (j : ℕ) → slice_set (replicate (j + 1) None ++ rest) j o ≡ replicate j None ++ o ∷ rest
     by zero = refl
     by (suc j) = ap (λ (l : List (Option PortStanding)). None ∷ l) (by j)
+
+-- one more port in its box
+pub one_boxed : {A B : Type 0} (f : B → A) (made more : List B) (left rest : List A) (x : A) (y : B) → left ≡ rest ++ x ∷ [] → more ≡ made ++ y ∷ [] → f y ≡ x
+    → map f made ++ reverse left ≡ map f more ++ reverse rest
+one_boxed f made more left rest x y last new is =
+    ap (λ l. map f made ++ reverse l) last ∙ ap (λ l. map f made ++ l) (reverse-append rest (x ∷ []))
+    ∙ ap (λ z. map f made ++ z ∷ reverse rest) (sym is) ∙ sym (append_assoc (map f made) (f y ∷ []) (reverse rest))
+    ∙ ap (λ l. l ++ reverse rest) (sym (map-append f made (y ∷ []))) ∙ ap (λ l. map f l ++ reverse rest) (sym new)
+
+-- the boxes that are left with the ports that were handed out
+pub one_handed : {A B : Type 0} (f : B → A) (all left rest : List B) (y : B) (out : List A) → map f left ++ out ≡ map f all → left ≡ rest ++ y ∷ []
+    → map f rest ++ f y ∷ out ≡ map f all
+one_handed f all left rest y out before last =
+    sym (append_assoc (map f rest) (f y ∷ []) out) ∙ ap (λ l. l ++ out) (sym (map-append f rest (y ∷ []))) ∙ ap (λ l. map f l ++ out) (sym last) ∙ before
+
+-- handles with the ports of handles that are closed are closed
+pub closed_alike : (hs gs : List Handle) → ports_of hs ≡ ports_of gs → All (λ (h : Handle). h.port ≡ None) gs → All (λ (h : Handle). h.port ≡ None) hs
+closed_alike [] [] same all = all
+closed_alike [] (y ∷ ys) same all k d low = absurd (omega (arith, low))
+closed_alike (x ∷ xs) [] same all = absurd (cc)
+closed_alike (x ∷ xs) (y ∷ ys) same all zero d low =
+    let first : x.port ≡ y.port = cc in first ∙ all 0 y (omega arith)
+closed_alike (x ∷ xs) (y ∷ ys) same all (suc k) d low =
+    let rest : ports_of xs ≡ ports_of ys = cc in closed_alike xs ys rest (λ i e lt. all (suc i) e (omega (arith, lt))) k d (omega (arith, low))

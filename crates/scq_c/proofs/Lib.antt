@@ -2,3 +2,4 @@ pub mod Values
 pub mod Codes
 pub mod Somes
 pub mod Handed
+pub mod Openings

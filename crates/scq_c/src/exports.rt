@@ -9,7 +9,6 @@ use crate::answers::{CLOSED, EMPTY, FULL, NO_ROOM, NO_TOPIC, NOT_HELD, OK, SPENT
 use crate::handle::{Handle, put, taken};
 use crate::opening::open;
 use scq_port::{GiveBackRefusal, LendRefusal, Port, SendRefusal, Sight, TakeRefusal};
-use scq_queue::Counts;
 use std::alloc::Global;
 
 /// A buffer that a port holds: where its bytes lie, how many they are, the place at which it was taken (0 where it was lent), and its
@@ -220,8 +219,12 @@ pub extern "C" fn scq_counts_of(alloc: Global, handle: &mut Handle, out: &mut Ta
     let Some(port) = taken(handle, alloc) else {
         return CLOSED;
     };
-    let Counts { sent, taken, full } = port.counts();
-    *out = Tally { sent, taken, full };
+    let counts = port.counts();
+    *out = Tally {
+        sent: counts.sent,
+        taken: counts.taken,
+        full: counts.full,
+    };
     put(handle, port);
     OK
 }

@@ -2,5 +2,5 @@ pub mod Lists
 pub mod Keeping
 pub mod Records
 pub mod Going
-pub mod Opening
+pub mod Opened
 pub mod Sent

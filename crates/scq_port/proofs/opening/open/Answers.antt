@@ -4,14 +4,14 @@ use Rattle.scq_queue.specs.Passes.{PassStanding}
 use Rattle.scq_port.specs.declared.port_buffer.PortBuffer.{PortBuffer}
 use Rattle.scq_port.specs.Ports.{bytes_of}
 use Rattle.scq_port.specs.Calls.{AreOpened, new_port}
-use Rattle.scq_port.proofs.Opening.{if_ok}
+use Rattle.scq_port.proofs.Opened.{if_ok}
 use Rattle.scq_port.proofs.opening.open.Goals as goal
 
 pub returns : goal.returns
 returns c =
     let made = c.in-Ok.ensures in
     let size = c.args.size in
-    if_ok c.ports_of.result _ _ (λ ports is. record {
+    if_ok c.ports_of.result _ (λ ports. AreOpened c.args.setup size c.args.hold ports.items) (λ ports is. record {
       queue = c.in-Ok.queue;
       setup = made.queue.0;
       buffers =

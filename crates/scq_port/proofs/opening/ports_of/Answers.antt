@@ -7,7 +7,7 @@ use Rattle.scq_port.specs.declared.port_buffer.PortBuffer.{PortBuffer}
 use Rattle.scq_port.specs.Ports.{PortStanding}
 use Rattle.scq_port.specs.Calls.{new_port}
 use Rattle.scq_port.specs.Kept.{IsFresh}
-use Rattle.scq_port.proofs.Opening.{all_fresh, all_last, all_others, one_more}
+use Rattle.scq_port.proofs.Opened.{all_fresh, all_last, all_others, one_more}
 use Rattle.scq_port.proofs.opening.ports_of.Goals as goal
 
 pub loop-pass-init : goal.loop-pass-init
@@ -22,7 +22,7 @@ loop-pass-init c =
     )
 
 pub port_of-requires-clause-fresh : goal.port_of-requires-clause-fresh
-port_of-requires-clause-fresh c κs =
+port_of-requires-clause-fresh c =
     let Fresh = IsFresh (arc_value c.args.owner.now).queue in
     all_last Fresh c.pop.new.self.items c.in-Some.pass
     (subst (λ (l : List (PassStanding PortBuffer)). All Fresh l) c.in-Some.ensures.items c.loop-pass.invariant.1)

@@ -10,7 +10,7 @@ use Rattle.scq_port.specs.Kept.{IsFresh}
 
 -- the passes of a new queue hold nothing, from the last to the first
 pub all_fresh : (queue : PortQueue) (n : ℕ) → All (IsFresh queue) (reverse (first_passes queue n))
-all_fresh queue zero k d low = absurd (omega (arith, low))
+all_fresh queue zero = λ k d low. absurd (omega (arith, low))
 all_fresh queue (suc n) =
     subst (λ (l : List (PassStanding PortBuffer)). All (IsFresh queue) l) (sym (reverse-append (first_passes queue n) (first_pass queue n ∷ [])))
     (All-cons (IsFresh queue) (first_pass queue n) (reverse (first_passes queue n)) (record { own = refl; awake = refl; none = refl }) (all_fresh queue n))
@@ -21,7 +21,7 @@ all_last P [] x all = all 0 x (omega arith)
 all_last P (y ∷ ys) x all = all_last P ys x (λ k d low. all (suc k) d (omega (arith, low)))
 
 pub all_others : {A : Type 0} (P : A → Type 0) (xs : List A) (x : A) → All P (xs ++ x ∷ []) → All P xs
-all_others P [] x all k d low = absurd (omega (arith, low))
+all_others P [] x all = λ k d low. absurd (omega (arith, low))
 all_others P (y ∷ ys) x all = All-cons P y ys (all 0 y (omega arith)) (all_others P ys x (λ k d low. all (suc k) d (omega (arith, low))))
 
 -- one more of those that are made from the last of what is left
