@@ -9,7 +9,7 @@ use Rattle.scq_c.specs.Answers.{OfLend, OfTake, OfSend, OfGiveBack, shown_at, wi
 pub lend_lent : (s : Sight) (before : Held) (old new : PortStanding) → IsLent s old new → OfLend 0 before (shown_at 0 s) old new
 lend_lent s before old new is =
     record {
-      lent = λ e. (s, (refl, is));
+      lent = λ e. (s, refl, is);
       full = λ e. absurd (omega (arith, e));
       spent = λ e. absurd (omega (arith, e));
       no_room = λ e. absurd (omega (arith, e));
@@ -20,7 +20,7 @@ pub lend_full : (head : ℕ) (before : Held) (old new : PortStanding) → WasFul
 lend_full head before old new is =
     record {
       lent = λ e. absurd (omega (arith, e));
-      full = λ e. (head, (refl, is));
+      full = λ e. (head, refl, is);
       spent = λ e. absurd (omega (arith, e));
       no_room = λ e. absurd (omega (arith, e));
       known = inr (inl refl);
@@ -31,7 +31,7 @@ lend_spent ticket before old new is =
     record {
       lent = λ e. absurd (omega (arith, e));
       full = λ e. absurd (omega (arith, e));
-      spent = λ e. (ticket, (refl, is));
+      spent = λ e. (ticket, refl, is);
       no_room = λ e. absurd (omega (arith, e));
       known = inr (inr (inl refl));
     }
@@ -49,7 +49,7 @@ lend_no_room before old new is =
 pub take_taken : (topic place : ℕ) (s : Sight) (before : Held) (old new : PortStanding) → IsTaken topic place s old new → OfTake topic 0 before (shown_at place s) old new
 take_taken topic place s before old new is =
     record {
-      taken = λ e. (place, (s, (refl, is)));
+      taken = λ e. (place, s, refl, is);
       empty = λ e. absurd (omega (arith, e));
       spent = λ e. absurd (omega (arith, e));
       no_topic = λ e. absurd (omega (arith, e));
@@ -61,7 +61,7 @@ pub take_empty : (topic head : ℕ) (before : Held) (old new : PortStanding) →
 take_empty topic head before old new is =
     record {
       taken = λ e. absurd (omega (arith, e));
-      empty = λ e. (head, (refl, is));
+      empty = λ e. (head, refl, is);
       spent = λ e. absurd (omega (arith, e));
       no_topic = λ e. absurd (omega (arith, e));
       no_room = λ e. absurd (omega (arith, e));
@@ -73,7 +73,7 @@ take_spent topic ticket before old new is =
     record {
       taken = λ e. absurd (omega (arith, e));
       empty = λ e. absurd (omega (arith, e));
-      spent = λ e. (ticket, (refl, is));
+      spent = λ e. (ticket, refl, is);
       no_topic = λ e. absurd (omega (arith, e));
       no_room = λ e. absurd (omega (arith, e));
       known = inr (inr (inl refl));

@@ -94,7 +94,8 @@ fn lend_into(port: &mut Port, out: &mut Held) -> u32
 #[unsafe(no_mangle)]
 pub extern "C" fn scq_lend(alloc: Global, handle: &mut Handle, out: &mut Held) -> u32
     ensures closed { handle.old.port ≡ None → (result ≡ 4) × (handle.new.port ≡ None) × (out.new ≡ out.old) }
-    ensures answered { (x : PortStanding) → handle.old.port ≡ Some x → (y : PortStanding) × (handle.new.port ≡ Some y) × OfLend result out.old out.new x y }
+    ensures answered { (x : PortStanding) → handle.old.port ≡ Some x
+        → (y : PortStanding) × (handle.new.port ≡ Some y) × OfLend result out.old out.new x y }
 {
     let Some(mut port) = taken(handle, alloc) else {
         return CLOSED;
@@ -131,7 +132,8 @@ fn take_into(port: &mut Port, topic: u32, out: &mut Held) -> u32
 #[unsafe(no_mangle)]
 pub extern "C" fn scq_take(alloc: Global, handle: &mut Handle, topic: u32, out: &mut Held) -> u32
     ensures closed { handle.old.port ≡ None → (result ≡ 4) × (handle.new.port ≡ None) × (out.new ≡ out.old) }
-    ensures answered { (x : PortStanding) → handle.old.port ≡ Some x → (y : PortStanding) × (handle.new.port ≡ Some y) × OfTake topic result out.old out.new x y }
+    ensures answered { (x : PortStanding) → handle.old.port ≡ Some x
+        → (y : PortStanding) × (handle.new.port ≡ Some y) × OfTake topic result out.old out.new x y }
 {
     let Some(mut port) = taken(handle, alloc) else {
         return CLOSED;
@@ -197,7 +199,8 @@ fn give_back_into(port: &mut Port, index: u32) -> u32
 #[unsafe(no_mangle)]
 pub extern "C" fn scq_give_back(alloc: Global, handle: &mut Handle, index: u32) -> u32
     ensures closed { handle.old.port ≡ None → (result ≡ 4) × (handle.new.port ≡ None) }
-    ensures answered { (x : PortStanding) → handle.old.port ≡ Some x → (y : PortStanding) × (handle.new.port ≡ Some y) × OfGiveBack index result x y }
+    ensures answered { (x : PortStanding) → handle.old.port ≡ Some x
+        → (y : PortStanding) × (handle.new.port ≡ Some y) × OfGiveBack index result x y }
 {
     let Some(mut port) = taken(handle, alloc) else {
         return CLOSED;

@@ -5,7 +5,9 @@ ghost use Rattle.scq_word.specs.Sizes.{n_of};
 ghost use Rattle.scq_port.specs.Calls.{AreOpened};
 ghost use Rattle.scq_c.specs.Answers.{OfOpen, ports_of};
 
-use crate::answers::{BAD_HOLD, BAD_LIMIT, BAD_ORDER, BAD_PORTS, BAD_SIZE, BAD_TOPICS, IS_OPEN, NO_MEMORY, OK};
+use crate::answers::{
+    BAD_HOLD, BAD_LIMIT, BAD_ORDER, BAD_PORTS, BAD_SIZE, BAD_TOPICS, IS_OPEN, NO_MEMORY, OK,
+};
 use crate::handle::{Handle, is_open, put};
 use scq_port::{Port, open as open_ports};
 use scq_word::{Setup, SetupFault};

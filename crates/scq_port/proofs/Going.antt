@@ -86,6 +86,7 @@ gives queue old new slots h place w before is =
   where
     now : new.held ≡ without (length slots) old.held
     now = ap (λ (p : PassStanding PortBuffer). p.held) is ∙ ap (λ k. without k old.held) (stands queue old slots h before).index
+
     unspent : new.spent ≡ old.spent
     unspent = ap (λ (p : PassStanding PortBuffer). p.spent) is
 

@@ -54,6 +54,7 @@ none_held queue p slots used hold i before none there = by (slice_get slots i) r
   where
     some : 0 < times i p.held
     some = times_contains p.held i there
+
     by : (x : Option (Option Value)) → slice_get slots i ≡ x → ⊥
     by None is = let zero_of = before.past i is in omega (arith, some, zero_of)
     by (Some None) is = let zero_of = before.free i is in omega (arith, some, zero_of)
@@ -80,6 +81,7 @@ keeps_new queue p hold own awake none =
     filled : (n : ℕ) → length (replicate n no_value) ≡ n
     filled zero = refl
     filled (suc n) = ap suc (filled n)
+
     none_there : (n i : ℕ) (h : Value) → slice_get (replicate n no_value) i ≡ Some (Some h) → ⊥
     none_there zero i h is = cc
     none_there (suc n) zero h is = cc
@@ -103,18 +105,25 @@ keeps_more queue old new slots used hold h ring place w before is held came low 
   where
     own : new.queue ≡ queue
     own = ap (λ (p : PassStanding PortBuffer). p.queue) is ∙ before.own
+
     now : new.held ≡ old.held ++ h.index ∷ []
     now = ap (λ (p : PassStanding PortBuffer). p.held) is
+
     number : new.number ≡ old.number
     number = ap (λ (p : PassStanding PortBuffer). p.number) is
+
     was : slice_get slots h.index ≡ Some None
     was = place_free queue old slots used hold h.index before low came
+
     other_place : (j : ℕ) → j ≢ h.index → slice_get slots j ≡ slice_get (slice_set slots h.index (Some h)) j
     other_place j differs = sym (set_other slots h.index j (Some h) differs)
+
     rest : (j : ℕ) → j ≢ h.index → times j old.held ≡ 0 → times j new.held ≡ 0
     rest j differs none = ap (times j) now ∙ more_other old.held h.index j differs ∙ none
+
     apart : (j : ℕ) (x : Option Value) → slice_get (slice_set slots h.index (Some h)) j ≡ Some x → (Some (Some h) ≡ Some x → ⊥) → j ≢ h.index
     apart j x at differs e = differs (sym (set_here slots h.index None (Some h) was) ∙ ap (slice_get (slice_set slots h.index (Some h))) (sym e) ∙ at)
+
     here : (j : ℕ) (v : Value) → slice_get (slice_set slots h.index (Some h)) j ≡ Some (Some v) → StandsAt queue new j v
     here j v at =
         elim (cases_eq j h.index) [
@@ -144,52 +153,58 @@ keeps_more queue old new slots used hold h ring place w before is held came low 
 pub keeps_less : (queue : PortQueue) (old new : PassStanding PortBuffer) (slots : List (Option Value)) (used hold i : ℕ) (h : Value) (ring place : ℕ) (w : List ℕ)
     → Keeps queue old slots used hold → slice_get slots i ≡ Some (Some h) → new ≡ having_seen new.seen (after_put ring h.index place w old)
     → (0 < used) × Keeps queue new (slice_set slots i None) (used - 1) hold
-keeps_less queue old new slots used hold i h ring place w before was is =
-    (
-      some,
-      record {
-        own = ap (λ (p : PassStanding PortBuffer). p.queue) is ∙ before.own;
-        awake = ap (λ (p : PassStanding PortBuffer). p.retired) is ∙ before.awake;
-        places = length-set slots i None ∙ before.places;
-        here =
-            λ j v at.
-            let differs = apart j (Some v) at (λ (e : Some None ≡ Some (Some v)). cc) in
-            let stands = before.here j v (other_place j differs ∙ at) in
-            record {
-              queue_of = stands.queue_of;
-              pass = stands.pass ∙ sym number;
-              index = stands.index;
-              holds = ap (times j) now ∙ less_other old.held i j differs ∙ stands.holds;
-            };
-        free =
-            λ j at.
-            elim (cases_eq j i) [
-              | inl same ↦ ap (λ k. times k new.held) same ∙ gone
-              | inr differs ↦ ap (times j) now ∙ less_other old.held i j differs ∙ before.free j (other_place j differs ∙ at)
-            ];
-        past =
-            λ j at.
-            let differs = none_set slots i j None (Some h) was at in
-            ap (times j) now ∙ less_other old.held i j differs ∙ before.past j (other_place j differs ∙ at);
-        used = let u = before.used in let l = left in let len = ap length now in omega (arith, u, l, len);
-        room = let r = before.room in omega (arith, r);
-      },
-    )
+keeps_less queue old new slots used hold i h ring place w before was is = (
+  some,
+  record {
+    own = ap (λ (p : PassStanding PortBuffer). p.queue) is ∙ before.own;
+    awake = ap (λ (p : PassStanding PortBuffer). p.retired) is ∙ before.awake;
+    places = length-set slots i None ∙ before.places;
+    here =
+        λ j v at.
+        let differs = apart j (Some v) at (λ (e : Some None ≡ Some (Some v)). cc) in
+        let stands = before.here j v (other_place j differs ∙ at) in
+        record {
+          queue_of = stands.queue_of;
+          pass = stands.pass ∙ sym number;
+          index = stands.index;
+          holds = ap (times j) now ∙ less_other old.held i j differs ∙ stands.holds;
+        };
+    free =
+        λ j at.
+        elim (cases_eq j i) [
+          | inl same ↦ ap (λ k. times k new.held) same ∙ gone
+          | inr differs ↦ ap (times j) now ∙ less_other old.held i j differs ∙ before.free j (other_place j differs ∙ at)
+        ];
+    past =
+        λ j at.
+        let differs = none_set slots i j None (Some h) was at in
+        ap (times j) now ∙ less_other old.held i j differs ∙ before.past j (other_place j differs ∙ at);
+    used = let u = before.used in let l = left in let len = ap length now in omega (arith, u, l, len);
+    room = let r = before.room in omega (arith, r);
+  },
+)
   where
     stands_i : StandsAt queue old i h
     stands_i = before.here i h was
+
     now : new.held ≡ without i old.held
     now = ap (λ (p : PassStanding PortBuffer). p.held) is ∙ ap (λ k. without k old.held) stands_i.index
+
     number : new.number ≡ old.number
     number = ap (λ (p : PassStanding PortBuffer). p.number) is
+
     left : length (without i old.held) + 1 ≡ length old.held
     left = let l = less_length old.held i in let one = stands_i.holds in omega (arith, l, one)
+
     some : 0 < used
     some = let u = before.used in let l = left in omega (arith, u, l)
+
     gone : times i new.held ≡ 0
     gone = ap (times i) now ∙ less_here old.held i
+
     other_place : (j : ℕ) → j ≢ i → slice_get slots j ≡ slice_get (slice_set slots i None) j
     other_place j differs = sym (set_other slots i j None differs)
+
     apart : (j : ℕ) (x : Option Value) → slice_get (slice_set slots i None) j ≡ Some x → (Some None ≡ Some x → ⊥) → j ≢ i
     apart j x at differs e = differs (sym (set_here slots i (Some h) None was) ∙ ap (slice_get (slice_set slots i None)) (sym e) ∙ at)
 

@@ -38,8 +38,22 @@ fn a_value_goes_round(rt: HostRuntime) -> Result<(), Fail> {
     assert_eq!(rt; taken.index, 0);
     assert!(rt; taken.at == lent.at);
     assert_eq!(rt; second.give_back(0), Ok(()));
-    assert_eq!(rt; first.counts(), Counts { sent: 1, taken: 0, full: 0 });
-    assert_eq!(rt; second.counts(), Counts { sent: 0, taken: 1, full: 0 });
+    assert_eq!(rt;
+        first.counts(),
+        Counts {
+            sent: 1,
+            taken: 0,
+            full: 0
+        }
+    );
+    assert_eq!(rt;
+        second.counts(),
+        Counts {
+            sent: 0,
+            taken: 1,
+            full: 0
+        }
+    );
     assert_eq!(rt; second.spent(), None);
     Ok(())
 }
