@@ -48,6 +48,13 @@ impl<B: Buffer> Held<B> {
         self.buffer.bytes_mut()
     }
 
+    /// Its buffer.
+    pub fn buffer(&self) -> &B
+        ensures { result.now ≡ self.now.buffer }
+    {
+        &self.buffer
+    }
+
     /// The number of its buffer among those that the queue was given.
     pub fn index(&self) -> u32
         ensures { result ≡ self.now.index }

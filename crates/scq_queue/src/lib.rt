@@ -5,6 +5,7 @@
 //! where the queue closes (`specs/Closing`). The layer above uses these alone.
 #![tactic(auto)]
 
+mod abandoning;
 mod calls;
 mod closing;
 mod counts;

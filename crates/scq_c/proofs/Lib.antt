@@ -1,0 +1,5 @@
+pub mod Values
+pub mod Codes
+pub mod Somes
+pub mod Handed
+pub mod Openings

@@ -1,0 +1,83 @@
+-- What each call of C answers, by its number: what is written out, and what became of the port. Wherever the answer isn't 0 nothing is
+-- written but, with 1, 2 and 3, the number that the queue answered.
+use Rattle.std.specs.Prelude.{◌≡◌, ℕ, suc, ◌+◌, ◌*◌, ◌^◌, ◌<◌, ◌≤◌, ◌⊎◌, List, map, length, Option, Some, None, All}
+use Rattle.scq_word.specs.declared.setup.Setup.{Setup}
+use Rattle.scq_word.specs.Sizes.{n_of}
+use Rattle.scq_word.specs.Ranges.{IsOutside}
+use Rattle.scq_queue.specs.Lists.{counts_of}
+use Rattle.scq_queue.specs.Passes.{lists_of}
+use Rattle.scq_port.specs.declared.sight.Sight.{Sight}
+use Rattle.scq_port.specs.Ports.{PortStanding}
+use Rattle.scq_port.specs.Calls.{IsLent, IsTaken, IsSent, IsGivenBack, WasFull, WasEmpty, IsSpentGet, IsSpentPut, HasNoRoom, HasNoTopic, HoldsNoSuch, AreOpened}
+use Rattle.scq_c.specs.declared.exports.Held.{Held}
+use Rattle.scq_c.specs.declared.handle.Handle.{Handle}
+
+-- a held buffer as it was shown, at a place
+abbrev pub shown_at : ℕ → Sight → Held
+shown_at place s = record { at = s.at; len = s.len; place = place; index = s.index }
+
+-- the same with another number at the place
+abbrev pub with_place : ℕ → Held → Held
+with_place n h = record h { place = n }
+
+-- of a lend: 0 lent, 2 full, 3 spent, 7 no room
+pub record OfLend (code : ℕ) (before after : Held) (old new : PortStanding) : Type 0 where
+  pub lent : code ≡ 0 → (s : Sight) × (after ≡ shown_at 0 s) × IsLent s old new
+  pub full : code ≡ 2 → (head : ℕ) × (after ≡ with_place head before) × WasFull head old new
+  pub spent : code ≡ 3 → (ticket : ℕ) × (after ≡ with_place ticket before) × IsSpentGet 0 ticket old new
+  pub no_room : code ≡ 7 → (after ≡ before) × HasNoRoom old new
+  pub known : (code ≡ 0) ⊎ (code ≡ 2) ⊎ (code ≡ 3) ⊎ (code ≡ 7)
+
+-- of a take: 0 taken, 1 empty, 3 spent, 6 no topic, 7 no room
+pub record OfTake (topic code : ℕ) (before after : Held) (old new : PortStanding) : Type 0 where
+  pub taken : code ≡ 0 → (place : ℕ) × (s : Sight) × (after ≡ shown_at place s) × IsTaken topic place s old new
+  pub empty : code ≡ 1 → (head : ℕ) × (after ≡ with_place head before) × WasEmpty topic head old new
+  pub spent : code ≡ 3 → (ticket : ℕ) × (after ≡ with_place ticket before) × IsSpentGet (suc topic) ticket old new
+  pub no_topic : code ≡ 6 → (after ≡ before) × HasNoTopic topic old new
+  pub no_room : code ≡ 7 → (after ≡ before) × HasNoRoom old new
+  pub known : (code ≡ 0) ⊎ (code ≡ 1) ⊎ (code ≡ 3) ⊎ (code ≡ 6) ⊎ (code ≡ 7)
+
+-- of a send: 0 sent, 3 spent, 5 not held, 6 no topic
+pub record OfSend (index topic code before after : ℕ) (old new : PortStanding) : Type 0 where
+  pub sent : code ≡ 0 → IsSent index topic after old new
+  pub spent : code ≡ 3 → IsSpentPut (suc topic) after old new
+  pub not_held : code ≡ 5 → (after ≡ before) × HoldsNoSuch index old new
+  pub no_topic : code ≡ 6 → (after ≡ before) × HasNoTopic topic old new
+  pub known : (code ≡ 0) ⊎ (code ≡ 3) ⊎ (code ≡ 5) ⊎ (code ≡ 6)
+
+-- of a give-back: 0 given back, 3 spent, 5 not held
+pub record OfGiveBack (index code : ℕ) (old new : PortStanding) : Type 0 where
+  pub given : code ≡ 0 → IsGivenBack index old new
+  pub spent : code ≡ 3 → (ticket : ℕ) × IsSpentPut 0 ticket old new
+  pub not_held : code ≡ 5 → HoldsNoSuch index old new
+  pub known : (code ≡ 0) ⊎ (code ≡ 3) ⊎ (code ≡ 5)
+
+-- the ports that handles have
+abbrev pub ports_of : List Handle → List (Option PortStanding)
+ports_of handles = map (λ (h : Handle). h.port) handles
+
+-- handles that were closed have the ports of a new queue, in order
+pub record HaveOpened (order topics size hold limit : ℕ) (before after : List Handle) : Type 0 where
+  pub closed : All (λ (h : Handle). h.port ≡ None) before
+  pub setup : Setup
+  pub order_is : setup.order ≡ order
+  pub rings_is : setup.rings ≡ topics + 1
+  pub seats_is : setup.seats ≡ length before
+  pub limit_is : setup.limit ≡ limit
+  pub ports : List PortStanding
+  pub opened : AreOpened setup size hold ports
+  pub have : ports_of after ≡ map (λ (p : PortStanding). Some p) ports
+
+-- of an open: 0 opened, 8 no memory, and which argument is out of range, or that a handle was open already. With all but 0 each handle
+-- has the port that it had
+pub record OfOpen (order topics size hold limit code : ℕ) (before after : List Handle) : Type 0 where
+  pub opened : code ≡ 0 → HaveOpened order topics size hold limit before after
+  pub refused : (code ≡ 0 → ⊥) → ports_of after ≡ ports_of before
+  pub bad_order : code ≡ 9 → IsOutside 1 12 order
+  pub bad_topics : code ≡ 10 → IsOutside 1 17 topics
+  pub bad_ports : code ≡ 11 → IsOutside 1 4096 (length before)
+  pub bad_limit : code ≡ 12 → IsOutside (8 * n_of order) (2 ^ 60) limit
+  pub bad_size : code ≡ 13 → size ≡ 0
+  pub bad_hold : code ≡ 14 → IsOutside 1 (n_of order) hold
+  pub is_open : code ≡ 15 → All (λ (h : Handle). h.port ≡ None) before → ⊥
+  pub known : (code ≡ 0) ⊎ ((8 ≤ code) × (code ≤ 15))

@@ -1,0 +1,268 @@
+//! What C calls.
+ghost use Rattle.std.specs.Prelude.{◌≡◌, ◌≢◌, Some, None};
+ghost use Rattle.scq_queue.specs.Lists.{counts_of};
+ghost use Rattle.scq_queue.specs.Passes.{lists_of};
+ghost use Rattle.scq_port.specs.Ports.{PortStanding};
+ghost use Rattle.scq_c.specs.Answers.{OfLend, OfTake, OfSend, OfGiveBack, OfOpen, shown_at};
+
+use crate::answers::{CLOSED, EMPTY, FULL, NO_ROOM, NO_TOPIC, NOT_HELD, OK, SPENT};
+use crate::handle::{Handle, put, taken};
+use crate::opening::open;
+use scq_port::{GiveBackRefusal, LendRefusal, Port, SendRefusal, Sight, TakeRefusal};
+use std::alloc::Global;
+
+/// A buffer that a port holds: where its bytes lie, how many they are, the place at which it was taken (0 where it was lent), and its
+/// index. C may read and write the bytes.
+#[repr(C)]
+#[derive(Drop)]
+pub struct Held {
+    pub at: *const u8,
+    pub len: usize,
+    pub place: u64,
+    pub index: u32,
+}
+
+/// How many sends, takes and Full replies a port had.
+#[repr(C)]
+#[derive(Drop)]
+pub struct Tally {
+    pub sent: u64,
+    pub taken: u64,
+    pub full: u64,
+}
+
+/// The version of these calls.
+#[unsafe(no_mangle)]
+pub extern "C" fn scq_version() -> u32
+    ensures { result ≡ 1 }
+{
+    1
+}
+
+/// Opens a queue: the ports of a new one, in closed handles.
+#[unsafe(no_mangle)]
+pub extern "C" fn scq_open(
+    alloc: Global,
+    order: u32,
+    topics: u32,
+    size: u32,
+    hold: u32,
+    limit: u64,
+    handles: &mut [Handle],
+) -> u32
+    ensures { OfOpen order topics size hold limit result handles.old handles.new }
+{
+    open(alloc, order, topics, size, hold, limit, handles)
+}
+
+/// Writes out what is shown.
+#[inline(always)]
+fn show(sight: Sight, place: u64, out: &mut Held)
+    ensures { out.new ≡ shown_at place sight }
+{
+    *out = Held {
+        at: sight.at,
+        len: sight.len,
+        place,
+        index: sight.index,
+    };
+}
+
+/// Is lent a value, and shows it.
+#[inline(always)]
+fn lend_into(port: &mut Port, out: &mut Held) -> u32
+    ensures { OfLend result out.old out.new port.old port.new }
+{
+    match port.lend() {
+        Ok(sight) => {
+            show(sight, 0, out);
+            OK
+        }
+        Err(LendRefusal::NoRoom) => NO_ROOM,
+        Err(LendRefusal::Full { head }) => {
+            out.place = head;
+            FULL
+        }
+        Err(LendRefusal::Spent { ticket }) => {
+            out.place = ticket;
+            SPENT
+        }
+    }
+}
+
+/// Lends a buffer.
+#[unsafe(no_mangle)]
+pub extern "C" fn scq_lend(alloc: Global, handle: &mut Handle, out: &mut Held) -> u32
+    ensures closed { handle.old.port ≡ None → (result ≡ 4) × (handle.new.port ≡ None) × (out.new ≡ out.old) }
+    ensures answered { (x : PortStanding) → handle.old.port ≡ Some x
+        → (y : PortStanding) × (handle.new.port ≡ Some y) × OfLend result out.old out.new x y }
+{
+    let Some(mut port) = taken(handle, alloc) else {
+        return CLOSED;
+    };
+    let answer = lend_into(&mut port, out);
+    put(handle, port);
+    answer
+}
+
+/// Takes a value, and shows it.
+#[inline(always)]
+fn take_into(port: &mut Port, topic: u32, out: &mut Held) -> u32
+    ensures { OfTake topic result out.old out.new port.old port.new }
+{
+    match port.take(topic) {
+        Ok((place, sight)) => {
+            show(sight, place, out);
+            OK
+        }
+        Err(TakeRefusal::NoTopic) => NO_TOPIC,
+        Err(TakeRefusal::NoRoom) => NO_ROOM,
+        Err(TakeRefusal::Empty { head }) => {
+            out.place = head;
+            EMPTY
+        }
+        Err(TakeRefusal::Spent { ticket }) => {
+            out.place = ticket;
+            SPENT
+        }
+    }
+}
+
+/// Takes a buffer from a topic.
+#[unsafe(no_mangle)]
+pub extern "C" fn scq_take(alloc: Global, handle: &mut Handle, topic: u32, out: &mut Held) -> u32
+    ensures closed { handle.old.port ≡ None → (result ≡ 4) × (handle.new.port ≡ None) × (out.new ≡ out.old) }
+    ensures answered { (x : PortStanding) → handle.old.port ≡ Some x
+        → (y : PortStanding) × (handle.new.port ≡ Some y) × OfTake topic result out.old out.new x y }
+{
+    let Some(mut port) = taken(handle, alloc) else {
+        return CLOSED;
+    };
+    let answer = take_into(&mut port, topic, out);
+    put(handle, port);
+    answer
+}
+
+/// Sends a value, and tells its place.
+#[inline(always)]
+fn send_into(port: &mut Port, index: u32, topic: u32, place: &mut u64) -> u32
+    ensures { OfSend index topic result place.old place.new port.old port.new }
+{
+    match port.send(index, topic) {
+        Ok(at) => {
+            *place = at;
+            OK
+        }
+        Err(SendRefusal::NoTopic) => NO_TOPIC,
+        Err(SendRefusal::NotHeld) => NOT_HELD,
+        Err(SendRefusal::Spent { ticket }) => {
+            *place = ticket;
+            SPENT
+        }
+    }
+}
+
+/// Sends a buffer on a topic.
+#[unsafe(no_mangle)]
+pub extern "C" fn scq_send(
+    alloc: Global,
+    handle: &mut Handle,
+    index: u32,
+    topic: u32,
+    place: &mut u64,
+) -> u32
+    ensures closed { handle.old.port ≡ None → (result ≡ 4) × (handle.new.port ≡ None) × (place.new ≡ place.old) }
+    ensures answered { (x : PortStanding) → handle.old.port ≡ Some x
+        → (y : PortStanding) × (handle.new.port ≡ Some y) × OfSend index topic result place.old place.new x y }
+{
+    let Some(mut port) = taken(handle, alloc) else {
+        return CLOSED;
+    };
+    let answer = send_into(&mut port, index, topic, place);
+    put(handle, port);
+    answer
+}
+
+/// Gives a value back.
+#[inline(always)]
+fn give_back_into(port: &mut Port, index: u32) -> u32
+    ensures { OfGiveBack index result port.old port.new }
+{
+    match port.give_back(index) {
+        Ok(()) => OK,
+        Err(GiveBackRefusal::NotHeld) => NOT_HELD,
+        Err(GiveBackRefusal::Spent { ticket: _ }) => SPENT,
+    }
+}
+
+/// Gives a buffer back.
+#[unsafe(no_mangle)]
+pub extern "C" fn scq_give_back(alloc: Global, handle: &mut Handle, index: u32) -> u32
+    ensures closed { handle.old.port ≡ None → (result ≡ 4) × (handle.new.port ≡ None) }
+    ensures answered { (x : PortStanding) → handle.old.port ≡ Some x
+        → (y : PortStanding) × (handle.new.port ≡ Some y) × OfGiveBack index result x y }
+{
+    let Some(mut port) = taken(handle, alloc) else {
+        return CLOSED;
+    };
+    let answer = give_back_into(&mut port, index);
+    put(handle, port);
+    answer
+}
+
+/// How many sends, takes and Full replies a port had.
+#[unsafe(no_mangle)]
+pub extern "C" fn scq_counts_of(alloc: Global, handle: &mut Handle, out: &mut Tally) -> u32
+    ensures same { handle.new.port ≡ handle.old.port }
+    ensures closed { handle.old.port ≡ None → (result ≡ 4) × (out.new ≡ out.old) }
+    ensures counts { (x : PortStanding) → handle.old.port ≡ Some x → (result ≡ 0)
+        × (out.new.sent ≡ (counts_of (lists_of x.pass)).sent) × (out.new.taken ≡ (counts_of (lists_of x.pass)).taken)
+        × (out.new.full ≡ (counts_of (lists_of x.pass)).full) }
+{
+    let Some(port) = taken(handle, alloc) else {
+        return CLOSED;
+    };
+    let counts = port.counts();
+    *out = Tally {
+        sent: counts.sent,
+        taken: counts.taken,
+        full: counts.full,
+    };
+    put(handle, port);
+    OK
+}
+
+/// The ticket at or past the limit that a port keeps.
+#[unsafe(no_mangle)]
+pub extern "C" fn scq_spent(alloc: Global, handle: &mut Handle, ticket: &mut u64) -> u32
+    ensures same { handle.new.port ≡ handle.old.port }
+    ensures closed { handle.old.port ≡ None → (result ≡ 4) × (ticket.new ≡ ticket.old) }
+    ensures none { (x : PortStanding) → handle.old.port ≡ Some x → x.pass.spent ≡ None → (result ≡ 0) × (ticket.new ≡ ticket.old) }
+    ensures spent { (x : PortStanding) → handle.old.port ≡ Some x → result ≡ 3 → x.pass.spent ≡ Some ticket.new }
+{
+    let Some(port) = taken(handle, alloc) else {
+        return CLOSED;
+    };
+    let spent = port.spent();
+    put(handle, port);
+    match spent {
+        Some(kept) => {
+            *ticket = kept;
+            SPENT
+        }
+        None => OK,
+    }
+}
+
+/// Closes a port: what it holds is given back, and the last port of a queue frees it.
+#[unsafe(no_mangle)]
+pub extern "C" fn scq_close(alloc: Global, handle: &mut Handle) -> u32
+    ensures closed { handle.new.port ≡ None }
+    ensures was_closed { handle.old.port ≡ None → result ≡ 4 }
+    ensures was_open { handle.old.port ≢ None → result ≡ 0 }
+{
+    match taken(handle, alloc) {
+        Some(_port) => OK,
+        None => CLOSED,
+    }
+}

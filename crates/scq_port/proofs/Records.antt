@@ -1,0 +1,90 @@
+-- What calls make of a port, put together of what the queue says of them.
+use Rattle.std.proofs.Common.{◌≡◌, ℕ, ◌+◌, ◌<◌, ◌≤◌, List, length, refl, sym, ◌∙◌, ap, subst}
+use Rattle.std.specs.Prelude.{Option, Some, None, Result, Err, slice_get, slice_set}
+use Rattle.scq_word.specs.Sizes.{n_of}
+use Rattle.scq_band.specs.Buffers.{opening_of}
+use Rattle.scq_band.specs.RunSeen.{IsCallInRun, WasEmptyInRun}
+use Rattle.scq_band.specs.Standing.{IsAsGiven}
+use Rattle.scq_queue.specs.Passes.{PassStanding, lists_of, having_seen, caller_of}
+use Rattle.scq_port.specs.declared.port_buffer.PortBuffer.{PortBuffer}
+use Rattle.scq_port.specs.Ports.{PortStanding, PortQueue, Value, bytes_of, place_of}
+use Rattle.scq_port.specs.Calls.{Came, IsSpent, IsInRun}
+use Rattle.scq_band.specs.declared.calls.Spent.{Spent}
+use Rattle.scq_port.specs.Kept.{Keeps}
+use Rattle.scq_port.proofs.Lists.{set_back}
+
+-- what is none of those that would be there isn't there
+pub unspent : (o : Option ℕ) → ((t : ℕ) → o ≡ Some t → ⊥) → o ≡ None
+unspent None none = refl
+unspent (Some t) none = absurd (none t refl)
+
+-- a port by its parts
+pub same_port : (old new : PortStanding) → new.pass ≡ old.pass → new.slots ≡ old.slots → new.hold ≡ old.hold → new ≡ old
+same_port old new p s h = λ i. record { pass = p i; slots = s i; hold = h i }
+
+-- what is kept, in other words
+pub keeps_as : (queue : PortQueue) (p : PassStanding PortBuffer) (slots now : List (Option Value)) (used count hold most : ℕ) → Keeps queue p slots used hold
+    → now ≡ slots → count ≡ used → most ≡ hold → Keeps queue p now count most
+keeps_as queue p slots now used count hold most before s u h =
+    subst (λ (m : ℕ). Keeps queue p now count m) (sym h)
+    (subst (λ (n : ℕ). Keeps queue p now n hold) (sym u) (subst (λ (l : List (Option Value)). Keeps queue p l used hold) (sym s) before))
+
+pub in_run : (queue : PortQueue) (old new : PassStanding PortBuffer) → old.queue ≡ queue
+    → IsCallInRun queue.setup (opening_of bytes_of queue.given) (caller_of old) (caller_of new)
+    → IsCallInRun old.queue.setup (opening_of bytes_of old.queue.given) (caller_of old) (caller_of new)
+in_run queue old new own is =
+    subst (λ (q : PortQueue). IsCallInRun q.setup (opening_of bytes_of q.given) (caller_of old) (caller_of new)) (sym own) is
+
+pub empty_in_run : (queue : PortQueue) (ring head : ℕ) (old new : PassStanding PortBuffer) → old.queue ≡ queue
+    → WasEmptyInRun queue.setup (opening_of bytes_of queue.given) ring head (caller_of old) (caller_of new)
+    → WasEmptyInRun old.queue.setup (opening_of bytes_of old.queue.given) ring head (caller_of old) (caller_of new)
+empty_in_run queue ring head old new own is =
+    subst (λ (q : PortQueue). WasEmptyInRun q.setup (opening_of bytes_of q.given) ring head (caller_of old) (caller_of new)) (sym own) is
+
+abbrev Same : PortBuffer → PortBuffer → Type 0
+Same a b = (place_of a ≡ place_of b) × (length (bytes_of a) ≡ length (bytes_of b))
+
+pub came_of : (queue : PortQueue) (old new : PortStanding) (h : Value) → old.pass.queue ≡ queue → new.slots ≡ slice_set old.slots h.index (Some h)
+    → new.hold ≡ old.hold → h.index < n_of queue.setup.order → IsAsGiven Same queue.given h.index h.buffer → Came old new h
+came_of queue old new h own slots hold low given =
+    record {
+      slots = slots;
+      hold = hold;
+      index = subst (λ (q : PortQueue). h.index < n_of q.setup.order) (sym own) low;
+      given = subst (λ (q : PortQueue). IsAsGiven Same q.given h.index h.buffer) (sym own) given;
+    }
+
+pub low_of : (queue : PortQueue) (old : PassStanding PortBuffer) (place : ℕ) → old.queue ≡ queue → place < queue.setup.limit → place < old.queue.setup.limit
+low_of queue old place own low = subst (λ (q : PortQueue). place < q.setup.limit) (sym own) low
+
+pub spent_of : (queue : PortQueue) (after : PassStanding PortBuffer) (ticket : ℕ) (old new : PortStanding) → old.pass.queue ≡ queue
+    → (old.pass.spent ≡ None → (new.pass ≡ having_seen new.pass.seen after) × (queue.setup.limit ≤ ticket))
+    → (old.pass.spent ≡ None → IsCallInRun queue.setup (opening_of bytes_of queue.given) (caller_of old.pass) (caller_of new.pass))
+    → ((t : ℕ) → old.pass.spent ≡ Some t → (t ≡ ticket) × (new.pass ≡ old.pass)) → lists_of new.pass ≡ lists_of old.pass
+    → new.slots ≡ old.slots → new.hold ≡ old.hold → IsSpent after ticket old new
+spent_of queue after ticket old new own drew run kept lists slots hold =
+    record {
+      drawn =
+          λ none. (
+            (drew none).0,
+            subst (λ (q : PortQueue). q.setup.limit ≤ ticket) (sym own) (drew none).1,
+            in_run queue old.pass new.pass own (run none),
+          );
+      kept = λ t some. ((kept t some).0, same_port old new (kept t some).1 slots hold);
+      lists = lists;
+      holds = record { slots = slots; hold = hold };
+    }
+
+-- a value that was taken out and put back at its place
+pub put_back : (slots out back : List (Option Value)) (i : ℕ) (h v : Value) → slice_get slots i ≡ Some (Some h) → out ≡ slice_set slots i None → v ≡ h
+    → h.index ≡ i → back ≡ slice_set out v.index (Some v) → back ≡ slots
+put_back slots out back i h v was gone same index put =
+    put ∙ ap (λ (u : Value). slice_set out u.index (Some u)) same ∙ ap (λ (k : ℕ). slice_set out k (Some h)) index
+    ∙ ap (λ (l : List (Option Value)). slice_set l i (Some h)) gone ∙ set_back slots i (Some h) None was
+
+-- the ticket that a refused put answers is the one that was kept
+abbrev failed : (R : Type 0) → Value → Spent → Result R (Value × Spent)
+failed R v s = Err (v, s)
+
+pub kept_ticket : {R : Type 0} (v h : Value) (s : Spent) (t : ℕ) → failed R v s ≡ failed R h (record { ticket = t }) → t ≡ s.ticket
+kept_ticket v h s t is = let both : (v, s) ≡ (h, record { ticket = t }) = cc in sym (ap (λ (p : Value × Spent). p.1.ticket) both)

@@ -1,0 +1,114 @@
+-- A port may go to another thread: so may its pass and its values, and the queue may go and be shared; and buffers may go and be shared.
+use denote.Builtin.{u8, u64, usize}
+use denote.Param.Send.{IsSend, IsSync, sendable, view_send}
+use denote.Param.SendFields.{declared_send, declared_sync}
+use Rattle.std.proofs.Crossing as crossing
+use Rattle.std.proofs.alloc.Global.TheSendSync as heap
+use Rattle.std.specs.contracts.alloc.Global as alloc
+use Rattle.std.specs.contracts.option.Option as option
+use Rattle.std.specs.contracts.impls.GlobalAllocator.TheImpl.{ghosts}
+use Rattle.atomic_table.proofs.shared.Shared.TheSendSync as words
+use Rattle.atomic_table.proofs.send_lease.SendLease.TheSendSync as lease
+use Rattle.atomic_table.specs.contracts.owned.Table as table
+use Rattle.scq_word.specs.contracts.setup.Setup as setup
+use Rattle.scq_band.specs.contracts.rule.Key as key
+use Rattle.scq_band.specs.contracts.rule.Rule as rule
+use Rattle.scq_band.specs.contracts.rule.RuleTableRuleSlotViewKey.TheImpl as rules
+use Rattle.scq_band.specs.contracts.slot.Slot as slot
+use Rattle.scq_band.specs.contracts.view.View as view
+use Rattle.scq_band.specs.contracts.band.Band as band
+use Rattle.scq_band.specs.contracts.band.Band.TheInside as band_inside
+use Rattle.scq_band.specs.contracts.seat.Seat as seat
+use Rattle.scq_band.proofs.SeatsSent.{snapshot_sent, vec_sent, u32_sent, u64_sent, option_sent, seat_sent}
+use Rattle.scq_queue.specs.contracts.counts.Counts as counts
+use Rattle.scq_queue.specs.contracts.held.Held as held
+use Rattle.scq_queue.specs.contracts.held.Held.TheInside as held_inside
+use Rattle.scq_queue.specs.contracts.queue.Queue as queue
+use Rattle.scq_queue.specs.contracts.queue.Queue.TheInside as queue_inside
+use Rattle.scq_queue.proofs.PassesSent.{pass_sent}
+use Rattle.scq_queue.proofs.QueuesShared.{queue_sync}
+use Rattle.scq_band.proofs.SeatsShared.{vec_sync}
+use Rattle.scq_port.specs.contracts.port_buffer.PortBuffer as buffer
+use Rattle.scq_port.specs.contracts.port_buffer.PortBufferBuffer.TheImpl as buffers
+use Rattle.scq_port.specs.contracts.hand.Hand as hand
+use Rattle.scq_port.specs.contracts.owner.Owner as owner
+use Rattle.scq_port.specs.contracts.port.Port as port
+use Rattle.scq_port.specs.contracts.port.Port.TheInside as port_inside
+
+usize_sent : IsSend usize
+usize_sent = search sendable
+
+pub buffer_sent : IsSend buffer.the_row
+buffer_sent = declared_send buffer.the_type (vec_sent u8 (search sendable), tt)
+
+pub buffer_sync : IsSync buffer.the_row
+buffer_sync = declared_sync buffer.the_type (vec_sync u8 (search sendable), tt)
+
+slot_sent : IsSend (slot.the_row buffer.the_row)
+slot_sent = declared_send (slot.the_type buffer.the_row) (option_sent buffer.the_row buffer_sent, tt)
+
+setup_sent : IsSend setup.the_row
+setup_sent = search (sendable, crossing.crosses) depth 20
+
+counts_sent : IsSend counts.the_row
+counts_sent = declared_send counts.the_type (u64_sent, (u64_sent, (u64_sent, tt)))
+
+table_sent : IsSend (table.the_row (slot.the_row buffer.the_row) view.the_row (key.the_row buffer.the_row) rule.the_row alloc.the_row (rules.ghosts buffer.the_row buffers.ghosts rules.no_dict) ghosts)
+table_sent =
+    declared_send (table.the_type (slot.the_row buffer.the_row) view.the_row (key.the_row buffer.the_row) rule.the_row alloc.the_row (rules.ghosts buffer.the_row buffers.ghosts rules.no_dict) ghosts) (
+      words.the_send (slot.the_row buffer.the_row) view.the_row (key.the_row buffer.the_row) rule.the_row (rules.ghosts buffer.the_row buffers.ghosts rules.no_dict) slot_sent,
+      (
+        usize_sent,
+        (
+          usize_sent,
+          (
+            lease.the_send u64 alloc.the_row ghosts heap.the_send crossing.frees,
+            (lease.the_send (slot.the_row buffer.the_row) alloc.the_row ghosts heap.the_send crossing.frees, (heap.the_send, tt)),
+          ),
+        ),
+      ),
+    )
+
+band_sent : IsSend (band.the_row buffer.the_row buffers.ghosts)
+band_sent =
+    view_send (band_inside.the_row buffer.the_row buffers.ghosts) _ _ _ _
+    (declared_send (band_inside.the_type buffer.the_row buffers.ghosts) (
+      table_sent,
+      (setup_sent, (vec_sent buffer.the_row buffer_sent, (vec_sent u64 u64_sent, tt))),
+    ))
+
+queue_sent : IsSend (queue.the_row buffer.the_row buffers.ghosts)
+queue_sent =
+    view_send (queue_inside.the_row buffer.the_row buffers.ghosts) _ _ _ _
+    (declared_send (queue_inside.the_type buffer.the_row buffers.ghosts) (
+      band_sent,
+      (
+        vec_sent (seat.the_row buffer.the_row buffers.ghosts) (seat_sent buffer.the_row buffers.ghosts buffer_sent),
+        (vec_sent counts.the_row counts_sent, tt),
+      ),
+    ))
+
+owner_sent : IsSend owner.the_row
+owner_sent = declared_send owner.the_type (queue_sent, tt)
+
+owner_sync : IsSync owner.the_row
+owner_sync = declared_sync owner.the_type (queue_sync buffer.the_row buffers.ghosts buffer_sent buffer_sync, tt)
+
+held_sent : IsSend (held.the_row buffer.the_row buffers.ghosts)
+held_sent =
+    view_send (held_inside.the_row buffer.the_row buffers.ghosts) _ _ _ _
+    (declared_send (held_inside.the_type buffer.the_row buffers.ghosts) (
+      u32_sent,
+      (buffer_sent, (snapshot_sent (seat.the_row buffer.the_row buffers.ghosts), tt)),
+    ))
+
+hand_sent : IsSend hand.the_row
+hand_sent = declared_send hand.the_type (vec_sent (option.the_row (held.the_row buffer.the_row buffers.ghosts)) (option_sent (held.the_row buffer.the_row buffers.ghosts) held_sent), (u32_sent, (u32_sent, tt)))
+
+pub port_sent : IsSend port.the_row
+port_sent =
+    view_send port_inside.the_row _ _ _ _
+    (declared_send port_inside.the_type (
+      crossing.Arc-send owner.the_row owner_sent owner_sync,
+      (pass_sent buffer.the_row buffers.ghosts buffer_sent, (hand_sent, (u32_sent, tt))),
+    ))

@@ -1,0 +1,9 @@
+use Rattle.std.specs.Prelude.{vec_len}
+use Rattle.scq_port.specs.Kept.{LetsGo}
+use Rattle.scq_port.proofs.letting_go.let_go.Given as goal
+
+abbrev pub invariant-loop-slot : goal.invariant-loop-slot
+invariant-loop-slot l = LetsGo l.queue l.pass l.slots.items
+
+abbrev pub decreases-loop-slot : goal.decreases-loop-slot
+decreases-loop-slot l = vec_len l.slots

@@ -1,0 +1,21 @@
+use Rattle.std.proofs.Common.{◌≡◌, ℕ, List, map, replicate, sym, ◌∙◌, ap}
+use Rattle.scq_word.specs.Sizes.{n_of}
+use Rattle.scq_queue.specs.Passes.{PassStanding}
+use Rattle.scq_port.specs.declared.port_buffer.PortBuffer.{PortBuffer}
+use Rattle.scq_port.specs.Ports.{bytes_of}
+use Rattle.scq_port.specs.Calls.{AreOpened, new_port}
+use Rattle.scq_port.proofs.Opened.{if_ok}
+use Rattle.scq_port.proofs.opening.open.Goals as goal
+
+pub returns : goal.returns
+returns c =
+    let made = c.in-Ok.ensures in
+    let size = c.args.size in
+    if_ok c.ports_of.result _ (λ ports. AreOpened c.args.setup size c.args.hold ports.items) (λ ports is. record {
+      queue = c.in-Ok.queue;
+      setup = made.queue.0;
+      buffers =
+          ap (λ (l : List PortBuffer). map bytes_of l) made.queue.1 ∙ c.in_ok-buffers.ensures
+          ∙ ap (λ (k : ℕ). replicate k (replicate size 0)) (c.n.ensures ∙ ap n_of c.shape.ensures);
+      ports = is ∙ ap (λ (l : List (PassStanding PortBuffer)). map (new_port c.args.hold) l) made.passes;
+    }) c.ports_of.ensures

@@ -1,0 +1,38 @@
+use Rattle.std.proofs.Common.{◌≡◌, List, ◌++◌, map, All, sym, ◌∙◌, ap, subst}
+use Rattle.std.specs.Prelude.{reverse}
+use Rattle.std.specs.Arc.{arc_value}
+use Rattle.std.proofs.lemmas.List.{reverse-reverse}
+use Rattle.scq_queue.specs.Passes.{PassStanding, first_passes}
+use Rattle.scq_port.specs.declared.port_buffer.PortBuffer.{PortBuffer}
+use Rattle.scq_port.specs.Ports.{PortStanding}
+use Rattle.scq_port.specs.Calls.{new_port}
+use Rattle.scq_port.specs.Kept.{IsFresh}
+use Rattle.scq_port.proofs.Opened.{all_fresh, all_last, all_others, one_more}
+use Rattle.scq_port.proofs.opening.ports_of.Goals as goal
+
+pub loop-pass-init : goal.loop-pass-init
+loop-pass-init c =
+    let turned = c.reverse.ensures.items in
+    let queue = (arc_value c.args.owner.now).queue in (
+      ap (λ (l : List PortStanding). l ++ map (new_port c.args.hold) (reverse c.reverse.new.self.items)) c.in_ok-ports.ensures.items
+          ∙ ap (λ (l : List (PassStanding PortBuffer)). map (new_port c.args.hold) (reverse l)) turned
+          ∙ ap (λ (l : List (PassStanding PortBuffer)). map (new_port c.args.hold) l) (reverse-reverse c.args.passes.items),
+      subst (λ (l : List (PassStanding PortBuffer)). All (IsFresh queue) l)
+          (ap (λ (l : List (PassStanding PortBuffer)). reverse l) (sym c.requires.passes) ∙ sym turned) (all_fresh queue c.args.setup.seats),
+    )
+
+pub port_of-requires-clause-fresh : goal.port_of-requires-clause-fresh
+port_of-requires-clause-fresh c =
+    let Fresh = IsFresh (arc_value c.args.owner.now).queue in
+    all_last Fresh c.pop.new.self.items c.in-Some.pass
+    (subst (λ (l : List (PassStanding PortBuffer)). All Fresh l) c.in-Some.ensures.items c.loop-pass.invariant.1)
+
+pub loop-pass-preserved : goal.loop-pass-preserved
+loop-pass-preserved c =
+    let Fresh = IsFresh (arc_value c.args.owner.now).queue in (
+      one_more (new_port c.args.hold) c.loop-pass.ports.items c.push.new.self.items c.loop-pass.passes.items c.pop.new.self.items c.in-Some.pass
+          c.in_ok-port_of.field-0 (map (new_port c.args.hold) c.args.passes.items) c.loop-pass.invariant.0 c.in-Some.ensures.items
+          c.in_ok-push.ensures.items c.in_ok-port_of.ensures,
+      all_others Fresh c.pop.new.self.items c.in-Some.pass
+          (subst (λ (l : List (PassStanding PortBuffer)). All Fresh l) c.in-Some.ensures.items c.loop-pass.invariant.1),
+    )

@@ -1,0 +1,132 @@
+-- What each call makes of a port. What it makes of the port's pass is said in the words of the queue, for topic t and index i.
+use Rattle.std.specs.Prelude.{◌≡◌, ℕ, suc, ◌+◌, ◌<◌, ◌≤◌, List, [], length, Option, Some, None, slice_get, slice_set, replicate, map, All}
+use Rattle.std.specs.List.{Contains}
+use Rattle.scq_word.specs.declared.setup.Setup.{Setup}
+use Rattle.scq_word.specs.Sizes.{n_of}
+use Rattle.scq_band.specs.Buffers.{opening_of}
+use Rattle.scq_band.specs.RunSeen.{IsCallInRun, WasEmptyInRun}
+use Rattle.scq_band.specs.Standing.{IsAsGiven}
+use Rattle.scq_queue.specs.Lists.{Lists, with_send, with_take, with_full}
+use Rattle.scq_queue.specs.Passes.{PassStanding, lists_of, known_on, WasLent, HasGot, WasGivenBack, FoundNothing, FoundFull, having_seen, caller_of, after_put, after_spent_put, after_spent_get, first_pass, first_passes}
+use Rattle.scq_port.specs.declared.port_buffer.PortBuffer.{PortBuffer}
+use Rattle.scq_port.specs.declared.sight.Sight.{Sight}
+use Rattle.scq_port.specs.Ports.{PortStanding, PortQueue, Value, HasValue, Shows, bytes_of, place_of}
+
+-- the port holds the values that it held
+pub record HoldsAsBefore (old new : PortStanding) : Type 0 where
+  pub slots : new.slots ≡ old.slots
+  pub hold : new.hold ≡ old.hold
+
+-- a value came: it is the one that the port holds at its index from then on, in the buffer that the queue was given for this index
+pub record Came (old new : PortStanding) (h : Value) : Type 0 where
+  pub slots : new.slots ≡ slice_set old.slots h.index (Some h)
+  pub hold : new.hold ≡ old.hold
+  pub index : h.index < n_of old.pass.queue.setup.order
+  pub given : IsAsGiven (λ a b. (place_of a ≡ place_of b) × (length (bytes_of a) ≡ length (bytes_of b))) old.pass.queue.given h.index h.buffer
+
+-- a value that the port held went
+pub record Went (old new : PortStanding) (h : Value) : Type 0 where
+  pub was : HasValue old h
+  pub slots : new.slots ≡ slice_set old.slots h.index None
+  pub hold : new.hold ≡ old.hold
+
+-- the call is one in the run of all passes of the queue
+abbrev pub IsInRun : PortStanding → PortStanding → Type 0
+IsInRun old new = IsCallInRun old.pass.queue.setup (opening_of bytes_of old.pass.queue.given) (caller_of old.pass) (caller_of new.pass)
+
+-- a value was lent, and is shown
+pub record IsLent (s : Sight) (old new : PortStanding) : Type 0 where
+  pub value : Value
+  pub shown : Shows s value
+  pub lent : WasLent bytes_of old.pass new.pass value
+  pub came : Came old new value
+  pub lists : lists_of new.pass ≡ lists_of old.pass
+  pub unspent : old.pass.spent ≡ None
+  pub run : IsInRun old new
+
+-- a value was taken from a topic, at a place, and is shown
+pub record IsTaken (topic place : ℕ) (s : Sight) (old new : PortStanding) : Type 0 where
+  pub value : Value
+  pub shown : Shows s value
+  pub got : HasGot bytes_of (suc topic) place old.pass new.pass value
+  pub low : place < old.pass.queue.setup.limit
+  pub known : (known_on topic old.pass).head ≤ place
+  pub came : Came old new value
+  pub lists : lists_of new.pass ≡ with_take topic place (bytes_of value.buffer) (lists_of old.pass)
+  pub unspent : old.pass.spent ≡ None
+  pub run : IsInRun old new
+
+-- the value of an index was sent on a topic, at a place
+pub record IsSent (index topic place : ℕ) (old new : PortStanding) : Type 0 where
+  pub value : Value
+  pub is : value.index ≡ index
+  pub sent : new.pass ≡ having_seen new.pass.seen (after_put (suc topic) index place (bytes_of value.buffer) old.pass)
+  pub low : place < old.pass.queue.setup.limit
+  pub above : (known_on topic old.pass).seen < place
+  pub went : Went old new value
+  pub lists : lists_of new.pass ≡ with_send topic place (bytes_of value.buffer) (lists_of old.pass)
+  pub unspent : old.pass.spent ≡ None
+  pub run : IsInRun old new
+
+-- the value of an index was given back
+pub record IsGivenBack (index : ℕ) (old new : PortStanding) : Type 0 where
+  pub value : Value
+  pub is : value.index ≡ index
+  pub given : WasGivenBack (bytes_of value.buffer) index old.pass new.pass
+  pub went : Went old new value
+  pub lists : lists_of new.pass ≡ lists_of old.pass
+  pub unspent : old.pass.spent ≡ None
+  pub run : IsInRun old new
+
+-- no buffer was free, with this head of the free ring
+pub record WasFull (head : ℕ) (old new : PortStanding) : Type 0 where
+  pub found : FoundFull head old.pass new.pass
+  pub in_run : WasEmptyInRun old.pass.queue.setup (opening_of bytes_of old.pass.queue.given) 0 head (caller_of old.pass) (caller_of new.pass)
+  pub lists : lists_of new.pass ≡ with_full head (lists_of old.pass)
+  pub holds : HoldsAsBefore old new
+
+-- nothing was on the topic, with this head of it
+pub record WasEmpty (topic head : ℕ) (old new : PortStanding) : Type 0 where
+  pub found : FoundNothing (suc topic) head old.pass new.pass
+  pub in_run : WasEmptyInRun old.pass.queue.setup (opening_of bytes_of old.pass.queue.given) (suc topic) head (caller_of old.pass) (caller_of new.pass)
+  pub lists : lists_of new.pass ≡ lists_of old.pass
+  pub holds : HoldsAsBefore old new
+
+-- the port keeps a ticket at or past the limit: one that this call drew on a ring, or one that it kept before, and then nothing changed
+pub record IsSpent (after : PassStanding PortBuffer) (ticket : ℕ) (old new : PortStanding) : Type 0 where
+  pub drawn : old.pass.spent ≡ None → (new.pass ≡ having_seen new.pass.seen after) × (old.pass.queue.setup.limit ≤ ticket) × IsInRun old new
+  pub kept : (before : ℕ) → old.pass.spent ≡ Some before → (before ≡ ticket) × (new ≡ old)
+  pub lists : lists_of new.pass ≡ lists_of old.pass
+  pub holds : HoldsAsBefore old new
+
+abbrev pub IsSpentGet : ℕ → ℕ → PortStanding → PortStanding → Type 0
+IsSpentGet ring ticket old new = IsSpent (after_spent_get ring ticket old.pass) ticket old new
+
+abbrev pub IsSpentPut : ℕ → ℕ → PortStanding → PortStanding → Type 0
+IsSpentPut ring ticket old new = IsSpent (after_spent_put ring ticket old.pass) ticket old new
+
+-- the port holds as many values as it may
+pub record HasNoRoom (old new : PortStanding) : Type 0 where
+  pub same : new ≡ old
+  pub room : length old.pass.held ≡ old.hold
+
+-- the queue has no such topic
+pub record HasNoTopic (topic : ℕ) (old new : PortStanding) : Type 0 where
+  pub same : new ≡ old
+  pub past : old.pass.queue.setup.rings ≤ topic + 1
+
+-- the port holds no value of this index
+pub record HoldsNoSuch (index : ℕ) (old new : PortStanding) : Type 0 where
+  pub same : new ≡ old
+  pub none : Contains old.pass.held index → ⊥
+
+-- a port of a new queue, which holds nothing
+abbrev pub new_port : ℕ → PassStanding PortBuffer → PortStanding
+new_port hold p = record { pass = p; slots = replicate (n_of p.queue.setup.order) None; hold = hold }
+
+-- the ports of a new queue of this setup, in the order of their numbers, each of whose buffers has so many zero bytes
+pub record AreOpened (c : Setup) (size hold : ℕ) (opened : List PortStanding) : Type 0 where
+  pub queue : PortQueue
+  pub setup : queue.setup ≡ c
+  pub buffers : map bytes_of queue.given ≡ replicate (n_of c.order) (replicate size 0)
+  pub ports : opened ≡ map (new_port hold) (first_passes queue c.seats)

@@ -1,0 +1,52 @@
+-- For private calls: what a port keeps.
+use Rattle.std.specs.Prelude.{◌≡◌, ℕ, ◌+◌, ◌<◌, ◌≤◌, List, [], length, Option, Some, None, slice_get}
+use Rattle.std.specs.List.{Contains}
+use Rattle.scq_law.specs.Hands.{times}
+use Rattle.scq_word.specs.Sizes.{n_of}
+use Rattle.scq_queue.specs.Passes.{PassStanding}
+use Rattle.scq_port.specs.declared.port_buffer.PortBuffer.{PortBuffer}
+use Rattle.scq_port.specs.declared.hand.Hand.{Hand}
+use Rattle.scq_port.specs.Ports.{PortStanding, PortQueue, Value}
+
+-- a value stands at its index, and is one that this pass of the queue holds
+pub record StandsAt (queue : PortQueue) (p : PassStanding PortBuffer) (i : ℕ) (h : Value) : Type 0 where
+  pub queue_of : h.queue ≡ queue
+  pub pass : h.pass ≡ p.number
+  pub index : h.index ≡ i
+  pub holds : times i p.held ≡ 1
+
+-- a pass of the queue, awake, with all the values that it holds, each at its index; how many they are, and how many there may be
+pub record Keeps (queue : PortQueue) (p : PassStanding PortBuffer) (slots : List (Option Value)) (count hold : ℕ) : Type 0 where
+  pub own : p.queue ≡ queue
+  pub awake : p.retired ≡ None
+  pub places : length slots ≡ n_of queue.setup.order
+  pub here : (i : ℕ) (h : Value) → slice_get slots i ≡ Some (Some h) → StandsAt queue p i h
+  pub free : (i : ℕ) → slice_get slots i ≡ Some None → times i p.held ≡ 0
+  pub past : (i : ℕ) → slice_get slots i ≡ None → times i p.held ≡ 0
+  pub used : count ≡ length p.held
+  pub room : count ≤ hold
+
+abbrev pub KeepsHand : PortQueue → PassStanding PortBuffer → Hand → Type 0
+KeepsHand queue p hand = Keeps queue p hand.slots.items hand.used hand.hold
+
+-- a port's pass and values, and how many topics its queue has
+pub record IsPort (queue : PortQueue) (p : PassStanding PortBuffer) (hand : Hand) (many : ℕ) : Type 0 where
+  pub keeps : KeepsHand queue p hand
+  pub topics : many + 1 ≡ queue.setup.rings
+
+-- what contracts see of a port with this pass and these values
+abbrev pub seen_as : PassStanding PortBuffer → Hand → PortStanding
+seen_as p hand = record { pass = p; slots = hand.slots.items; hold = hand.hold }
+
+-- a pass of the queue, awake, that holds nothing
+pub record IsFresh (queue : PortQueue) (p : PassStanding PortBuffer) : Type 0 where
+  pub own : p.queue ≡ queue
+  pub awake : p.retired ≡ None
+  pub none : p.held ≡ []
+
+-- a pass of the queue that holds the values at these places, and where no ticket is spent no others
+pub record LetsGo (queue : PortQueue) (p : PassStanding PortBuffer) (slots : List (Option Value)) : Type 0 where
+  pub own : p.queue ≡ queue
+  pub here : (i : ℕ) (h : Value) → slice_get slots i ≡ Some (Some h) → StandsAt queue p i h
+  pub free : p.spent ≡ None → (i : ℕ) → slice_get slots i ≡ Some None → times i p.held ≡ 0
+  pub past : p.spent ≡ None → (i : ℕ) → slice_get slots i ≡ None → times i p.held ≡ 0

@@ -1,0 +1,3 @@
+pub mod Ports
+pub mod Calls
+pub mod Kept

@@ -1,0 +1,61 @@
+//! The values that a port holds, each at its index.
+ghost use Rattle.std.specs.Prelude.{◌≡◌, ℕ, ◌<◌, length, Some, None, MatchOption, slice_get, slice_set};
+ghost use Rattle.scq_port.specs.Ports.{Value, Shows};
+
+use crate::port_buffer::PortBuffer;
+use crate::sight::Sight;
+use scq_band::Lifted;
+use scq_queue::Held;
+use std::mem;
+
+/// The values that a port holds, each at the index of its buffer: `used` of them, and no more than `hold`.
+pub struct Hand {
+    pub(crate) slots: Vec<Option<Held<PortBuffer>>>,
+    pub(crate) used: u32,
+    pub(crate) hold: u32,
+}
+
+/// Shows a value.
+#[inline(always)]
+fn sight_of(held: &Held<PortBuffer>) -> Sight
+    ensures { Shows result held.now }
+{
+    Sight {
+        index: held.index(),
+        at: held.buffer().as_ptr(),
+        len: held.bytes().len(),
+    }
+}
+
+impl Hand {
+    /// Puts a value at its index, where there is none, and shows it.
+    #[inline(always)]
+    pub(crate) fn put_in(&mut self, held: Held<PortBuffer>) -> Sight
+        requires free { slice_get self.old.slots.items held.index ≡ Some None }
+        ensures put { self.new.slots.items ≡ slice_set self.old.slots.items held.index (Some held) }
+        ensures rest { (self.new.used ≡ self.old.used) × (self.new.hold ≡ self.old.hold) }
+        ensures shown { Shows result held }
+    {
+        let sight = sight_of(&held);
+        match mem::replace(&mut self.slots[sight.index as usize], Some(held)) {
+            None => sight,
+            Some(_) => unreachable!(),
+        }
+    }
+
+    /// Takes the value of an index out, if there is one.
+    #[inline(always)]
+    pub(crate) fn take_out(&mut self, index: u32) -> Option<Held<PortBuffer>>
+        ensures none { result ≡ None → (self.new.slots.items ≡ self.old.slots.items)
+            × ((h : Value) → slice_get self.old.slots.items index ≡ Some (Some h) → ⊥) }
+        ensures some { (h : Value) → result ≡ Some h → (slice_get self.old.slots.items index ≡ Some (Some h))
+            × (self.new.slots.items ≡ slice_set self.old.slots.items index None) }
+        ensures rest { (self.new.used ≡ self.old.used) × (self.new.hold ≡ self.old.hold) }
+    {
+        let at = index as usize;
+        if at >= self.slots.len() {
+            return None;
+        }
+        self.slots[at].take()
+    }
+}

@@ -1,0 +1,28 @@
+//! A port: a pass together with its queue and the values that the pass holds, as one value that needs nothing from outside. It stands on
+//! `scq_queue`, and each of its calls tests when it is made what a caller of `scq_queue` proves: that the topic is there, that the value
+//! is held, that there is room for one more. Values are named by the index of their buffer. The last port of a queue that goes frees it.
+//! What a port is seen as and what each call makes of it stands in `specs/Ports` and `specs/Calls`. The layer above is `scq_c`, which
+//! gives ports to C.
+#![tactic(auto)]
+
+mod crossing;
+mod hand;
+mod holding;
+mod letting_go;
+mod opening;
+mod owner;
+mod port;
+mod port_buffer;
+mod refusals;
+mod sight;
+
+pub use crossing::port_crosses;
+pub use opening::open;
+pub use owner::Owner;
+pub use port::Port;
+pub use port_buffer::PortBuffer;
+pub use refusals::{GiveBackRefusal, LendRefusal, SendRefusal, TakeRefusal};
+pub use sight::Sight;
+
+#[cfg(test)]
+mod tests;

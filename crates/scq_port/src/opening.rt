@@ -1,0 +1,101 @@
+//! How a queue is made with its ports.
+ghost use Rattle.std.specs.Prelude.{◌≡◌, ℕ, ◌<◌, ◌≤◌, ◌+◌, [], map, replicate, IfOk, vec_len};
+ghost use Rattle.std.specs.Arc.{arc_value};
+ghost use Rattle.scq_word.specs.Sizes.{n_of};
+ghost use Rattle.scq_queue.specs.Passes.{first_passes};
+ghost use Rattle.scq_port.specs.Ports.{bytes_of};
+ghost use Rattle.scq_port.specs.Calls.{AreOpened, new_port};
+ghost use Rattle.scq_port.specs.Kept.{IsFresh};
+
+use crate::hand::Hand;
+use crate::owner::Owner;
+use crate::port::Port;
+use crate::port_buffer::PortBuffer;
+use scq_queue::{Held, Pass, Queue};
+use scq_word::{NoMemory, Setup};
+use std::alloc::Global;
+use std::sync::Arc;
+
+/// So many buffers of so many zero bytes.
+fn buffers(alloc: Global, count: u32, size: u32) -> Result<Vec<PortBuffer>, NoMemory>
+    ensures { IfOk result (λ made. map bytes_of made.items ≡ replicate count (replicate size 0)) }
+{
+    let mut made = Vec::with_capacity(alloc, count as usize)?;
+    while made.len() < count as usize {
+        made.push(PortBuffer::new(alloc, size)?)?;
+    }
+    Ok(made)
+}
+
+/// A hand without values, with a place for each of so many indices.
+fn empty_hand(alloc: Global, places: u32, hold: u32) -> Result<Hand, NoMemory>
+    ensures { IfOk result (λ hand. (hand.slots.items ≡ replicate places None) × (hand.used ≡ 0) × (hand.hold ≡ hold)) }
+{
+    let mut slots = Vec::with_capacity(alloc, places as usize)?;
+    while slots.len() < places as usize {
+        slots.push_reserved(None);
+    }
+    Ok(Hand {
+        slots,
+        used: 0,
+        hold,
+    })
+}
+
+/// A port over a pass that holds nothing, which may hold so many values.
+fn port_of(
+    alloc: Global,
+    owner: &Arc<Owner, Global>,
+    pass: Pass<PortBuffer>,
+    setup: Setup,
+    hold: u32,
+) -> Result<Port, NoMemory>
+    requires setup { (arc_value owner.now).queue.setup ≡ setup }
+    requires rings { 2 ≤ setup.rings }
+    requires fresh { IsFresh (arc_value owner.now).queue pass }
+    ensures { IfOk result (λ port. port ≡ new_port hold pass) }
+{
+    let owner = Arc::try_clone(owner)?;
+    let hand = empty_hand(alloc, setup.shape().n(), hold)?;
+    Ok(Port {
+        owner,
+        pass,
+        hand,
+        topics: setup.rings() - 1,
+    })
+}
+
+/// A port over each of these passes, in their order.
+fn ports_of(
+    alloc: Global,
+    owner: &Arc<Owner, Global>,
+    mut passes: Vec<Pass<PortBuffer>>,
+    setup: Setup,
+    hold: u32,
+) -> Result<Vec<Port>, NoMemory>
+    requires setup { (arc_value owner.now).queue.setup ≡ setup }
+    requires rings { 2 ≤ setup.rings }
+    requires passes { passes.items ≡ first_passes (arc_value owner.now).queue setup.seats }
+    ensures { IfOk result (λ ports. ports.items ≡ map (new_port hold) passes.items) }
+{
+    let mut ports = Vec::with_capacity(alloc, passes.len())?;
+    passes.reverse();
+    while let Some(pass) = passes.pop() {
+        ports.push(port_of(alloc, owner, pass, setup, hold)?)?;
+    }
+    Ok(ports)
+}
+
+/// A queue over 2^order buffers of `size` zero bytes, by its ports, as many as the setup has seats and in the order of their numbers, each
+/// of which may hold `hold` values. Topic t is ring t + 1, so there is one topic less than rings. Where memory is refused nothing is left.
+pub fn open(alloc: Global, setup: Setup, size: u32, hold: u32) -> Result<Vec<Port>, NoMemory>
+    requires rings { 2 ≤ setup.rings }
+    ensures { IfOk result (λ ports. AreOpened setup size hold ports.items) }
+{
+    let buffers = buffers(alloc, setup.shape().n(), size)?;
+    let Ok((queue, passes)) = Queue::make(alloc, setup, buffers) else {
+        return Err(NoMemory);
+    };
+    let owner = Arc::new(alloc, Owner { queue })?;
+    ports_of(alloc, &owner, passes, setup, hold)
+}

@@ -1,0 +1,140 @@
+//! A port.
+ghost use Rattle.std.specs.Prelude.{◌≡◌, ℕ, suc, ◌+◌, ◌<◌, ◌≤◌, length, Some, None, Err, IfOk, IfErr};
+ghost use Rattle.std.specs.Arc.{arc_value};
+ghost use Rattle.scq_queue.specs.Lists.{counts_of};
+ghost use Rattle.scq_queue.specs.Passes.{lists_of};
+ghost use Rattle.scq_port.specs.Calls.{IsLent, IsTaken, IsSent, IsGivenBack, WasFull, WasEmpty, IsSpentGet, IsSpentPut, HasNoRoom, HasNoTopic, HoldsNoSuch};
+ghost use Rattle.scq_port.specs.Kept.{KeepsHand};
+
+use crate::hand::Hand;
+use crate::holding;
+use crate::letting_go::let_go;
+use crate::owner::Owner;
+use crate::port_buffer::PortBuffer;
+use crate::refusals::{GiveBackRefusal, LendRefusal, SendRefusal, TakeRefusal};
+use crate::sight::Sight;
+use scq_queue::{Counts, Pass};
+use std::alloc::Global;
+use std::marker::Model;
+use std::sync::Arc;
+
+/// A pass with its queue and the values that it holds. One call at a time is made with it, by whichever thread has it. Where it is dropped
+/// it gives back what it holds, and the last port of a queue frees it.
+pub struct Port {
+    pub(crate) owner: Arc<Owner, Global>,
+    pub(crate) pass: Pass<PortBuffer>,
+    pub(crate) hand: Hand,
+    pub(crate) topics: u32,
+}
+
+impl Model for Port {
+    ghost use Rattle.scq_port.specs.Ports.{PortStanding};
+
+    ghost Value = { PortStanding };
+
+    ghost use Rattle.std.specs.Arc.{arc_value};
+    ghost use Rattle.scq_port.specs.Kept.{seen_as, IsPort};
+
+    ghost view = { λ p. seen_as p.pass p.hand };
+
+    ghost invariant = { λ p. IsPort (arc_value p.owner).queue p.pass p.hand p.topics };
+}
+
+impl Port {
+    /// Lends a buffer that nobody holds, with whatever bytes stand in it, and shows it.
+    ///
+    /// NoRoom where the port holds as many values as it may. Full and Spent as with `scq_queue`.
+    #[inline(always)]
+    pub fn lend(&mut self) -> Result<Sight, LendRefusal>
+        ensures lent { IfOk result (λ sight. IsLent sight self.old self.new) }
+        ensures no_room { result ≡ Err LendRefusal.NoRoom → HasNoRoom self.old self.new }
+        ensures full { (head : ℕ) → result ≡ Err (LendRefusal.Full head) → WasFull head self.old self.new }
+        ensures spent { (ticket : ℕ) → result ≡ Err (LendRefusal.Spent ticket) → IsSpentGet 0 ticket self.old self.new }
+    {
+        if self.hand.used >= self.hand.hold {
+            return Err(LendRefusal::NoRoom);
+        }
+        holding::lend(&self.owner.queue, &mut self.pass, &mut self.hand)
+    }
+
+    /// Takes a value from a topic: answers its place, and shows it.
+    ///
+    /// NoTopic where there are not so many topics, NoRoom as with `lend`. Empty and Spent as with `scq_queue`.
+    #[inline(always)]
+    pub fn take(&mut self, topic: u32) -> Result<(u64, Sight), TakeRefusal>
+        ensures taken { IfOk result (λ r. IsTaken topic r.0 r.1 self.old self.new) }
+        ensures no_topic { result ≡ Err TakeRefusal.NoTopic → HasNoTopic topic self.old self.new }
+        ensures no_room { result ≡ Err TakeRefusal.NoRoom → HasNoRoom self.old self.new }
+        ensures empty { (head : ℕ) → result ≡ Err (TakeRefusal.Empty head) → WasEmpty topic head self.old self.new }
+        ensures spent { (ticket : ℕ) → result ≡ Err (TakeRefusal.Spent ticket) → IsSpentGet (suc topic) ticket self.old self.new }
+    {
+        if topic >= self.topics {
+            return Err(TakeRefusal::NoTopic);
+        }
+        if self.hand.used >= self.hand.hold {
+            return Err(TakeRefusal::NoRoom);
+        }
+        holding::take(&self.owner.queue, &mut self.pass, topic, &mut self.hand)
+    }
+
+    /// Sends the value of an index on a topic, with the bytes that stand in it: answers its place.
+    ///
+    /// NoTopic where there are not so many topics, NotHeld where the port holds no value of this index. Spent as with `scq_queue`; then
+    /// the port still holds the value.
+    #[inline(always)]
+    pub fn send(&mut self, index: u32, topic: u32) -> Result<u64, SendRefusal>
+        ensures sent { IfOk result (λ place. IsSent index topic place self.old self.new) }
+        ensures no_topic { result ≡ Err SendRefusal.NoTopic → HasNoTopic topic self.old self.new }
+        ensures not_held { result ≡ Err SendRefusal.NotHeld → HoldsNoSuch index self.old self.new }
+        ensures spent { (ticket : ℕ) → result ≡ Err (SendRefusal.Spent ticket) → IsSpentPut (suc topic) ticket self.old self.new }
+    {
+        if topic >= self.topics {
+            return Err(SendRefusal::NoTopic);
+        }
+        holding::send(
+            &self.owner.queue,
+            &mut self.pass,
+            index,
+            topic,
+            &mut self.hand,
+        )
+    }
+
+    /// Gives the value of an index back, so that it can be lent again.
+    ///
+    /// NotHeld and Spent as with `send`.
+    #[inline(always)]
+    pub fn give_back(&mut self, index: u32) -> Result<(), GiveBackRefusal>
+        ensures given { IfOk result (λ _. IsGivenBack index self.old self.new) }
+        ensures not_held { result ≡ Err GiveBackRefusal.NotHeld → HoldsNoSuch index self.old self.new }
+        ensures spent { (ticket : ℕ) → result ≡ Err (GiveBackRefusal.Spent ticket) → IsSpentPut 0 ticket self.old self.new }
+    {
+        holding::give_back(&self.owner.queue, &mut self.pass, index, &mut self.hand)
+    }
+
+    /// How many sends, takes and Full replies it had.
+    pub fn counts(&self) -> Counts
+        ensures { result ≡ counts_of (lists_of self.now.pass) }
+    {
+        self.pass.counts()
+    }
+
+    /// The ticket at or past the limit that it keeps. From then on each call that would draw a ticket answers Spent with it.
+    pub fn spent(&self) -> Option<u64>
+        ensures { result ≡ self.now.pass.spent }
+    {
+        self.pass.spent()
+    }
+}
+
+impl Drop for Port {
+    fn drop(self) {
+        let Port {
+            owner,
+            mut pass,
+            hand,
+            topics: _,
+        } = self;
+        let_go(&owner.queue, &mut pass, hand);
+    }
+}
