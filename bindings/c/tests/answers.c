@@ -109,7 +109,7 @@ static void several(void) {
     scq_counts counts;
     uint64_t place, before = 0;
     CHECK(open_(2, 1, 100, 3, most, ports, 2) == SCQ_OK);
-    for (int i = 0; i < 3; i++) CHECK(lend(&ports[0], &held[i]) == SCQ_OK);
+    for (int i = 0; i < 3; i++) CHECK(lend(&ports[0], &held[i]) == SCQ_OK && held[i].place == 0);
     CHECK(lend(&ports[0], &held[3]) == SCQ_NO_ROOM && take(&ports[0], 0, &held[3]) == SCQ_NO_ROOM);
     CHECK(lend(&ports[1], &held[3]) == SCQ_OK && lend(&ports[1], &held[4]) == SCQ_FULL);
     for (int i = 0; i < 4; i++) {
@@ -128,7 +128,7 @@ static void several(void) {
     for (int i = 0; i < 3; i++) CHECK(take(&ports[1], 0, &last) == SCQ_OK && last.index == held[order[i]].index && last.at[99] == 'a' + order[i]);
     CHECK(take(&ports[1], 0, &last) == SCQ_NO_ROOM);
     /* What the one port holds is lent to the other, once the one is closed. */
-    CHECK(lend(&ports[0], &last) == SCQ_OK && last.index == held[3].index);
+    CHECK(lend(&ports[0], &last) == SCQ_OK && last.index == held[3].index && last.place == 0);
     CHECK(lend(&ports[0], &last) == SCQ_FULL);
     CHECK(close_(&ports[1]) == SCQ_OK);
     CHECK(lend(&ports[0], &last) == SCQ_OK && lend(&ports[0], &last) == SCQ_OK && lend(&ports[0], &last) == SCQ_NO_ROOM);

@@ -166,6 +166,20 @@ impl<G, E: fmt::Display> fmt::Display for Refused<G, E> {
 
 impl<G, E: Error + 'static> Error for Refused<G, E> {}
 
+/// For `?`, which gives the buffer back.
+impl<G> From<Refused<G, SendRefusal>> for SendRefusal {
+    fn from(refused: Refused<G, SendRefusal>) -> SendRefusal {
+        refused.why
+    }
+}
+
+/// For `?`, where the port keeps the buffer.
+impl<G> From<Refused<G, Spent>> for Spent {
+    fn from(refused: Refused<G, Spent>) -> Spent {
+        refused.why
+    }
+}
+
 const NO_ROOM: &str = "the port holds as many buffers as it may";
 const NO_TOPIC: &str = "there are not so many topics";
 const SPENT: &str = "tickets have run out at the queue's limit";

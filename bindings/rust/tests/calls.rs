@@ -95,6 +95,19 @@ fn a_topic_past_the_last_is_refused_and_the_buffer_comes_back() {
 }
 
 #[test]
+fn a_refusal_can_be_handed_on() {
+    fn sent(port: &Port, topic: u32) -> Result<u64, Box<dyn Error>> {
+        Ok(port.lend()?.send(topic).map_err(SendRefusal::from)?)
+    }
+    let ports = ports(SMALL, 1);
+    for _ in 0..10 {
+        let error = sent(&ports[0], 2).unwrap_err();
+        assert_eq!(error.downcast_ref(), Some(&SendRefusal::NoTopic));
+    }
+    assert!(sent(&ports[0], 1).is_ok());
+}
+
+#[test]
 fn a_guard_that_is_dropped_is_given_back() {
     let ports = ports(SMALL, 1);
     for _ in 0..10 {
