@@ -21,8 +21,9 @@
  *    scq_give_back that does, or scq_close.
  * 6. After fork the child makes no call with the parent's ports, and doesn't touch their buffers.
  *
- * Everything else is tested by the calls, and answered. Of each call there stands below what is tested, in this order, and what is answered.
- * Where the answer isn't SCQ_OK no buffer has changed hands, and nothing is written through the pointers but what is said there.
+ * Everything else is tested by the calls, and answered. Of each call there stands below what is tested and what is answered; where several
+ * answers would be right, one of them comes. Where it isn't SCQ_OK no buffer has changed hands, and nothing is written through the pointers but
+ * what is said there.
  */
 #ifndef SCQ_H
 #define SCQ_H
@@ -113,7 +114,7 @@ uint32_t scq_version(void);
  * at a time. Each topic, and the stock of free buffers, counts its puts and its gets by tickets up to `limit`; SCQ_MAX_LIMIT is the plain choice.
  *
  * Asks: that each of the n ports is SCQ_NONE or open.
- * Tested: that none is open; topics, size, that n is below 2^32, order, ports, limit, hold.
+ * Tested: that none is open; each of the numbers.
  * Answers: SCQ_OK; SCQ_IS_OPEN, SCQ_BAD_TOPICS, SCQ_BAD_SIZE, SCQ_BAD_ORDER, SCQ_BAD_PORTS, SCQ_BAD_LIMIT, SCQ_BAD_HOLD; SCQ_NO_MEMORY where
  * an allocation was refused. Where it isn't SCQ_OK no port is changed, and nothing is left of the queue. */
 uint32_t scq_open(uint32_t order, uint32_t topics, uint32_t size, uint32_t hold, uint64_t limit, scq_port *ports, size_t n);
