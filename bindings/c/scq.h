@@ -1,0 +1,172 @@
+/* scq: fixed buffers that threads pass to one another, without locks.
+ *
+ * A queue has 2^order buffers of the same size and up to 17 topics, each a first-in-first-out queue of its own over these buffers. A thread
+ * makes its calls with a port of its own: it is lent a buffer, writes it where it lies and sends it on a topic; or it takes one from a topic,
+ * reads it and gives it back. No call takes a lock or waits for another thread's, and only scq_open takes memory. What is called is proved:
+ * docs/QUEUE.md says what that means, and docs/PROMISES.md has the promise of each call.
+ *
+ * Compile with this file, C99 or C++, and link with libscq.a and nothing else.
+ *
+ * What the caller has to uphold. Nothing of it is tested; where it is broken anything may happen, as where C's own rules are.
+ *
+ * 1. A port is SCQ_NONE before scq_open, and only these calls change it. An open one is never copied; but it may be moved to another place, if
+ *    no call is made with it meanwhile and the old place is set to SCQ_NONE or not used again. scq_close makes it SCQ_NONE.
+ * 2. Every pointer that is handed in is non-null, aligned, and points to memory of its type that may be written; what two pointers of one call
+ *    point to lies apart. `n` ports begin at `ports`; also where n is 0, `ports` is not null.
+ * 3. One call at a time is made with a port, by whichever thread has it, also where a signal handler makes one. Calls with different ports may
+ *    meet in any way.
+ * 4. Who hands a port to another thread does so by what orders memory: starting or joining the thread, a lock, an atomic that is released and
+ *    acquired. So with a buffer's address, if another thread is to use the bytes.
+ * 5. The bytes of a buffer are touched only while a port holds it: from the scq_lend or scq_take that answered SCQ_OK until the scq_send or
+ *    scq_give_back that does, or scq_close.
+ * 6. After fork the child makes no call with the parent's ports, and doesn't touch their buffers.
+ *
+ * Everything else is tested by the calls, and answered. Of each call there stands below what is tested and what is answered; where several
+ * answers would be right, one of them comes. Where it isn't SCQ_OK no buffer has changed hands, and nothing is written through the pointers but
+ * what is said there.
+ */
+#ifndef SCQ_H
+#define SCQ_H
+
+#include <stddef.h>
+#include <stdint.h>
+
+#ifdef __cplusplus
+extern "C" {
+#endif
+
+/* What a thread makes its calls with. */
+typedef struct scq_port {
+    void *at; /* null where it is closed; what it points to is the library's */
+} scq_port;
+
+/* A port that is closed: `scq_port port = SCQ_NONE;` */
+#define SCQ_NONE { NULL }
+
+/* A buffer that a port holds. */
+typedef struct scq_held {
+    unsigned char *at; /* its bytes; a buffer lies at this address as long as the queue lives */
+    size_t len;        /* how many they are: the queue's `size` */
+    uint64_t place;    /* scq_take: the place at which it was sent; scq_lend: 0 */
+    uint32_t index;    /* its number, below 2^order, by which it is sent and given back */
+} scq_held;
+
+/* What a port did so far. */
+typedef struct scq_counts {
+    uint64_t sent;  /* how many buffers it sent */
+    uint64_t taken; /* how many it took */
+    uint64_t full;  /* how often it was answered SCQ_FULL */
+} scq_counts;
+
+/* The answers. */
+enum {
+    SCQ_OK = 0,
+    SCQ_EMPTY = 1,       /* nothing was on the topic */
+    SCQ_FULL = 2,        /* no buffer was free */
+    SCQ_SPENT = 3,       /* tickets have run out at the queue's limit */
+    SCQ_CLOSED = 4,      /* the port is closed */
+    SCQ_NOT_HELD = 5,    /* the port holds no buffer of this index */
+    SCQ_NO_TOPIC = 6,    /* there are not so many topics */
+    SCQ_NO_ROOM = 7,     /* the port holds as many buffers as it may */
+    SCQ_NO_MEMORY = 8,   /* no memory was found for the queue */
+    SCQ_BAD_ORDER = 9,   /* the order isn't from 1 to 12 */
+    SCQ_BAD_TOPICS = 10, /* the topics aren't from 1 to 17 */
+    SCQ_BAD_PORTS = 11,  /* the ports aren't from 1 to 4096 */
+    SCQ_BAD_LIMIT = 12,  /* the limit isn't from 8 * 2^order to SCQ_MAX_LIMIT */
+    SCQ_BAD_SIZE = 13,   /* a buffer has no bytes */
+    SCQ_BAD_HOLD = 14,   /* what a port may hold isn't from 1 to 2^order */
+    SCQ_IS_OPEN = 15     /* one of the ports is open */
+};
+
+/* The largest limit. A billion tickets a second come to it after 36 years. */
+#define SCQ_MAX_LIMIT ((uint64_t)1 << 60)
+
+/* What scq_version answers, of the library that this file is of. */
+#define SCQ_VERSION 1
+
+/* The text of an answer, which is there as long as the program. */
+static inline const char *scq_text(uint32_t answer) {
+    switch (answer) {
+    case SCQ_OK: return "ok";
+    case SCQ_EMPTY: return "nothing is on the topic";
+    case SCQ_FULL: return "no buffer is free";
+    case SCQ_SPENT: return "tickets have run out at the queue's limit";
+    case SCQ_CLOSED: return "the port is closed";
+    case SCQ_NOT_HELD: return "the port holds no buffer of this index";
+    case SCQ_NO_TOPIC: return "there are not so many topics";
+    case SCQ_NO_ROOM: return "the port holds as many buffers as it may";
+    case SCQ_NO_MEMORY: return "no memory for the queue";
+    case SCQ_BAD_ORDER: return "the order isn't from 1 to 12";
+    case SCQ_BAD_TOPICS: return "the topics aren't from 1 to 17";
+    case SCQ_BAD_PORTS: return "the ports aren't from 1 to 4096";
+    case SCQ_BAD_LIMIT: return "the limit isn't from 8 * 2^order to 2^60";
+    case SCQ_BAD_SIZE: return "a buffer has no bytes";
+    case SCQ_BAD_HOLD: return "what a port may hold isn't from 1 to 2^order";
+    case SCQ_IS_OPEN: return "one of the ports is open";
+    default: return "no answer of this library";
+    }
+}
+
+/* The version of the library: SCQ_VERSION, where this file is of it. */
+uint32_t scq_version(void);
+
+/* Makes a queue of 2^order buffers of `size` zero bytes, with `topics` topics, and opens `n` ports, each of which may hold up to `hold` buffers
+ * at a time. Each topic, and the stock of free buffers, counts its puts and its gets by tickets up to `limit`; SCQ_MAX_LIMIT is the plain choice.
+ *
+ * Asks: that each of the n ports is SCQ_NONE or open.
+ * Tested: that none is open; each of the numbers.
+ * Answers: SCQ_OK; SCQ_IS_OPEN, SCQ_BAD_TOPICS, SCQ_BAD_SIZE, SCQ_BAD_ORDER, SCQ_BAD_PORTS, SCQ_BAD_LIMIT, SCQ_BAD_HOLD; SCQ_NO_MEMORY where
+ * an allocation was refused. Where it isn't SCQ_OK no port is changed, and nothing is left of the queue. */
+uint32_t scq_open(uint32_t order, uint32_t topics, uint32_t size, uint32_t hold, uint64_t limit, scq_port *ports, size_t n);
+
+/* Lends a buffer that nobody holds: writes to `out` where it lies, with whatever bytes its last user left.
+ *
+ * Tested: that the port is open, and holds fewer buffers than it may.
+ * Answers: SCQ_OK; SCQ_CLOSED; SCQ_NO_ROOM; SCQ_FULL where no buffer was free, and out->place is the head of the stock: each buffer that was
+ * given back at a place below it has been lent, or is being lent; SCQ_SPENT, and out->place is the ticket. */
+uint32_t scq_lend(scq_port *port, scq_held *out);
+
+/* Takes a buffer off a topic: writes to `out` where it lies, and the place at which it was sent. Its bytes are those that were sent.
+ *
+ * Tested: that the port is open, the topic, and that the port holds fewer buffers than it may.
+ * Answers: SCQ_OK; SCQ_CLOSED; SCQ_NO_TOPIC; SCQ_NO_ROOM; SCQ_EMPTY where nothing was on the topic, and out->place is its head: each buffer that
+ * was sent at a place below it has been taken, or is being taken; SCQ_SPENT, and out->place is the ticket. */
+uint32_t scq_take(scq_port *port, uint32_t topic, scq_held *out);
+
+/* Sends the buffer of this index on a topic, and writes to `place` at which place. Places rise in the order of sends that follow one another;
+ * no two buffers of a topic have the same.
+ *
+ * Tested: that the port is open, the topic, and that the port holds a buffer of this index.
+ * Answers: SCQ_OK, and the port doesn't hold the buffer; SCQ_CLOSED; SCQ_NO_TOPIC; SCQ_NOT_HELD; SCQ_SPENT, and *place is the ticket. */
+uint32_t scq_send(scq_port *port, uint32_t index, uint32_t topic, uint64_t *place);
+
+/* Gives the buffer of this index back, so that it can be lent again. It need not have been sent.
+ *
+ * Tested: that the port is open, and holds a buffer of this index.
+ * Answers: SCQ_OK, and the port doesn't hold the buffer; SCQ_CLOSED; SCQ_NOT_HELD; SCQ_SPENT, and scq_spent tells the ticket. */
+uint32_t scq_give_back(scq_port *port, uint32_t index);
+
+/* Writes to `out` how many sends, takes and SCQ_FULL answers the port had.
+ *
+ * Tested: that the port is open.
+ * Answers: SCQ_OK; SCQ_CLOSED. */
+uint32_t scq_counts_of(scq_port *port, scq_counts *out);
+
+/* Whether the port has drawn a ticket at or past the limit, which it keeps: each later call of it that would draw one on a ring is answered
+ * SCQ_SPENT.
+ *
+ * Tested: that the port is open.
+ * Answers: SCQ_SPENT, and *ticket is the ticket; SCQ_OK where it keeps none; SCQ_CLOSED. */
+uint32_t scq_spent(scq_port *port, uint64_t *ticket);
+
+/* Closes the port: gives back what it holds (where its tickets have run out, those buffers are lost to the queue), and sets it to SCQ_NONE. The
+ * last port of a queue that is closed frees the queue, with what stands on its topics.
+ *
+ * Tested: that the port is open.
+ * Answers: SCQ_OK; SCQ_CLOSED. */
+uint32_t scq_close(scq_port *port);
+
+#ifdef __cplusplus
+}
+#endif
+#endif

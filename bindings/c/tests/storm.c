@@ -1,0 +1,102 @@
+/* storm THREADS ORDER MESSAGES: so many threads share 2^ORDER buffers and send each other so many messages on three topics. Each has to come
+ * once, whole and on its topic, and those of one sender on one topic in order. A thread that has sent its share takes until all are taken. */
+#include "scq.h"
+
+#include "check.h"
+
+#include <pthread.h>
+#include <sched.h>
+#include <stdatomic.h>
+#include <string.h>
+
+enum { TOPICS = 3, WORDS = 16, MOST = 64 };
+
+static uint64_t messages, each;
+static atomic_uint_fast64_t taken;
+
+/* A bit for each message that came. */
+static atomic_uint_fast64_t *seen;
+
+struct job {
+    scq_port port;
+    pthread_t thread;
+    uint64_t next, end;
+    uint64_t last[MOST][TOPICS]; /* of each sender and topic one more than the message that came last */
+};
+
+/* Every word of a message tells its number and the word's own. */
+static uint64_t word_of(uint64_t number, uint64_t at) { return (number ^ at << 56) * UINT64_C(0x9E3779B97F4A7C15); }
+
+static int send_next(struct job *job) {
+    scq_held held;
+    uint64_t place;
+    const uint32_t answer = scq_lend(&job->port, &held);
+    if (answer == SCQ_FULL) return 0;
+    CHECK(answer == SCQ_OK && held.len == 8 * WORDS);
+    memcpy(held.at, &job->next, 8);
+    for (uint64_t at = 1; at < WORDS; at++) {
+        const uint64_t word = word_of(job->next, at);
+        memcpy(held.at + 8 * at, &word, 8);
+    }
+    CHECK(scq_send(&job->port, held.index, (uint32_t)(job->next % TOPICS), &place) == SCQ_OK);
+    job->next++;
+    return 1;
+}
+
+static int take_one(struct job *job, uint32_t topic) {
+    scq_held held;
+    uint64_t number, word;
+    const uint32_t answer = scq_take(&job->port, topic, &held);
+    if (answer == SCQ_EMPTY) return 0;
+    CHECK(answer == SCQ_OK && held.len == 8 * WORDS);
+    memcpy(&number, held.at, 8);
+    CHECK(number < messages && number % TOPICS == topic);
+    for (uint64_t at = 1; at < WORDS; at++) {
+        memcpy(&word, held.at + 8 * at, 8);
+        CHECK(word == word_of(number, at));
+    }
+    CHECK((atomic_fetch_or(&seen[number / 64], UINT64_C(1) << number % 64) >> number % 64 & 1) == 0);
+    CHECK(number >= job->last[number / each][topic]);
+    job->last[number / each][topic] = number + 1;
+    CHECK(scq_give_back(&job->port, held.index) == SCQ_OK);
+    atomic_fetch_add(&taken, 1);
+    return 1;
+}
+
+static void *work(void *handed) {
+    struct job *job = handed;
+    for (uint32_t turn = 0; job->next < job->end || atomic_load(&taken) < messages; turn++) {
+        const int sent = job->next < job->end && send_next(job);
+        if (!take_one(job, turn % TOPICS) && !sent) sched_yield();
+    }
+    CHECK(scq_close(&job->port) == SCQ_OK);
+    return NULL;
+}
+
+int main(int count, char **words) {
+    scq_port ports[MOST];
+    CHECK(count == 4);
+    const uint64_t threads = strtoull(words[1], NULL, 10);
+    const uint32_t order = (uint32_t)strtoul(words[2], NULL, 10);
+    messages = strtoull(words[3], NULL, 10);
+    CHECK(threads >= 1 && threads <= MOST && messages >= threads);
+    each = (messages + threads - 1) / threads;
+    seen = calloc(messages / 64 + 1, sizeof *seen);
+    struct job *jobs = calloc(threads, sizeof *jobs);
+    CHECK(seen != NULL && jobs != NULL);
+    memset(ports, 0, sizeof ports);
+    CHECK(scq_open(order, TOPICS, 8 * WORDS, 1, SCQ_MAX_LIMIT, ports, threads) == SCQ_OK);
+    for (uint64_t i = 0; i < threads; i++) {
+        jobs[i].port = ports[i];
+        jobs[i].next = i * each < messages ? i * each : messages;
+        jobs[i].end = (i + 1) * each < messages ? (i + 1) * each : messages;
+    }
+    for (uint64_t i = 0; i < threads; i++) CHECK(pthread_create(&jobs[i].thread, NULL, work, &jobs[i]) == 0);
+    for (uint64_t i = 0; i < threads; i++) CHECK(pthread_join(jobs[i].thread, NULL) == 0);
+    for (uint64_t number = 0; number < messages; number++) CHECK(seen[number / 64] >> number % 64 & 1);
+    printf("%llu messages of %llu threads over %u buffers, each whole and once\n", (unsigned long long)messages, (unsigned long long)threads,
+           1u << order);
+    free(jobs);
+    free(seen);
+    return 0;
+}

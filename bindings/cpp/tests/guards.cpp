@@ -1,0 +1,168 @@
+// What the owners of scq.hpp do: each answer as a value, buffers that are given back where they end, ports and buffers that are moved.
+#include "scq.hpp"
+
+#include "check.h"
+
+#include <algorithm>
+#include <array>
+#include <cstdio>
+#include <cstring>
+#include <thread>
+#include <type_traits>
+#include <utility>
+#include <vector>
+
+using scq::Answer;
+using scq::Lent;
+using scq::Port;
+using scq::Queue;
+using scq::Setup;
+using scq::Taken;
+
+template <class Owner> struct MovesOnly {
+    static_assert(std::is_nothrow_move_constructible<Owner>::value && std::is_nothrow_move_assignable<Owner>::value, "it can be moved");
+    static_assert(!std::is_copy_constructible<Owner>::value && !std::is_copy_assignable<Owner>::value, "it can't be copied");
+    static_assert(std::is_nothrow_destructible<Owner>::value, "its end doesn't throw");
+};
+template struct MovesOnly<Port>;
+template struct MovesOnly<Lent>;
+template struct MovesOnly<Taken>;
+
+static Setup small() {
+    Setup setup;
+    setup.order = 1;
+    setup.topics = 2;
+    setup.size = 8;
+    return setup;
+}
+
+static bool is_zero(unsigned char byte) { return byte == 0; }
+
+static void round_of() {
+    Port ports[2];
+    CHECK(Queue::open(small(), ports) == Answer::Ok && ports[0] && ports[1]);
+    Lent lent = ports[0].lend();
+    CHECK(lent && lent.answer() == Answer::Ok && lent.size() == 8 && std::all_of(lent.begin(), lent.end(), is_zero));
+    std::memcpy(lent.data(), "message", 8);
+    CHECK(lent[6] == 'e');
+    const scq::Sent refused = lent.send(2);
+    CHECK(!refused && refused.answer == Answer::NoTopic && lent);
+    const scq::Sent sent = lent.send(1);
+    CHECK(sent && !lent);
+    const Taken none = ports[1].take(0);
+    CHECK(!none && none.answer() == Answer::Empty);
+    Taken taken = ports[1].take(1);
+    CHECK(taken && taken.place() == sent.place && taken.size() == 8 && std::memcmp(taken.data(), "message", 8) == 0);
+    CHECK(taken.send(0) && !taken);
+    taken = ports[1].take(0);
+    CHECK(taken && taken.give_back() == Answer::Ok && !taken);
+    scq_counts counts;
+    CHECK(ports[1].counts(counts) == Answer::Ok && counts.sent == 1 && counts.taken == 2 && counts.full == 0);
+}
+
+static void answers() {
+    Port port;
+    CHECK(!port && port.close() == Answer::Closed && port.lend().answer() == Answer::Closed && port.take(0).answer() == Answer::Closed);
+    Setup setup = small();
+    setup.order = 13;
+    CHECK(Queue::open(setup, &port, 1) == Answer::BadOrder && !port);
+    setup = small();
+    setup.topics = 18;
+    CHECK(Queue::open(setup, &port, 1) == Answer::BadTopics);
+    setup = small();
+    setup.size = 0;
+    CHECK(Queue::open(setup, &port, 1) == Answer::BadSize);
+    setup = small();
+    setup.limit = 15;
+    CHECK(Queue::open(setup, &port, 1) == Answer::BadLimit);
+    setup = small();
+    setup.hold = 3;
+    CHECK(Queue::open(setup, &port, 1) == Answer::BadHold);
+    std::vector<Port> none;
+    CHECK(Queue::open(small(), none) == Answer::BadPorts);
+    CHECK(Queue::open(small(), &port, 1) == Answer::Ok && Queue::open(small(), &port, 1) == Answer::IsOpen);
+    CHECK(port.take(2).answer() == Answer::NoTopic);
+    const Lent one = port.lend(), two = port.lend();
+    CHECK(one && two && one.index() != two.index() && port.lend().answer() == Answer::NoRoom && port.take(0).answer() == Answer::NoRoom);
+    CHECK(std::strcmp(scq::text(Answer::Full), "no buffer is free") == 0);
+}
+
+static void buffers_that_end_are_given_back() {
+    Port ports[2];
+    CHECK(Queue::open(small(), ports) == Answer::Ok);
+    for (int i = 0; i < 10; i++) {
+        const Lent one = ports[0].lend();
+        CHECK(one);
+        Lent two = ports[1].lend();
+        CHECK(two && ports[1].lend().answer() == Answer::Full);
+        CHECK(two.send(0));
+        const Taken taken = ports[1].take(0);
+        CHECK(taken);
+    }
+}
+
+static void what_is_moved_stays_one() {
+    std::array<Port, 2> ports;
+    CHECK(Queue::open(small(), ports) == Answer::Ok);
+    Lent one = ports[0].lend();
+    const std::uint32_t index = one.index();
+    Lent other = std::move(one);
+    CHECK(!one && other && other.index() == index);
+    Lent two = ports[0].lend();
+    CHECK(two && ports[1].lend().answer() == Answer::Full);
+    two = std::move(other); // gives back what it had
+    CHECK(two && two.index() == index && !other);
+    CHECK(ports[1].lend());
+    Lent &same = two;
+    two = std::move(same);
+    CHECK(two && two.give_back() == Answer::Ok);
+
+    std::vector<Port> moved;
+    for (Port &port : ports) moved.push_back(std::move(port));
+    CHECK(!ports[0] && ports[0].close() == Answer::Closed && moved[0] && moved[1]);
+    CHECK(moved[0].lend());
+    moved[0] = std::move(moved[1]); // closes what it was
+    CHECK(moved[0] && !moved[1] && moved[0].lend());
+    std::thread([](Port port) { CHECK(port.lend()); }, std::move(moved[0])).join();
+    CHECK(!moved[0]);
+}
+
+static void a_closed_port_has_given_back() {
+    Port ports[2];
+    CHECK(Queue::open(small(), ports) == Answer::Ok);
+    Lent lent = ports[0].lend();
+    CHECK(lent && ports[0].close() == Answer::Ok && !ports[0]);
+    CHECK(lent.give_back() == Answer::Closed && lent.send(0).answer == Answer::Closed);
+    const Lent one = ports[1].lend(), two = ports[1].lend();
+    CHECK(one && two);
+}
+
+static void tickets_run_out() {
+    Setup setup = small();
+    setup.limit = 16;
+    Port port;
+    std::uint64_t ticket = 0;
+    CHECK(Queue::open(setup, &port, 1) == Answer::Ok && port.spent(ticket) == Answer::Ok);
+    for (;;) {
+        Lent lent = port.lend();
+        CHECK(lent);
+        if (lent.give_back() == Answer::Ok) continue;
+        CHECK(lent && lent.give_back() == Answer::Spent && port.spent(ticket) == Answer::Spent && ticket >= 16);
+        const scq::Sent sent = lent.send(0);
+        CHECK(sent.answer == Answer::Spent && sent.place == ticket && lent);
+        break;
+    }
+    const Lent none = port.lend();
+    CHECK(none.answer() == Answer::Spent && none.number() == ticket);
+}
+
+int main() {
+    round_of();
+    answers();
+    buffers_that_end_are_given_back();
+    what_is_moved_stays_one();
+    a_closed_port_has_given_back();
+    tickets_run_out();
+    std::puts("owners end what they have");
+    return 0;
+}

@@ -1,0 +1,64 @@
+//! Fixed buffers that threads pass to one another, without locks: the proved queue `scq`, from Rust.
+//!
+//! Use it where `crossbeam::queue::ArrayQueue` nearly fits, but messages should be written and read where they lie, and an answer "empty" or
+//! "full" has to be relied on. A queue has 2 to 4,096 buffers, up to 17 topics, and a [`Port`] for each thread. A thread is [lent](Port::lend)
+//! a buffer, writes it in place and [sends](Lent::send) it on a topic; or it [takes](Port::take) one from a topic and reads it. A
+//! [`Lent`] or [`Taken`] that is dropped is given back.
+//!
+//! ```
+//! use scq::{Queue, Setup, TakeError};
+//! use std::thread;
+//!
+//! # fn main() -> Result<(), Box<dyn std::error::Error>> {
+//! let mut ports = Queue::new(Setup::default(), 2)?.into_ports();
+//! let (first, second) = (ports.remove(0), ports.remove(0));
+//! let sender = thread::spawn(move || {
+//!     let mut lent = first.lend().expect("a buffer is free");
+//!     lent[..5].copy_from_slice(b"hello");
+//!     lent.send(0).map_err(|refused| refused.why)
+//! });
+//! let taken = loop {
+//!     match second.take(0) {
+//!         Ok(taken) => break taken,
+//!         Err(TakeError::Empty { .. }) => thread::yield_now(),
+//!         Err(other) => return Err(other.into()),
+//!     }
+//! };
+//! assert_eq!(&taken[..5], b"hello");
+//! assert_eq!(sender.join().unwrap()?, taken.place());
+//! # Ok(())
+//! # }
+//! ```
+//!
+//! # What is promised
+//!
+//! The queue, its ports and the library's calls are written in Rattle, which is Rust with contracts, and each function is proved to meet its
+//! contract, however the threads meet; `docs/QUEUE.md` and `docs/PROMISES.md` of the repository have the clauses. This crate is a thin layer of
+//! plain Rust over those calls, tested and not proved.
+//!
+//! - A take gives a buffer that was sent on this topic, with the bytes and the place of that send; none is taken twice.
+//! - No buffer overtakes one whose send had ended before its own send began.
+//! - [`TakeError::Empty`] and [`LendError::Full`] come only where they are right at a moment inside the call.
+//! - No call takes a lock or waits for another thread's, and only [`Queue::new`] takes memory.
+//! - A buffer stays where it is, and is in one pair of hands at a time: this the borrow checker sees to.
+//! - A buffer whose guard was forgotten (`std::mem::forget`) is given back when its port is dropped.
+//!
+//! # What isn't
+//!
+//! - That a call ends soon, or that all threads get their share. A take that finds nothing doesn't wait: ask again, or do something else.
+//! - Tickets run out at the [limit](Setup::limit) of the setup: a call that needs one past it is refused, and so is each later one of that port
+//!   that would draw one. What a port holds by then it keeps: those buffers are freed with the queue.
+//! - A thread that stops in the middle of a call, or keeps a buffer, keeps it from the others.
+#![deny(missing_docs)]
+#![deny(unsafe_op_in_unsafe_fn)]
+
+mod error;
+mod held;
+mod port;
+mod queue;
+mod sys;
+
+pub use error::{LendError, OpenError, Refused, SendRefusal, Spent, TakeError};
+pub use held::{Lent, Taken};
+pub use port::{Counts, Port};
+pub use queue::{Queue, Setup};

@@ -1,0 +1,136 @@
+//! Ports: what a thread makes its calls with.
+use crate::error::{LendError, TakeError};
+use crate::held::{Held, Lent, Taken};
+use crate::sys;
+use std::cell::UnsafeCell;
+use std::fmt;
+use std::ptr;
+
+/// What a port did so far.
+#[derive(Clone, Copy, Debug, PartialEq, Eq, Hash)]
+pub struct Counts {
+    /// How many buffers it sent.
+    pub sent: u64,
+    /// How many buffers it took.
+    pub taken: u64,
+    /// How often no buffer was free.
+    pub full: u64,
+}
+
+/// What a thread makes its calls with. It may go to another thread, but two threads can't share it.
+///
+/// Dropped, it gives back the buffers that it still holds. The last port of a queue that is dropped frees the queue, with what stands on
+/// its topics.
+///
+/// A port can't be shared:
+///
+/// ```compile_fail,E0277
+/// let port = scq::Queue::new(scq::Setup::default(), 1).unwrap().into_ports().pop().unwrap();
+/// std::thread::scope(|scope| {
+///     scope.spawn(|| port.lend().is_ok());
+/// });
+/// ```
+///
+/// and it can't end while a buffer of it is in use:
+///
+/// ```compile_fail,E0505
+/// let port = scq::Queue::new(scq::Setup::default(), 1).unwrap().into_ports().pop().unwrap();
+/// let lent = port.lend().unwrap();
+/// drop(port);
+/// println!("{}", lent.len());
+/// ```
+#[repr(transparent)]
+pub struct Port {
+    handle: UnsafeCell<sys::scq_port>,
+}
+
+// SAFETY: the library's handle may go from thread to thread, which is proved of it; and a port is moved only where nothing borrows it.
+unsafe impl Send for Port {}
+
+impl Port {
+    /// A port that isn't open.
+    pub(crate) fn none() -> Port {
+        Port { handle: UnsafeCell::new(sys::scq_port { at: ptr::null_mut() }) }
+    }
+
+    /// The handle. A port isn't `Sync`, and no call comes back into this crate, so one call at a time is made with it.
+    pub(crate) fn handle(&self) -> *mut sys::scq_port {
+        self.handle.get()
+    }
+
+    /// Is lent a buffer that nobody holds, with whatever bytes stand in it.
+    ///
+    /// # Errors
+    ///
+    /// [`LendError::Full`] where no buffer is free, which is right: there was a moment in the call at which each buffer that had been given
+    /// back was lent again, or was being lent.
+    #[inline]
+    pub fn lend(&self) -> Result<Lent<'_>, LendError> {
+        let mut out = sys::scq_held::NONE;
+        // SAFETY: one call at a time is made with the handle, and `out` is apart from it.
+        match unsafe { sys::scq_lend(self.handle(), &mut out) } {
+            sys::OK => Ok(Lent::new(Held::new(self, out))),
+            sys::FULL => Err(LendError::Full { head: out.place }),
+            sys::NO_ROOM => Err(LendError::NoRoom),
+            sys::SPENT => Err(LendError::Spent { ticket: out.place }),
+            answer => unreachable!("scq_lend answered {}", answer),
+        }
+    }
+
+    /// Takes a buffer off a topic.
+    ///
+    /// # Errors
+    ///
+    /// [`TakeError::Empty`] where the topic has nothing, which is right: there was a moment in the call at which each buffer whose send had
+    /// ended was taken, or was being taken.
+    #[inline]
+    pub fn take(&self, topic: u32) -> Result<Taken<'_>, TakeError> {
+        let mut out = sys::scq_held::NONE;
+        // SAFETY: one call at a time is made with the handle, and `out` is apart from it.
+        match unsafe { sys::scq_take(self.handle(), topic, &mut out) } {
+            sys::OK => {
+                let place = out.place;
+                Ok(Taken::new(Held::new(self, out), place))
+            }
+            sys::EMPTY => Err(TakeError::Empty { head: out.place }),
+            sys::NO_ROOM => Err(TakeError::NoRoom),
+            sys::NO_TOPIC => Err(TakeError::NoTopic),
+            sys::SPENT => Err(TakeError::Spent { ticket: out.place }),
+            answer => unreachable!("scq_take answered {}", answer),
+        }
+    }
+
+    /// How many sends, takes and [`LendError::Full`] the port had.
+    pub fn counts(&self) -> Counts {
+        let mut out = sys::scq_counts { sent: 0, taken: 0, full: 0 };
+        // SAFETY: one call at a time is made with the handle, and `out` is apart from it.
+        match unsafe { sys::scq_counts_of(self.handle(), &mut out) } {
+            sys::OK => Counts { sent: out.sent, taken: out.taken, full: out.full },
+            answer => unreachable!("scq_counts_of answered {}", answer),
+        }
+    }
+
+    /// The ticket at or past the limit that the port has drawn, where it has: each later call that would draw one is refused.
+    pub fn spent(&self) -> Option<u64> {
+        let mut ticket = 0;
+        // SAFETY: one call at a time is made with the handle, and `ticket` is apart from it.
+        match unsafe { sys::scq_spent(self.handle(), &mut ticket) } {
+            sys::OK => None,
+            sys::SPENT => Some(ticket),
+            answer => unreachable!("scq_spent answered {}", answer),
+        }
+    }
+}
+
+impl fmt::Debug for Port {
+    fn fmt(&self, f: &mut fmt::Formatter<'_>) -> fmt::Result {
+        f.debug_struct("Port").finish_non_exhaustive()
+    }
+}
+
+impl Drop for Port {
+    fn drop(&mut self) {
+        // SAFETY: nothing borrows the port. Where it isn't open, as in a queue that wasn't made, the call answers so.
+        let _ = unsafe { sys::scq_close(self.handle()) };
+    }
+}

@@ -1,0 +1,98 @@
+//! A queue, as its ports.
+use crate::error::OpenError;
+use crate::port::Port;
+use crate::sys;
+use std::vec;
+
+/// What a queue is made of. Begin with the default and change what you need:
+///
+/// ```
+/// let setup = scq::Setup { size: 256, topics: 2, ..scq::Setup::default() };
+/// # assert!(scq::Queue::new(setup, 1).is_ok());
+/// ```
+#[derive(Clone, Copy, Debug, PartialEq, Eq, Hash)]
+pub struct Setup {
+    /// There are 2^`order` buffers: from 1 to 12.
+    pub order: u32,
+    /// How many topics there are, each a queue of its own over the same buffers: from 1 to 17.
+    pub topics: u32,
+    /// How many bytes each buffer has: from 1.
+    pub size: u32,
+    /// How many buffers a port may hold at a time: from 1 to 2^`order`.
+    pub hold: u32,
+    /// Each topic, and the stock of free buffers, counts its puts and its gets by tickets up to this number: from 8 * 2^`order` to 2^60.
+    pub limit: u64,
+}
+
+impl Setup {
+    /// The largest limit. A billion tickets a second come to it after 36 years.
+    pub const MAX_LIMIT: u64 = 1 << 60;
+    /// The most ports of a queue.
+    pub const MAX_PORTS: usize = 4096;
+}
+
+impl Default for Setup {
+    /// 64 buffers of 64 bytes, one topic, ports that may hold two buffers, and the largest limit.
+    fn default() -> Setup {
+        Setup { order: 6, topics: 1, size: 64, hold: 2, limit: Setup::MAX_LIMIT }
+    }
+}
+
+/// A new queue: its ports, one for each thread that is to use it.
+///
+/// It is there to hand out the ports; the queue itself lives as long as one of them does.
+#[derive(Debug)]
+pub struct Queue {
+    ports: Vec<Port>,
+}
+
+impl Queue {
+    /// Makes a queue with so many ports, from 1 to 4096, whatever the number of buffers. The buffers begin as zeros.
+    ///
+    /// After this, no call of a port takes memory.
+    ///
+    /// # Errors
+    ///
+    /// The first of the numbers that is out of range, or that no memory was found.
+    pub fn new(setup: Setup, ports: usize) -> Result<Queue, OpenError> {
+        // SAFETY: it asks nothing of its caller.
+        let found = unsafe { sys::scq_version() };
+        if found != sys::VERSION {
+            return Err(OpenError::Version { found });
+        }
+        if !(1..=Setup::MAX_PORTS).contains(&ports) {
+            return Err(OpenError::Ports);
+        }
+        let mut all = Vec::new();
+        all.try_reserve_exact(ports).map_err(|_| OpenError::NoMemory)?;
+        all.resize_with(ports, Port::none);
+        let Setup { order, topics, size, hold, limit } = setup;
+        // SAFETY: a `Port` is a handle by its layout, all begin as SCQ_NONE, and there are so many of them.
+        let answer = unsafe { sys::scq_open(order, topics, size, hold, limit, all.as_mut_ptr().cast(), all.len()) };
+        match answer {
+            sys::OK => Ok(Queue { ports: all }),
+            sys::NO_MEMORY => Err(OpenError::NoMemory),
+            sys::BAD_ORDER => Err(OpenError::Order),
+            sys::BAD_TOPICS => Err(OpenError::Topics),
+            sys::BAD_PORTS => Err(OpenError::Ports),
+            sys::BAD_LIMIT => Err(OpenError::Limit),
+            sys::BAD_SIZE => Err(OpenError::Size),
+            sys::BAD_HOLD => Err(OpenError::Hold),
+            answer => unreachable!("scq_open answered {}", answer),
+        }
+    }
+
+    /// The ports.
+    pub fn into_ports(self) -> Vec<Port> {
+        self.ports
+    }
+}
+
+impl IntoIterator for Queue {
+    type Item = Port;
+    type IntoIter = vec::IntoIter<Port>;
+
+    fn into_iter(self) -> vec::IntoIter<Port> {
+        self.ports.into_iter()
+    }
+}
