@@ -15,5 +15,5 @@ mod totals;
 
 pub use answered::{Answered, Way};
 pub use merging::merge;
-pub use pieces::output_in_pieces;
+pub use pieces::{Text, output_in_pieces};
 pub use text::{output, push_totals};

@@ -14,6 +14,7 @@ use crate::totals::Totals;
 use scq_topics::Topics;
 use scq_word::NoMemory;
 use std::alloc::Global;
+use std::marker::Model;
 use std::thread;
 use std::thread::Threads;
 
@@ -27,6 +28,30 @@ struct Piece {
     totals: Totals,
 }
 
+/// A text in pieces that stand one behind the other. Contracts see its bytes.
+#[derive(Drop)]
+pub struct Text {
+    pieces: Vec<Vec<u8>>,
+}
+
+impl Model for Text {
+    ghost use Rattle.std.specs.Prelude.{List, ℕ};
+    ghost use Rattle.scq_collect.specs.Pieces.{bytes_of};
+
+    ghost Value = { List ℕ };
+
+    ghost view = { λ t. bytes_of t.pieces.items };
+}
+
+impl Text {
+    /// The pieces, in their order.
+    pub fn pieces(&self) -> &[Vec<u8>]
+        ensures { bytes_of result.now ≡ self.now }
+    {
+        self.pieces.as_slice()
+    }
+}
+
 /// The text that `output` makes of what `merge` gives, in pieces to be written one behind the other. No answer is copied, and
 /// about so many threads make the pieces. It fails only for want of memory.
 pub fn output_in_pieces<R: Threads + Sync>(
@@ -35,14 +60,14 @@ pub fn output_in_pieces<R: Threads + Sync>(
     topics: &Topics,
     lists: &[Vec<Answered>],
     threads: u32,
-) -> Result<Vec<Vec<u8>>, NoMemory>
+) -> Result<Text, NoMemory>
     requires { All (λ a. a.topic ≤ length topics.now) (members_in lists.now) }
-    ensures text { IfOk result (λ pieces. (all : List TheAnswered) × IsMerged place_of_answered (members_in lists.now) all
-        × (bytes_of pieces.items ≡ text_of_answers topics.now (map without_way all))) }
+    ensures text { IfOk result (λ text. (all : List TheAnswered) × IsMerged place_of_answered (members_in lists.now) all
+        × (text ≡ text_of_answers topics.now (map without_way all))) }
 
     // However the answers to all messages of files are divided into lists, the pieces are the output of one thread.
     ensures one_thread { (contents : List (List ℕ)) → IsPermutation (map without_way (members_in lists.now)) (answers_to topics.now 1 contents)
-        → IfOk result (λ pieces. bytes_of pieces.items ≡ one_thread_output topics.now contents) }
+        → IfOk result (λ text. text ≡ one_thread_output topics.now contents) }
 {
     let numbers = topics.len() + 1;
     let all = ordered(alloc, lists)?;
@@ -52,7 +77,8 @@ pub fn output_in_pieces<R: Threads + Sync>(
         ensures { IfOk result (λ p. IsPieceOf topics.entry.now (map (λ m. m.now) members.entry.now) p) }
     { piece_of(alloc, topics, members) };
     let pieces = thread::map_chunks(rt, alloc, all.as_slice(), size, &piece)?;
-    joined(alloc, topics, numbers, all.as_slice(), size, pieces)
+    let pieces = joined(alloc, topics, numbers, all.as_slice(), size, pieces)?;
+    Ok(Text { pieces })
 }
 
 /// How many answers a piece has, where threads make as many pieces.

@@ -8,12 +8,11 @@ ghost use Rattle.scq_service.specs.Ends.{EndsOver, HasGot};
 ghost use Rattle.scq_service.specs.Faults.{status_of};
 
 use crate::reading::read_files;
-use crate::writing::write_all;
+use crate::writing::write_text;
 use crate::{Fault, Outcome};
-use scq_collect::{merge, output};
+use scq_collect::{Text, output_in_pieces};
 use scq_outside::{Failed, Files, Sink};
-use scq_topics::Topics;
-use scq_word::{Bytes, NoMemory};
+use scq_word::NoMemory;
 use scq_work::{Gate, Job, Worked};
 use std::alloc::Global;
 use std::thread::Threads;
@@ -64,11 +63,11 @@ pub fn run_files<R: Threads + Sync, F: Files, K: Sink, G: Gate>(
 {
     let outcome = read_files(rt, alloc, job, names, files, gate);
     let text = match &outcome.worked {
-        Some(worked) => text_of(alloc, &job.topics, worked),
+        Some(worked) => text_of(rt, alloc, job, worked),
         None => return outcome,
     };
     match text {
-        Ok(text) => match write_all(out, text.bytes()) {
+        Ok(text) => match write_text(out, &text) {
             Ok(()) => outcome,
             Err(Failed) => outcome.unwritten(),
         },
@@ -76,12 +75,17 @@ pub fn run_files<R: Threads + Sync, F: Files, K: Sink, G: Gate>(
     }
 }
 
-/// What is written of what workers answered.
-fn text_of(alloc: Global, topics: &Topics, worked: &Worked) -> Result<Bytes, NoMemory>
-    requires { All (λ a. a.topic ≤ length topics.now) (members_in worked.now.answered.items) }
-    ensures { (contents : List (List ℕ)) → IsPermutation (map without_way (members_in worked.now.answered.items)) (answers_to topics.now 1 contents)
-        → IfOk result (λ text. text ≡ one_thread_output topics.now contents) }
+/// What is written of what workers answered, made by as many threads.
+fn text_of<R: Threads + Sync>(
+    rt: &R,
+    alloc: Global,
+    job: &Job,
+    worked: &Worked,
+) -> Result<Text, NoMemory>
+    requires { All (λ a. a.topic ≤ length job.now.topics) (members_in worked.now.answered.items) }
+    ensures { (contents : List (List ℕ)) → IsPermutation (map without_way (members_in worked.now.answered.items)) (answers_to job.now.topics 1 contents)
+        → IfOk result (λ text. text ≡ one_thread_output job.now.topics contents) }
 {
-    let answered = merge(alloc, worked.answered.as_slice())?;
-    output(alloc, topics, answered.as_slice())
+    let lists = worked.answered.as_slice();
+    output_in_pieces(rt, alloc, &job.topics, lists, job.workers)
 }

@@ -34,20 +34,15 @@ map_chunks-requires-clause-accepts g c κs within = λ start p chunk.
 pub returns-clause-text : goal.returns-clause-text
 returns-clause-text g c =
     let now : Bor Answered → Answered = λ m. m.now in
-    let members = members_in c.args.lists.now in
-    let all = c.in_ok-all.all.items in
-    IfOk-weaker c.joined.result _ (λ pieces. (x : List Answered) × IsMerged place_of_answered members x
-    × (bytes_of pieces.items ≡ text_of_answers c.args.topics.now (map without_way x)))
-    (λ pieces e. (
+    let all = c.in_ok-all.all.items in (
       map now all,
       c.in_ok-all.ensures,
-      e ∙ ap (text_of_answers c.args.topics.now) (ap (map (λ (m : Bor Answered). without_way m.now)) c.as_slice-2.ensures.value ∙ sym (maps without_way now all)),
-    ))
-    c.joined.ensures
+      c.in_ok-pieces-2.ensures
+          ∙ ap (text_of_answers c.args.topics.now) (ap (map (λ (m : Bor Answered). without_way m.now)) c.as_slice-2.ensures.value ∙ sym (maps without_way now all)),
+    )
 
 pub returns-clause-one_thread : goal.returns-clause-one_thread
 returns-clause-one_thread g c = λ contents same.
     let topics = c.args.topics.now in
-    IfOk-weaker c.joined.result _ (λ pieces. bytes_of pieces.items ≡ one_thread_output topics contents)
-    (λ pieces t. t.2 ∙ ap (text_of_answers topics) (merged-one-thread topics contents (members_in c.args.lists.now) t.0 t.1 same))
-    (returns-clause-text g c)
+    let text = returns-clause-text g c in
+    text.2 ∙ ap (text_of_answers topics) (merged-one-thread topics contents (members_in c.args.lists.now) text.0 text.1 same)
