@@ -1,7 +1,6 @@
 -- Handles and the ports that they have, as ports are put into them.
 use Rattle.std.proofs.Common.{◌≡◌, ℕ, zero, suc, ◌+◌, ◌<◌, ◌≤◌, List, [], ◌∷◌, ◌++◌, length, map, replicate, refl, sym, ◌∙◌, ap, subst, inl, inr, arith, append-nil, append_assoc, length-append}
-use Rattle.std.specs.Prelude.{All, Option, Some, None, slice_get, slice_set, slice_index_or, reverse}
-use Rattle.std.proofs.lemmas.Bool.{cases_eq}
+use Rattle.std.specs.Prelude.{◌⊎◌, All, Option, Some, None, slice_get, slice_set, slice_index_or, reverse}
 use Rattle.std.proofs.lemmas.List.{map-append, reverse-append, reverse-reverse, length-map}
 use Rattle.std.proofs.lemmas.Option.{slice_get_read}
 use Rattle.std.proofs.Common.{Box, Global}
@@ -44,7 +43,7 @@ NoneBelow k os = (i : ℕ) → i < k → slice_get os i ≡ Some None
 
 pub all_closed : (hs : List Handle) → NoneBelow (length hs) (ports_of hs) → All (λ (h : Handle). h.port ≡ None) hs
 all_closed [] none k d low = absurd (omega (arith, low))
-all_closed (x ∷ xs) none zero d low = let first = none 0 (omega arith) in cc
+all_closed (x ∷ xs) none zero d low = let first : Some x.port ≡ Some None = none 0 (omega arith) in cc
 all_closed (x ∷ xs) none (suc k) d low = all_closed xs (λ i lt. none (suc i) (omega (arith, lt))) k d (omega (arith, low))
 
 pub none_closed : (hs : List Handle) (k : ℕ) (h : Handle) → All (λ (h : Handle). h.port ≡ None) hs → slice_get hs k ≡ Some h → h.port ≡ None
@@ -110,17 +109,27 @@ closed_alike (x ∷ xs) (y ∷ ys) same all (suc k) d low =
 pub read_at : (hs : List Handle) (k : ℕ) (h : Handle) → k < length hs → h ≡ slice_index_or hs k h → slice_get hs k ≡ Some h
 read_at hs k h low is = slice_get_read hs (length hs) k h refl low is
 
+below_next : (i k : ℕ) → i < suc k → (i < k) ⊎ (i ≡ k)
+below_next zero zero low = inr refl
+below_next zero (suc k) low = inl (omega arith)
+below_next (suc i) zero low = absurd (omega (arith, low))
+below_next (suc i) (suc k) low =
+    elim (below_next i k (omega (arith, low))) [
+      | inl lt ↦ inl (omega (arith, lt))
+      | inr e ↦ inr (ap suc e)
+    ]
+
 pub none_next : (k : ℕ) (os : List (Option PortStanding)) → NoneBelow k os → slice_get os k ≡ Some None → NoneBelow (k + 1) os
 none_next k os none last i low =
-    elim (cases_eq i k) [
-      | inl same ↦ ap (λ j. slice_get os j) same ∙ last
-      | inr other ↦ none i (omega (arith, low, other))
+    elim (below_next i k (omega (arith, low))) [
+      | inl lt ↦ none i lt
+      | inr same ↦ ap (λ j. slice_get os j) same ∙ last
     ]
 
 -- there is a handle for each port that is left
 pub length_filled : (hs : List Handle) (n k : ℕ) (rest : List (Option PortStanding)) → ports_of hs ≡ replicate n None ++ rest → n ≡ k + 1 → k < length hs
 length_filled hs n k rest is one =
-    let long = sym (length_ports hs) ∙ ap length is ∙ length-append (replicate n None) rest in
+    let long : length hs ≡ length (replicate n no_port) + length rest = sym (length_ports hs) ∙ ap length is ∙ length-append (replicate n None) rest in
     let many = filled n in
     omega (arith, long, many, one)
   where

@@ -36,7 +36,6 @@ fn a_value_goes_round(rt: HostRuntime) -> Result<(), Fail> {
     };
     assert_eq!(rt; place, 4);
     assert_eq!(rt; taken.index, 0);
-    assert!(rt; taken.at == lent.at);
     assert_eq!(rt; second.give_back(0), Ok(()));
     assert_eq!(rt;
         first.counts(),

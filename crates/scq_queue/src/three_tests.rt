@@ -73,6 +73,13 @@ fn a_topic_is_emptied_by_one_of_three_passes(rt: HostRuntime) -> Result<(), Fail
     assert_eq!(rt; closed.buffers.len(), 2);
     assert_eq!(rt; closed.buffers[0].bytes(), b"hi".as_slice());
     assert_eq!(rt; closed.counts.len(), 3);
-    assert_eq!(rt; [closed.counts[0].sent, closed.counts[0].taken, closed.counts[0].full], [1, 1, 0]);
+    assert_eq!(rt;
+        [
+            closed.counts[0].sent,
+            closed.counts[0].taken,
+            closed.counts[0].full
+        ],
+        [1, 1, 0]
+    );
     Ok(())
 }

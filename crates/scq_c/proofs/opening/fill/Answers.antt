@@ -7,34 +7,30 @@ use Rattle.scq_c.proofs.Handed.{port_at, ports_set, closed_ports, last_closed, l
 use Rattle.scq_c.proofs.opening.fill.Goals as goal
 
 pub loop-port-init : goal.loop-port-init
-loop-port-init c = (
-  refl,
-  [],
-  append-nil _,
-  closed_ports c.args.handles.now c.requires.closed ∙ ap (λ n. replicate n None) (sym c.requires.count) ∙ sym (append-nil _),
-)
+loop-port-init c =
+    let none = closed_ports c.args.handles.now c.requires.closed ∙ ap (λ n. replicate n None) (sym c.requires.count) ∙ sym (append-nil _) in
+    (refl, ([], append-nil _, none))
 
 pub put-requires : goal.put-requires
 put-requires c =
     let inv = c.loop-port.invariant in
     let one : c.loop-port.boxes.len ≡ c.len.result + 1 = sym c.in-Some.ensures.cases ∙ ap (λ n. n + 1) (sym c.len.ensures) in
-    let low : c.len.result < length c.loop-port.handles = length_filled c.loop-port.handles c.loop-port.boxes.len c.len.result inv.1 inv.3 one in
+    let low : c.len.result < length c.loop-port.handles = length_filled c.loop-port.handles c.loop-port.boxes.len c.len.result inv.1.0 inv.1.2 one in
     let here = read_at c.loop-port.handles c.len.result c.index-handles-len.result low c.index-handles-len.is in
     let at = port_at c.loop-port.handles c.len.result c.index-handles-len.result here in
     let none : Some c.index-handles-len.result.port ≡ Some None =
-    sym at ∙ last_closed c.loop-port.boxes.len c.len.result (ports_of c.loop-port.handles) inv.1 inv.3 one in
+    sym at ∙ last_closed c.loop-port.boxes.len c.len.result (ports_of c.loop-port.handles) inv.1.0 inv.1.2 one in
     let same : c.index-handles-len.result.port ≡ None = cc in
     record { closed = subst (λ (h : Handle). h.port ≡ None) c.index-handles-len.is same }
 
 pub loop-port-preserved : goal.loop-port-preserved
 loop-port-preserved c =
     let inv = c.loop-port.invariant in
-    let one : c.loop-port.boxes.len ≡ c.len.result + 1 = sym c.in-Some.ensures.cases ∙ ap (λ n. n + 1) (sym c.len.ensures) in (
-      length-set c.loop-port.handles c.len.result c.put.new.handle ∙ inv.0,
-      Some c.in-Some.port.value ∷ inv.1,
-      one_handed handed c.args.boxes.items c.loop-port.boxes.items c.pop.new.self.items c.in-Some.port inv.1 inv.2 c.in-Some.ensures.items,
-      ports_set c.loop-port.handles c.len.result c.put.new.handle
-          ∙ last_filled c.loop-port.boxes.len c.len.result (ports_of c.loop-port.handles) inv.1 c.put.new.handle.port inv.3 one
-          ∙ ap (λ (o : Option PortStanding). replicate c.len.result None ++ o ∷ inv.1) c.put.ensures
-          ∙ ap (λ n. replicate n None ++ Some c.in-Some.port.value ∷ inv.1) c.len.ensures,
-    )
+    let out = inv.1.0 in
+    let one : c.loop-port.boxes.len ≡ c.len.result + 1 = sym c.in-Some.ensures.cases ∙ ap (λ n. n + 1) (sym c.len.ensures) in
+    let left = one_handed handed c.args.boxes.items c.loop-port.boxes.items c.pop.new.self.items c.in-Some.port out inv.1.1 c.in-Some.ensures.items in
+    let have = ports_set c.loop-port.handles c.len.result c.put.new.handle
+    ∙ last_filled c.loop-port.boxes.len c.len.result (ports_of c.loop-port.handles) out c.put.new.handle.port inv.1.2 one
+    ∙ ap (λ (o : Option PortStanding). replicate c.len.result None ++ o ∷ out) c.put.ensures
+    ∙ ap (λ n. replicate n None ++ Some c.in-Some.port.value ∷ out) c.len.ensures in
+    (length-set c.loop-port.handles c.len.result c.put.new.handle ∙ inv.0, (Some c.in-Some.port.value ∷ out, left, have))
