@@ -4,7 +4,7 @@ use Rattle.std.specs.Prelude.{◌⊎◌, Option, Some, None, slice_get}
 use Rattle.std.specs.List.{Contains}
 use Rattle.std.proofs.lemmas.Bool.{cases_eq}
 use Rattle.scq_law.specs.Hands.{times}
-use Rattle.scq_band.proofs.SeatsHome.{contains_times}
+use Rattle.scq_port.proofs.Times.{contains_times}
 use Rattle.scq_queue.specs.Passes.{PassStanding, IsHeldBy, without, after_put, after_spent_put, having_seen}
 use Rattle.scq_queue.proofs.HeldOnce.{IsAlike}
 use Rattle.scq_port.specs.declared.port_buffer.PortBuffer.{PortBuffer}

@@ -5,7 +5,7 @@ use Rattle.std.specs.List.{Contains}
 use Rattle.std.proofs.lemmas.Bool.{cases_eq}
 use Rattle.scq_law.specs.Hands.{times}
 use Rattle.scq_word.specs.Sizes.{n_of}
-use Rattle.scq_band.proofs.SeatsHome.{contains_times}
+use Rattle.scq_port.proofs.Times.{contains_times}
 use Rattle.scq_queue.specs.Passes.{PassStanding, HeldStanding, IsHeldBy, without, after_put, after_get, having_seen}
 use Rattle.scq_queue.proofs.HeldOnce.{IsAlike}
 use Rattle.scq_port.specs.declared.port_buffer.PortBuffer.{PortBuffer}
