@@ -25,8 +25,3 @@ pub use notes::Note;
 pub use pass::Pass;
 pub use queue::Queue;
 pub use scq_band::Spent;
-
-#[cfg(test)]
-mod pair_tests;
-#[cfg(test)]
-mod tests;

@@ -1,0 +1,5 @@
+mod LastPass
+mod NewSeats
+mod NoneLent
+mod OneLent
+mod TwoTaken

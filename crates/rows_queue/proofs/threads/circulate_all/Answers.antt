@@ -1,0 +1,24 @@
+use denote.Builtin.{u8}
+use denote.Exit.{yes}
+use denote.Param.Send.{IsSend, sendable, param_send, arg_send}
+use denote.Param.SendFields.{declared_send}
+use Rattle.rows_queue.specs.contracts.heap.Heap as heap
+use Rattle.rows_queue.specs.contracts.heap.HeapBuffer.TheImpl as buffer
+use Rattle.scq_band.proofs.SeatsSent.{vec_sent, seat_sent}
+use Rattle.rows_queue.proofs.threads.circulate_all.Lts.{arg-0-1, arg-0-2}
+use Rattle.rows_queue.proofs.threads.circulate_all.Goals as goal
+
+heap_sent : IsSend heap.the_row
+heap_sent = declared_send heap.the_type (vec_sent u8 (search sendable), tt)
+
+pub map_vec-requires-send-J : goal.map_vec-requires-send-J
+map_vec-requires-send-J g c κs within =
+    let row = arg-0-1 g.row.R g.R.laws g.R.Threads-dict κs in
+    let here : IsSend row = arg_send _ yes _ (seat_sent heap.the_row buffer.ghosts heap_sent) in
+    param_send 1 row here
+
+pub map_vec-requires-send-X : goal.map_vec-requires-send-X
+map_vec-requires-send-X g c κs within =
+    let row = arg-0-2 g.row.R g.R.laws g.R.Threads-dict κs in
+    let here : IsSend row = arg_send _ yes _ (seat_sent heap.the_row buffer.ghosts heap_sent) in
+    param_send 2 row here
