@@ -45,5 +45,6 @@ pub mod Slots
 pub mod Starting
 pub mod Exchanging
 pub mod Keeping
+pub mod Putting
 pub mod Joining
 pub mod SeatsShared

@@ -4,12 +4,13 @@ ghost use Rattle.scq_word.specs.Sizes.{n_of};
 ghost use Rattle.scq_band.specs.Buffers.{opening_of};
 ghost use Rattle.scq_band.specs.Numbers.{known_of};
 ghost use Rattle.scq_band.specs.RunSeen.{IsCallInRun, WasEmptyInRun};
-ghost use Rattle.scq_band.specs.Standing.{caller_of, in_hand, bytes_in_hand, having_seen, after_put, after_spent_put, after_spent_get, HasTaken, FoundEmpty};
+ghost use Rattle.scq_band.specs.Standing.{caller_of, in_hand, bytes_in_hand, having_seen, after_put, after_spent_put, after_spent_get, IsAsGiven, HasTaken, FoundEmpty};
 
 use crate::band::Band;
 use crate::dequeue::{Without, dequeue};
 use crate::enqueue::enqueue;
 use crate::hand::bring_to_front;
+use crate::lending::{lay_first, lift_first};
 use crate::seat::Seat;
 use scq_word::Buffer;
 
@@ -60,6 +61,50 @@ impl<B: Buffer> Band<B> {
             Err(ticket) => {
                 seat.spent = Some(ticket);
                 Err(Spent { ticket })
+            }
+        }
+    }
+
+    /// Lays a buffer back that was lifted, and puts its index on a ring: what `lay` and `enq` do one after the other. Where the put is
+    /// refused, the buffer comes back, and is lifted as it was.
+    #[inline(always)]
+    pub fn put(
+        &self,
+        seat: &mut Seat<B>,
+        ring: u32,
+        index: u32,
+        buffer: B,
+    ) -> Result<u64, (B, Spent)>
+        requires seat { seat.old.band ≡ self.now }
+        requires ring { ring < self.now.setup.rings }
+        requires lifted { in_hand seat.old.hand index ≡ Some None }
+        requires given { IsAsGiven B.IsSameBuffer self.now.given index buffer }
+        ensures band { (seat.new.band ≡ seat.old.band) × (seat.new.number ≡ seat.old.number) }
+        ensures put { IfOk result (λ place. seat.new ≡ having_seen seat.new.seen (after_put ring index place (B.contents buffer) seat.old)) }
+        ensures place { IfOk result (λ place. (place < self.now.setup.limit) × ((known_of seat.old.numbers ring).seen < place)) }
+        ensures back { IfErr result (λ refused. refused.0 ≡ buffer) }
+        ensures spent { IfErr result (λ refused. seat.old.spent ≡ None
+            → (seat.new ≡ having_seen seat.new.seen (after_spent_put ring refused.1.ticket seat.old)) × (self.now.setup.limit ≤ refused.1.ticket)) }
+        ensures run { seat.old.spent ≡ None
+            → IsCallInRun self.now.setup (opening_of B.contents self.now.given) (caller_of seat.old) (caller_of seat.new) }
+        ensures kept { (ticket : ℕ) → seat.old.spent ≡ Some ticket → (result ≡ Err (buffer, record { ticket = ticket })) × (seat.new ≡ seat.old) }
+    {
+        if let Some(ticket) = seat.spent {
+            return Err((buffer, Spent { ticket }));
+        }
+        bring_to_front(&mut seat.token, &mut seat.hand, index);
+        lay_first(&self.table.shared, &mut seat.token, index, buffer);
+        match enqueue(&self.table.shared, &mut seat.token, self.ring(ring), index) {
+            Ok(place) => {
+                seat.hand.pop();
+                let known = seat.numbers[ring as usize];
+                seat.numbers[ring as usize] = known.finishes(place);
+                Ok(place)
+            }
+            Err(ticket) => {
+                seat.spent = Some(ticket);
+                let buffer = lift_first(&self.table.shared, &mut seat.token, index);
+                Err((buffer, Spent { ticket }))
             }
         }
     }

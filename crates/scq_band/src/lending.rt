@@ -1,12 +1,44 @@
 //! Buffers that are lifted out of a seat's hand, and laid back.
-ghost use Rattle.std.specs.Prelude.{◌≡◌, Some, None};
+ghost use Rattle.std.specs.Prelude.{◌≡◌, ◌∷◌, Some, None};
+ghost use Rattle.atomic_table.specs.Table.{rest};
+ghost use Rattle.scq_band.specs.declared.slot.Slot.{Slot};
 ghost use Rattle.scq_band.specs.Standing.{in_hand, with_buffer, IsAsGiven};
 
 use crate::band::Band;
 use crate::hand::bring_to_front;
+use crate::rule::{Token, Words};
 use crate::seat::Seat;
 use crate::slot::Slot;
 use scq_word::Buffer;
+
+/// Lays a buffer in the slot that stands first, of this index, where none is laid.
+#[inline(always)]
+pub fn lay_first<B: Buffer>(words: &Words<B>, token: &mut Token<B>, index: u32, buffer: B)
+    requires own { token.old.table_id ≡ words.now.table_id }
+    requires first { (slot : Slot B) × (token.old.me.1 ≡ (index, slot) ∷ rest token.old.me.1) × (slot.buffer ≡ None) }
+    ensures own { (token.new.table_id ≡ token.old.table_id) × (token.new.id ≡ token.old.id) }
+    ensures laid { token.new.me ≡ (token.old.me.0, (index, record { buffer = Some buffer }) ∷ rest token.old.me.1) }
+{
+    let laid = Slot {
+        buffer: Some(buffer),
+    };
+    let Slot { buffer: hole } = words.exchange(token, index as usize, laid);
+    let None = hole else { unreachable!() };
+}
+
+/// The buffer that is laid in the slot that stands first, of this index.
+#[inline(always)]
+pub fn lift_first<B: Buffer>(words: &Words<B>, token: &mut Token<B>, index: u32) -> B
+    requires own { token.old.table_id ≡ words.now.table_id }
+    requires first { (buffer : B) × (token.old.me.1 ≡ (index, record { buffer = Some buffer }) ∷ rest token.old.me.1) }
+    ensures own { (token.new.table_id ≡ token.old.table_id) × (token.new.id ≡ token.old.id) }
+    ensures buffer { token.old.me.1 ≡ (index, record { buffer = Some result }) ∷ rest token.old.me.1 }
+    ensures lifted { token.new.me ≡ (token.old.me.0, (index, record { buffer = None }) ∷ rest token.old.me.1) }
+{
+    let Slot { buffer } = words.exchange(token, index as usize, Slot { buffer: None });
+    let Some(buffer) = buffer else { unreachable!() };
+    buffer
+}
 
 impl<B: Buffer> Band<B> {
     /// The buffer of an index in the seat's hand.

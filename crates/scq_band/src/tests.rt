@@ -265,6 +265,22 @@ fn a_buffer_is_lifted_and_laid(rt: HostRuntime) -> Result<(), Fail> {
     Ok(())
 }
 
+// The same, laid and put in one call.
+#[test]
+fn a_lifted_buffer_is_put(rt: HostRuntime) -> Result<(), Fail> {
+    let (band, mut seat, _other) = two_seats(rt.alloc())?;
+    let Ok((place, index)) = band.deq(&mut seat, 0) else {
+        return Err(Fail::new("no index on ring 0"));
+    };
+    assert_eq!(rt; (place, index), (4, 0));
+    let lifted = band.lift(&mut seat, index);
+    let Ok(put) = band.put(&mut seat, 1, index, lifted) else {
+        return Err(Fail::new("spent"));
+    };
+    assert_eq!(rt; put, 4);
+    Ok(())
+}
+
 // One note is learned, and one dropped.
 #[test]
 fn a_note_is_learned_or_dropped(rt: HostRuntime) -> Result<(), Fail> {

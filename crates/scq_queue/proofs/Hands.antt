@@ -40,35 +40,13 @@ pub not_held : (B : Type 0) (held : List ℕ) (i : ℕ) → in_hand (all_lifted 
 not_held B held i none there = let is = held_lifted B held i there in cc
 
 module _ {B : Type 0} where
-  -- what is laid in a hand is in it
-  pub laid_in_hand : (hand : List (ℕ × Option B)) (i : ℕ) (old new : Option B) → in_hand hand i ≡ Some old
-      → in_hand (with_buffer i new hand) i ≡ Some new
-  laid_in_hand [] i old new is = absurd (cc)
-  laid_in_hand (x ∷ xs) i old new is =
-      elim (cases_eq x.0 i) [
-        | inl same ↦ rw (eq-eqb x.0 i same) (rw (eq-eqb x.0 i same) refl)
-        | inr other ↦
-            let rest : in_hand xs i ≡ Some old = rw (ne_eqb x.0 i other) at is in
-            rw (ne_eqb x.0 i other) (rw (ne_eqb x.0 i other) (laid_in_hand xs i old new rest))
-      ]
-
-  -- a buffer that was laid and lifted again leaves the hand as it was
-  pub laid_and_lifted : (held : List ℕ) (i : ℕ) (b : B) → with_buffer i None (with_buffer i (Some b) (all_lifted held)) ≡ all_lifted held
-  laid_and_lifted [] i b = refl
-  laid_and_lifted (j ∷ held) i b =
+  -- an index that was put on a ring has left the hand
+  pub lifted_and_put : (held : List ℕ) (i : ℕ) → without_index i (all_lifted {B = B} held) ≡ all_lifted (without i held)
+  lifted_and_put [] i = refl
+  lifted_and_put (j ∷ held) i =
       elim (cases_eq j i) [
-        | inl same ↦ rw (eq-eqb j i same) (rw (eq-eqb j i same) (ap (λ (l : List (ℕ × Option B)). (j, None) ∷ l) (laid_and_lifted held i b)))
-        | inr other ↦ rw (ne_eqb j i other) (rw (ne_eqb j i other) (ap (λ (l : List (ℕ × Option B)). (j, None) ∷ l) (laid_and_lifted held i b)))
-      ]
-
-  -- a buffer that was laid and put on a ring has left the hand
-  pub laid_and_put : (held : List ℕ) (i : ℕ) (b : B) → without_index i (with_buffer i (Some b) (all_lifted held)) ≡ all_lifted (without i held)
-  laid_and_put [] i b = refl
-  laid_and_put (j ∷ held) i b =
-      elim (cases_eq j i) [
-        | inl same ↦ rw (eq-eqb j i same) (rw (eq-eqb j i same) (laid_and_put held i b))
-        | inr other ↦
-            rw (ne_eqb j i other) (rw (ne_eqb j i other) (ap (λ (l : List (ℕ × Option B)). (j, None) ∷ l) (laid_and_put held i b)))
+        | inl same ↦ rw (eq-eqb j i same) (lifted_and_put held i)
+        | inr other ↦ rw (ne_eqb j i other) (ap (λ (l : List (ℕ × Option B)). (j, None) ∷ l) (lifted_and_put held i))
       ]
 
   -- a buffer that came to a hand, and is lifted

@@ -1,18 +1,16 @@
 -- What a pass is after its seat got a value, put one, or was refused: the buffers of all that it holds are lifted in between.
 use Rattle.std.proofs.Common.{◌≡◌, ◌⊎◌, ℕ, List, [], ◌∷◌, ◌++◌, refl, sym, ◌∙◌, ap, subst, inl, inr}
-use Rattle.std.specs.Prelude.{Option, Some, None}
+use Rattle.std.specs.Prelude.{Option, Some, None, Result, Ok, Err}
 use Rattle.std.specs.List.{Contains}
-use Rattle.scq_core.specs.declared.ended.Ended.TheVariants.{Done}
 use Rattle.scq_band.specs.RunSeen.{Seen}
-use Rattle.scq_band.specs.Numbers.{changed, finishes}
 use Rattle.scq_band.specs.declared.calls.DeqRefusal.{DeqRefusal}
 use Rattle.scq_band.specs.declared.calls.DeqRefusal.TheVariants.{Empty, Spent}
 use Rattle.scq_band.specs.Standing as band
-use Rattle.scq_band.specs.Standing.{Standing, in_hand, with_buffer, without_index, bytes_in_hand, HasTaken}
+use Rattle.scq_band.specs.Standing.{Standing, in_hand, with_buffer, without_index, HasTaken}
 use Rattle.scq_band.specs.Closing.{indices_of}
 use Rattle.scq_queue.specs.Passes.{PassStanding, HeldStanding, IsHeldBy, HasGot, FoundNothing, without, having_seen, after_put, after_get, after_spent_put, after_spent_get}
 use Rattle.scq_queue.specs.Kept.{all_lifted, AreLifted, pass_over, held_of}
-use Rattle.scq_queue.proofs.Hands.{indices-all_lifted, held_lifted, laid_in_hand, laid_and_lifted, laid_and_put, came_in_hand, came_and_lifted, contains_last, not_held}
+use Rattle.scq_queue.proofs.Hands.{indices-all_lifted, held_lifted, lifted_and_put, came_in_hand, came_and_lifted, contains_last, not_held}
 
 -- a seat keeps a spent ticket or none
 pub cases_spent : (o : Option ℕ) → (o ≡ None) ⊎ ((ticket : ℕ) × (o ≡ Some ticket))
@@ -23,6 +21,14 @@ cases_spent (Some ticket) = inr (ticket, refl)
 cases_refusal : (r : DeqRefusal) → ((head : ℕ) × (r ≡ Empty head)) ⊎ ((ticket : ℕ) × (r ≡ Spent ticket))
 cases_refusal (Empty head) = inl (head, refl)
 cases_refusal (Spent ticket) = inr (ticket, refl)
+
+-- what a refusal says
+abbrev refusal_or : {T E : Type 0} → E → Result T E → E
+refusal_or d (Ok t) = d
+refusal_or d (Err e) = e
+
+pub same_refusal : {T E : Type 0} (r : Result T E) (x y : E) → r ≡ Err x → r ≡ Err y → x ≡ y
+same_refusal r x y one other = sym (ap (refusal_or x) one) ∙ ap (refusal_or x) other
 
 module _ {B : Type 0} where
   -- a value that the pass holds is lifted in its seat's hand
@@ -36,82 +42,33 @@ module _ {B : Type 0} where
   value_at s fulls h v is lifted held =
       ap (λ (u : HeldStanding B). in_hand s.hand u.index) is ∙ value_lifted s fulls h lifted held
 
-  pub value_laid : (s laid : Standing B) (i : ℕ) (b : B) → in_hand s.hand i ≡ Some None → laid ≡ record s { hand = with_buffer i (Some b) s.hand }
-      → in_hand laid.hand i ≡ Some (Some b)
-  value_laid s laid i b there is =
-      ap (λ (t : Standing B). in_hand t.hand i) is ∙ laid_in_hand s.hand i None (Some b) there
-
   -- a hand with these indices and no buffer laid
   lifted_with : (s : Standing B) (held : List ℕ) → s.hand ≡ all_lifted held → AreLifted s × (indices_of s.hand ≡ held)
   lifted_with s held is =
       let indices : indices_of s.hand ≡ held = ap indices_of is ∙ indices-all_lifted B held in
       (is ∙ ap all_lifted (sym indices), indices)
 
-  same_put : (p : PassStanding B) (ring place : ℕ) (v w held later : List ℕ) → v ≡ w → held ≡ later
-      → record p { calls = p.calls ++ Done ring place v ∷ []; held = held; numbers = changed (finishes place) ring p.numbers }
-      ≡ record p { calls = p.calls ++ Done ring place w ∷ []; held = later; numbers = changed (finishes place) ring p.numbers }
-  same_put p ring place v w held later bytes indices = rw (bytes, indices) refl
-
-  pub value_put : (contents : B → List ℕ) (s laid later : Standing B) (ring i place : ℕ) (b : B) → AreLifted s → in_hand s.hand i ≡ Some None
-      → laid ≡ record s { hand = with_buffer i (Some b) s.hand }
-      → later ≡ band.having_seen later.seen (band.after_put ring i place (bytes_in_hand contents laid.hand i) laid)
-      → AreLifted later
-      × ((fulls : List ℕ) → pass_over later fulls ≡ having_seen later.seen (after_put ring i place (contents b) (pass_over s fulls)))
-  value_put contents s laid later ring i place b lifted there is_laid is_later =
-      let hand : laid.hand ≡ with_buffer i (Some b) s.hand = ap (λ (t : Standing B). t.hand) is_laid in
-      let bytes : bytes_in_hand contents laid.hand i ≡ contents b = rw (value_laid s laid i b there is_laid) refl in
+  -- what a pass is whose value was put, and one whose seat drew a spent ticket
+  pub value_put : (s later : Standing B) (ring i place : ℕ) (bytes : List ℕ) → AreLifted s
+      → later ≡ band.having_seen later.seen (band.after_put ring i place bytes s)
+      → AreLifted later × ((fulls : List ℕ) → pass_over later fulls ≡ having_seen later.seen (after_put ring i place bytes (pass_over s fulls)))
+  value_put s later ring i place bytes lifted is =
       let left : later.hand ≡ all_lifted (without i (indices_of s.hand)) =
-      ap (λ (t : Standing B). t.hand) is_later ∙ ap (without_index i) (hand ∙ ap (with_buffer i (Some b)) lifted) ∙ laid_and_put (indices_of s.hand) i b in
+      ap (λ (t : Standing B). t.hand) is ∙ ap (without_index i) lifted ∙ lifted_and_put (indices_of s.hand) i in
       let both = lifted_with later (without i (indices_of s.hand)) left in
-      let gone : indices_of (without_index i laid.hand) ≡ without i (indices_of s.hand) =
-      ap (λ (t : Standing B). indices_of t.hand) (sym is_later) ∙ both.1 in (
+      let gone : indices_of (without_index i s.hand) ≡ without i (indices_of s.hand) = ap (λ (t : Standing B). indices_of t.hand) (sym is) ∙ both.1 in (
         both.0,
         λ fulls.
-            ap (λ (t : Standing B). pass_over t fulls) is_later
-            ∙ same_put (record (pass_over laid fulls) { seen = later.seen }) ring place (bytes_in_hand contents laid.hand i) (contents b) (indices_of
-            (without_index i laid.hand))
-            (without i (indices_of s.hand)) bytes gone
-            ∙ ap (λ (t : Standing B). record (pass_over t fulls) {
-              calls = t.calls ++ Done ring place (contents b) ∷ [];
-              held = without i (indices_of s.hand);
-              numbers = changed (finishes place) ring t.numbers;
-              seen = later.seen;
-            }) is_laid,
+            ap (λ (t : Standing B). pass_over t fulls) is
+            ∙ ap (λ (h : List ℕ). record (having_seen later.seen (after_put ring i place bytes (pass_over s fulls))) { held = h }) gone,
       )
 
-  -- a seat whose value was laid, refused and lifted again has the hand that it had
-  pub value_back : (s laid tried later : Standing B) (i : ℕ) (b : B) → AreLifted s → laid ≡ record s { hand = with_buffer i (Some b) s.hand }
-      → tried.hand ≡ laid.hand → later ≡ record tried { hand = with_buffer i None tried.hand } → later ≡ record tried { hand = s.hand }
-  value_back s laid tried later i b lifted is_laid same is_later =
-      let hand : with_buffer i None tried.hand ≡ s.hand =
-      ap (with_buffer i None) (same ∙ ap (λ (t : Standing B). t.hand) is_laid ∙ ap (with_buffer i (Some b)) lifted)
-      ∙ laid_and_lifted (indices_of s.hand) i b ∙ sym lifted in
-      is_later ∙ ap (λ (h : List (ℕ × Option B)). record tried { hand = h }) hand
-
-  still_lifted : (s tried later : Standing B) → AreLifted s → later ≡ record tried { hand = s.hand } → AreLifted later
-  still_lifted s tried later lifted is = (lifted_with later (indices_of s.hand) (ap (λ (t : Standing B). t.hand) is ∙ lifted)).0
-
-  -- what a pass is whose value came back, where its seat drew a spent ticket, and where it kept one
-  pub value_spent : (s laid tried later : Standing B) (ring ticket i : ℕ) (b : B) → AreLifted s → laid ≡ record s { hand = with_buffer i (Some b) s.hand }
-      → tried ≡ band.having_seen tried.seen (band.after_spent_put ring ticket laid) → later ≡ record tried { hand = with_buffer i None tried.hand }
-      → AreLifted later
-      × ((fulls : List ℕ) → pass_over later fulls ≡ having_seen later.seen (after_spent_put ring ticket (pass_over s fulls)))
-  value_spent s laid tried later ring ticket i b lifted is_laid is_tried is_later =
-      let back = value_back s laid tried later i b lifted is_laid (ap (λ (t : Standing B). t.hand) is_tried) is_later in (
-        still_lifted s tried later lifted back,
-        λ fulls.
-            ap (λ (t : Standing B). pass_over t fulls) back
-            ∙ ap (λ (t : Standing B). pass_over (record t { hand = s.hand }) fulls) (is_tried
-            ∙ ap (λ (t : Standing B). band.having_seen tried.seen (band.after_spent_put ring ticket t)) is_laid)
-            ∙ ap (λ (fs : Seen). record (after_spent_put ring ticket (pass_over s fulls)) { seen = fs })
-            (sym (ap (λ (t : Standing B). t.seen) is_later)),
-      )
-
-  pub value_kept : (s laid tried later : Standing B) (i : ℕ) (b : B) → AreLifted s → laid ≡ record s { hand = with_buffer i (Some b) s.hand }
-      → tried ≡ laid → later ≡ record tried { hand = with_buffer i None tried.hand } → later ≡ s
-  value_kept s laid tried later i b lifted is_laid is_tried is_later =
-      value_back s laid tried later i b lifted is_laid (ap (λ (t : Standing B). t.hand) is_tried) is_later
-      ∙ ap (λ (t : Standing B). record t { hand = s.hand }) (is_tried ∙ is_laid)
+  pub put_spent : (s later : Standing B) (ring ticket : ℕ) → AreLifted s → later ≡ band.having_seen later.seen (band.after_spent_put ring ticket s)
+      → AreLifted later × ((fulls : List ℕ) → pass_over later fulls ≡ having_seen later.seen (after_spent_put ring ticket (pass_over s fulls)))
+  put_spent s later ring ticket lifted is = (
+    (lifted_with later (indices_of s.hand) (ap (λ (t : Standing B). t.hand) is ∙ lifted)).0,
+    λ fulls. ap (λ (t : Standing B). pass_over t fulls) is,
+  )
 
   -- a value that was got is in the hand, and lifted from there it is held
   module _ (contents : B → List ℕ) (IsSame : B → B → Type 0) (s got : Standing B) (ring place i : ℕ) (lifted : AreLifted s)

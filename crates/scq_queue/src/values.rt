@@ -84,11 +84,9 @@ pub fn put<B: Buffer>(
         buffer,
         owner,
     } = held;
-    band.lay(seat, index, buffer);
-    match band.enq(seat, ring, index) {
+    match band.put(seat, ring, index, buffer) {
         Ok(place) => Ok(place),
-        Err(spent) => {
-            let buffer = band.lift(seat, index);
+        Err((buffer, spent)) => {
             let held = Held {
                 index,
                 buffer,
