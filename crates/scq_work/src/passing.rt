@@ -23,7 +23,7 @@ impl<B: Buffer> Worker<B> {
         requires suits { Suits queue.now (length job.now.topics) self.old.pass }
         requires stays { self.old.pass.retired ≡ None }
         requires topic { message.now.topic ≤ length job.now.topics }
-        requires short { length message.now.payload ≤ job.now.size }
+        requires short { length message.now.payload ≤ job.now.longest }
         requires room { All (λ b. job.now.size + 16 ≤ length (B.contents b)) queue.now.given }
         ensures suits { OnOk result (Suits queue.now (length job.now.topics) self.new.pass) }
         ensures stays { OnOk result (self.new.pass.retired ≡ None) }

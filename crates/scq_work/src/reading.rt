@@ -37,7 +37,7 @@ impl<B: Buffer> Worker<B> {
         requires stays { self.old.pass.retired ≡ None }
         requires room { All (λ b. job.now.size + 16 ≤ length (B.contents b)) queue.now.given }
         requires none { given_in given.old.value ≡ [] }
-        ensures read { IsRead job.now.topics job.now.size S.faults S.ends S.left file source.old source.new (given_in given.new.value) end.new }
+        ensures read { IsRead job.now.topics job.now.longest S.faults S.ends S.left file source.old source.new (given_in given.new.value) end.new }
         ensures suits { OnOk result (Suits queue.now (length job.now.topics) self.new.pass) }
         ensures stays { OnOk result (self.new.pass.retired ≡ None) }
         ensures work { OnOk result ((messages : List TheMessage)
@@ -51,7 +51,7 @@ impl<B: Buffer> Worker<B> {
     {
         // So it ends where the worker leaves it for want of memory, or since it met a ticket past the limit.
         *end = FileEnd::Stopped(FrameFault::NoMemory);
-        let Ok(mut framer) = Framer::new(alloc, file, job.size, MOST_BYTES) else {
+        let Ok(mut framer) = Framer::new(alloc, file, job.longest, MOST_BYTES) else {
             return Ok(());
         };
         'messages: loop {
@@ -89,7 +89,7 @@ impl<B: Buffer> Worker<B> {
         requires room { All (λ b. job.now.size + 16 ≤ length (B.contents b)) queue.now.given }
         requires unread { IsNew file.old }
         ensures same { (file.new.number ≡ file.old.number) × (file.new.was.value ≡ file.old.was.value) }
-        ensures read { IsRead job.now.topics job.now.size S.faults S.ends S.left file.new.number file.new.was.value file.new.source
+        ensures read { IsRead job.now.topics job.now.longest S.faults S.ends S.left file.new.number file.new.was.value file.new.source
             (given_in file.new.given.value) file.new.end }
         ensures suits { OnOk result (Suits queue.now (length job.now.topics) self.new.pass) }
         ensures stays { OnOk result (self.new.pass.retired ≡ None) }
@@ -129,7 +129,7 @@ impl<B: Buffer> Worker<B> {
         requires room { All (λ b. job.now.size + 16 ≤ length (B.contents b)) queue.now.given }
         requires unread { All IsNew files.old }
         ensures same { ids_of files.new ≡ ids_of files.old }
-        ensures read { All (λ f. IsRead job.now.topics job.now.size S.faults S.ends S.left f.number f.was.value f.source (given_in f.given.value) f.end)
+        ensures read { All (λ f. IsRead job.now.topics job.now.longest S.faults S.ends S.left f.number f.was.value f.source (given_in f.given.value) f.end)
             files.new }
         ensures stops { StopsAtAFault files.new }
         ensures suits { OnOk result (Suits queue.now (length job.now.topics) self.new.pass) }

@@ -166,7 +166,7 @@ fn run_all<R: Threads + Sync, S: Source, G: Gate>(
     ensures numbers { (w : ℕ) (d : _) → w < length desks.old
         → (slice_index_or desks.new w d).worker.pass.number ≡ (slice_index_or desks.old w d).worker.pass.number }
     ensures run { All (λ d.
-        HasRun queue.now job.now.topics job.now.size S.faults S.ends S.left d.files.items d.worker.pass d.worker.members.items d.worker.starved d.kept)
+        HasRun queue.now job.now.topics job.now.longest S.faults S.ends S.left d.files.items d.worker.pass d.worker.members.items d.worker.starved d.kept)
         desks.new }
 {
     let threads = desks.len();
@@ -175,7 +175,7 @@ fn run_all<R: Threads + Sync, S: Source, G: Gate>(
             × IsFresh queue.now desk.now × All IsNew desk.now.files.items }
         ensures { (ids_of desk.exit.now.files.items ≡ ids_of desk.entry.now.files.items)
             × (desk.exit.now.worker.pass.number ≡ desk.entry.now.worker.pass.number)
-            × HasRun queue.entry.now job.entry.now.topics job.entry.now.size S.faults S.ends S.left desk.exit.now.files.items desk.exit.now.worker.pass
+            × HasRun queue.entry.now job.entry.now.topics job.entry.now.longest S.faults S.ends S.left desk.exit.now.files.items desk.exit.now.worker.pass
             desk.exit.now.worker.members.items desk.exit.now.worker.starved desk.exit.now.kept }
     { desk.run(alloc, job, queue, gate) };
     thread::for_each_mut(rt, desks, threads, &run);
@@ -213,16 +213,16 @@ pub fn work<R: Threads + Sync, S: Source, G: Gate>(
 
     // Each source was read to its end, and where the bytes of all are visible the answers are those of one thread.
     ensures whole { OnOk result.result ((k : ℕ) (d : S) → k < length sources.items
-        → IsWhole job.now.size S.faults S.ends S.left (slice_index_or sources.items k d) (slice_index_or result.sources.items k d)) }
+        → IsWhole job.now.longest S.faults S.ends S.left (slice_index_or sources.items k d) (slice_index_or result.sources.items k d)) }
     ensures answers { IfOk result.result (λ w. IfSome (all_left S.left sources.items) (λ contents.
         IsPermutation (map without_way (members_in w.answered.items)) (answers_to job.now.topics 1 contents))) }
 
     // The lists answer for the messages that the files gave, and the passes for what was sent and taken: of contents that are visible, and of
     // every source.
     ensures told { IfOk result.result (λ w. IfSome (all_left S.left sources.items) (λ contents.
-        HasWorked job.now.topics job.now.size job.now.workers (messages_in job.now.topics 1 contents) w)) }
-    ensures worked { IfOk result.result (λ w. (given : List (List TheMessage)) × AreGiven job.now.topics job.now.size S.left 1 sources.items given
-        × HasWorked job.now.topics job.now.size job.now.workers given w) }
+        HasWorked job.now.topics job.now.longest job.now.workers (messages_in job.now.topics 1 contents) w)) }
+    ensures worked { IfOk result.result (λ w. (given : List (List TheMessage)) × AreGiven job.now.topics job.now.longest S.left 1 sources.items given
+        × HasWorked job.now.topics job.now.longest job.now.workers given w) }
 
     // Whatever the answer is, the queue was closed with each buffer free: each pass has retired, what was sent was taken, and the block was
     // merged. Only where there was no memory for a queue there was none.
@@ -233,8 +233,8 @@ pub fn work<R: Threads + Sync, S: Source, G: Gate>(
 
     // A fault is that of its file, and those in front of it were read to their ends. Where there is one of a file, each source is as one
     // whose reading didn't stop for want of memory.
-    ensures cause { IfErr result.result (λ fault. HasCause job.now.size S.faults S.ends S.left sources.items result.sources.items fault) }
-    ensures memory_first { IfErr result.result (λ fault. MemoryIsFirst job.now.size S.faults S.ends S.left sources.items result.sources.items fault) }
+    ensures cause { IfErr result.result (λ fault. HasCause job.now.longest S.faults S.ends S.left sources.items result.sources.items fault) }
+    ensures memory_first { IfErr result.result (λ fault. MemoryIsFirst job.now.longest S.faults S.ends S.left sources.items result.sources.items fault) }
 {
     let Ok(room) = make_room(alloc, job, sources.len()) else {
         return WorkEnd::starved(sources);
@@ -278,19 +278,19 @@ fn work_in<R: Threads + Sync, S: Source, G: Gate>(
     ensures moved { (k : ℕ) (d : S) → k < length sources.items
         → HasMoved S.faults S.left (slice_index_or sources.items k d) (slice_index_or result.sources.items k d) }
     ensures whole { OnOk result.result ((k : ℕ) (d : S) → k < length sources.items
-        → IsWhole job.now.size S.faults S.ends S.left (slice_index_or sources.items k d) (slice_index_or result.sources.items k d)) }
+        → IsWhole job.now.longest S.faults S.ends S.left (slice_index_or sources.items k d) (slice_index_or result.sources.items k d)) }
     ensures answers { IfOk result.result (λ w. IfSome (all_left S.left sources.items) (λ contents.
         IsPermutation (map without_way (members_in w.answered.items)) (answers_to job.now.topics 1 contents))) }
     ensures told { IfOk result.result (λ w. IfSome (all_left S.left sources.items) (λ contents.
-        HasWorked job.now.topics job.now.size job.now.workers (messages_in job.now.topics 1 contents) w)) }
-    ensures worked { IfOk result.result (λ w. (given : List (List TheMessage)) × AreGiven job.now.topics job.now.size S.left 1 sources.items given
-        × HasWorked job.now.topics job.now.size job.now.workers given w) }
+        HasWorked job.now.topics job.now.longest job.now.workers (messages_in job.now.topics 1 contents) w)) }
+    ensures worked { IfOk result.result (λ w. (given : List (List TheMessage)) × AreGiven job.now.topics job.now.longest S.left 1 sources.items given
+        × HasWorked job.now.topics job.now.longest job.now.workers given w) }
     ensures left { IfSome result.left (λ left. IsSomeAnd result.passes (λ passes.
         NothingIsStranded job.now.order (length job.now.topics + 1) job.now.workers passes.value.items left.items)) }
     ensures none { result.left ≡ None → IsErrOf result.result WorkFault.NoMemory }
     ensures same { IfOk result.result (λ w. IsSomeAnd result.passes (λ passes. passes.value.items ≡ w.passes.value.items)) }
-    ensures cause { IfErr result.result (λ fault. HasCause job.now.size S.faults S.ends S.left sources.items result.sources.items fault) }
-    ensures memory_first { IfErr result.result (λ fault. MemoryIsFirst job.now.size S.faults S.ends S.left sources.items result.sources.items fault) }
+    ensures cause { IfErr result.result (λ fault. HasCause job.now.longest S.faults S.ends S.left sources.items result.sources.items fault) }
+    ensures memory_first { IfErr result.result (λ fault. MemoryIsFirst job.now.longest S.faults S.ends S.left sources.items result.sources.items fault) }
 {
     let Room {
         files,

@@ -77,7 +77,7 @@ gather-requires-clause-read g c lifetimes lives =
     c.as_mut_slice-3.ensures.value ∙ written-back _ _ _
     (omega (arith, c.run_all.auto.desks, c.as_mut_slice-2.ensures.len, c.deal.auto.desks, c.as_mut_slice.ensures.len)) in
     let P : List (Desk Frame S) → Type 0 =
-    λ ds. All (λ d. All (λ f. IsRead c.args.job.now.topics c.args.job.now.size g.S.Source.faults g.S.Source.ends g.S.Source.left
+    λ ds. All (λ d. All (λ f. IsRead c.args.job.now.topics c.args.job.now.longest g.S.Source.faults g.S.Source.ends g.S.Source.left
     f.number f.was.value f.source (given_in f.given.value) f.end) d.files.items) ds in
     subst P (sym third) (λ w d less. (c.run_all.ensures.run w d less).read)
 
@@ -158,13 +158,13 @@ record Facts {S : Type 0} (topics : List (List ℕ × Kind)) (order size workers
   all : AllRan queue.setup queue topics size faults end_count left sources ran
   closed : HasClosed queue.setup (passes_at ran) (held_at ran) left_in
 
-facts : (g : _) (c : After-conclude g) → Facts c.args.job.now.topics c.args.job.now.order c.args.job.now.size c.args.job.now.workers
+facts : (g : _) (c : After-conclude g) → Facts c.args.job.now.topics c.args.job.now.order c.args.job.now.longest c.args.job.now.workers
     g.S.Source.faults g.S.Source.ends g.S.Source.left c.args.sources.items c.args.queue c.run_all.new.desks c.clear.new.left.passes.items
     c.clear.new.left.lists.items c.close-buffers.result.left.items
 facts g c =
     let S = g.row.S.Denot in
     let topics = c.args.job.now.topics in
-    let size = c.args.job.now.size in
+    let size = c.args.job.now.longest in
     let faults = g.S.Source.faults in
     let end_count = g.S.Source.ends in
     let left = g.S.Source.left in
@@ -304,7 +304,7 @@ returns-clause-left g c =
     record {
       setup = c.args.queue.setup;
       of_job = f.of_job;
-      shared = rw gave (have-shared c.args.queue.setup c.args.queue c.args.job.now.topics c.args.job.now.size g.S.Source.faults g.S.Source.ends g.S.Source.left
+      shared = rw gave (have-shared c.args.queue.setup c.args.queue c.args.job.now.topics c.args.job.now.longest g.S.Source.faults g.S.Source.ends g.S.Source.left
           c.args.sources.items c.run_all.new.desks f.all c.close-buffers.result.left.items f.closed);
     }
 
@@ -316,7 +316,7 @@ returns-clause-same g c =
 pub returns-clause-worked : goal.returns-clause-worked
 returns-clause-worked g c =
     let topics = c.args.job.now.topics in
-    let size = c.args.job.now.size in
+    let size = c.args.job.now.longest in
     let faults = g.S.Source.faults in
     let end_count = g.S.Source.ends in
     let left = g.S.Source.left in
@@ -351,7 +351,7 @@ returns-clause-worked g c =
 pub returns-clause-answers : goal.returns-clause-answers
 returns-clause-answers g c =
     let topics = c.args.job.now.topics in
-    let size = c.args.job.now.size in
+    let size = c.args.job.now.longest in
     let left = g.S.Source.left in
     ok-more c.conclude.result _ _ (returns-clause-worked g c)
     (λ w has. members-told topics size left c.args.sources.items has.0 (members_in w.answered.items) has.1 has.2.answered.once)
@@ -359,7 +359,7 @@ returns-clause-answers g c =
 pub returns-clause-told : goal.returns-clause-told
 returns-clause-told g c =
     let topics = c.args.job.now.topics in
-    let size = c.args.job.now.size in
+    let size = c.args.job.now.longest in
     let left = g.S.Source.left in
     ok-more c.conclude.result _ _ (returns-clause-worked g c) (λ w has.
     told-worked topics size c.args.job.now.workers has.0 w (all_left left c.args.sources.items)
@@ -380,7 +380,7 @@ pub returns-clause-whole : goal.returns-clause-whole
 returns-clause-whole g c =
     let S = g.row.S.Denot in
     let is = ap (λ v. v.items) c.of-was.ensures in
-    let size = c.args.job.now.size in
+    let size = c.args.job.now.longest in
     let faults = g.S.Source.faults in
     let end_count = g.S.Source.ends in
     let left = g.S.Source.left in
@@ -391,7 +391,7 @@ returns-clause-whole g c =
 pub returns-clause-cause : goal.returns-clause-cause
 returns-clause-cause g c =
     let S = g.row.S.Denot in
-    let size = c.args.job.now.size in
+    let size = c.args.job.now.longest in
     let faults = g.S.Source.faults in
     let end_count = g.S.Source.ends in
     let left = g.S.Source.left in
@@ -405,7 +405,7 @@ returns-clause-cause g c =
 pub returns-clause-memory_first : goal.returns-clause-memory_first
 returns-clause-memory_first g c =
     let S = g.row.S.Denot in
-    let size = c.args.job.now.size in
+    let size = c.args.job.now.longest in
     let faults = g.S.Source.faults in
     let end_count = g.S.Source.ends in
     let left = g.S.Source.left in

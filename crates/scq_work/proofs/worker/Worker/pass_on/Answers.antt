@@ -19,7 +19,7 @@ send_in-requires-clause-room g c κs within =
     let room = one-of-all (λ b. c.args.job.now.size + 16 ≤ length (g.B.Buffer.contents b)) c.args.queue.now.given c.in-Ok.held.index given.first
     c.requires.room given.was in
     let same = laws.same_length given.first c.in-Ok.held.buffer given.same in
-    omega (arith, room, same, c.requires.short)
+    omega (arith, room, same, c.requires.short, c.args.job.now.fits)
 
 -- the send met Spent
 pub returns-in_err-send_in-in-Ok-clause-left : goal.returns-in_err-send_in-in-Ok-clause-left

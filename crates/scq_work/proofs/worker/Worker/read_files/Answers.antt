@@ -24,13 +24,13 @@ same-after g c =
 
 -- what is known of each file is what was read of it
 read-after : (g : _) (c : After-read_file g)
-    → All (λ f. IsRead c.args.job.now.topics c.args.job.now.size g.S.Source.faults g.S.Source.ends g.S.Source.left f.number f.was.value f.source
+    → All (λ f. IsRead c.args.job.now.topics c.args.job.now.longest g.S.Source.faults g.S.Source.ends g.S.Source.left f.number f.was.value f.source
     (given_in f.given.value) f.end) (set c.files.files (c.files.at - 1) c.read_file.new.file)
 read-after g c k d less =
     let at = c.files.at - 1 in
     let inv = c.files.invariant in
     let within : at < length c.files.files = omega (arith, c.files-test.true, inv.within) in
-    set-each (λ j f. IsRead c.args.job.now.topics c.args.job.now.size g.S.Source.faults g.S.Source.ends g.S.Source.left f.number f.was.value f.source
+    set-each (λ j f. IsRead c.args.job.now.topics c.args.job.now.longest g.S.Source.faults g.S.Source.ends g.S.Source.left f.number f.was.value f.source
     (given_in f.given.value) f.end) c.files.files at
     c.read_file.new.file d within c.read_file.ensures.read (λ j below apart. inv.read j d below) k
     (omega (arith, less, length-set c.files.files at c.read_file.new.file))
@@ -69,7 +69,7 @@ files-init g c = record {
   unread = λ k d less. c.requires.unread k d less;
   sound = λ k d fault past less is. absurd (omega arith);
   same = refl;
-  read = λ k d less. reading-unread c.args.job.now.topics c.args.job.now.size g.S.Source.faults g.S.Source.ends g.S.Source.left
+  read = λ k d less. reading-unread c.args.job.now.topics c.args.job.now.longest g.S.Source.faults g.S.Source.ends g.S.Source.left
       (slice_index_or c.args.files.now k d)
       (c.requires.unread k d less);
   suits = c.requires.suits;

@@ -14,7 +14,7 @@ invariant-files g l = record {
   unread : (k : ℕ) (d : _) → k < l.at → IsNew (slice_index_or l.files k d);
   sound : (k : ℕ) (d : _) (fault : _) → l.at ≤ k → k < length l.files → (slice_index_or l.files k d).end ≡ Stopped fault → ⊥;
   same : ids_of l.files ≡ ids_of l.fn.files;
-  read : All (λ f. IsRead l.job.topics l.job.size g.S.Source.faults g.S.Source.ends g.S.Source.left f.number f.was.value f.source (given_in f.given.value)
+  read : All (λ f. IsRead l.job.topics l.job.longest g.S.Source.faults g.S.Source.ends g.S.Source.left f.number f.was.value f.source (given_in f.given.value)
       f.end) l.files;
   suits : Suits l.queue (length l.job.topics) l.self.pass;
   stays : l.self.pass.retired ≡ None;

@@ -32,7 +32,7 @@ said g c =
 -- with the message that it gave
 reading : (g : _) (c : After-pass_on g) → Answers g.S.Source.faults g.S.Source.ends g.S.Source.left c.messages.source c.next.new.source c.messages.framer
     c.next.new.self
-    → IsReading c.args.job.now.topics c.args.job.now.size g.S.Source.faults g.S.Source.ends g.S.Source.left c.args.file c.args.source.now c.next.new.source
+    → IsReading c.args.job.now.topics c.args.job.now.longest g.S.Source.faults g.S.Source.ends g.S.Source.left c.args.file c.args.source.now c.next.new.source
     c.next.new.self (given_in c.give.new.given.value)
 reading g c answer =
     let m = c.in-Ok-Some.message in
@@ -53,7 +53,7 @@ reading g c answer =
     let fits : length m.payload ≤ c.messages.framer.size = subst S is its.fits in
     let known : m.topic ≤ length topics = subst T is its.topic in
     let found : Found c.messages.framer c.next.new.self (left c.messages.source) (left c.next.new.source) (Ok (Some m)) = subst F is its.found in
-    reading-next c.args.job.now.topics c.args.job.now.size g.S.Source.faults g.S.Source.ends g.S.Source.left c.args.file start c.messages.source
+    reading-next c.args.job.now.topics c.args.job.now.longest g.S.Source.faults g.S.Source.ends g.S.Source.left c.args.file start c.messages.source
     c.next.new.source
     c.messages.framer c.next.new.self
     (given_in c.messages.given.value) (given_in c.give.new.given.value) m c.messages.invariant.reading answer gives next known fits found its.failed
@@ -64,9 +64,9 @@ returns-in_err-pass_on-in-Ok-Some-clause-read g c =
     let now = reading g (goal.at.returns-in_err-pass_on-in-Ok-Some-clause-read g c).After-pass_on
     (said g (goal.at.returns-in_err-pass_on-in-Ok-Some-clause-read g c).After-next) in
     let P : FileEnd → Type 0 =
-    λ end. IsRead c.args.job.now.topics c.args.job.now.size g.S.Source.faults g.S.Source.ends g.S.Source.left c.args.file c.args.source.now c.next.new.source
+    λ end. IsRead c.args.job.now.topics c.args.job.now.longest g.S.Source.faults g.S.Source.ends g.S.Source.left c.args.file c.args.source.now c.next.new.source
     (given_in c.give.new.given.value) end in
-    subst P (sym c.messages.invariant.end) (reading-left c.args.job.now.topics c.args.job.now.size g.S.Source.faults g.S.Source.ends g.S.Source.left c.args.file
+    subst P (sym c.messages.invariant.end) (reading-left c.args.job.now.topics c.args.job.now.longest g.S.Source.faults g.S.Source.ends g.S.Source.left c.args.file
     c.args.source.now c.next.new.source
     c.next.new.self (given_in c.give.new.given.value) now)
 
@@ -87,9 +87,9 @@ pub returns-then-self-clause-read : goal.returns-then-self-clause-read
 returns-then-self-clause-read g c =
     let now = reading g (goal.at.returns-then-self-clause-read g c).After-pass_on (said g (goal.at.returns-then-self-clause-read g c).After-next) in
     let P : FileEnd → Type 0 =
-    λ end. IsRead c.args.job.now.topics c.args.job.now.size g.S.Source.faults g.S.Source.ends g.S.Source.left c.args.file c.args.source.now c.next.new.source
+    λ end. IsRead c.args.job.now.topics c.args.job.now.longest g.S.Source.faults g.S.Source.ends g.S.Source.left c.args.file c.args.source.now c.next.new.source
     (given_in c.give.new.given.value) end in
-    subst P (sym c.messages.invariant.end) (reading-left c.args.job.now.topics c.args.job.now.size g.S.Source.faults g.S.Source.ends g.S.Source.left c.args.file
+    subst P (sym c.messages.invariant.end) (reading-left c.args.job.now.topics c.args.job.now.longest g.S.Source.faults g.S.Source.ends g.S.Source.left c.args.file
     c.args.source.now c.next.new.source
     c.next.new.self (given_in c.give.new.given.value) now)
 
@@ -133,7 +133,7 @@ returns-in-Ok-None-clause-read g c =
     let none_ : ahead ≡ option_map (λ _. []) (left c.messages.source) = subst N is its.none in
     let over : IsTrue c.next.new.self.ended × (c.next.new.self.held ≡ []) = subst O is its.over in
     let found : Found c.messages.framer c.next.new.self (left c.messages.source) (left c.next.new.source) (Ok None) = subst F is its.found in
-    reading-whole c.args.job.now.topics c.args.job.now.size g.S.Source.faults g.S.Source.ends g.S.Source.left c.args.file c.args.source.now c.messages.source
+    reading-whole c.args.job.now.topics c.args.job.now.longest g.S.Source.faults g.S.Source.ends g.S.Source.left c.args.file c.args.source.now c.messages.source
     c.next.new.source c.messages.framer
     c.next.new.self (given_in c.messages.given.value) c.messages.invariant.reading (said g (goal.at.returns-in-Ok-None-clause-read g c).After-next) none_
     found over.0
@@ -144,7 +144,7 @@ returns-in-Err-clause-read g c =
     let its = c.next.ensures in
     let fault = c.in-Err.fault in
     let is = c.in-Err.is in
-    reading-fault c.args.job.now.topics c.args.job.now.size g.S.Source.faults g.S.Source.ends g.S.Source.left c.args.file c.args.source.now c.messages.source
+    reading-fault c.args.job.now.topics c.args.job.now.longest g.S.Source.faults g.S.Source.ends g.S.Source.left c.args.file c.args.source.now c.messages.source
     c.next.new.source c.messages.framer
     c.next.new.self (given_in c.messages.given.value) fault c.messages.invariant.reading (said g (goal.at.returns-in-Err-clause-read g c).After-next)
     c.in-Err.ensures.found

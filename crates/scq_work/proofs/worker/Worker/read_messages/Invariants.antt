@@ -10,7 +10,7 @@ use Rattle.scq_work.proofs.worker.Worker.read_messages.Given as goal
 -- what the framer gave so far is passed on, and where the worker leaves now, the file counts as stopped for want of memory
 abbrev pub invariant-messages : goal.invariant-messages
 invariant-messages g l = record {
-  reading : IsReading l.job.topics l.job.size g.S.Source.faults g.S.Source.ends g.S.Source.left l.fn.file l.fn.source l.source l.framer
+  reading : IsReading l.job.topics l.job.longest g.S.Source.faults g.S.Source.ends g.S.Source.left l.fn.file l.fn.source l.source l.framer
       (given_in l.given.value);
   end : l.end ≡ Stopped NoMemory;
   suits : Suits l.queue (length l.job.topics) l.self.pass;
