@@ -64,6 +64,9 @@ pub record HaveOpened (order topics size hold limit : ℕ) (before after : List 
   pub rings_is : setup.rings ≡ topics + 1
   pub seats_is : setup.seats ≡ length before
   pub limit_is : setup.limit ≡ limit
+  pub some_topics : 1 ≤ topics
+  pub some_size : 1 ≤ size
+  pub some_hold : (1 ≤ hold) × (hold ≤ n_of order)
   pub ports : List PortStanding
   pub opened : AreOpened setup size hold ports
   pub have : ports_of after ≡ map (λ (p : PortStanding). Some p) ports

@@ -1,5 +1,5 @@
 //! What C calls.
-ghost use Rattle.std.specs.Prelude.{◌≡◌, ◌≢◌, Some, None};
+ghost use Rattle.std.specs.Prelude.{◌≡◌, ◌≢◌, ℕ, Some, None};
 ghost use Rattle.scq_queue.specs.Lists.{counts_of};
 ghost use Rattle.scq_queue.specs.Passes.{lists_of};
 ghost use Rattle.scq_port.specs.Ports.{PortStanding};
@@ -238,7 +238,7 @@ pub extern "C" fn scq_spent(alloc: Global, handle: &mut Handle, ticket: &mut u64
     ensures same { handle.new.port ≡ handle.old.port }
     ensures closed { handle.old.port ≡ None → (result ≡ 4) × (ticket.new ≡ ticket.old) }
     ensures none { (x : PortStanding) → handle.old.port ≡ Some x → x.pass.spent ≡ None → (result ≡ 0) × (ticket.new ≡ ticket.old) }
-    ensures spent { (x : PortStanding) → handle.old.port ≡ Some x → result ≡ 3 → x.pass.spent ≡ Some ticket.new }
+    ensures spent { (x : PortStanding) (t : ℕ) → handle.old.port ≡ Some x → x.pass.spent ≡ Some t → (result ≡ 3) × (ticket.new ≡ t) }
 {
     let Some(port) = taken(handle, alloc) else {
         return CLOSED;
@@ -254,7 +254,7 @@ pub extern "C" fn scq_spent(alloc: Global, handle: &mut Handle, ticket: &mut u64
     }
 }
 
-/// Closes a port: what it holds is given back, and the last port of a queue frees it.
+/// Closes a port: what it holds is given back, as `Port::close` says, and the last port of a queue frees it.
 #[unsafe(no_mangle)]
 pub extern "C" fn scq_close(alloc: Global, handle: &mut Handle) -> u32
     ensures closed { handle.new.port ≡ None }
@@ -262,7 +262,10 @@ pub extern "C" fn scq_close(alloc: Global, handle: &mut Handle) -> u32
     ensures was_open { handle.old.port ≢ None → result ≡ 0 }
 {
     match taken(handle, alloc) {
-        Some(_port) => OK,
+        Some(port) => {
+            let _ended = Box::into_inner(port).close();
+            OK
+        }
         None => CLOSED,
     }
 }

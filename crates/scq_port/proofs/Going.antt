@@ -1,16 +1,17 @@
--- What becomes of a pass whose values are given back, from the last place on.
-use Rattle.std.proofs.Common.{◌≡◌, ◌≢◌, ℕ, ◌+◌, ◌<◌, List, [], ◌∷◌, ◌++◌, length, refl, sym, ◌∙◌, ap, inl, inr, arith}
-use Rattle.std.specs.Prelude.{◌⊎◌, Option, Some, None, slice_get}
+-- What becomes of a pass whose values are given back, from the last place on: what it still holds (LetsGo), and which values went (Goes).
+use Rattle.std.proofs.Common.{◌≡◌, ◌≢◌, ℕ, ◌+◌, ◌<◌, ◌≤◌, List, [], ◌∷◌, ◌++◌, length, refl, sym, ◌∙◌, ap, subst, inl, inr, arith}
+use Rattle.std.specs.Prelude.{◌⊎◌, Option, Some, None, slice_get, filter_map, reverse}
 use Rattle.std.specs.List.{Contains}
 use Rattle.std.proofs.lemmas.Bool.{cases_eq}
+use Rattle.std.proofs.lemmas.List.{reverse-append, append-nil, append_assoc}
 use Rattle.scq_law.specs.Hands.{times}
-use Rattle.scq_port.proofs.Times.{contains_times}
-use Rattle.scq_queue.specs.Passes.{PassStanding, IsHeldBy, without, after_put, after_spent_put, having_seen}
+use Rattle.scq_queue.specs.Passes.{PassStanding, IsHeldBy, WasGivenBack, without, after_put, after_spent_put, having_seen}
 use Rattle.scq_queue.proofs.HeldOnce.{IsAlike}
 use Rattle.scq_port.specs.declared.port_buffer.PortBuffer.{PortBuffer}
-use Rattle.scq_port.specs.Ports.{PortQueue, Value}
+use Rattle.scq_port.specs.Ports.{PortQueue, PortStanding, Value, bytes_of}
+use Rattle.scq_port.specs.Calls.{values_of, GaveBack, HasEnded}
 use Rattle.scq_port.specs.Kept.{Keeps, LetsGo, StandsAt}
-use Rattle.scq_port.proofs.Lists.{less_here, less_other, get_before, get_last, get_past, not_last, none_at_all}
+use Rattle.scq_port.proofs.Lists.{contains_times, less_here, less_other, get_before, get_last, get_past, not_last, none_at_all}
 
 cases_spent : (o : Option ℕ) → (o ≡ None) ⊎ ((t : ℕ) × (o ≡ Some t))
 cases_spent None = inl refl
@@ -122,3 +123,142 @@ loses queue old new slots h ticket before is drew kept =
 pub ends : (queue : PortQueue) (p : PassStanding PortBuffer) (slots : List (Option Value)) → LetsGo queue p slots → length slots ≡ 0 → p.spent ≡ None → p.held ≡ []
 ends queue p [] before empty none = none_at_all p.held (λ i. before.past none i refl)
 ends queue p (x ∷ xs) before empty none = absurd (omega (arith, empty))
+
+-- the values of a list of places and its last
+values_last : (slots : List (Option Value)) (o : Option Value) → values_of (slots ++ o ∷ []) ≡ filter_map (λ (x : Option Value). x) (o ∷ reverse slots)
+values_last slots o = ap (λ (l : List (Option Value)). filter_map (λ (x : Option Value). x) l) (reverse-append slots (o ∷ []))
+
+-- one more was given back
+gave_more : (hs : List Value) (h : Value) (first old new : PassStanding PortBuffer) → GaveBack hs first old
+    → WasGivenBack (bytes_of h.buffer) h.index old new → GaveBack (hs ++ h ∷ []) first new
+gave_more [] h first old new is back =
+    (new, subst (λ (p : PassStanding PortBuffer). WasGivenBack (bytes_of h.buffer) h.index p new) is back, refl)
+gave_more (x ∷ xs) h first old new is back = (is.0, is.1, gave_more xs h is.0 old new is.2 back)
+
+-- how far the giving back has come: which values were given back, and which were refused
+pub record Goes (all_slots : List (Option Value)) (first : PassStanding PortBuffer) (slots : List (Option Value)) (p : PassStanding PortBuffer) : Type 0 where
+  pub given : List Value
+  pub left : List Value
+  pub all : given ++ (left ++ values_of slots) ≡ values_of all_slots
+  pub before : PassStanding PortBuffer
+  pub gave : GaveBack given first before
+  pub none : p.spent ≡ None → (left ≡ []) × (p ≡ before)
+  pub drawn : (t : ℕ) → first.spent ≡ None → p.spent ≡ Some t
+      → (p ≡ having_seen p.seen (after_spent_put 0 t before)) × (first.queue.setup.limit ≤ t)
+  pub kept : (t : ℕ) → first.spent ≡ Some t → (given ≡ []) × (p ≡ first)
+
+pub goes_first : (slots : List (Option Value)) (p : PassStanding PortBuffer) → Goes slots p slots p
+goes_first slots p =
+    record {
+      given = [];
+      left = [];
+      all = refl;
+      before = p;
+      gave = refl;
+      none = λ none. (refl, refl);
+      drawn = λ t none some. absurd (let no : None ≡ Some t = sym none ∙ some in cc);
+      kept = λ t some. (refl, refl);
+    }
+
+-- the last place has no value
+pub goes_past : (all_slots slots : List (Option Value)) (first p : PassStanding PortBuffer) → Goes all_slots first (slots ++ None ∷ []) p
+    → Goes all_slots first slots p
+goes_past all_slots slots first p was =
+    record {
+      given = was.given;
+      left = was.left;
+      all = ap (λ (l : List Value). was.given ++ (was.left ++ l)) (sym (values_last slots None)) ∙ was.all;
+      before = was.before;
+      gave = was.gave;
+      none = was.none;
+      drawn = was.drawn;
+      kept = was.kept;
+    }
+
+-- the last value was given back
+pub goes_back : (all_slots slots : List (Option Value)) (h : Value) (first old new : PassStanding PortBuffer)
+    → Goes all_slots first (slots ++ Some h ∷ []) old → old.spent ≡ None → WasGivenBack (bytes_of h.buffer) h.index old new
+    → Goes all_slots first slots new
+goes_back all_slots slots h first old new was none back =
+    record {
+      given = was.given ++ h ∷ [];
+      left = [];
+      all =
+          append_assoc was.given (h ∷ []) (values_of slots)
+          ∙ ap (λ (l : List Value). was.given ++ l) (sym (values_last slots (Some h)))
+          ∙ ap (λ (l : List Value). was.given ++ (l ++ values_of (slots ++ Some h ∷ []))) (sym (was.none none).0) ∙ was.all;
+      before = new;
+      gave = gave_more was.given h first old new (subst (λ (p : PassStanding PortBuffer). GaveBack was.given first p) (sym (was.none none).1) was.gave) back;
+      none = λ unspent. (refl, refl);
+      drawn = λ t unspent some. absurd (let no : None ≡ Some t = sym (same ∙ none) ∙ some in cc);
+      kept =
+          λ t some.
+          absurd (let no : None ≡ Some t = sym none ∙ ap (λ (p : PassStanding PortBuffer). p.spent) (was.kept t some).1 ∙ some in cc);
+    }
+  where
+    same : new.spent ≡ old.spent
+    same = ap (λ (p : PassStanding PortBuffer). p.spent) back.pass
+
+-- a pass that drew this ticket as it gave one more back
+abbrev Drew : PassStanding PortBuffer → PassStanding PortBuffer → PassStanding PortBuffer → ℕ → Type 0
+Drew first before p t = (p ≡ having_seen p.seen (after_spent_put 0 t before)) × (first.queue.setup.limit ≤ t)
+
+-- the last value was refused
+pub goes_refused : (all_slots slots : List (Option Value)) (h : Value) (first old new : PassStanding PortBuffer) (ticket : ℕ)
+    → Goes all_slots first (slots ++ Some h ∷ []) old
+    → (old.spent ≡ None → (new ≡ having_seen new.seen (after_spent_put 0 ticket old)) × (first.queue.setup.limit ≤ ticket))
+    → ((t : ℕ) → old.spent ≡ Some t → new ≡ old) → Goes all_slots first slots new
+goes_refused all_slots slots h first old new ticket was drew kept =
+    record {
+      given = was.given;
+      left = was.left ++ h ∷ [];
+      all =
+          ap (λ (l : List Value). was.given ++ l)
+          (append_assoc was.left (h ∷ []) (values_of slots) ∙ ap (λ (l : List Value). was.left ++ l) (sym (values_last slots (Some h))))
+          ∙ was.all;
+      before = was.before;
+      gave = was.gave;
+      none = λ none. absurd (spent none);
+      drawn = drawn;
+      kept = λ t some. let is = was.kept t some in (is.0, kept t (ap (λ (p : PassStanding PortBuffer). p.spent) is.1 ∙ some) ∙ is.1);
+    }
+  where
+    spent : new.spent ≡ None → ⊥
+    spent none =
+        elim (cases_spent old.spent) [
+          | inl fresh ↦ let now : new.spent ≡ Some ticket = ap (λ (p : PassStanding PortBuffer). p.spent) (drew fresh).0 in cc
+          | inr some ↦
+              let now : new.spent ≡ Some some.0 = ap (λ (p : PassStanding PortBuffer). p.spent) (kept some.0 some.1) ∙ some.1 in cc
+        ]
+
+    drawn : (t : ℕ) → first.spent ≡ None → new.spent ≡ Some t → Drew first was.before new t
+    drawn t unspent some =
+        elim (cases_spent old.spent) [
+          | inl fresh ↦
+              let now : new.spent ≡ Some ticket = ap (λ (p : PassStanding PortBuffer). p.spent) (drew fresh).0 in
+              let same : ticket ≡ t = cc in
+              subst (λ (n : ℕ). Drew first was.before new n) same (
+                (drew fresh).0 ∙ ap (λ (p : PassStanding PortBuffer). having_seen new.seen (after_spent_put 0 ticket p)) (was.none fresh).1,
+                (drew fresh).1,
+              )
+          | inr had ↦
+              let as_before = kept had.0 had.1 in
+              subst (λ (p : PassStanding PortBuffer). Drew first was.before p t) (sym as_before)
+              (was.drawn t unspent (sym (ap (λ (p : PassStanding PortBuffer). p.spent) as_before) ∙ some))
+        ]
+
+-- no place is left
+pub goes_all : (all_slots slots : List (Option Value)) (first p : PassStanding PortBuffer) (hold : ℕ) → Goes all_slots first slots p → length slots ≡ 0
+    → (p.spent ≡ None → p.held ≡ []) → HasEnded (record { pass = first; slots = all_slots; hold = hold }) p
+goes_all all_slots [] first p hold was empty home =
+    record {
+      given = was.given;
+      left = was.left;
+      all = ap (λ (l : List Value). was.given ++ l) (sym (append-nil was.left)) ∙ was.all;
+      before = was.before;
+      gave = was.gave;
+      home = λ none. ((was.none none).0, (was.none none).1, home none);
+      drawn = was.drawn;
+      kept = was.kept;
+    }
+goes_all all_slots (x ∷ xs) first p hold was empty home = absurd (omega (arith, empty))

@@ -4,4 +4,3 @@ pub mod Records
 pub mod Going
 pub mod Opened
 pub mod Sent
-pub mod Times

@@ -44,10 +44,12 @@ empty_in_run queue ring head old new own is =
 abbrev Same : PortBuffer → PortBuffer → Type 0
 Same a b = (place_of a ≡ place_of b) × (length (bytes_of a) ≡ length (bytes_of b))
 
-pub came_of : (queue : PortQueue) (old new : PortStanding) (h : Value) → old.pass.queue ≡ queue → new.slots ≡ slice_set old.slots h.index (Some h)
+pub came_of : (queue : PortQueue) (old new : PortStanding) (h : Value) (used : ℕ) → old.pass.queue ≡ queue → used ≡ length old.pass.held → used < old.hold
+    → new.slots ≡ slice_set old.slots h.index (Some h)
     → new.hold ≡ old.hold → h.index < n_of queue.setup.order → IsAsGiven Same queue.given h.index h.buffer → Came old new h
-came_of queue old new h own slots hold low given =
+came_of queue old new h used own count room slots hold low given =
     record {
+      room = subst (λ (n : ℕ). n < old.hold) count room;
       slots = slots;
       hold = hold;
       index = subst (λ (q : PortQueue). h.index < n_of q.setup.order) (sym own) low;
@@ -56,6 +58,10 @@ came_of queue old new h own slots hold low given =
 
 pub low_of : (queue : PortQueue) (old : PassStanding PortBuffer) (place : ℕ) → old.queue ≡ queue → place < queue.setup.limit → place < old.queue.setup.limit
 low_of queue old place own low = subst (λ (q : PortQueue). place < q.setup.limit) (sym own) low
+
+pub there_of : (queue : PortQueue) (old : PassStanding PortBuffer) (topic : ℕ) → old.queue ≡ queue → topic + 1 < queue.setup.rings
+    → topic + 1 < old.queue.setup.rings
+there_of queue old topic own there = subst (λ (q : PortQueue). topic + 1 < q.setup.rings) (sym own) there
 
 pub spent_of : (queue : PortQueue) (after : PassStanding PortBuffer) (ticket : ℕ) (old new : PortStanding) → old.pass.queue ≡ queue
     → (old.pass.spent ≡ None → (new.pass ≡ having_seen new.pass.seen after) × (queue.setup.limit ≤ ticket))

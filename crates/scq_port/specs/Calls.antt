@@ -1,5 +1,5 @@
 -- What each call makes of a port. What it makes of the port's pass is said in the words of the queue, for topic t and index i.
-use Rattle.std.specs.Prelude.{◌≡◌, ℕ, suc, ◌+◌, ◌<◌, ◌≤◌, List, [], length, Option, Some, None, slice_get, slice_set, replicate, map, All}
+use Rattle.std.specs.Prelude.{◌≡◌, ℕ, suc, ◌+◌, ◌<◌, ◌≤◌, List, [], ◌∷◌, ◌++◌, length, reverse, filter_map, Option, Some, None, slice_get, slice_set, replicate, map, All}
 use Rattle.std.specs.List.{Contains}
 use Rattle.scq_word.specs.declared.setup.Setup.{Setup}
 use Rattle.scq_word.specs.Sizes.{n_of}
@@ -17,8 +17,10 @@ pub record HoldsAsBefore (old new : PortStanding) : Type 0 where
   pub slots : new.slots ≡ old.slots
   pub hold : new.hold ≡ old.hold
 
--- a value came: it is the one that the port holds at its index from then on, in the buffer that the queue was given for this index
+-- a value came, for which there was room: it is the one that the port holds at its index from then on, in the buffer that the queue was
+-- given for this index
 pub record Came (old new : PortStanding) (h : Value) : Type 0 where
+  pub room : length old.pass.held < old.hold
   pub slots : new.slots ≡ slice_set old.slots h.index (Some h)
   pub hold : new.hold ≡ old.hold
   pub index : h.index < n_of old.pass.queue.setup.order
@@ -48,6 +50,7 @@ pub record IsLent (s : Sight) (old new : PortStanding) : Type 0 where
 pub record IsTaken (topic place : ℕ) (s : Sight) (old new : PortStanding) : Type 0 where
   pub value : Value
   pub shown : Shows s value
+  pub there : topic + 1 < old.pass.queue.setup.rings
   pub got : HasGot bytes_of (suc topic) place old.pass new.pass value
   pub low : place < old.pass.queue.setup.limit
   pub known : (known_on topic old.pass).head ≤ place
@@ -60,6 +63,7 @@ pub record IsTaken (topic place : ℕ) (s : Sight) (old new : PortStanding) : Ty
 pub record IsSent (index topic place : ℕ) (old new : PortStanding) : Type 0 where
   pub value : Value
   pub is : value.index ≡ index
+  pub there : topic + 1 < old.pass.queue.setup.rings
   pub sent : new.pass ≡ having_seen new.pass.seen (after_put (suc topic) index place (bytes_of value.buffer) old.pass)
   pub low : place < old.pass.queue.setup.limit
   pub above : (known_on topic old.pass).seen < place
@@ -84,13 +88,16 @@ pub record WasFull (head : ℕ) (old new : PortStanding) : Type 0 where
   pub in_run : WasEmptyInRun old.pass.queue.setup (opening_of bytes_of old.pass.queue.given) 0 head (caller_of old.pass) (caller_of new.pass)
   pub lists : lists_of new.pass ≡ with_full head (lists_of old.pass)
   pub holds : HoldsAsBefore old new
+  pub unspent : old.pass.spent ≡ None
 
 -- nothing was on the topic, with this head of it
 pub record WasEmpty (topic head : ℕ) (old new : PortStanding) : Type 0 where
+  pub there : topic + 1 < old.pass.queue.setup.rings
   pub found : FoundNothing (suc topic) head old.pass new.pass
   pub in_run : WasEmptyInRun old.pass.queue.setup (opening_of bytes_of old.pass.queue.given) (suc topic) head (caller_of old.pass) (caller_of new.pass)
   pub lists : lists_of new.pass ≡ lists_of old.pass
   pub holds : HoldsAsBefore old new
+  pub unspent : old.pass.spent ≡ None
 
 -- the port keeps a ticket at or past the limit: one that this call drew on a ring, or one that it kept before, and then nothing changed
 pub record IsSpent (after : PassStanding PortBuffer) (ticket : ℕ) (old new : PortStanding) : Type 0 where
@@ -119,6 +126,31 @@ pub record HasNoTopic (topic : ℕ) (old new : PortStanding) : Type 0 where
 pub record HoldsNoSuch (index : ℕ) (old new : PortStanding) : Type 0 where
   pub same : new ≡ old
   pub none : Contains old.pass.held index → ⊥
+
+-- the values that stand in these places, from the last on
+abbrev pub values_of : List (Option Value) → List Value
+values_of slots = filter_map (λ (o : Option Value). o) (reverse slots)
+
+-- a pass that gave these values back, one after the other
+abbrev pub GaveBack : List Value → PassStanding PortBuffer → PassStanding PortBuffer → Type 0
+GaveBack [] old new = new ≡ old
+GaveBack (h ∷ hs) old new =
+    (between : PassStanding PortBuffer) × WasGivenBack (bytes_of h.buffer) h.index old between × GaveBack hs between new
+
+-- what a port's end made of its pass. The values that it held were given back, from that of the last index on: all of them, where the pass
+-- keeps no spent ticket, and then it holds nothing; else those before the first that was refused
+pub record HasEnded (old : PortStanding) (new : PassStanding PortBuffer) : Type 0 where
+  pub given : List Value
+  pub left : List Value
+  pub all : given ++ left ≡ values_of old.slots
+  -- the pass before the refusal
+  pub before : PassStanding PortBuffer
+  pub gave : GaveBack given old.pass before
+  pub home : new.spent ≡ None → (left ≡ []) × (new ≡ before) × (new.held ≡ [])
+  -- the ticket was drawn then, and is at or past the limit; or the port kept it, and nothing changed
+  pub drawn : (ticket : ℕ) → old.pass.spent ≡ None → new.spent ≡ Some ticket
+      → (new ≡ having_seen new.seen (after_spent_put 0 ticket before)) × (old.pass.queue.setup.limit ≤ ticket)
+  pub kept : (ticket : ℕ) → old.pass.spent ≡ Some ticket → (given ≡ []) × (new ≡ old.pass)
 
 -- a port of a new queue, which holds nothing
 abbrev pub new_port : ℕ → PassStanding PortBuffer → PortStanding

@@ -10,10 +10,10 @@ use Rattle.scq_port.specs.declared.sight.Sight.{Sight}
 
 -- the bytes of a buffer, and where they lie
 abbrev pub bytes_of : PortBuffer → List ℕ
-bytes_of b = b.bytes.items
+bytes_of b = b.bytes.value.items
 
 abbrev pub place_of : PortBuffer → Ptr
-place_of b = vec_ptr b.bytes
+place_of b = vec_ptr b.bytes.value
 
 -- a value that a port holds, and a queue of such buffers
 abbrev pub Value : Type 0

@@ -1,16 +1,23 @@
 //! What becomes of the values that a port holds where it is closed.
 ghost use Rattle.std.specs.Prelude.{◌≡◌, [], None};
-ghost use Rattle.scq_port.specs.Kept.{KeepsHand};
+ghost use Rattle.scq_port.specs.Calls.{HasEnded};
+ghost use Rattle.scq_port.specs.Kept.{KeepsHand, seen_as};
 
 use crate::hand::Hand;
 use crate::port_buffer::PortBuffer;
 use scq_band::Lifted;
 use scq_queue::{Pass, Queue};
+use std::snapshot::Snapshot;
 
-/// Gives back what a pass holds. Where a ticket is spent, so that nothing more can be given back, what is left is freed.
-pub(crate) fn let_go(queue: &Queue<PortBuffer>, pass: &mut Pass<PortBuffer>, hand: Hand)
-    requires kept { KeepsHand queue.now pass.old hand }
-    ensures home { pass.new.spent ≡ None → pass.new.held ≡ [] }
+/// Gives back what a pass holds, and answers the pass as it was then. Where a ticket is spent, so that nothing more can be given back, what
+/// is left is freed.
+pub(crate) fn let_go(
+    queue: &Queue<PortBuffer>,
+    mut pass: Pass<PortBuffer>,
+    hand: Hand,
+) -> Snapshot<Pass<PortBuffer>>
+    requires kept { KeepsHand queue.now pass hand }
+    ensures ended { HasEnded (seen_as pass hand) result.value }
 {
     let Hand {
         mut slots,
@@ -19,10 +26,11 @@ pub(crate) fn let_go(queue: &Queue<PortBuffer>, pass: &mut Pass<PortBuffer>, han
     } = hand;
     while let Some(slot) = slots.pop() {
         if let Some(held) = slot {
-            if let Err((held, _)) = queue.give_back(pass, held) {
+            if let Err((held, _)) = queue.give_back(&mut pass, held) {
                 let _buffer = held.into_buffer();
             }
         }
     }
     slots.destroy_empty();
+    Snapshot::of(&pass)
 }

@@ -3,7 +3,7 @@ ghost use Rattle.std.specs.Prelude.{◌≡◌, ℕ, suc, ◌+◌, ◌<◌, ◌�
 ghost use Rattle.std.specs.Arc.{arc_value};
 ghost use Rattle.scq_queue.specs.Lists.{counts_of};
 ghost use Rattle.scq_queue.specs.Passes.{lists_of};
-ghost use Rattle.scq_port.specs.Calls.{IsLent, IsTaken, IsSent, IsGivenBack, WasFull, WasEmpty, IsSpentGet, IsSpentPut, HasNoRoom, HasNoTopic, HoldsNoSuch};
+ghost use Rattle.scq_port.specs.Calls.{IsLent, IsTaken, IsSent, IsGivenBack, WasFull, WasEmpty, IsSpentGet, IsSpentPut, HasNoRoom, HasNoTopic, HoldsNoSuch, HasEnded};
 ghost use Rattle.scq_port.specs.Kept.{KeepsHand};
 
 use crate::hand::Hand;
@@ -16,6 +16,7 @@ use crate::sight::Sight;
 use scq_queue::{Counts, Pass};
 use std::alloc::Global;
 use std::marker::Model;
+use std::snapshot::Snapshot;
 use std::sync::Arc;
 
 /// A pass with its queue and the values that it holds. One call at a time is made with it, by whichever thread has it. Where it is dropped
@@ -125,16 +126,32 @@ impl Port {
     {
         self.pass.spent()
     }
+
+    /// Closes the port, as dropping it does: gives back what it holds, and answers for contracts alone what its pass was then. The last port
+    /// of a queue frees it.
+    ///
+    /// Where the pass keeps a spent ticket, or draws one, what can't be given back is freed.
+    pub fn close(self) -> Snapshot<Pass<PortBuffer>>
+        ensures ended { HasEnded self result.value }
+    {
+        let Port {
+            owner,
+            pass,
+            hand,
+            topics: _,
+        } = self;
+        let_go(&owner.queue, pass, hand)
+    }
 }
 
 impl Drop for Port {
     fn drop(self) {
         let Port {
             owner,
-            mut pass,
+            pass,
             hand,
             topics: _,
         } = self;
-        let_go(&owner.queue, &mut pass, hand);
+        let _ended = let_go(&owner.queue, pass, hand);
     }
 }

@@ -1,6 +1,7 @@
 //! The buffers of ports: bytes on the heap that stay at one address, no two of which share a line of the processor's cache.
 ghost use Rattle.std.specs.Prelude.{◌≡◌, length, replicate, IfOk};
 ghost use Rattle.std.proofs.Common.{sym, refl, ◌∙◌};
+ghost use Rattle.std.specs.Box.{with_value};
 ghost use Rattle.std.specs.Vec.{vec_ptr, with_items};
 ghost use Rattle.scq_word.specs.Written.{rewritten};
 
@@ -12,35 +13,41 @@ use std::alloc::Global;
 const LINE: usize = 64;
 
 /// Bytes on the heap. Two of them are the same buffer where they lie at one address and are equally many.
+///
+/// It is one pointer, so that a value is moved by words: where it were the three words of a vector, a send would read what a lend wrote
+/// just before in other pieces, and a processor waits for that.
 #[derive(Drop)]
 pub struct PortBuffer {
-    bytes: Vec<u8>,
+    bytes: Box<Vec<u8>>,
 }
 
 impl PortBuffer {
     /// A buffer of `size` zero bytes.
     pub fn new(alloc: Global, size: u32) -> Result<PortBuffer, NoMemory>
-        ensures { IfOk result (λ buffer. buffer.bytes.items ≡ replicate size 0) }
+        ensures { IfOk result (λ buffer. buffer.bytes.value.items ≡ replicate size 0) }
     {
         let mut bytes = Vec::with_capacity(alloc, size as usize + LINE)?;
         bytes.resize(size as usize, 0)?;
+        let Ok(bytes) = Box::new(alloc, bytes) else {
+            return Err(NoMemory);
+        };
         Ok(PortBuffer { bytes })
     }
 
     /// Where its bytes lie.
     pub fn as_ptr(&self) -> *const u8
-        ensures { result ≡ vec_ptr self.now.bytes }
+        ensures { result ≡ vec_ptr self.now.bytes.value }
     {
         self.bytes.as_ptr()
     }
 }
 
 impl Buffer for PortBuffer {
-    ghost contents = { λ buffer. buffer.bytes.items };
+    ghost contents = { λ buffer. buffer.bytes.value.items };
 
-    ghost IsSameBuffer = { λ a b. (vec_ptr a.bytes ≡ vec_ptr b.bytes) × (length a.bytes.items ≡ length b.bytes.items) };
+    ghost IsSameBuffer = { λ a b. (vec_ptr a.bytes.value ≡ vec_ptr b.bytes.value) × (length a.bytes.value.items ≡ length b.bytes.value.items) };
 
-    ghost written = { λ buffer bytes. record { bytes = with_items buffer.bytes bytes } };
+    ghost written = { λ buffer bytes. record { bytes = with_value buffer.bytes (with_items buffer.bytes.value bytes) } };
 
     ghost same_as_itself = { λ a. (refl, refl) };
 
@@ -50,9 +57,9 @@ impl Buffer for PortBuffer {
 
     ghost same_length = { λ a b same. same.1 };
 
-    ghost written_bytes = { λ a bytes same. rewritten a.bytes.items bytes a.bytes.len a.bytes.ok.0 same };
+    ghost written_bytes = { λ a bytes same. rewritten a.bytes.value.items bytes a.bytes.value.len a.bytes.value.ok.0 same };
 
-    ghost written_same = { λ a bytes. (refl, sym a.bytes.ok.0 ∙ (with_items a.bytes bytes).ok.0) };
+    ghost written_same = { λ a bytes. (refl, sym a.bytes.value.ok.0 ∙ (with_items a.bytes.value bytes).ok.0) };
 
     fn bytes(&self) -> &[u8] {
         self.bytes.as_slice()

@@ -95,6 +95,7 @@ fn a_port_that_goes_gives_back(rt: HostRuntime) -> Result<(), Fail> {
     let (Ok(_), Ok(_)) = (second.lend(), second.lend()) else {
         return Err(Fail::from("nothing came back"));
     };
+    let _ended = second.close();
     Ok(())
 }
 

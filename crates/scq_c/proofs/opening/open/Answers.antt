@@ -1,6 +1,7 @@
 use Rattle.std.proofs.Common.{◌≡◌, ◌+◌, List, length, map, refl, sym, ◌∙◌, ap, arith}
 use Rattle.std.specs.Prelude.{Some}
 use Rattle.std.proofs.lemmas.List.{length-map}
+use Rattle.scq_word.specs.Sizes.{n_of}
 use Rattle.scq_port.specs.Ports.{PortStanding}
 use Rattle.scq_port.specs.Calls.{AreOpened}
 use Rattle.scq_c.specs.declared.handle.Handle.{Handle}
@@ -30,6 +31,9 @@ returns c =
       rings_is = setup.1;
       seats_is = setup.2 ∙ length_alike c.any_open.new.handles c.args.handles.now c.any_open.ensures.same;
       limit_is = setup.3;
+      some_topics = let more = setup.4 in let rings = setup.1 in omega (arith, more, rings);
+      some_size = omega arith;
+      some_hold = (omega arith, let all : c.n.result ≡ n_of c.args.order = c.n.ensures ∙ ap n_of (c.shape.ensures ∙ setup.0) in omega (arith, all));
       ports = map inside c.in-Some.boxes.items;
       opened = c.in-Some.ensures;
       have = c.fill.ensures ∙ sym (map_twice inside (λ (p : PortStanding). Some p) c.in-Some.boxes.items);

@@ -2,7 +2,7 @@ use Rattle.std.proofs.Common.{◌≡◌, ℕ, ◌+◌, ◌-◌, ◌≤◌, List,
 use Rattle.std.specs.Prelude.{Option, Some, None, slice_get, slice_set}
 use Rattle.scq_queue.specs.Passes.{WasGivenBack, after_spent_put}
 use Rattle.scq_queue.proofs.HeldOnce.{put_refused}
-use Rattle.scq_port.specs.Ports.{Value}
+use Rattle.scq_port.specs.Ports.{Value, bytes_of}
 use Rattle.scq_port.specs.Kept.{seen_as}
 use Rattle.scq_port.specs.Calls.{IsSpentPut}
 use Rattle.scq_port.proofs.Lists.{set_here, set_back}
@@ -38,7 +38,7 @@ overflow_sub-hand c =
     let given = c.in-Ok.ensures.given in
     subst (λ (n : ℕ). 1 ≤ n) (sym c.take_out.ensures.rest.0)
     (keeps_less c.args.queue.now c.args.pass.now c.give_back.new.pass hand.slots.items hand.used hand.hold c.args.index h 0 given.place
-    h.buffer.bytes.items c.requires.kept (c.in-Some.ensures.some h refl).0 given.pass).0
+    (bytes_of h.buffer) c.requires.kept (c.in-Some.ensures.some h refl).0 given.pass).0
 
 pub returns-in-Ok-clause-kept : goal.returns-in-Ok-clause-kept
 returns-in-Ok-clause-kept c =
@@ -48,7 +48,7 @@ returns-in-Ok-clause-kept c =
     let given = c.in-Ok.ensures.given in
     keeps_as c.args.queue.now c.give_back.new.pass _ _ (hand.used - 1) _ hand.hold _
     (keeps_less c.args.queue.now c.args.pass.now c.give_back.new.pass hand.slots.items hand.used hand.hold c.args.index h 0 given.place
-    h.buffer.bytes.items c.requires.kept out.0 given.pass).1
+    (bytes_of h.buffer) c.requires.kept out.0 given.pass).1
     out.1 (ap (λ (n : ℕ). n - 1) c.take_out.ensures.rest.0) c.take_out.ensures.rest.1
 
 pub returns-in-Ok-clause-given : goal.returns-in-Ok-clause-given
@@ -62,7 +62,7 @@ returns-in-Ok-clause-given c =
       value = h;
       is = stands.index;
       given =
-          subst (λ (i : ℕ). WasGivenBack h.buffer.bytes.items i c.args.pass.now c.give_back.new.pass) stands.index c.in-Ok.ensures.given;
+          subst (λ (i : ℕ). WasGivenBack (bytes_of h.buffer) i c.args.pass.now c.give_back.new.pass) stands.index c.in-Ok.ensures.given;
       went =
           record {
             was = subst (λ (i : ℕ). slice_get c.args.hand.now.slots.items i ≡ Some (Some h)) (sym stands.index) out.0;

@@ -4,6 +4,7 @@ use Rattle.scq_queue.specs.declared.calls.LendRefusal.{LendRefusal}
 use Rattle.scq_queue.specs.declared.calls.LendRefusal.TheVariants.{Full, Spent}
 use Rattle.scq_queue.specs.Passes.{after_spent_get}
 use Rattle.scq_queue.proofs.HeldOnce.{lend_refused}
+use Rattle.scq_port.specs.Ports.{bytes_of}
 use Rattle.scq_port.specs.Kept.{seen_as}
 use Rattle.scq_port.specs.Calls.{WasFull, IsSpentGet}
 use Rattle.scq_port.proofs.Keeping.{place_free, keeps_more, keeps_alike}
@@ -25,7 +26,7 @@ returns-in-Ok-clause-kept c =
     let h = c.in-Ok.held in
     let lent = c.in-Ok.ensures.lent in
     keeps_as c.args.queue.now c.lend.new.pass _ _ (hand.used + 1) _ hand.hold _
-    (keeps_more c.args.queue.now c.args.pass.now c.lend.new.pass hand.slots.items hand.used hand.hold h 0 lent.place h.buffer.bytes.items
+    (keeps_more c.args.queue.now c.args.pass.now c.lend.new.pass hand.slots.items hand.used hand.hold h 0 lent.place (bytes_of h.buffer)
     c.requires.kept lent.got.pass lent.got.held lent.got.came c.in-Ok.ensures.index c.requires.room)
     c.put_in.ensures.put c.put_in.ensures.rest.0 c.put_in.ensures.rest.1
 
@@ -38,8 +39,8 @@ returns-in-Ok-clause-lent c =
       shown = c.put_in.ensures.shown;
       lent = c.in-Ok.ensures.lent;
       came =
-          came_of c.args.queue.now (seen_as c.args.pass.now c.args.hand.now) (seen_as c.lend.new.pass c.put_in.new.self) c.in-Ok.held own
-          c.put_in.ensures.put c.put_in.ensures.rest.1 c.in-Ok.ensures.index c.in-Ok.ensures.given;
+          came_of c.args.queue.now (seen_as c.args.pass.now c.args.hand.now) (seen_as c.lend.new.pass c.put_in.new.self) c.in-Ok.held
+          c.args.hand.now.used own c.requires.kept.used c.requires.room c.put_in.ensures.put c.put_in.ensures.rest.1 c.in-Ok.ensures.index c.in-Ok.ensures.given;
       lists = c.in-Ok.ensures.lists;
       unspent = none;
       run = in_run c.args.queue.now c.args.pass.now c.lend.new.pass own (c.in-Ok.ensures.run none);
@@ -60,6 +61,7 @@ returns-in-Err-Full-clause-full c head is =
     let here = ap (λ (r : LendRefusal). Err r) is_full in
     let same : c.in-Err-Full.head ≡ head = cc in
     let own = c.requires.kept.own in
+    let none = unspent c.args.pass.now.spent (λ t some. let no = (c.in-Err-Full.ensures.kept t some).0 in let at = is_full in cc) in
     subst (λ (n : ℕ). WasFull n (seen_as c.args.pass.now c.args.hand.now) (seen_as c.lend.new.pass c.args.hand.now)) same (record {
       found = c.in-Err-Full.ensures.full c.in-Err-Full.head here;
       in_run =
@@ -67,6 +69,7 @@ returns-in-Err-Full-clause-full c head is =
           (c.in-Err-Full.ensures.full_in_run c.in-Err-Full.head here);
       lists = c.in-Err-Full.ensures.full_lists c.in-Err-Full.head here;
       holds = record { slots = refl; hold = refl };
+      unspent = none;
     })
 
 pub returns-in-Err-Spent-clause-kept : goal.returns-in-Err-Spent-clause-kept

@@ -2,12 +2,12 @@ use Rattle.std.proofs.Common.{◌≡◌, ℕ, suc, ◌+◌, ◌-◌, ◌≤◌, 
 use Rattle.std.specs.Prelude.{Option, Some, None, slice_get, slice_set}
 use Rattle.scq_queue.specs.Passes.{after_put, after_spent_put, having_seen}
 use Rattle.scq_queue.proofs.HeldOnce.{put_refused}
-use Rattle.scq_port.specs.Ports.{Value}
+use Rattle.scq_port.specs.Ports.{Value, bytes_of}
 use Rattle.scq_port.specs.Kept.{seen_as}
 use Rattle.scq_port.specs.Calls.{IsSpentPut}
 use Rattle.scq_port.proofs.Lists.{set_here, set_back}
 use Rattle.scq_port.proofs.Keeping.{place_held, none_held, keeps_less, keeps_alike}
-use Rattle.scq_port.proofs.Records.{unspent, keeps_as, in_run, low_of, same_port, spent_of, put_back, kept_ticket}
+use Rattle.scq_port.proofs.Records.{unspent, keeps_as, in_run, low_of, there_of, same_port, spent_of, put_back, kept_ticket}
 use Rattle.scq_port.proofs.holding.send.Goals as goal
 
 pub returns-in_default-clause-kept : goal.returns-in_default-clause-kept
@@ -37,7 +37,7 @@ overflow_sub-hand c =
     let h = c.in-Some.held in
     subst (λ (n : ℕ). 1 ≤ n) (sym c.take_out.ensures.rest.0)
     (keeps_less c.args.queue.now c.args.pass.now c.send.new.pass hand.slots.items hand.used hand.hold c.args.index h (suc c.args.topic) c.in-Ok.place
-    h.buffer.bytes.items c.requires.kept (c.in-Some.ensures.some h refl).0 c.in-Ok.ensures.sent).0
+    (bytes_of h.buffer) c.requires.kept (c.in-Some.ensures.some h refl).0 c.in-Ok.ensures.sent).0
 
 pub returns-in-Ok-clause-kept : goal.returns-in-Ok-clause-kept
 returns-in-Ok-clause-kept c =
@@ -46,7 +46,7 @@ returns-in-Ok-clause-kept c =
     let out = c.in-Some.ensures.some h refl in
     keeps_as c.args.queue.now c.send.new.pass _ _ (hand.used - 1) _ hand.hold _
     (keeps_less c.args.queue.now c.args.pass.now c.send.new.pass hand.slots.items hand.used hand.hold c.args.index h (suc c.args.topic) c.in-Ok.place
-    h.buffer.bytes.items c.requires.kept out.0 c.in-Ok.ensures.sent).1
+    (bytes_of h.buffer) c.requires.kept out.0 c.in-Ok.ensures.sent).1
     out.1 (ap (λ (n : ℕ). n - 1) c.take_out.ensures.rest.0) c.take_out.ensures.rest.1
 
 pub returns-in-Ok-clause-sent : goal.returns-in-Ok-clause-sent
@@ -59,9 +59,10 @@ returns-in-Ok-clause-sent c =
     record {
       value = h;
       is = stands.index;
+      there = there_of c.args.queue.now c.args.pass.now c.args.topic own c.requires.topic;
       sent =
           c.in-Ok.ensures.sent
-          ∙ ap (λ (i : ℕ). having_seen c.send.new.pass.seen (after_put (suc c.args.topic) i c.in-Ok.place h.buffer.bytes.items c.args.pass.now)) stands.index;
+          ∙ ap (λ (i : ℕ). having_seen c.send.new.pass.seen (after_put (suc c.args.topic) i c.in-Ok.place (bytes_of h.buffer) c.args.pass.now)) stands.index;
       low = low_of c.args.queue.now c.args.pass.now c.in-Ok.place own c.in-Ok.ensures.place.0;
       above = c.in-Ok.ensures.place.1;
       went =

@@ -4,10 +4,11 @@ use Rattle.scq_queue.specs.declared.calls.TakeRefusal.{TakeRefusal}
 use Rattle.scq_queue.specs.declared.calls.TakeRefusal.TheVariants.{Empty, Spent}
 use Rattle.scq_queue.specs.Passes.{after_spent_get}
 use Rattle.scq_queue.proofs.HeldOnce.{take_refused}
+use Rattle.scq_port.specs.Ports.{bytes_of}
 use Rattle.scq_port.specs.Kept.{seen_as}
 use Rattle.scq_port.specs.Calls.{WasEmpty, IsSpentGet}
 use Rattle.scq_port.proofs.Keeping.{place_free, keeps_more, keeps_alike}
-use Rattle.scq_port.proofs.Records.{unspent, keeps_as, in_run, empty_in_run, came_of, low_of, spent_of}
+use Rattle.scq_port.proofs.Records.{unspent, keeps_as, in_run, empty_in_run, came_of, low_of, there_of, spent_of}
 use Rattle.scq_port.proofs.holding.take.Goals as goal
 
 pub put_in-requires : goal.put_in-requires
@@ -25,7 +26,7 @@ returns-in-Ok-clause-kept c =
     let h = c.in-Ok.held in
     let took = c.in-Ok.ensures.took in
     keeps_as c.args.queue.now c.take.new.pass _ _ (hand.used + 1) _ hand.hold _
-    (keeps_more c.args.queue.now c.args.pass.now c.take.new.pass hand.slots.items hand.used hand.hold h (suc c.args.topic) c.in-Ok.place h.buffer.bytes.items
+    (keeps_more c.args.queue.now c.args.pass.now c.take.new.pass hand.slots.items hand.used hand.hold h (suc c.args.topic) c.in-Ok.place (bytes_of h.buffer)
     c.requires.kept took.pass took.held took.came c.in-Ok.ensures.index c.requires.room)
     c.put_in.ensures.put c.put_in.ensures.rest.0 c.put_in.ensures.rest.1
 
@@ -36,12 +37,13 @@ returns-in-Ok-clause-taken c =
     record {
       value = c.in-Ok.held;
       shown = c.put_in.ensures.shown;
+      there = there_of c.args.queue.now c.args.pass.now c.args.topic own c.requires.topic;
       got = c.in-Ok.ensures.took;
       low = low_of c.args.queue.now c.args.pass.now c.in-Ok.place own c.in-Ok.ensures.place.0;
       known = c.in-Ok.ensures.place.1;
       came =
-          came_of c.args.queue.now (seen_as c.args.pass.now c.args.hand.now) (seen_as c.take.new.pass c.put_in.new.self) c.in-Ok.held own
-          c.put_in.ensures.put c.put_in.ensures.rest.1 c.in-Ok.ensures.index c.in-Ok.ensures.given;
+          came_of c.args.queue.now (seen_as c.args.pass.now c.args.hand.now) (seen_as c.take.new.pass c.put_in.new.self) c.in-Ok.held
+          c.args.hand.now.used own c.requires.kept.used c.requires.room c.put_in.ensures.put c.put_in.ensures.rest.1 c.in-Ok.ensures.index c.in-Ok.ensures.given;
       lists = c.in-Ok.ensures.lists;
       unspent = none;
       run = in_run c.args.queue.now c.args.pass.now c.take.new.pass own (c.in-Ok.ensures.run none);
@@ -62,13 +64,16 @@ returns-in-Err-Empty-clause-empty c head is =
     let here = ap (λ (r : TakeRefusal). Err r) is_empty in
     let same : c.in-Err-Empty.head ≡ head = cc in
     let own = c.requires.kept.own in
+    let none = unspent c.args.pass.now.spent (λ t some. let no = (c.in-Err-Empty.ensures.kept t some).0 in let at = is_empty in cc) in
     subst (λ (n : ℕ). WasEmpty c.args.topic n (seen_as c.args.pass.now c.args.hand.now) (seen_as c.take.new.pass c.args.hand.now)) same (record {
+      there = there_of c.args.queue.now c.args.pass.now c.args.topic own c.requires.topic;
       found = c.in-Err-Empty.ensures.empty c.in-Err-Empty.head here;
       in_run =
           empty_in_run c.args.queue.now (suc c.args.topic) c.in-Err-Empty.head c.args.pass.now c.take.new.pass own
           (c.in-Err-Empty.ensures.empty_in_run c.in-Err-Empty.head here);
       lists = c.in-Err-Empty.ensures.refused_lists;
       holds = record { slots = refl; hold = refl };
+      unspent = none;
     })
 
 pub returns-in-Err-Spent-clause-kept : goal.returns-in-Err-Spent-clause-kept
