@@ -1,0 +1,4 @@
+mod LastPass
+mod Lifting
+mod NewSeats
+mod NoneLent

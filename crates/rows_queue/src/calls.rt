@@ -1,0 +1,242 @@
+//! Calls of one pass of a queue. A value that was got goes on top of those that are held, and the one on top is sent or given back.
+ghost use Rattle.std.specs.Prelude.{◌≡◌, ◌+◌, ◌<◌, ◌≤◌, [], IfOk, vec_len, vec_capacity};
+ghost use Rattle.scq_queue.specs.Passes.{first_passes};
+ghost use Rattle.scq_queue.specs.HoldsJust.{HoldsJust};
+
+use crate::replies::{Reply, of_give, of_lend, of_send, of_take, show, show_closed, tell};
+use anyhow::{Context, Result, anyhow, ensure};
+use rows_text::field;
+use scq_queue::{Closed, HeapBuffer, Held, LendRefusal, Pass, Queue, Spent, TakeRefusal};
+use scq_word::{Buffer, Setup};
+use std::alloc::Global;
+
+/// Is lent a value, which goes on top.
+pub fn lent<B: Buffer>(
+    queue: &Queue<B>,
+    pass: &mut Pass<B>,
+    values: &mut Vec<Held<B>>,
+) -> Result<u32, LendRefusal>
+    requires stack { HoldsJust queue.now pass.old values.old.items }
+    requires room { vec_len values.old < vec_capacity values.old }
+    ensures stack { HoldsJust queue.now pass.new values.new.items }
+{
+    match queue.lend(pass) {
+        Ok(held) => {
+            let index = held.index();
+            values.push_reserved(held);
+            Ok(index)
+        }
+        Err(refusal) => Err(refusal),
+    }
+}
+
+/// Takes a value, which goes on top.
+pub fn took<B: Buffer>(
+    queue: &Queue<B>,
+    pass: &mut Pass<B>,
+    topic: u32,
+    values: &mut Vec<Held<B>>,
+) -> Result<u64, TakeRefusal>
+    requires stack { HoldsJust queue.now pass.old values.old.items }
+    requires topic { topic + 1 < queue.now.setup.rings }
+    requires room { vec_len values.old < vec_capacity values.old }
+    ensures stack { HoldsJust queue.now pass.new values.new.items }
+{
+    match queue.take(pass, topic) {
+        Ok((place, held)) => {
+            values.push_reserved(held);
+            Ok(place)
+        }
+        Err(refusal) => Err(refusal),
+    }
+}
+
+/// Sends the value on top; where it comes back it is on top again.
+pub fn sent<B: Buffer>(
+    queue: &Queue<B>,
+    pass: &mut Pass<B>,
+    topic: u32,
+    values: &mut Vec<Held<B>>,
+) -> Option<Result<u64, Spent>>
+    requires stack { HoldsJust queue.now pass.old values.old.items }
+    requires topic { topic + 1 < queue.now.setup.rings }
+    ensures stack { HoldsJust queue.now pass.new values.new.items }
+{
+    let Some(held) = values.pop() else {
+        return None;
+    };
+    match queue.send(pass, topic, held) {
+        Ok(place) => Some(Ok(place)),
+        Err((held, spent)) => {
+            values.push_reserved(held);
+            Some(Err(spent))
+        }
+    }
+}
+
+/// Gives the value on top back; where it comes back it is on top again.
+fn gave<B: Buffer>(
+    queue: &Queue<B>,
+    pass: &mut Pass<B>,
+    values: &mut Vec<Held<B>>,
+) -> Option<Result<(), Spent>>
+    requires stack { HoldsJust queue.now pass.old values.old.items }
+    ensures stack { HoldsJust queue.now pass.new values.new.items }
+{
+    let Some(held) = values.pop() else {
+        return None;
+    };
+    match queue.give_back(pass, held) {
+        Ok(()) => Some(Ok(())),
+        Err((held, spent)) => {
+            values.push_reserved(held);
+            Some(Err(spent))
+        }
+    }
+}
+
+/// Writes two bytes into the value on top.
+fn wrote<B: Buffer>(queue: &Queue<B>, pass: &Pass<B>, values: &mut Vec<Held<B>>, text: &str)
+    requires stack { HoldsJust queue.now pass.now values.old.items }
+    ensures stack { HoldsJust queue.now pass.now values.new.items }
+{
+    let Some(mut held) = values.pop() else {
+        return;
+    };
+    write(held.bytes_mut(), text.as_bytes());
+    values.push_reserved(held);
+}
+
+fn write(bytes: &mut [u8], text: &[u8]) {
+    let mut at = 0;
+    while at < bytes.len() && at < text.len() {
+        bytes[at] = text[at];
+        at += 1;
+    }
+}
+
+/// The reply to one call.
+fn reply_to<B: Buffer>(
+    queue: &Queue<B>,
+    pass: &mut Pass<B>,
+    values: &mut Vec<Held<B>>,
+    call: &str,
+) -> Reply
+    requires stack { HoldsJust queue.now pass.old values.old.items }
+    requires rings { 2 ≤ queue.now.setup.rings }
+    ensures stack { HoldsJust queue.now pass.new values.new.items }
+{
+    if let Some(text) = call.strip_prefix("write ") {
+        wrote(queue, pass, values, text);
+        return Reply::Written;
+    }
+    if call == "give" {
+        return of_give(gave(queue, pass, values));
+    }
+    if call == "send 0" {
+        return of_send(sent(queue, pass, 0, values));
+    }
+    if values.len() >= values.capacity() {
+        return Reply::Odd;
+    }
+    if call == "lend" {
+        return of_lend(lent(queue, pass, values));
+    }
+    if call == "take 0" {
+        return of_take(took(queue, pass, 0, values));
+    }
+    Reply::Odd
+}
+
+/// Adds the bytes of the value on top.
+fn read<B: Buffer>(into: &mut String, values: &Vec<Held<B>>) -> Result<()> {
+    if let Some(held) = values.last() {
+        show(into, held.bytes())?;
+    }
+    into.push_str(";")?;
+    Ok(())
+}
+
+/// The replies to calls.
+fn replies<B: Buffer>(
+    alloc: Global,
+    queue: &Queue<B>,
+    pass: &mut Pass<B>,
+    values: &mut Vec<Held<B>>,
+    calls: &str,
+) -> Result<String>
+    requires stack { HoldsJust queue.now pass.old values.old.items }
+    requires rings { 2 ≤ queue.now.setup.rings }
+    ensures stack { HoldsJust queue.now pass.new values.new.items }
+{
+    let mut got = String::new(alloc);
+    for text in calls.split("; ") {
+        if text == "read" {
+            read(&mut got, values)?;
+        } else {
+            tell(&mut got, reply_to(queue, pass, values, text))?;
+        }
+    }
+    Ok(got)
+}
+
+/// Makes calls of the last pass of a new queue, and closes the queue.
+fn run<B: Buffer>(
+    alloc: Global,
+    queue: Queue<B>,
+    mut passes: Vec<Pass<B>>,
+    mut values: Vec<Held<B>>,
+    calls: &str,
+) -> (Result<String>, Closed<B>)
+    requires setup { (queue.setup.rings ≡ 2) × (1 ≤ queue.setup.seats) }
+    requires passes { passes.items ≡ first_passes queue queue.setup.seats }
+    requires values { values.items ≡ [] }
+{
+    let Some(mut pass) = passes.pop() else {
+        unreachable!()
+    };
+    let got = replies(alloc, &queue, &mut pass, &mut values, calls);
+    passes.push_reserved(pass);
+    let closed = queue.close(passes, values);
+    (got, closed)
+}
+
+/// A queue with two rings and so many passes over two buffers of two zero bytes.
+pub fn made(
+    alloc: Global,
+    passes: u32,
+    limit: u64,
+) -> Result<(Queue<HeapBuffer>, Vec<Pass<HeapBuffer>>)>
+    ensures setup { IfOk result (λ made. (made.0.setup.rings ≡ 2) × (made.0.setup.seats ≡ passes)) }
+    ensures passes { IfOk result (λ made. made.1.items ≡ first_passes made.0 passes) }
+{
+    let setup = Setup::new(1, 2, passes, limit)?;
+    let mut buffers = Vec::with_capacity(alloc, 2)?;
+    buffers.push(HeapBuffer::new(alloc, 2)?)?;
+    buffers.push(HeapBuffer::new(alloc, 2)?)?;
+    match Queue::make(alloc, setup, buffers) {
+        Ok(made) => Ok(made),
+        Err(_) => Err(anyhow!("no memory")),
+    }
+}
+
+/// `PASSES LIMIT; CALL; ..`, of the last pass on two rings over two buffers of two bytes: the reply to each call, the bytes on top for
+/// `read`; and what the queue closed with.
+pub fn called(alloc: Global, given: &str) -> Result<String> {
+    let (setup, calls) = given.split_once("; ").context("a setup and calls")?;
+    let seats = field(setup, 0).parse::<u32>()?;
+    let limit = field(setup, 1).parse::<u64>()?;
+    ensure!(1 <= seats, "a pass");
+    let values = Vec::with_capacity(alloc, 3)?;
+    let (queue, passes) = match made(alloc, seats, limit) {
+        Ok(made) => made,
+        Err(fail) => {
+            values.destroy_empty();
+            return Err(fail);
+        }
+    };
+    let (got, closed) = run(alloc, queue, passes, values, calls);
+    let mut text = got?;
+    show_closed(&mut text, &closed)?;
+    Ok(text)
+}

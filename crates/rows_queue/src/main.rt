@@ -1,0 +1,50 @@
+//! Runs calls of the band and of the queue over rows that stand in files, prints each row whose answer is another, and how many rows of
+//! each file ran; and then lets two threads pass indices round. `calls.rt` and `pair.rt` have the calls of the queue, `moves.rt` those of
+//! the band, and `rows_text` has the form of a row.
+#![tactic(auto)]
+
+mod bands;
+mod calls;
+mod moves;
+mod pair;
+mod replies;
+mod threads;
+
+use anyhow::{Result, anyhow};
+use bands::lifted;
+use calls::called;
+use moves::moves;
+use pair::told;
+use rows_text::{Calls, run_rows};
+use std::alloc::Global;
+use std::{env, fs};
+use threads::two_threads;
+
+/// The calls of the band and of the queue.
+struct Queues;
+
+impl Calls for Queues {
+    fn answer_to(&self, alloc: Global, call: &str, given: &str) -> Result<String> {
+        match call {
+            "moves" => moves(alloc, given),
+            "lifted" => lifted(alloc),
+            "called" => called(alloc, given),
+            "told" => told(alloc),
+            _ => Err(anyhow!("no such call")),
+        }
+    }
+}
+
+/// How often each of two threads passes an index there and back.
+const ROUNDS: u32 = 20_000;
+
+fn main(rt: HostRuntime) -> Result<()> {
+    for name in env::args(&rt)?.skip(1) {
+        let text = fs::read_to_string(&rt, &name)?;
+        let rows = run_rows(&rt, rt.alloc(), &Queues, &name, &text)?;
+        println!(rt; "{name}: {rows} rows")?;
+    }
+    let kept = two_threads(&rt, rt.alloc(), ROUNDS)?;
+    println!(rt; "two threads: {kept}")?;
+    Ok(())
+}
