@@ -53,7 +53,7 @@ pub record IsCallInRun (c : Setup) (opening : List (List ℕ)) (old new : Caller
 
 -- a get of ring r that found nothing, in the run: after the call's last step Head of the ring was at or past this number, and at some
 -- moment inside the call each finished put of the ring was claimed: a get that had begun got it, or gets of the ring that are still under
--- way at the end of `after` are as many as those that none has got
+-- way at the end of `after` are at least as many as those that none has got
 pub record WasEmptyInRun (c : Setup) (opening : List (List ℕ)) (r head : ℕ) (old new : Caller) : Type 0 where
   pub call : IsCallInRun c opening old new
   pub past : head ≤ call.now.recorded.state.cells.head r
