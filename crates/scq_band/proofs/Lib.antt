@@ -35,11 +35,7 @@ pub mod Unloading
 pub mod LeftWords
 pub mod Closes
 pub mod SpentLimits
-pub mod NewSeats
-pub mod TwoTaken
-pub mod OneLent
 pub mod SeatsSent
-pub mod NoneLent
 pub mod StartWords
 pub mod Slots
 pub mod Starting

@@ -11,14 +11,10 @@ mod band_note;
 mod calls;
 mod closed;
 mod closing;
-#[cfg(test)]
-mod closing_tests;
 mod dequeue;
 mod enqueue;
 mod gate;
 mod hand;
-#[cfg(test)]
-mod heap;
 pub mod laws;
 mod layout;
 mod lending;
@@ -43,8 +39,3 @@ pub use numbers::Numbers;
 pub use seat::Seat;
 pub use slot::Slot;
 pub use view::View;
-
-#[cfg(test)]
-mod tests;
-#[cfg(test)]
-mod thread_tests;

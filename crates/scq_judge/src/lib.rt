@@ -11,8 +11,6 @@ mod judging;
 mod merging;
 mod reading;
 mod recorded;
-#[cfg(test)]
-mod tests;
 mod text;
 
 pub use counting::Counts;

@@ -73,26 +73,12 @@ last_left xs i once =
     let one : times i (i ∷ []) ≡ 1 = rw (eq-eqb i i refl) refl in
     without-append xs i ∙ without_none xs i (omega (arith, both, one, once))
 
--- a list of one
-pub one_of : {A : Type 0} (xs : List A) (x y : A) → xs ++ x ∷ [] ≡ y ∷ [] → (xs ≡ []) × (x ≡ y)
-one_of [] x y e = let same : x ≡ y = cc in (refl, same)
-one_of (z ∷ []) x y e = absurd (cc)
-one_of (z ∷ w ∷ xs) x y e = absurd (cc)
-
 -- what stands before the last two of a list of two
 pub none_before : {A : Type 0} (xs : List A) (x y a b : A) → (xs ++ x ∷ []) ++ y ∷ [] ≡ a ∷ b ∷ [] → xs ≡ []
 none_before [] x y a b e = refl
 none_before (z ∷ []) x y a b e = absurd (cc)
 none_before (z ∷ w ∷ []) x y a b e = absurd (cc)
 none_before (z ∷ w ∷ v ∷ xs) x y a b e = absurd (cc)
-
--- a list of three
-pub three_of : {A : Type 0} (xs : List A) (x y z a b c : A) → ((xs ++ x ∷ []) ++ y ∷ []) ++ z ∷ [] ≡ a ∷ b ∷ c ∷ [] → (xs ≡ []) × (y ≡ b) × (z ≡ c)
-three_of [] x y z a b c e = let second : y ≡ b = cc in let third : z ≡ c = cc in (refl, second, third)
-three_of (u ∷ []) x y z a b c e = absurd (cc)
-three_of (u ∷ v ∷ []) x y z a b c e = absurd (cc)
-three_of (u ∷ v ∷ w ∷ []) x y z a b c e = absurd (cc)
-three_of (u ∷ v ∷ w ∷ t ∷ xs) x y z a b c e = absurd (cc)
 
 module _ {B : Type 0} where
   all-append : (queue : Identity B) (number : ℕ) (values : List (HeldStanding B)) (h : HeldStanding B) → AllOf queue number values → h.queue ≡ queue
@@ -257,19 +243,5 @@ module _ {B : Type 0} where
             let mine = ap (times i) before.same in
             let empty = ap (times i) none in
             let its = ap (times i) same in
-            omega arith;
-      }
-
-  -- the values of the first of three passes, of which the others hold none
-  pub held_first : (queue : Identity B) (first second third : PassStanding B) (values : List (HeldStanding B)) → HoldsJust queue first values
-      → second.held ≡ [] → third.held ≡ [] → AreTheHeld queue (first ∷ second ∷ third ∷ []) values
-  held_first queue first second third values before none nothing =
-      record {
-        queue_of = all_at queue first.number values before.all;
-        all =
-            λ i.
-            let mine = ap (times i) before.same in
-            let empty = ap (times i) none in
-            let last = ap (times i) nothing in
             omega arith;
       }

@@ -26,10 +26,3 @@ pub use notes::Note;
 pub use pass::Pass;
 pub use queue::Queue;
 pub use scq_band::Spent;
-
-#[cfg(test)]
-mod pair_tests;
-#[cfg(test)]
-mod tests;
-#[cfg(test)]
-mod three_tests;

@@ -1,4 +1,7 @@
-//! The smallest buffer, for tests.
+# The smallest buffer, for bench/rings and bench/storm-rings, who read this file: writes it as a module.
+heap_module() {
+    cat <<'END'
+//! The smallest buffer.
 ghost use Rattle.std.specs.Prelude.{◌≡◌, length};
 ghost use Rattle.std.proofs.Common.{sym, refl, ◌∙◌};
 ghost use Rattle.std.specs.Vec.{with_items};
@@ -38,4 +41,6 @@ impl Buffer for Heap {
     fn bytes_mut(&mut self) -> &mut [u8] {
         self.bytes.as_mut_slice()
     }
+}
+END
 }

@@ -1,6 +1,0 @@
-use Rattle.std.proofs.Common.{◌≡◌, []}
-use Rattle.scq_band.specs.Closing.{lifted_of}
-use Rattle.scq_band.proofs.thread_tests.circulate.Given as goal
-
-abbrev pub invariant-loop : goal.invariant-loop
-invariant-loop l = (l.seat.band ≡ l.band) × (lifted_of l.seat.hand ≡ [])
