@@ -1,0 +1,4 @@
+pub mod Keeps
+mod Rows
+mod Ends
+pub mod Crossing
