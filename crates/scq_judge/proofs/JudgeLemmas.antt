@@ -1,12 +1,13 @@
 -- What is at fault, as it is handed on
-use Rattle.std.proofs.Common.{◌≡◌, ◌∙◌, ◌⊎◌, inl, inr, ℕ, List, length, map, refl, sym, ap, subst, Option, Some, None, Result, Ok, Err, slice_get}
-use Rattle.std.specs.Prelude.{IfErr, IfOk, IsErrOf}
+use Rattle.std.proofs.Common.{◌≡◌, ◌∙◌, ◌⊎◌, inl, inr, ℕ, zero, suc, ◌+◌, ◌-◌, ◌==◌, List, [], ◌∷◌, length, map, take, refl, sym, ap, subst, arith, Option, Some, Ok, Err, slice_get, All}
 use Rattle.std.proofs.lemmas.List.{length-map}
+use Rattle.std.proofs.lemmas.List.Sorted.{All-permutation}
 use Rattle.scq_hist.specs.declared.events.Event.{Event}
-use Rattle.scq_judge.specs.Files.{HaveContents, IsLarge}
-use Rattle.scq_judge.specs.Judged.{IsHistoryOf, IsReportOf, IsReported, IsJudged, IsCaused, IsCause, IsCauseIn, IsUnlawfulAt, fault_of_reading, fault_of_merging}
-use Rattle.scq_judge.specs.Merged.{IsMergeOf, HasStampOfAnother}
-use Rattle.scq_judge.specs.Recording.{Recording, recording_of}
+use Rattle.scq_judge.specs.Files.{AreSmall, IsFile, IsLarge}
+use Rattle.scq_judge.specs.Judged.{IsHistoryOf, IsOutOfPlace, IsCause, IsCauseIn, AreSoundBefore, IsUnlawfulAt, fault_of_reading, fault_of_merging}
+use Rattle.scq_judge.specs.Merged.{IsMergeOf, HasEqual, HasStampOfAnother}
+use Rattle.scq_judge.specs.Reads.{AreQuiet, AreReadUntil, AreReadWhole}
+use Rattle.scq_judge.specs.Recording.{Recording, AreOf, nothing, after_files, recording_of}
 use Rattle.scq_judge.specs.declared.judging.JudgeFault.{JudgeFault}
 use Rattle.scq_judge.specs.declared.judging.JudgeFault.TheVariants.{BadLine, Unlawful, ReadFault, TooLarge, NoMemory}
 use Rattle.scq_judge.specs.declared.merging.MergeFault.{MergeFault}
@@ -49,30 +50,75 @@ cause_of_merging recorded (merging.SameStamp place) same = same place refl
 cause_of_merging recorded merging.NoMemory same = tt
 
 -- what was read is at fault
-pub cause_of_recorded : (contents : List (List ℕ)) (recorded : Recording) → recording_of contents ≡ Ok recorded → (fault : JudgeFault) → IsCauseIn recorded fault
-    → IsCause contents fault
-cause_of_recorded contents recorded read (BadLine file line) h = inr (record { recorded = recorded; read = read; cause = h })
-cause_of_recorded contents recorded read (Unlawful file line) h = record { recorded = recorded; read = read; cause = h }
-cause_of_recorded contents recorded read (ReadFault file) h = tt
-cause_of_recorded contents recorded read (TooLarge file) h = absurd h
-cause_of_recorded contents recorded read NoMemory h = tt
+pub cause_of_recorded : (contents : List (List ℕ)) (recorded : Recording) → AreSmall contents → recording_of contents ≡ Ok recorded → (fault : JudgeFault)
+    → IsCauseIn recorded fault → IsCause contents fault
+cause_of_recorded contents recorded small read (BadLine file line) h = inr (record { small = small; recorded = recorded; read = read; cause = h })
+cause_of_recorded contents recorded small read (Unlawful file line) h = record { small = small; recorded = recorded; read = read; cause = h }
+cause_of_recorded contents recorded small read (ReadFault file) h = absurd h
+cause_of_recorded contents recorded small read (TooLarge file) h = absurd h
+cause_of_recorded contents recorded small read NoMemory h = tt
 
--- nothing was read
-pub cause_of_reading : (contents : List (List ℕ)) (refused : ReadingFault)
-    → ((file line : ℕ) → refused ≡ reading.BadLine file line → recording_of contents ≡ Err (record { file = file; line = line }))
-    → ((file : ℕ) → refused ≡ reading.TooLarge file → IsLarge contents file) → IsCause contents (fault_of_reading refused)
-cause_of_reading contents (reading.BadLine file line) bad large = inl (bad file line refl)
-cause_of_reading contents (reading.ReadFault file) bad large = tt
-cause_of_reading contents (reading.TooLarge file) bad large = large file refl
-cause_of_reading contents reading.NoMemory bad large = tt
+-- the file at position i is at fault, and nothing is before it
+pub sound_before : (contents : List (List ℕ)) (i : ℕ) (recorded : Recording) → AreSmall (take i contents)
+    → after_files (length contents == 1) 1 nothing (take i contents) ≡ Ok recorded → AreSoundBefore contents (i + 1)
+sound_before contents i recorded small read =
+    let at : i ≡ i + 1 - 1 = omega arith in
+    record {
+      small = subst (λ n. AreSmall (take n contents)) at small;
+      recorded = recorded;
+      read = subst (λ n. after_files (length contents == 1) 1 nothing (take n contents) ≡ Ok recorded) at read;
+    }
 
--- what was read is never at fault by a read that failed
-pub no_read_fault : {T : Type 0} (recorded : Recording) (result : Result T JudgeFault) (file : ℕ) → IfErr result (IsCauseIn recorded) → ¬ IsErrOf result (ReadFault file)
-no_read_fault {T} recorded (Ok x) file h is = absurd cc
-no_read_fault {T} recorded (Err fault) file h is = (let same : fault ≡ ReadFault file = cc in subst (IsCauseIn recorded) same h)
+pub cause_of_reading : (contents : List (List ℕ)) (file : ℕ) (refused : ReadingFault) → AreSoundBefore contents file
+    → ((f line : ℕ) → refused ≡ reading.BadLine f line → (f ≡ file) × (recording_of contents ≡ Err (record { file = file; line = line })))
+    → ((f : ℕ) → refused ≡ reading.TooLarge f → (f ≡ file) × IsLarge contents file)
+    → ((f : ℕ) → refused ≡ reading.ReadFault f → f ≡ file) → IsCause contents (fault_of_reading refused)
+cause_of_reading contents file (reading.BadLine f line) sound bad large failed =
+    let told = bad f line refl in
+    subst (λ n. IsCause contents (BadLine n line)) (sym told.0) (inl (record { small = sound.small; bad = told.1 }))
+cause_of_reading contents file (reading.ReadFault f) sound bad large failed = subst (AreSoundBefore contents) (sym (failed f refl)) sound
+cause_of_reading contents file (reading.TooLarge f) sound bad large failed =
+    let told = large f refl in
+    subst (λ n. IsCause contents (TooLarge n)) (sym told.0) (told.1, sound)
+cause_of_reading contents file reading.NoMemory sound bad large failed = tt
 
-pub read_fault_of : (refused : ReadingFault) (file : ℕ) → fault_of_reading refused ≡ ReadFault file → refused ≡ reading.ReadFault file
-read_fault_of (reading.BadLine f l) file is = absurd cc
-read_fault_of (reading.ReadFault f) file is = (let same : f ≡ file = cc in ap reading.ReadFault same)
-read_fault_of (reading.TooLarge f) file is = absurd cc
-read_fault_of reading.NoMemory file is = absurd cc
+-- Each event that was read is of one of so many files. So is that of a place which is told.
+file_of_equal : (count : ℕ) (events : List Stamped) (place : Place) → AreOf count events → HasStampOfAnother events place → IsFile count place.file
+file_of_equal count events place all h =
+    at h.merged h.equal (All-permutation (λ s. IsFile count s.place.file) events h.merged h.same all) where
+      at : (merged : List Stamped) → HasEqual merged place → All (λ s. IsFile count s.place.file) merged → IsFile count place.file
+      at [] equal each = absurd (let within = equal.within in omega arith)
+      at (d ∷ ds) equal each =
+          subst (λ (z : Place). IsFile count z.file) (equal.stands d) (each (equal.i + 1) d equal.within)
+
+file_at : (count : ℕ) (merged : List Stamped) (e : ℕ) (place : Place) → All (λ s. IsFile count s.place.file) merged
+    → slice_get (map (λ s. s.place) merged) e ≡ Some place → IsFile count place.file
+file_at count [] e place all is = absurd cc
+file_at count (s ∷ ss) zero place all is =
+    (let same : s.place ≡ place = cc in subst (λ (z : Place). IsFile count z.file) same (all 0 s (omega arith)))
+file_at count (s ∷ ss) (suc e) place all is = file_at count ss e place (λ k d lt. all (suc k) d (omega arith)) is
+
+file_of_place : (count : ℕ) (recorded : Recording) (place : Place) → AreOf count recorded.events → IsOutOfPlace recorded place → IsFile count place.file
+file_of_place count recorded place all h =
+    let merged = h.history.merged in
+    file_at count merged.merged h.e place
+    (All-permutation (λ s. IsFile count s.place.file) recorded.events merged.merged merged.is_merged.same all)
+    (subst (λ ps. slice_get ps h.e ≡ Some place) merged.places_are h.stands)
+
+-- all were read where what was read is at fault
+pub until_recorded : {S : Type 0} (faults end_count : S → ℕ) (left : S → Option (List ℕ)) (olds news : List S) (recorded : Recording)
+    → AreOf (length olds) recorded.events → AreReadWhole faults end_count left (length olds) olds news → (fault : JudgeFault) → IsCauseIn recorded fault
+    → AreReadUntil faults end_count left olds news fault
+until_recorded {S} faults end_count left olds news recorded all whole fault h = by fault h where
+  quiet : AreQuiet faults olds news
+  quiet = λ k d lt. (whole k d lt).kept
+
+  by : (fault : JudgeFault) → IsCauseIn recorded fault → AreReadUntil faults end_count left olds news fault
+  by (BadLine file line) h =
+      let is_file = file_of_equal (length olds) recorded.events (record { file = file; line = line }) all h in
+      let last = is_file.last in
+      (is_file, (λ k d lt. whole k d (omega arith)), quiet)
+  by (Unlawful file line) h = (file_of_place (length olds) recorded (record { file = file; line = line }) all h, whole)
+  by (ReadFault file) h = absurd h
+  by (TooLarge file) h = absurd h
+  by NoMemory h = quiet

@@ -1,4 +1,5 @@
 pub mod ReadLemmas
+pub mod SourceLemmas
 pub mod MergeLemmas
 pub mod CountLemmas
 pub mod JudgeLemmas

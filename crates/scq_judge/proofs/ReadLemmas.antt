@@ -1,15 +1,20 @@
 -- The lines of a file as they are taken, and files one after the other
-use Rattle.std.proofs.Common.{◌≡◌, ℕ, zero, suc, ◌+◌, ◌<◌, ◌≤◌, Bool, List, [], ◌∷◌, ◌++◌, length, length-append, length-drop, slice_get, take, drop, append_assoc, Option, Some, None, Result, Ok, Err, refl, sym, ◌∙◌, ap, subst, arith}
-use Rattle.std.specs.Prelude.{slice_range, slice_set, IfSome, IsSomeAnd, OnOk}
+use Rattle.std.proofs.Common.{◌≡◌, ℕ, zero, suc, ◌+◌, ◌<◌, ◌≤◌, Bool, true, false, List, [], ◌∷◌, ◌++◌, length, length-append, length-drop, get_or, slice_get, take, drop, append_assoc, Option, Some, None, Result, Ok, Err, refl, sym, ◌∙◌, ap, subst, arith}
+use Rattle.std.specs.Prelude.{slice_range, if◌then◌else◌, IfSome, IsSomeAnd, OnOk}
 use Rattle.std.specs.Option.{option_map}
 use Rattle.std.proofs.lemmas.Bool.Decides.{nat_tests}
-use Rattle.std.proofs.lemmas.List.{take_rest}
-use Rattle.scq_judge.specs.Files.{most_bytes}
+use Rattle.std.proofs.lemmas.List.{take_rest, take_more, length-take-le}
+use Rattle.std.proofs.lemmas.List.Elements.{All-push}
+use Rattle.std.proofs.lemmas.Option.{slice_get-get_or}
+use Rattle.scq_hist.specs.declared.events.Event.{Event}
 use Rattle.memchr.specs.Find.{IsFirstByte, is_byte}
 use Rattle.scq_lines.specs.Lines.{lines_of}
-use Rattle.scq_lines.proofs.Cutting.{lines_of-some-more, lines_of-none-more, lines_of-none}
+use Rattle.scq_lines.proofs.Cutting.{lines_of-some-more, lines_of-none-more}
 use Rattle.scq_judge.specs.Entry.{said_by}
-use Rattle.scq_judge.specs.Recording.{Recording, after_lines, after_line, after_file, after_files, if_file}
+use Rattle.scq_judge.specs.Files.{IsFile, AreSmall, most_bytes}
+use Rattle.scq_judge.specs.Recording.{Recording, AreOf, after_entry, after_lines, after_line, after_file, after_files, event_with, if_file, may_follow, nothing, with_entry}
+use Rattle.scq_judge.specs.declared.entry.Entry.{Entry}
+use Rattle.scq_judge.specs.declared.entry.Entry.TheVariants.{Opening, Happens}
 
 -- a line that ends is taken
 pub taken_more : (file : ℕ) (lone : Bool) (before : ℕ) (r next : Recording) (text : List ℕ) (n : ℕ) → IsFirstByte (is_byte 10) text (Some n)
@@ -134,15 +139,62 @@ pub on_ok : {T E : Type 0} (r : Result T E) (P Q : Type 0) → (P → Q) → OnO
 on_ok (Ok x) P Q to p = to p
 on_ok (Err e) P Q to p = p
 
--- a list with another member at position i
-pub set_other : {X : Type 0} (xs : List X) (i k : ℕ) (x : X) → i < k → slice_get (slice_set xs i x) k ≡ slice_get xs k
-set_other {X} [] i k x lt = refl
-set_other {X} (y ∷ ys) zero zero x lt = absurd (omega arith)
-set_other {X} (y ∷ ys) zero (suc k) x lt = refl
-set_other {X} (y ∷ ys) (suc i) zero x lt = absurd (omega arith)
-set_other {X} (y ∷ ys) (suc i) (suc k) x lt = set_other ys i k x (omega arith)
+-- the events that are added are of the file that is read
+pub files_more : (count file number : ℕ) (lone : Bool) (r next : Recording) (line : List ℕ) → IsFile count file → after_line file lone number r line ≡ Some next
+    → AreOf count r.events → AreOf count next.events
+files_more count file number lone r next line is read all = by (said_by line) read where
+  if_some : (b : Bool) (x : Recording) → (if b then Some x else None) ≡ Some next → x ≡ next
+  if_some true x e = cc
+  if_some false x e = absurd cc
 
-pub set_same : {X : Type 0} (xs : List X) (i : ℕ) (x : X) → i < length xs → slice_get (slice_set xs i x) i ≡ Some x
-set_same {X} [] i x lt = absurd (omega arith)
-set_same {X} (y ∷ ys) zero x lt = refl
-set_same {X} (y ∷ ys) (suc i) x lt = set_same ys i x (omega arith)
+  event_of : (stamp : Option ℕ) (event : Event) → IsFile count (event_with file number stamp event).place.file
+  event_of None event = is
+  event_of (Some stamp) event = is
+
+  by : (o : Option Entry) → after_entry file lone number r o ≡ Some next → AreOf count next.events
+  by None e = absurd cc
+  by (Some (Opening content)) e =
+      subst (λ (z : Recording). AreOf count z.events) (if_some (may_follow file lone r.last (Opening content)) (with_entry file number r (Opening content)) e) all
+  by (Some (Happens stamp event)) e =
+      subst (λ (z : Recording). AreOf count z.events)
+      (if_some (may_follow file lone r.last (Happens stamp event)) (with_entry file number r (Happens stamp event)) e)
+      (All-push (λ s. IsFile count s.place.file) r.events (event_with file number stamp event) all (event_of stamp event))
+
+-- what was read of so many files, and of one file more
+after_push : (lone : Bool) (file : ℕ) (r mid next : Recording) (contents : List (List ℕ)) (content : List ℕ) → after_files lone file r contents ≡ Ok mid
+    → after_file (file + length contents) lone mid content ≡ Ok next → after_files lone file r (contents ++ content ∷ []) ≡ Ok next
+after_push lone file r mid next [] content front last =
+    let same : r ≡ mid = cc in
+    let number : file + 0 ≡ file = omega arith in
+    let here : after_file file lone r content ≡ Ok next =
+    subst (λ z. after_file file lone z content ≡ Ok next) (sym same) (subst (λ n. after_file n lone mid content ≡ Ok next) number last) in
+    ap (λ o. if_file file o (λ z. after_files lone (file + 1) z [])) here
+after_push lone file r mid next (first ∷ contents) content front last =
+    let number : file + length (first ∷ contents) ≡ file + 1 + length contents = omega arith in
+    let later : after_file (file + 1 + length contents) lone mid content ≡ Ok next = subst (λ n. after_file n lone mid content ≡ Ok next) number last in
+    at (after_file file lone r first) refl front (λ z read. after_push lone (file + 1) z mid next contents content read later) where
+      at : (o : Result Recording ℕ) → after_file file lone r first ≡ o → if_file file o (λ z. after_files lone (file + 1) z contents) ≡ Ok mid
+          → ((z : Recording) → after_files lone (file + 1) z contents ≡ Ok mid → after_files lone (file + 1) z (contents ++ content ∷ []) ≡ Ok next)
+          → if_file file (after_file file lone r first) (λ z. after_files lone (file + 1) z (contents ++ content ∷ [])) ≡ Ok next
+      at (Ok z) is front more = ap (λ o. if_file file o (λ z. after_files lone (file + 1) z (contents ++ content ∷ []))) is ∙ more z front
+      at (Err line) is front more = absurd cc
+
+-- one file more is understood, and has few bytes
+module _ (contents : List (List ℕ)) (i : ℕ) (own : Option (List ℕ)) (within : i < length contents) (is : own ≡ slice_get contents i) where
+  one_more : (P : List ℕ → Type 0) → IfSome own P → (content : List ℕ) × (take (i + 1) contents ≡ take i contents ++ content ∷ []) × P content
+  one_more P if_own =
+      let there : own ≡ Some (get_or contents i []) = is ∙ slice_get-get_or contents i [] within in
+      (get_or contents i [], take_more contents i [] within, subst (λ o. IfSome o P) there if_own)
+
+  pub front_more : (lone : Bool) (old new : Recording) → after_files lone 1 nothing (take i contents) ≡ Ok old
+      → IfSome own (λ content. after_file (i + 1) lone old content ≡ Ok new) → after_files lone 1 nothing (take (i + 1) contents) ≡ Ok new
+  front_more lone old new front last =
+      let more = one_more (λ content. after_file (i + 1) lone old content ≡ Ok new) last in
+      let number : i + 1 ≡ 1 + length (take i contents) = (let taken = length-take-le i contents (omega arith) in omega arith) in
+      ap (after_files lone 1 nothing) more.1
+      ∙ after_push lone 1 nothing old new (take i contents) more.0 front (subst (λ n. after_file n lone old more.0 ≡ Ok new) number more.2)
+
+  pub small_more : AreSmall (take i contents) → IfSome own (λ content. length content ≤ most_bytes) → AreSmall (take (i + 1) contents)
+  small_more small last =
+      let more = one_more (λ content. length content ≤ most_bytes) last in
+      subst AreSmall (sym more.1) (All-push (λ content. length content ≤ most_bytes) (take i contents) more.0 small more.2)

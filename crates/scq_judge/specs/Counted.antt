@@ -3,10 +3,9 @@ use Rattle.std.specs.Prelude.{◌≡◌, ℕ, ◌+◌, ◌<◌, ◌≤◌, ◌�
 use Rattle.std.specs.HashMap.{get}
 use Rattle.scq_hist.specs.Calls.{under_way}
 use Rattle.scq_hist.specs.Counts.{IsCount}
-use Rattle.scq_hist.specs.declared.events.Call.{Call}
 use Rattle.scq_hist.specs.declared.events.Call.TheVariants.{Put, Get}
 use Rattle.scq_hist.specs.declared.events.Event.{Event}
-use Rattle.scq_hist.specs.declared.events.Event.TheVariants.{Start, End}
+use Rattle.scq_hist.specs.declared.events.Event.TheVariants.{Start}
 use Rattle.scq_judge.specs.declared.counting.Named.{Named}
 use Rattle.scq_judge.specs.declared.counting.Named.TheVariants.{Seat, Queue}
 use Rattle.scq_judge.specs.declared.counting.Seen.{Seen}

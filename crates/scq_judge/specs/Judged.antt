@@ -1,11 +1,11 @@
 -- What recordings with visible contents tell: the report of the merged history, or the cause of a fault
-use Rattle.std.specs.Prelude.{◌≡◌, ◌⊎◌, ℕ, ◌<◌, List, Ok, Err, Some, slice_get}
+use Rattle.std.specs.Prelude.{◌≡◌, ◌⊎◌, ℕ, ◌-◌, ◌==◌, List, Ok, Err, Some, length, take, slice_get}
 use Rattle.scq_hist.specs.Aspects.{IsLawful, IsLawfulAt}
 use Rattle.scq_hist.specs.First.{IsFirstFailing}
 use Rattle.scq_hist.specs.declared.events.Event.{Event}
-use Rattle.scq_judge.specs.Files.{IsLarge}
+use Rattle.scq_judge.specs.Files.{AreSmall, IsLarge}
 use Rattle.scq_judge.specs.Merged.{IsMergeOf, HasStampOfAnother}
-use Rattle.scq_judge.specs.Recording.{Recording, recording_of}
+use Rattle.scq_judge.specs.Recording.{Recording, nothing, after_files, recording_of}
 use Rattle.scq_judge.specs.Report.{IsReport, report_lines}
 use Rattle.scq_judge.specs.declared.judging.JudgeFault.{JudgeFault}
 use Rattle.scq_judge.specs.declared.judging.JudgeFault.TheVariants.{BadLine, Unlawful, ReadFault, TooLarge, NoMemory}
@@ -53,24 +53,37 @@ IsCauseIn recorded (Unlawful file line) = IsOutOfPlace recorded (record { file =
 IsCauseIn recorded NoMemory = Unit {0}
 IsCauseIn recorded _ = ⊥
 
--- recordings with these contents are read, and tell this report
+-- recordings with these contents, of which none has too many bytes, are read, and tell this report
 pub record IsJudged (contents : List (List ℕ)) (text : List ℕ) : Type 0 where
+  pub small : AreSmall contents
   pub recorded : Recording
   pub read : recording_of contents ≡ Ok recorded
   pub reported : IsReported recorded text
 
+-- or are at fault so
 pub record IsCaused (contents : List (List ℕ)) (fault : JudgeFault) : Type 0 where
+  pub small : AreSmall contents
   pub recorded : Recording
   pub read : recording_of contents ≡ Ok recorded
   pub cause : IsCauseIn recorded fault
 
--- what is at fault in the contents; a read that fails and want of memory aren't
+-- nothing is at fault in the files before this one: none has too many bytes, and each line is understood
+pub record AreSoundBefore (contents : List (List ℕ)) (file : ℕ) : Type 0 where
+  pub small : AreSmall (take (file - 1) contents)
+  pub recorded : Recording
+  pub read : after_files (length contents == 1) 1 nothing (take (file - 1) contents) ≡ Ok recorded
+
+-- this line is the first that isn't understood, and no file before has too many bytes
+pub record IsFirstBad (contents : List (List ℕ)) (file line : ℕ) : Type 0 where
+  pub small : AreSmall (take (file - 1) contents)
+  pub bad : recording_of contents ≡ Err (record { file = file; line = line })
+
+-- what is at fault in the contents, and that nothing is in the files before; a read that fails and want of memory aren't
 abbrev pub IsCause : List (List ℕ) → JudgeFault → Type 0
-IsCause contents (BadLine file line) =
-    (recording_of contents ≡ Err (record { file = file; line = line })) ⊎ IsCaused contents (BadLine file line)
+IsCause contents (BadLine file line) = IsFirstBad contents file line ⊎ IsCaused contents (BadLine file line)
 IsCause contents (Unlawful file line) = IsCaused contents (Unlawful file line)
-IsCause contents (TooLarge file) = IsLarge contents file
-IsCause contents (ReadFault file) = Unit {0}
+IsCause contents (TooLarge file) = IsLarge contents file × AreSoundBefore contents file
+IsCause contents (ReadFault file) = AreSoundBefore contents file
 IsCause contents NoMemory = Unit {0}
 
 -- For private calls: the fault tells the place of the first event that isn't lawful

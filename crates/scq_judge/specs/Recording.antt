@@ -1,8 +1,9 @@
 -- What the texts of recordings say: the opening tokens, and the events of all files, one file after the other
-use Rattle.std.specs.Prelude.{ℕ, ◌+◌, Bool, true, false, ◌==◌, nat_lt, List, [], ◌∷◌, ◌++◌, Option, Some, None, Result, Ok, Err, length, if◌then◌else◌}
+use Rattle.std.specs.Prelude.{ℕ, ◌+◌, Bool, true, false, ◌==◌, nat_lt, List, [], ◌∷◌, ◌++◌, Option, Some, None, Result, Ok, Err, length, if◌then◌else◌, All}
 use Rattle.scq_lines.specs.Lines.{lines_of}
 use Rattle.scq_hist.specs.declared.events.Event.{Event}
 use Rattle.scq_judge.specs.Entry.{said_by}
+use Rattle.scq_judge.specs.Files.{IsFile}
 use Rattle.scq_judge.specs.declared.entry.Entry.{Entry}
 use Rattle.scq_judge.specs.declared.entry.Entry.TheVariants.{Opening, Happens}
 use Rattle.scq_judge.specs.declared.recorded.Last.{Last}
@@ -81,3 +82,7 @@ after_files lone file r (content ∷ contents) =
 -- the recording of files with these contents. A lone file may be without stamps
 abbrev pub recording_of : List (List ℕ) → Result Recording Place
 recording_of contents = after_files (length contents == 1) 1 nothing contents
+
+-- For private calls: each event is of one of so many files
+abbrev pub AreOf : ℕ → List Stamped → Type 0
+AreOf count events = All (λ s. IsFile count s.place.file) events

@@ -1,10 +1,11 @@
 //! Recordings read, merged and judged.
 
-ghost use Rattle.std.specs.Prelude.{◌≡◌, ◌-◌, ◌<◌, ◌^◌, ◌⊎◌, ℕ, List, length, slice_get, IfOk, IfErr, IsErrOf, IsSomeAnd};
+ghost use Rattle.std.specs.Prelude.{◌≡◌, ◌<◌, ◌^◌, ◌⊎◌, ℕ, List, length, IfOk, IfErr, OnOk};
 ghost use Rattle.scq_hist.specs.Aspects.{IsLawful};
 ghost use Rattle.scq_check.specs.Verdicts.{AreWithin};
 ghost use Rattle.scq_judge.specs.Files.{HaveContents};
 ghost use Rattle.scq_judge.specs.Judged.{IsJudged, IsCause, IsReported, IsReportOf, IsCauseIn, IsUnlawfulAt};
+ghost use Rattle.scq_judge.specs.Reads.{HasGiven, OfEach, AreReadWhole, AreReadUntil};
 ghost use Rattle.scq_judge.specs.Report.{IsReport};
 
 use crate::counting::{Counts, count};
@@ -84,13 +85,18 @@ impl From<MergeFault> for JudgeFault {
 }
 
 /// The report of the history that the recordings of these files are merged to, as text. Memory and time grow little faster than
-/// the number of events.
+/// the number of events. Files are read one after the other, up to the first that has a fault of its own.
 pub fn judge_recordings<S: Source>(alloc: Global, sources: &mut [S]) -> Result<Bytes, JudgeFault>
     requires { length sources.old < 2 ^ 31 }
+
+    // What the contents tell, where all are visible: the report, or the cause of a fault.
     ensures judged { IfOk result (λ text. (contents : List (List ℕ)) → HaveContents S.left sources.old contents → IsJudged contents text) }
     ensures refused { IfErr result (λ fault. (contents : List (List ℕ)) → HaveContents S.left sources.old contents → IsCause contents fault) }
-    ensures read_fault { (file : ℕ) → IsErrOf result (JudgeFault.ReadFault file)
-        → IsSomeAnd (slice_get sources.new (file - 1)) (λ source. 0 < S.faults source) }
+
+    // How far the sources were read, visible or not.
+    ensures whole { OnOk result (AreReadWhole S.faults S.ends S.left (length sources.old) sources.old sources.new) }
+    ensures until { IfErr result (λ fault. AreReadUntil S.faults S.ends S.left sources.old sources.new fault) }
+    ensures given { OfEach (length sources.old) (HasGiven S.faults S.left) sources.old sources.new }
 {
     match read_recordings(alloc, sources) {
         Ok(recorded) => judge_recorded(alloc, recorded),

@@ -1,11 +1,12 @@
 //! Recordings read from their files, piece by piece.
 
-ghost use Rattle.std.specs.Prelude.{◌≡◌, ◌+◌, ◌-◌, ◌<◌, ◌≤◌, ◌^◌, ◌∷◌, ◌++◌, ℕ, List, None, Ok, Err, length, slice_get, IfOk, IfSome, IsSomeAnd, OnOk, IsErrOf};
+ghost use Rattle.std.specs.Prelude.{◌≡◌, ◌+◌, ◌<◌, ◌≤◌, ◌^◌, ◌∷◌, ◌++◌, ℕ, List, None, Ok, Err, length, IfOk, IfErr, IfSome, OnOk, IsErrOf};
 ghost use Rattle.scq_lines.specs.Lines.{lines_of};
 ghost use Rattle.memchr.specs.Find.{IsFirstByte, is_byte};
-ghost use Rattle.scq_outside.specs.Counts.{Rose};
-ghost use Rattle.scq_judge.specs.Recording.{after_lines, after_file, recording_of};
-ghost use Rattle.scq_judge.specs.Files.{HaveContents, IsLarge, most_bytes};
+ghost use Rattle.scq_judge.specs.Recording.{after_lines, after_file, recording_of, AreOf};
+ghost use Rattle.scq_judge.specs.Files.{HaveContents, AreSmall, IsFile, most_bytes};
+ghost use Rattle.scq_judge.specs.Judged.{IsCause, fault_of_reading};
+ghost use Rattle.scq_judge.specs.Reads.{HasGiven, IsReadWhole, OfEach, AreReadWhole, AreReadUntil, CountsFault};
 
 use crate::entry::MOST_LINE;
 use crate::recorded::{LineFault, Place, Recorded};
@@ -81,6 +82,7 @@ impl Reading {
         requires { before + 1 < 2 ^ 32 }
         ensures read { OnOk result ((lines : List (List ℕ)) → after_lines self.file self.lone before recorded.old (text.now ∷ lines)
             ≡ after_lines self.file self.lone (before + 1) recorded.new lines) }
+        ensures files { (count : ℕ) → IsFile count self.file → AreOf count recorded.old.events → OnOk result (AreOf count recorded.new.events) }
         ensures bad_line { (f l : ℕ) → IsErrOf result (ReadingFault.BadLine f l) → (f ≡ self.file) × ((lines : List (List ℕ))
             → after_lines self.file self.lone before recorded.old (text.now ∷ lines) ≡ Err l) }
         ensures read_fault { (f : ℕ) → ¬ IsErrOf result (ReadingFault.ReadFault f) }
@@ -106,6 +108,7 @@ impl Reading {
         requires room { before + length bytes.now < 2 ^ 31 }
         ensures taken { IfOk result (λ taken. (more : List ℕ) → after_lines self.file self.lone before recorded.old (lines_of (bytes.now ++ more))
             ≡ after_lines self.file self.lone taken.lines recorded.new (lines_of (taken.rest.now ++ more))) }
+        ensures files { (count : ℕ) → IsFile count self.file → AreOf count recorded.old.events → OnOk result (AreOf count recorded.new.events) }
         ensures few { IfOk result (λ taken. taken.lines + length taken.rest.now ≤ before + length bytes.now) }
         ensures front { IfOk result (λ taken. IsFirstByte (is_byte 10) taken.rest.now None) }
         ensures bad_line { (f l : ℕ) → IsErrOf result (ReadingFault.BadLine f l) → (f ≡ self.file) × ((more : List ℕ)
@@ -146,6 +149,7 @@ impl Reading {
         requires room { before < 2 ^ 31 }
         requires front { IsFirstByte (is_byte 10) bytes.now None }
         ensures read { OnOk result (after_lines self.file self.lone before recorded.old (lines_of bytes.now) ≡ Ok recorded.new) }
+        ensures files { (count : ℕ) → IsFile count self.file → AreOf count recorded.old.events → OnOk result (AreOf count recorded.new.events) }
         ensures bad_line { (f l : ℕ) → IsErrOf result (ReadingFault.BadLine f l)
             → (f ≡ self.file) × (after_lines self.file self.lone before recorded.old (lines_of bytes.now) ≡ Err l) }
         ensures read_fault { (f : ℕ) → ¬ IsErrOf result (ReadingFault.ReadFault f) }
@@ -165,11 +169,16 @@ impl Reading {
         source: &mut S,
     ) -> Result<(), ReadingFault>
         ensures read { OnOk result (IfSome (S.left source.old) (λ content. after_file self.file self.lone recorded.old content ≡ Ok recorded.new)) }
+        ensures small { OnOk result (IfSome (S.left source.old) (λ content. length content ≤ most_bytes)) }
+        ensures files { (count : ℕ) → IsFile count self.file → AreOf count recorded.old.events → OnOk result (AreOf count recorded.new.events) }
         ensures bad_line { (f l : ℕ) → IsErrOf result (ReadingFault.BadLine f l) → (f ≡ self.file)
             × IfSome (S.left source.old) (λ content. after_file self.file self.lone recorded.old content ≡ Err l) }
         ensures large { (f : ℕ) → IsErrOf result (ReadingFault.TooLarge f) → (f ≡ self.file)
             × IfSome (S.left source.old) (λ content. most_bytes < length content) }
-        ensures read_fault { (f : ℕ) → IsErrOf result (ReadingFault.ReadFault f) → (f ≡ self.file) × (0 < S.faults source.new) }
+        ensures read_fault { (f : ℕ) → IsErrOf result (ReadingFault.ReadFault f) → f ≡ self.file }
+        ensures whole { OnOk result (IsReadWhole S.faults S.ends S.left source.old source.new) }
+        ensures counted { IfErr result (λ fault. CountsFault fault (S.faults source.old) (S.faults source.new)) }
+        ensures given { HasGiven S.faults S.left source.old source.new }
     {
         recorded.begin_file();
         let mut piece = [0; PIECE];
@@ -203,12 +212,13 @@ pub(crate) fn read_recordings<S: Source>(
     requires { length sources.old < 2 ^ 31 }
     ensures read { IfOk result (λ recorded. (contents : List (List ℕ)) → HaveContents S.left sources.old contents
         → recording_of contents ≡ Ok recorded) }
-    ensures bad_line { (file line : ℕ) → IsErrOf result (ReadingFault.BadLine file line) → (contents : List (List ℕ))
-        → HaveContents S.left sources.old contents → recording_of contents ≡ Err (record { file = file; line = line }) }
-    ensures large { (file : ℕ) → IsErrOf result (ReadingFault.TooLarge file) → (contents : List (List ℕ))
-        → HaveContents S.left sources.old contents → IsLarge contents file }
-    ensures read_fault { (file : ℕ) → IsErrOf result (ReadingFault.ReadFault file)
-        → IsSomeAnd (slice_get sources.new (file - 1)) (λ source. 0 < S.faults source) }
+    ensures small { OnOk result ((contents : List (List ℕ)) → HaveContents S.left sources.old contents → AreSmall contents) }
+    ensures files { IfOk result (λ recorded. AreOf (length sources.old) recorded.events) }
+    ensures cause { IfErr result (λ fault. (contents : List (List ℕ)) → HaveContents S.left sources.old contents
+        → IsCause contents (fault_of_reading fault)) }
+    ensures whole { OnOk result (AreReadWhole S.faults S.ends S.left (length sources.old) sources.old sources.new) }
+    ensures until { IfErr result (λ fault. AreReadUntil S.faults S.ends S.left sources.old sources.new (fault_of_reading fault)) }
+    ensures given { OfEach (length sources.old) (HasGiven S.faults S.left) sources.old sources.new }
 {
     let lone = sources.len() == 1;
     let mut recorded = Recorded::new(alloc);

@@ -1,21 +1,23 @@
 -- The sources of recordings that were got, and their contents.
-use Rattle.std.proofs.Common.{◌≡◌, ◌∙◌, refl, sym, ap, subst, arith, ℕ, suc, zero, ◌-◌, ◌<◌, true}
-use Rattle.std.proofs.Common.{List, [], ◌∷◌, length, take, slice_get, Option, Some, None}
-use Rattle.std.specs.Prelude.{IsSomeAnd}
+use Rattle.std.proofs.Common.{◌≡◌, ◌∙◌, inl, refl, sym, ap, subst, arith, ℕ, suc, zero, ◌<◌, Bool, true}
+use Rattle.std.proofs.Common.{List, [], ◌∷◌, length, take, slice_get, Option, Some, None, IfSome}
+use Rattle.std.specs.Prelude.{slice_index_or}
 use Rattle.std.specs.Option.{option_map}
 use Rattle.std.proofs.Math.Seq.{take-length}
 use Rattle.scq_outside.specs.Table.{Table}
 use Rattle.scq_judge.specs.Files.{HaveContents}
-use Rattle.scq_judge.specs.Judged.{IsJudged, IsCause}
+use Rattle.scq_judge.specs.Judged.{IsCause}
+use Rattle.scq_judge.specs.Reads.{AreReadUntil, HasGiven, OfEach}
 use Rattle.scq_judge.specs.declared.judging.JudgeFault.{JudgeFault}
 use Rattle.scq_judge.specs.declared.judging.JudgeFault.TheVariants as judge
-use Rattle.scq_work.specs.Ends.{all_left}
+use Rattle.scq_work.specs.Ends.{HasMoved, all_left}
 use Rattle.scq_service.specs.Answers.{HaveCome, HaveAllCome}
-use Rattle.scq_service.specs.Contents.{contents_of, IfVisible, without_names}
-use Rattle.scq_service.specs.Ends.{Change, Wrote, HaveAll, EndsJudged, IsRefusedBy, IsReported, IsUnwritten}
+use Rattle.scq_service.specs.Contents.{without_names}
+use Rattle.scq_service.specs.Ends.{Change, Wrote, HasGot, HaveAll, EndsJudged, IfTold, IsUnwritten}
 use Rattle.scq_service.specs.Faults.{fault_of_judge}
 use Rattle.scq_service.specs.declared.fault.Fault.{Fault}
 use Rattle.scq_service.proofs.Files.{parts}
+use Rattle.scq_service.proofs.Working.{has-got, kept-of}
 
 -- what all have left is what each has
 more : {S : Type 0} (left : S → Option (List ℕ)) (source : S) (sources : List S) (content : List ℕ) (contents : List (List ℕ)) → left source ≡ Some content
@@ -32,24 +34,37 @@ contents_left {S} left (source ∷ sources) contents is =
     let p = parts (left source) (all_left left sources) contents is in
     subst (HaveContents left (source ∷ sources)) (sym p.4) (more left source sources p.0 p.1 p.2 (contents_left left sources p.1 p.3))
 
--- what is so of contents that sources have left is so of those that the table gives
-pub of_table : {S : Type 0} (left : S → Option (List ℕ)) (faults : S → ℕ) (names : List (List ℕ))
-    (table : Change (Option Table)) (opens : Change ℕ) (sources : List S)
-    (P : List (List ℕ) → Type 0) → length sources ≡ length names
-    → HaveCome faults left names (record { table = table; opens = opens; sources = sources; read = 0 })
-    → ((contents : List (List ℕ)) → HaveContents left sources contents → P contents) → IfVisible table.old names P
-of_table {S} left faults names table opens sources P all come holds =
-    let whole : take (length sources) names ≡ names = ap (λ n. take n names) all ∙ take-length names in
-    let unread : IfVisible table.old names (λ contents. all_left left sources ≡ Some contents) =
-    subst (λ ns. IfVisible table.old ns (λ contents. all_left left sources ≡ Some contents)) whole come.unread in
-    at table.old unread where
-      inner : (o : Option (List (List ℕ))) → IsSomeAnd o (λ contents. all_left left sources ≡ Some contents) → IsSomeAnd o P
-      inner None none = none
-      inner (Some contents) is = holds contents (contents_left left sources contents is)
+-- what is so of contents that sources have left is so of those that they told
+pub told_of : {S : Type 0} (left : S → Option (List ℕ)) (sources : List S) (P : List (List ℕ) → Type 0)
+    → ((contents : List (List ℕ)) → HaveContents left sources contents → P contents) → IfTold left sources P
+told_of {S} left sources P holds = at (all_left left sources) refl where
+  at : (o : Option (List (List ℕ))) → all_left left sources ≡ o → IfSome o P
+  at None is = tt
+  at (Some contents) is = holds contents (contents_left left sources contents is)
 
-      at : (o : Option Table) → IfVisible o names (λ contents. all_left left sources ≡ Some contents) → IfVisible o names P
-      at None none = none
-      at (Some files) is = inner (contents_of files names) is
+-- what each source gave
+pub moved_of : {S : Type 0} (faults : S → ℕ) (left : S → Option (List ℕ)) (olds news : List S) → OfEach (length olds) (HasGiven faults left) olds news
+    → (k : ℕ) (d : S) → k < length olds → HasMoved faults left (slice_index_or olds k d) (slice_index_or news k d)
+moved_of {S} faults left olds news given = λ k d lt. let h = given k d lt in record { bytes = h.bytes; moved = h.took; counted = h.counted }
+
+-- nothing, where none was read
+pub none_moved : {S : Type 0} (faults : S → ℕ) (left : S → Option (List ℕ)) (olds : List S)
+    → (k : ℕ) (d : S) → k < length olds → HasMoved faults left (slice_index_or olds k d) (slice_index_or olds k d)
+none_moved {S} faults left olds = λ k d lt. record { bytes = []; moved = same (left (slice_index_or olds k d)); counted = inl refl } where
+  same : (o : Option (List ℕ)) → o ≡ option_map (λ rest. rest) o
+  same None = refl
+  same (Some rest) = refl
+
+-- the sources that came were got
+pub got_of : {S : Type 0} (left : S → Option (List ℕ)) (faults end_count : S → ℕ) (names : List (List ℕ))
+    (table : Change (Option Table)) (opens : Change ℕ) (olds news : List S) (all : Bool)
+    → length news ≡ length olds → HaveCome faults left names (record { table = table; opens = opens; sources = olds; read = 0 })
+    → HaveAllCome names (record { table = table; opens = opens; sources = olds; read = 0 }) all
+    → ((k : ℕ) (d : S) → k < length olds → HasMoved faults left (slice_index_or olds k d) (slice_index_or news k d))
+    → HasGot faults left names olds (record { table = table; opens = opens; sources = news; read = 0 })
+got_of {S} left faults end_count names table opens olds news all same come have moved =
+    has-got 0 faults end_count left names table opens olds news same come 0 moved
+    (kept-of 0 faults end_count left names table opens olds news same come all have)
 
 -- all came, and stand there still
 pub have_all : {S : Type 0} (left : S → Option (List ℕ)) (faults : S → ℕ) (names : List (List ℕ))
@@ -64,65 +79,38 @@ have_all left faults names table opens olds news same come all = record {
   read = refl;
 }
 
--- the report of what came
-pub reported_of : {S : Type 0} (left : S → Option (List ℕ)) (faults : S → ℕ) (names : List (List ℕ))
-    (table : Change (Option Table)) (opens : Change ℕ) (olds news : List S)
-    (text : List ℕ) (P : List ℕ → Type 0) → length olds ≡ length names
-    → HaveCome faults left names (record { table = table; opens = opens; sources = olds; read = 0 })
-    → ((contents : List (List ℕ)) → HaveContents left olds contents → IsJudged contents text) → P text
-    → IsReported names (record { table = table; opens = opens; sources = news; read = 0 }) P
-reported_of left faults names table opens olds news text P all come judged holds =
-    of_table left faults names table opens olds (λ contents. (text : List ℕ) × IsJudged contents text × P text) all come
-    (λ contents have. (text, judged contents have, holds))
-
 -- what refused it
-refused_of : {S : Type 0} (left : S → Option (List ℕ)) (faults : S → ℕ) (names : List (List ℕ))
-    (table : Change (Option Table)) (opens : Change ℕ) (olds news : List S)
-    (fault : JudgeFault) → length olds ≡ length names
-    → HaveCome faults left names (record { table = table; opens = opens; sources = olds; read = 0 })
-    → ((contents : List (List ℕ)) → HaveContents left olds contents → IsCause contents fault)
-    → ((file : ℕ) → fault ≡ judge.ReadFault file → IsSomeAnd (slice_get news (file - 1)) (λ source. 0 < faults source))
-    → IsRefusedBy faults names (record { table = table; opens = opens; sources = news; read = 0 }) fault
-refused_of left faults names table opens olds news (judge.ReadFault file) all come cause read = read file refl
-refused_of left faults names table opens olds news (judge.BadLine file line) all come cause read =
-    of_table left faults names table opens olds (λ contents. IsCause contents (judge.BadLine file line)) all come cause
-refused_of left faults names table opens olds news (judge.Unlawful file line) all come cause read =
-    of_table left faults names table opens olds (λ contents. IsCause contents (judge.Unlawful file line)) all come cause
-refused_of left faults names table opens olds news (judge.TooLarge file) all come cause read =
-    of_table left faults names table opens olds (λ contents. IsCause contents (judge.TooLarge file)) all come cause
-refused_of left faults names table opens olds news judge.NoMemory all come cause read =
-    of_table left faults names table opens olds (λ contents. IsCause contents judge.NoMemory) all come cause
-
-pub ends_refused : {S : Type 0} (left : S → Option (List ℕ)) (faults : S → ℕ) (names : List (List ℕ))
+pub ends_refused : {S : Type 0} (left : S → Option (List ℕ)) (faults end_count : S → ℕ) (names : List (List ℕ))
     (table : Change (Option Table)) (opens : Change ℕ) (olds news : List S)
     (w : Wrote) (fault : JudgeFault) → length news ≡ length olds
     → HaveCome faults left names (record { table = table; opens = opens; sources = olds; read = 0 })
     → HaveAllCome names (record { table = table; opens = opens; sources = olds; read = 0 }) true
-    → ((contents : List (List ℕ)) → HaveContents left olds contents → IsCause contents fault)
-    → ((file : ℕ) → fault ≡ judge.ReadFault file → IsSomeAnd (slice_get news (file - 1)) (λ source. 0 < faults source))
-    → IsUnwritten w → EndsJudged faults names (record { table = table; opens = opens; sources = news; read = 0 }) w (Some (fault_of_judge fault))
-ends_refused {S} left faults names table opens olds news w fault same come all cause read unwritten = by fault cause read where
+    → ((contents : List (List ℕ)) → HaveContents left olds contents → IsCause contents fault) → AreReadUntil faults end_count left olds news fault
+    → IsUnwritten w
+    → EndsJudged faults end_count left names olds (record { table = table; opens = opens; sources = news; read = 0 }) w (Some (fault_of_judge fault))
+ends_refused {S} left faults end_count names table opens olds news w fault same come all cause until unwritten = by fault cause until where
   have : HaveAll names (record { table = table; opens = opens; sources = news; read = 0 })
   have = have_all left faults names table opens olds news same come all
 
   by : (fault : JudgeFault) → ((contents : List (List ℕ)) → HaveContents left olds contents → IsCause contents fault)
-      → ((file : ℕ) → fault ≡ judge.ReadFault file → IsSomeAnd (slice_get news (file - 1)) (λ source. 0 < faults source))
-      → EndsJudged faults names (record { table = table; opens = opens; sources = news; read = 0 }) w (Some (fault_of_judge fault))
-  by (judge.ReadFault file) cause read =
-      (have, (judge.ReadFault file, refl, refused_of left faults names table opens olds news (judge.ReadFault file) all.0 come cause read), unwritten)
-  by (judge.BadLine file line) cause read =
-      (have, (judge.BadLine file line, refl, refused_of left faults names table opens olds news (judge.BadLine file line) all.0 come cause read), unwritten)
-  by (judge.Unlawful file line) cause read =
-      (have, (judge.Unlawful file line, refl, refused_of left faults names table opens olds news (judge.Unlawful file line) all.0 come cause read), unwritten)
-  by (judge.TooLarge file) cause read =
-      (have, (judge.TooLarge file, refl, refused_of left faults names table opens olds news (judge.TooLarge file) all.0 come cause read), unwritten)
-  by judge.NoMemory cause read = ((let a = have.all in omega arith), refl, unwritten)
+      → AreReadUntil faults end_count left olds news fault
+      → EndsJudged faults end_count left names olds (record { table = table; opens = opens; sources = news; read = 0 }) w (Some (fault_of_judge fault))
+  by (judge.ReadFault file) cause until =
+      (have, (judge.ReadFault file, refl, (until, told_of left olds (λ contents. IsCause contents (judge.ReadFault file)) cause)), unwritten)
+  by (judge.BadLine file line) cause until =
+      (have, (judge.BadLine file line, refl, (until, told_of left olds (λ contents. IsCause contents (judge.BadLine file line)) cause)), unwritten)
+  by (judge.Unlawful file line) cause until =
+      (have, (judge.Unlawful file line, refl, (until, told_of left olds (λ contents. IsCause contents (judge.Unlawful file line)) cause)), unwritten)
+  by (judge.TooLarge file) cause until =
+      (have, (judge.TooLarge file, refl, (until, told_of left olds (λ contents. IsCause contents (judge.TooLarge file)) cause)), unwritten)
+  by judge.NoMemory cause until = ((let a = have.all in omega arith), until, refl, unwritten)
 
 -- the same end in other words
-pub ends_so : {S : Type 0} (faults : S → ℕ) (names : List (List ℕ)) (table : Change (Option Table)) (opens : Change ℕ) (w : Wrote) (a b : List S) (read : ℕ)
-    (x y : Option Fault) → a ≡ b → read ≡ 0 → x ≡ y
-    → EndsJudged faults names (record { table = table; opens = opens; sources = b; read = 0 }) w y
-    → EndsJudged faults names (record { table = table; opens = opens; sources = a; read = read }) w x
-ends_so {S} faults names table opens w a b read x y sources none fault ends =
-    let E : List S → ℕ → Option Fault → Type 0 = λ s n f. EndsJudged faults names (record { table = table; opens = opens; sources = s; read = n }) w f in
-    subst (λ s. E s read x) (sym sources) (subst (λ n. E b n x) (sym none) (subst (λ f. E b 0 f) (sym fault) ends))
+pub ends_so : {S : Type 0} (faults end_count : S → ℕ) (left : S → Option (List ℕ)) (names : List (List ℕ)) (table : Change (Option Table)) (opens : Change ℕ)
+    (w : Wrote) (got olds a b : List S) (read : ℕ) (x y : Option Fault) → got ≡ olds → a ≡ b → read ≡ 0 → x ≡ y
+    → EndsJudged faults end_count left names olds (record { table = table; opens = opens; sources = b; read = 0 }) w y
+    → EndsJudged faults end_count left names got (record { table = table; opens = opens; sources = a; read = read }) w x
+ends_so {S} faults end_count left names table opens w got olds a b read x y were sources none fault ends =
+    let E : List S → List S → ℕ → Option Fault → Type 0 =
+    λ g s n f. EndsJudged faults end_count left names g (record { table = table; opens = opens; sources = s; read = n }) w f in
+    subst (λ g. E g a read x) (sym were) (subst (λ s. E olds s read x) (sym sources) (subst (λ n. E olds b n x) (sym none) (subst (λ f. E olds b 0 f) (sym fault) ends)))

@@ -12,8 +12,8 @@ use Rattle.scq_collect.specs.Output.{one_thread_output}
 use Rattle.scq_lines.specs.Lines.{lines_of}
 use Rattle.scq_self.specs.Summary.{self_summary}
 use Rattle.scq_judge.specs.Judged.{IsJudged, IsCause}
+use Rattle.scq_judge.specs.Reads.{AreQuiet, AreReadUntil, AreReadWhole}
 use Rattle.scq_judge.specs.declared.judging.JudgeFault.{JudgeFault}
-use Rattle.scq_judge.specs.declared.judging.JudgeFault.TheVariants as judge
 use Rattle.scq_words.specs.Asked.{Asked, run, generated, judged, whole}
 use Rattle.scq_words.specs.declared.fault.WordsFault.{WordsFault}
 use Rattle.scq_words.specs.declared.text_request.TextCommand.{TextCommand}
@@ -236,26 +236,30 @@ pub record HaveAll {S : Type 0} (names : List (List ℕ)) (r : Left S) : Type 0 
   pub table : r.table.new ≡ option_map (without_names names) r.table.old
   pub read : r.read ≡ 0
 
--- what recordings tell meets P
-abbrev pub IsReported : {S : Type 0} → List (List ℕ) → Left S → (List ℕ → Type 0) → Type 0
-IsReported names r P = IfVisible r.table.old names (λ contents. (text : List ℕ) × IsJudged contents text × P text)
+-- what recordings tell meets P, where each source told its own when it was got
+abbrev pub IsReported : {S : Type 0} → (S → Option (List ℕ)) → List S → (List ℕ → Type 0) → Type 0
+IsReported left got P = IfTold left got (λ contents. (text : List ℕ) × IsJudged contents text × P text)
 
--- recordings were refused: by what they say, or by a read that failed
-abbrev pub IsRefusedBy : {S : Type 0} → (S → ℕ) → List (List ℕ) → Left S → JudgeFault → Type 0
-IsRefusedBy faults names r (judge.ReadFault file) = IsSomeAnd (slice_get r.sources (file - 1)) (λ source. 0 < faults source)
-IsRefusedBy faults names r refused = IfVisible r.table.old names (λ contents. IsCause contents refused)
+-- recordings were refused: sources were read so far, and this is at fault in what they told
+abbrev pub IsRefusedBy : {S : Type 0} → (S → ℕ) → (S → ℕ) → (S → Option (List ℕ)) → List S → Left S → JudgeFault → Type 0
+IsRefusedBy faults end_count left got r refused =
+    AreReadUntil faults end_count left got r.sources refused × IfTold left got (λ contents. IsCause contents refused)
 
--- how a run over recordings of these names ends
-abbrev pub EndsJudged : {S : Type 0} → (S → ℕ) → List (List ℕ) → Left S → Wrote → Option Fault → Type 0
-EndsJudged faults names r w None =
-    HaveAll names r × IsUnchanged w.faults × IsReported names r (λ text. w.written.new ≡ written_with w.written.old text)
-EndsJudged faults names r w (Some WriteFault) =
-    HaveAll names r × Rose w.faults.old w.faults.new × IsReported names r (λ text. WrotePart w.written.old w.written.new text)
-EndsJudged faults names r w (Some (OpenFault file)) =
-    (file ≡ length r.sources + 1) × (length r.sources < length names) × HasMissed names r × (r.read ≡ 0) × IsUnwritten w
-EndsJudged faults names r w (Some NoMemory) = (length r.sources ≤ length names) × (r.read ≡ 0) × IsUnwritten w
-EndsJudged faults names r w (Some fault) =
-    HaveAll names r × ((refused : JudgeFault) × (fault ≡ fault_of_judge refused) × IsRefusedBy faults names r refused) × IsUnwritten w
+-- how a run over recordings of these names ends. With its report every source was read to its end, and no read failed; none was read
+-- where one was not got
+abbrev pub EndsJudged : {S : Type 0} → (S → ℕ) → (S → ℕ) → (S → Option (List ℕ)) → List (List ℕ) → List S → Left S → Wrote → Option Fault → Type 0
+EndsJudged faults end_count left names got r w None =
+    HaveAll names r × AreReadWhole faults end_count left (length names) got r.sources × IsUnchanged w.faults
+    × IsReported left got (λ text. w.written.new ≡ written_with w.written.old text)
+EndsJudged faults end_count left names got r w (Some WriteFault) =
+    HaveAll names r × AreReadWhole faults end_count left (length names) got r.sources × Rose w.faults.old w.faults.new
+    × IsReported left got (λ text. WrotePart w.written.old w.written.new text)
+EndsJudged faults end_count left names got r w (Some (OpenFault file)) =
+    (file ≡ length r.sources + 1) × (length r.sources < length names) × HasMissed names r × (r.sources ≡ got) × (r.read ≡ 0) × IsUnwritten w
+EndsJudged faults end_count left names got r w (Some NoMemory) =
+    (length r.sources ≤ length names) × AreQuiet faults got r.sources × (r.read ≡ 0) × IsUnwritten w
+EndsJudged faults end_count left names got r w (Some fault) =
+    HaveAll names r × ((refused : JudgeFault) × (fault ≡ fault_of_judge refused) × IsRefusedBy faults end_count left got r refused) × IsUnwritten w
 
 -- no file was asked for
 abbrev pub IsClosed : {S : Type 0} → Left S → Type 0
@@ -268,7 +272,8 @@ EndsAs faults end_count left (Err fault) got r w end = IsClosed r × IsUnwritten
 EndsAs faults end_count left (Ok (run a)) got r w end =
     HasGot faults left a.files got r × EndsOver a.size (one_thread_output a.topics) faults end_count left a.files got r w end
 EndsAs faults end_count left (Ok (generated a)) got r w end = IsClosed r × EndsAlone (self_summary a.seed a.lines) w end
-EndsAs faults end_count left (Ok (judged a)) got r w end = EndsJudged faults a.files r w end
+EndsAs faults end_count left (Ok (judged a)) got r w end =
+    HasGot faults left a.files got r × EndsJudged faults end_count left a.files got r w end
 EndsAs faults end_count left (Ok (whole a)) got r w end = EndsWhole a.command faults left a.file r w end
 
 -- nothing stood in the way of a run over these files: each was got, no count rose, each told its content, and none has trouble

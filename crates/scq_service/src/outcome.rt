@@ -30,7 +30,7 @@ pub struct Outcome<S> {
     pub left: Option<Vec<u64>>,
     /// For contracts alone, and where `left` is there, the workers' passes as they were then.
     pub passes: Option<Snapshot<Vec<Pass<Frame>>>>,
-    /// For contracts alone, the sources of `run` as they were when they were got.
+    /// For contracts alone, the sources of `run` and `judge` as they were when they were got.
     pub got: Snapshot<Vec<S>>,
 }
 

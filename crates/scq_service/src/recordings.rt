@@ -1,9 +1,10 @@
 //! The command `judge`, which reads recordings.
 
-ghost use Rattle.std.specs.Prelude.{◌≡◌, ◌-◌, ◌<◌, ◌≤◌, ◌^◌, ℕ, List, None, length, map, slice_get, string_bytes, IfOk, IfErr, IsErrOf, IsSomeAnd};
+ghost use Rattle.std.specs.Prelude.{◌≡◌, ◌<◌, ◌≤◌, ◌^◌, ℕ, List, None, length, map, string_bytes, IfOk, IfErr, OnOk};
 ghost use Rattle.scq_judge.specs.Files.{HaveContents};
 ghost use Rattle.scq_judge.specs.Judged.{IsJudged, IsCause};
-ghost use Rattle.scq_service.specs.Ends.{EndsJudged};
+ghost use Rattle.scq_judge.specs.Reads.{HasGiven, OfEach, AreReadWhole, AreReadUntil};
+ghost use Rattle.scq_service.specs.Ends.{EndsJudged, HasGot};
 ghost use Rattle.scq_service.specs.Faults.{status_of};
 
 use crate::reading::get_sources;
@@ -13,6 +14,7 @@ use scq_judge::{JudgeFault, judge_recordings};
 use scq_outside::{Failed, Files, Sink, Source};
 use scq_word::Bytes;
 use std::alloc::Global;
+use std::snapshot::Snapshot;
 
 /// Gets the files of recordings, reads them, and writes the report of their merged history.
 pub fn run_judge<F: Files, K: Sink>(
@@ -23,12 +25,19 @@ pub fn run_judge<F: Files, K: Sink>(
 ) -> Outcome<F::Src>
     requires { length names.now ≤ 64 }
     ensures status { result.status ≡ status_of result.fault }
-    ensures ends { EndsJudged F.Src.faults (map string_bytes names.now) (record {
+    ensures got { HasGot F.Src.faults F.Src.left (map string_bytes names.now) result.got.value.items (record {
       table = record { old = F.table files.old; new = F.table files.new };
       opens = record { old = F.faults files.old; new = F.faults files.new };
       sources = result.sources.items;
       read = result.read;
-    })
+    }) }
+    ensures ends { EndsJudged F.Src.faults F.Src.ends F.Src.left (map string_bytes names.now) result.got.value.items
+        (record {
+          table = record { old = F.table files.old; new = F.table files.new };
+          opens = record { old = F.faults files.old; new = F.faults files.new };
+          sources = result.sources.items;
+          read = result.read;
+        })
         (record {
           written = record { old = K.written out.old; new = K.written out.new };
           faults = record { old = K.faults out.old; new = K.faults out.new };
@@ -41,13 +50,14 @@ pub fn run_judge<F: Files, K: Sink>(
     };
     let all = get_sources(names, files, &mut sources);
     if all {
+        let got = Snapshot::of(&sources);
         let (sources, report) = report_on(alloc, sources);
         match report {
             Ok(text) => match write_all(out, text.bytes()) {
-                Ok(()) => Outcome::whole(sources),
-                Err(Failed) => Outcome::at(sources, Fault::WriteFault),
+                Ok(()) => Outcome::whole(sources).behind(got, None, None),
+                Err(Failed) => Outcome::at(sources, Fault::WriteFault).behind(got, None, None),
             },
-            Err(fault) => Outcome::at(sources, Fault::from(fault)),
+            Err(fault) => Outcome::at(sources, Fault::from(fault)).behind(got, None, None),
         }
     } else {
         let file = sources.len() as u32 + 1;
@@ -61,8 +71,9 @@ fn report_on<S: Source>(alloc: Global, sources: Vec<S>) -> (Vec<S>, Result<Bytes
     ensures count { length result.0.items ≡ length sources.items }
     ensures judged { IfOk result.1 (λ text. (contents : List (List ℕ)) → HaveContents S.left sources.items contents → IsJudged contents text) }
     ensures refused { IfErr result.1 (λ fault. (contents : List (List ℕ)) → HaveContents S.left sources.items contents → IsCause contents fault) }
-    ensures read_fault { (file : ℕ) → IsErrOf result.1 (JudgeFault.ReadFault file)
-        → IsSomeAnd (slice_get result.0.items (file - 1)) (λ source. 0 < S.faults source) }
+    ensures whole { OnOk result.1 (AreReadWhole S.faults S.ends S.left (length sources.items) sources.items result.0.items) }
+    ensures until { IfErr result.1 (AreReadUntil S.faults S.ends S.left sources.items result.0.items) }
+    ensures given { OfEach (length sources.items) (HasGiven S.faults S.left) sources.items result.0.items }
 {
     let mut sources = sources;
     let report = judge_recordings(alloc, &mut sources);

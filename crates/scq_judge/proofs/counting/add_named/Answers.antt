@@ -1,4 +1,4 @@
-use Rattle.std.proofs.Common.{sym, ◌∙◌, Some}
+use Rattle.std.proofs.Common.{sym, ◌∙◌}
 use Rattle.scq_judge.proofs.CountLemmas.{seen_nothing, seen_again, seen_more}
 use Rattle.scq_judge.proofs.counting.add_named.Goals as goal
 

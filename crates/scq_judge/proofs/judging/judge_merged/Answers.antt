@@ -1,4 +1,3 @@
-use Rattle.std.proofs.Common.{◌≡◌, sym, subst}
 use Rattle.scq_judge.proofs.judging.judge_merged.Goals as goal
 
 pub returns : goal.returns

@@ -1,4 +1,4 @@
-use Rattle.std.proofs.Common.{◌∙◌, ℕ, List}
+use Rattle.std.proofs.Common.{◌∙◌}
 use Rattle.std.specs.Prelude.{codes}
 use Rattle.scq_judge.specs.Report.{beside_line, count_line, plain_line, waiting_line}
 use Rattle.scq_judge.proofs.TextLemmas.{grown}

@@ -1,4 +1,4 @@
-use Rattle.std.proofs.Common.{◌≡◌, ◌==◌, ◌∙◌, ap, is_some}
+use Rattle.std.proofs.Common.{◌==◌, ◌∙◌, ap, is_some}
 use Rattle.scq_judge.proofs.CountLemmas.{seen_added}
 use Rattle.scq_judge.proofs.counting.Seen.add.Goals as goal
 

@@ -1,9 +1,11 @@
-use Rattle.std.proofs.Common.{◌≡◌, ◌+◌, ◌-◌, ◌≤◌, ℕ, List, None, length}
+use Rattle.std.proofs.Common.{◌≡◌, ◌+◌, ◌-◌, ◌≤◌, ℕ, None, length}
 use Rattle.std.specs.Option.{option_map}
 use Rattle.memchr.specs.Find.{IsFirstByte, is_byte}
-use Rattle.scq_judge.specs.Files.{most_bytes}
+use Rattle.scq_judge.specs.Files.{IsFile, most_bytes}
+use Rattle.scq_judge.specs.Recording.{AreOf}
 use Rattle.scq_judge.specs.declared.recorded.Last.TheVariants.{NoEvent}
 use Rattle.scq_judge.proofs.ReadLemmas.{IsTaken}
+use Rattle.scq_judge.proofs.SourceLemmas.{HasTaken}
 use Rattle.scq_judge.proofs.reading.Reading.read.Given as goal
 
 abbrev pub invariant-reads : goal.invariant-reads
@@ -14,6 +16,8 @@ invariant-reads g l = record {
   taken : IsTaken l.fn.self.file l.fn.self.lone (record l.fn.recorded { last = NoEvent }) l.recorded l.lines l.front.items
       (g.S.Source.left l.fn.source) (g.S.Source.left l.source);
   left : option_map length (g.S.Source.left l.fn.source) ≡ option_map (λ rest. l.size + length rest) (g.S.Source.left l.source);
+  files : (count : ℕ) → IsFile count l.fn.self.file → AreOf count l.fn.recorded.events → AreOf count l.recorded.events;
+  source : HasTaken g.S.Source.faults g.S.Source.ends g.S.Source.left l.fn.source l.source;
 }
 
 abbrev pub decreases-reads : goal.decreases-reads

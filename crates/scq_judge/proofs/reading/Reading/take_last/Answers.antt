@@ -1,4 +1,4 @@
-use Rattle.std.proofs.Common.{◌≡◌, ◌<◌, ◌∙◌, [], length, ap, arith}
+use Rattle.std.proofs.Common.{◌<◌, ◌∙◌, [], length, ap, arith}
 use Rattle.scq_lines.proofs.Cutting.{lines_of-none}
 use Rattle.scq_judge.specs.Recording.{after_lines}
 use Rattle.scq_judge.proofs.ReadLemmas.{on_ok}

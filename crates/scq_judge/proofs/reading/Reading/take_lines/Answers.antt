@@ -7,6 +7,7 @@ pub lines-preserved : goal.lines-preserved
 lines-preserved c = record {
   few = taken_few _ _ _ _ c.in-Some.ensures c.lines.invariant.few;
   taken = λ more. c.lines.invariant.taken more ∙ taken_more _ _ _ _ _ _ _ c.in-Some.ensures c.in_ok-add_line-in-Some.ensures.read more;
+  files = λ count is all. c.in_ok-add_line-in-Some.ensures.files count is (c.lines.invariant.files count is all);
 }
 
 pub returns-in_err-add_line-in-Some-clause-bad_line : goal.returns-in_err-add_line-in-Some-clause-bad_line
