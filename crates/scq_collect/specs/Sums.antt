@@ -11,7 +11,8 @@ count_in topic members = count_by (λ a. a.topic == topic) members
 abbrev pub bytes_in : ℕ → List Answered → ℕ
 bytes_in topic members = sum_by (λ a. if a.topic == topic then a.bytes else 0) members
 
--- the numbers of these members on each of 17 topics, of whose payloads none has 2 ^ 64 bytes
+-- on each of 17 topics, how many of these members there are and how many bytes their payloads have; and on no topic have these more than
+-- 2 ^ 64 - 1 bytes for each member
 pub record AreTotals (totals : Totals) (members : List Answered) : Type 0 where
   pub counts : (topic : ℕ) → topic < 17 → slice_index totals.counts topic ≡ count_in topic members
   pub bytes : (topic : ℕ) → topic < 17 → slice_index totals.bytes topic ≡ bytes_in topic members

@@ -157,8 +157,8 @@ returns-then-all-clause-ends g c =
     (ap (λ v. v.items) (after.sources ∙ end.sources)) (after.read ∙ end.read) (after.fault ∙ end.fault ∙ ap Some c.from.ensures)
     (ends_refused left faults end_count names table opens olds news _ c.in-Err.fault read.count came.come all cause until (refl, refl))
 
-pub returns-else-all-clause-got : goal.returns-else-all-clause-got
-returns-else-all-clause-got g c =
+pub returns-clause-got : goal.returns-clause-got
+returns-clause-got g c =
     let faults = g.F.Src.Source.faults in
     let end_count = g.F.Src.Source.ends in
     let left = g.F.Src.Source.left in

@@ -1,8 +1,8 @@
 use Rattle.std.proofs.Common.{◌≡◌, ◌∙◌, sym, subst, ap, arith, ℕ, List, ◌++◌, ◌+◌, ◌<◌, length, take, drop}
-use Rattle.std.specs.Prelude.{Vec, flat_map, slice_index_or}
+use Rattle.std.specs.Prelude.{Vec, slice_index_or}
 use Rattle.std.specs.Global.{Global}
 use Rattle.std.proofs.lemmas.Grind.{flat_map-append}
-use Rattle.std.proofs.lemmas.List.{append-nil, drop_more, take-append-drop, take_all}
+use Rattle.std.proofs.lemmas.List.{drop_more, take-append-drop, take_all}
 use Rattle.std.proofs.lemmas.List.Concat.{flat_map-cons}
 use Rattle.scq_collect.specs.Pieces.{bytes_of}
 use Rattle.scq_service.specs.Writing.{WrotePart, written_with}
