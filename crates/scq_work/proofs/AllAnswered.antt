@@ -9,8 +9,9 @@ use Rattle.std.proofs.lemmas.List.Sorted.{IsPermutation-refl, IsPermutation-tran
 use Rattle.std.proofs.lemmas.Slice.Zip.{all_zipped_more}
 use Rattle.scq_topics.specs.declared.kind.Kind.{Kind}
 use Rattle.scq_frames.specs.declared.message.Message.{Message}
-use Rattle.scq_frames.specs.Encoded.{message_at, IsEncodable, BeginsWith}
-use Rattle.scq_frames.proofs.EncodedLemmas.{message_at-again}
+use Rattle.scq_frames.specs.Parts.{Part, message_of, whole_of}
+use Rattle.scq_frames.specs.Encoded.{part_at, IsEncodable, BeginsWith}
+use Rattle.scq_frames.proofs.EncodedLemmas.{part_at-again}
 use Rattle.scq_collect.specs.Output.{Answer, without_way}
 use Rattle.scq_collect.specs.Collected.{answer_of}
 use Rattle.scq_collect.specs.declared.answered.Answered.{Answered}
@@ -20,15 +21,19 @@ use Rattle.scq_work.specs.Members.{AnswersTake, AnswersSoFar, none, and_answered
 use Rattle.scq_work.specs.Passing.{ArePassedOn, Sends}
 use Rattle.scq_work.specs.Passing as passing
 
--- the answer to the message that bytes begin with; where there is none, to one without bytes
+-- a part that stands where there is none
+abbrev pub no_part : Part
+no_part = record { file = 0; line = 0; topic = 0; part = 0; parts = 0; payload = [] }
+
+-- the answer to the message that is the part that bytes begin with; where there is none, to one without bytes
 abbrev pub answer_at : List (List ℕ × Kind) → Placed → Answer
-answer_at topics m = answer_of topics (unwrap_or (message_at m.bytes) (record { file = 0; line = 0; topic = 0; payload = [] }))
+answer_at topics m = answer_of topics (message_of (unwrap_or (part_at m.bytes) no_part))
 
 -- the bytes of a sent message are read as the message
 sent-answer : (topics : List (List ℕ × Kind)) (m : Message) (send : Placed) → Sends m send → answer_at topics send ≡ answer_of topics m
 sent-answer topics m send sends =
-    let is : message_at send.bytes ≡ Some m = ap message_at sends.bytes.1 ∙ message_at-again m sends.bytes.0 sends.fits in
-    ap (λ o. answer_of topics (unwrap_or o (record { file = 0; line = 0; topic = 0; payload = [] }))) is
+    let is : part_at send.bytes ≡ Some (whole_of m) = ap part_at sends.bytes.1 ∙ part_at-again (whole_of m) sends.bytes.0 sends.fits in
+    ap (λ o. answer_of topics (message_of (unwrap_or o no_part))) is
 
 -- a, b, c, d as a, c, b, d
 crossed : {A : Type 0} (a b c d : List A) → IsPermutation ((a ++ b) ++ (c ++ d)) ((a ++ c) ++ (b ++ d))
@@ -83,30 +88,30 @@ passed-answers topics messages sends directs (passing.and_answered {ms} {sends =
     (subst (IsPermutation (answers ++ answer_of topics m ∷ [])) (append_assoc reads plain (answer_of topics m ∷ []))
     (IsPermutation-append_left (answer_of topics m ∷ []) answers (reads ++ plain) rest)))
 
--- a take is that of a message on a known topic
-pub record IsMessage (known : ℕ) (take : Placed) : Type 0 where
-  pub message : Message
-  pub fits : IsEncodable message
-  pub begins : BeginsWith take.bytes message
-  pub low : message.topic ≤ known
+-- a take is that of a part on a known topic
+pub record IsPart (known : ℕ) (take : Placed) : Type 0 where
+  pub part : Part
+  pub fits : IsEncodable part
+  pub begins : BeginsWith take.bytes part
+  pub low : part.topic ≤ known
 
 -- where each take is, none is passed over, and the Taken members are the answers as the takes are read
 pub taken-answers : (topics : List (List ℕ × Kind)) (takes : List Placed) (members : List Answered) → AnswersSoFar topics takes members
-    → ((t : Placed) → Contains takes t → IsMessage (length topics) t)
+    → ((t : Placed) → Contains takes t → IsPart (length topics) t)
     → AllZip (AnswersTake topics) takes members × (map without_way members ≡ map (answer_at topics) takes)
 taken-answers topics takes members none each = (tt, refl)
 taken-answers topics takes members (and_answered {takes = before} {members = ms} take a more is) each =
     let rest = taken-answers topics before ms more (λ t has. each t (Contains-append_left before (take ∷ []) t has)) in
     let its = each take (Contains-push before take) in
-    let same : is.message ≡ its.message = is.decodes.only its.message its.fits its.begins in
-    let read : message_at take.bytes ≡ Some its.message = ap message_at its.begins.1 ∙ message_at-again its.message its.begins.0 its.fits in
+    let same : is.part ≡ its.part = is.decodes.only its.part its.fits its.begins in
+    let read : part_at take.bytes ≡ Some its.part = ap part_at its.begins.1 ∙ part_at-again its.part its.begins.0 its.fits in
     let plain : without_way a ≡ answer_at topics take =
-    ap without_way is.answer ∙ ap (answer_of topics) same
-    ∙ sym (ap (λ o. answer_of topics (unwrap_or o (record { file = 0; line = 0; topic = 0; payload = [] }))) read) in (
+    ap without_way is.answer ∙ ap (λ p. answer_of topics (message_of p)) same
+    ∙ sym (ap (λ o. answer_of topics (message_of (unwrap_or o no_part))) read) in (
       all_zipped_more (AnswersTake topics) before ms take a rest.0 is,
       map-append without_way ms (a ∷ []) ∙ ap (λ l. l ++ without_way a ∷ []) rest.1 ∙ ap (λ b. map (answer_at topics) before ++ b ∷ []) plain
           ∙ sym (map-append (answer_at topics) before (take ∷ [])),
     )
 taken-answers topics takes members (and_passed_over {takes = before} {members = ms} take more never) each =
     let its = each take (Contains-push before take) in
-    absurd (never its.message its.fits its.begins its.low)
+    absurd (never its.part its.fits its.begins its.low)

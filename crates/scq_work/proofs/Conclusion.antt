@@ -10,6 +10,7 @@ use Rattle.std.proofs.lemmas.List.Elements.{All-contains, Contains-push_cases}
 use Rattle.std.proofs.lemmas.List.Sorted.{IsPermutation-sym, IsPermutation-trans, IsPermutation-append_left, IsPermutation-map, IsPermutation-filter_both}
 use Rattle.scq_topics.specs.declared.kind.Kind.{Kind}
 use Rattle.scq_frames.specs.declared.message.Message.{Message}
+use Rattle.scq_frames.specs.Parts.{whole_of}
 use Rattle.scq_collect.specs.Output.{Answer, without_way}
 use Rattle.scq_collect.specs.Collected.{answer_of}
 use Rattle.scq_collect.specs.declared.answered.Answered.{Answered}
@@ -21,7 +22,7 @@ use Rattle.scq_work.specs.Passing.{ArePassedOn}
 use Rattle.scq_work.specs.Passing as passing
 use Rattle.scq_work.specs.Together.{all_sends, all_takes, SendsAreTakes}
 use Rattle.scq_work.specs.Working.{HasListed}
-use Rattle.scq_work.proofs.AllAnswered.{answer_at, together, passed-answers, IsMessage, taken-answers}
+use Rattle.scq_work.proofs.AllAnswered.{answer_at, together, passed-answers, IsPart, taken-answers}
 use Rattle.scq_work.proofs.Lists.{all-front, all-last}
 use Rattle.scq_work.proofs.SendsAndTakes.{take-was-sent, in-all, from-all, found-at, stands-at}
 
@@ -37,12 +38,12 @@ flat-of f g (v ∷ vs) = ap (λ l. f (g v) ++ l) (flat-of f g vs)
 -- a send of messages on known topics is that of one of them
 send-message : (topics : List (List ℕ × Kind)) (messages : List Message) (sends : List Placed) (directs : List Answered)
     → ArePassedOn topics messages sends directs
-    → All (λ m. m.topic ≤ length topics) messages → (s : Placed) → Contains sends s → IsMessage (length topics) s
+    → All (λ m. m.topic ≤ length topics) messages → (s : Placed) → Contains sends s → IsPart (length topics) s
 send-message topics messages sends directs passing.none known s has = absurd (omega (arith, has.1))
 send-message topics messages sends directs (passing.and_sent {ms} {sends = before} {directs = ds} m send more is) known s has =
     ⊎_elim (λ (h : Contains before s). send-message topics ms before directs more (all-front (λ m. m.topic ≤ length topics) ms m known) s h)
-    (λ (e : send ≡ s). subst (IsMessage (length topics)) e
-    (record { message = m; fits = is.fits; begins = is.bytes; low = all-last (λ m. m.topic ≤ length topics) ms m known }))
+    (λ (e : send ≡ s). subst (IsPart (length topics)) e
+    (record { part = whole_of m; fits = is.fits; begins = is.bytes; low = all-last (λ m. m.topic ≤ length topics) ms m known }))
     (Contains-push_cases before send s has)
 send-message topics messages sends directs (passing.and_answered {ms} {sends = before} {directs = ds} m a more is) known s has =
     send-message topics ms sends ds more (all-front (λ m. m.topic ≤ length topics) ms m known) s has
@@ -70,7 +71,7 @@ module _ {B : Type 0} where
 
   -- each take is that of a message on a known topic
   take-message : (topics : List (List ℕ × Kind)) (works : List (Work B)) → All (IsWork topics) works → EachTakeIsASend (passes_in works)
-      → (t : Placed) → Contains (all_takes (passes_in works)) t → IsMessage (length topics) t
+      → (t : Placed) → Contains (all_takes (passes_in works)) t → IsPart (length topics) t
   take-message topics works each sent t has =
       let was = subst (λ (l : List Placed). Contains l t) (flat-of (λ (p : PassStanding B). sends_of p.calls) (λ (w : Work B). w.pass) works)
       (take-was-sent (passes_in works) sent t has) in

@@ -5,6 +5,7 @@ use Rattle.std.proofs.lemmas.Option.{slice_get_cases}
 use Rattle.std.proofs.lemmas.List.{length-append}
 use Rattle.scq_topics.specs.declared.kind.Kind.{Kind}
 use Rattle.scq_frames.specs.declared.message.Message.{Message}
+use Rattle.scq_frames.specs.Parts.{whole_of}
 use Rattle.scq_collect.specs.declared.answered.Answered.{Answered}
 use Rattle.scq_collect.specs.declared.answered.Way.TheVariants.{Direct}
 use Rattle.scq_band.specs.Standing.{Identity}
@@ -51,7 +52,7 @@ module _ {B : Type 0} where
       (before after : Bool)
       → IsAtWork topics messages p was before → HasFoundFull head p q → HasTaken q r
       → ((topic : ℕ) → topic < length topics + 1 → count_by (is_take topic) r.calls ≡ count_by (is_take topic) q.calls + 1)
-      → (after ≡ false → before ≡ false) → (after ≡ false → mid ≡ was ++ answered topics (Direct head) m ∷ []) → (after ≡ false → HasAnswered topics q r mid is)
+      → (after ≡ false → before ≡ false) → (after ≡ false → mid ≡ was ++ answered topics (Direct head) (whole_of m) ∷ []) → (after ≡ false → HasAnswered topics q r mid is)
       → IsAtWork topics (messages ++ m ∷ []) r is after
   work-helped topics messages m head p q r was mid is before after work full taken each fed_before grown more =
       record {

@@ -13,6 +13,7 @@ use Rattle.scq_law.specs.Bounds.{tally, was_put}
 use Rattle.scq_law.proofs.Base.SeatSums.{tally-append}
 use Rattle.scq_topics.specs.declared.kind.Kind.{Kind}
 use Rattle.scq_frames.specs.declared.message.Message.{Message}
+use Rattle.scq_frames.specs.Parts.{whole_of}
 use Rattle.scq_collect.specs.declared.answered.Answered.{Answered}
 use Rattle.scq_collect.specs.declared.answered.Way.TheVariants.{Direct}
 use Rattle.scq_queue.specs.Lists.{Placed, sends_of, takes_of}
@@ -228,9 +229,9 @@ module _ {B : Type 0} where
       }
 
   pub listed-full : (topics : List (List ℕ × Kind)) (messages : List Message) (m : Message) (head : ℕ) (p q : PassStanding B) (members : List Answered)
-      → HasListed topics messages p members → HasFoundFull head p q → HasListed topics (messages ++ m ∷ []) q (members ++ answered topics (Direct head) m ∷ [])
+      → HasListed topics messages p members → HasFoundFull head p q → HasListed topics (messages ++ m ∷ []) q (members ++ answered topics (Direct head) (whole_of m) ∷ [])
   listed-full topics messages m head p q members was h =
-      let a = answered topics (Direct head) m in
+      let a = answered topics (Direct head) (whole_of m) in
       let directs : filter is_direct (members ++ a ∷ []) ≡ filter is_direct members ++ a ∷ [] = filter-append is_direct members (a ∷ []) in
       let takens : filter is_taken (members ++ a ∷ []) ≡ filter is_taken members =
       filter-append is_taken members (a ∷ []) ∙ append-nil (filter is_taken members) in

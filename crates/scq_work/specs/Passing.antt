@@ -4,22 +4,23 @@ use Rattle.scq_core.specs.declared.ended.Ended.{Ended}
 use Rattle.scq_core.specs.declared.ended.Ended.TheVariants.{Done, Nothing}
 use Rattle.scq_topics.specs.declared.kind.Kind.{Kind}
 use Rattle.scq_frames.specs.declared.message.Message.{Message}
+use Rattle.scq_frames.specs.Parts.{whole_of}
 use Rattle.scq_frames.specs.Encoded.{IsEncodable, BeginsWith}
 use Rattle.scq_collect.specs.declared.answered.Answered.{Answered}
 use Rattle.scq_collect.specs.declared.answered.Way.TheVariants.{Direct}
 use Rattle.scq_queue.specs.Lists.{Placed, sent_by, was_full}
 use Rattle.scq_work.specs.Members.{answered, is_direct}
 
--- this send has the bytes of the message, on the message's topic
+-- this send has the bytes of the message as one part, on the message's topic
 pub record Sends (m : Message) (send : Placed) : Type 0 where
   pub topic : send.topic ≡ m.topic
-  pub fits : IsEncodable m
-  pub bytes : BeginsWith send.bytes m
+  pub fits : IsEncodable (whole_of m)
+  pub bytes : BeginsWith send.bytes (whole_of m)
 
 -- this member answers the message directly
 pub record AnswersDirectly (topics : List (List ℕ × Kind)) (m : Message) (a : Answered) : Type 0 where
   pub head : ℕ
-  pub answer : a ≡ answered topics (Direct head) m
+  pub answer : a ≡ answered topics (Direct head) (whole_of m)
 
 -- messages, in order, are each the next send or the next direct answer, and there are no other sends and direct answers
 pub data ArePassedOn (topics : List (List ℕ × Kind)) : List Message → List Placed → List Answered → Type 0 where

@@ -44,7 +44,7 @@ impl<B: Buffer, S: Source> Desk<B, S> {
     /// past the limit, it retires and leaves at once, and keeps the value that came back.
     pub fn run<G: Gate>(&mut self, alloc: Global, job: &Job, queue: &Queue<B>, gate: &G)
         requires rings { queue.now.setup.rings ≡ length job.now.topics + 2 }
-        requires room { All (λ b. job.now.size + 16 ≤ length (B.contents b)) queue.now.given }
+        requires room { All (λ b. job.now.size + 24 ≤ length (B.contents b)) queue.now.given }
         requires pass { self.old.worker.pass ≡ first_pass queue.now self.old.worker.number }
         requires members { self.old.worker.members.items ≡ [] }
         requires kept { self.old.kept ≡ None }

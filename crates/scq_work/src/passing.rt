@@ -24,7 +24,7 @@ impl<B: Buffer> Worker<B> {
         requires stays { self.old.pass.retired ≡ None }
         requires topic { message.now.topic ≤ length job.now.topics }
         requires short { length message.now.payload ≤ job.now.longest }
-        requires room { All (λ b. job.now.size + 16 ≤ length (B.contents b)) queue.now.given }
+        requires room { All (λ b. job.now.size + 24 ≤ length (B.contents b)) queue.now.given }
         ensures suits { OnOk result (Suits queue.now (length job.now.topics) self.new.pass) }
         ensures stays { OnOk result (self.new.pass.retired ≡ None) }
         ensures work { OnOk result ((messages : List TheMessage)
@@ -38,7 +38,7 @@ impl<B: Buffer> Worker<B> {
     {
         match queue.lend(&mut self.pass) {
             Ok(held) => {
-                self.send_in(queue, message, held)?;
+                self.send_in(job, queue, message, held)?;
                 gate.at(self.number, Point::AfterSend);
                 Ok(())
             }

@@ -35,7 +35,7 @@ impl<B: Buffer> Worker<B> {
     ) -> Result<(), AtLimit<B>>
         requires suits { Suits queue.now (length job.now.topics) self.old.pass }
         requires stays { self.old.pass.retired ≡ None }
-        requires room { All (λ b. job.now.size + 16 ≤ length (B.contents b)) queue.now.given }
+        requires room { All (λ b. job.now.size + 24 ≤ length (B.contents b)) queue.now.given }
         requires none { given_in given.old.value ≡ [] }
         ensures read { IsRead job.now.topics job.now.longest S.faults S.ends S.left file source.old source.new (given_in given.new.value) end.new }
         ensures suits { OnOk result (Suits queue.now (length job.now.topics) self.new.pass) }
@@ -86,7 +86,7 @@ impl<B: Buffer> Worker<B> {
     ) -> Result<(), AtLimit<B>>
         requires suits { Suits queue.now (length job.now.topics) self.old.pass }
         requires stays { self.old.pass.retired ≡ None }
-        requires room { All (λ b. job.now.size + 16 ≤ length (B.contents b)) queue.now.given }
+        requires room { All (λ b. job.now.size + 24 ≤ length (B.contents b)) queue.now.given }
         requires unread { IsNew file.old }
         ensures same { (file.new.number ≡ file.old.number) × (file.new.was.value ≡ file.old.was.value) }
         ensures read { IsRead job.now.topics job.now.longest S.faults S.ends S.left file.new.number file.new.was.value file.new.source
@@ -126,7 +126,7 @@ impl<B: Buffer> Worker<B> {
     ) -> Result<(), AtLimit<B>>
         requires suits { Suits queue.now (length job.now.topics) self.old.pass }
         requires stays { self.old.pass.retired ≡ None }
-        requires room { All (λ b. job.now.size + 16 ≤ length (B.contents b)) queue.now.given }
+        requires room { All (λ b. job.now.size + 24 ≤ length (B.contents b)) queue.now.given }
         requires unread { All IsNew files.old }
         ensures same { ids_of files.new ≡ ids_of files.old }
         ensures read { All (λ f. IsRead job.now.topics job.now.longest S.faults S.ends S.left f.number f.was.value f.source (given_in f.given.value) f.end)

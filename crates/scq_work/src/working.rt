@@ -31,8 +31,8 @@ use std::thread::Threads;
 /// The limit of the queue's tickets, which no work comes near.
 const LIMIT: u64 = 1 << 60;
 
-/// How many bytes stand in front of a message's payload.
-const HEADER: u32 = 16;
+/// How many bytes stand in front of a part.
+const HEADER: u32 = 24;
 
 /// What the work needs room for, beside its queue: the lists of each worker's files, the desks, and what the workers leave behind.
 struct Room<S: Source> {
@@ -110,7 +110,7 @@ fn make_room<S: Source>(alloc: Global, job: &Job, files: usize) -> Result<Room<S
 /// The frames of a queue for a job, with the block that they are carved from: each has room for a message.
 fn make_frames(alloc: Global, job: &Job) -> Result<(Block, Vec<Frame>), NoMemory>
     ensures count { IfOk result (λ made. vec_len made.1 ≡ 2 ^ job.now.order) }
-    ensures room { IfOk result (λ made. All (λ f. job.now.size + 16 ≤ length f.bytes.items) made.1.items) }
+    ensures room { IfOk result (λ made. All (λ f. job.now.size + 24 ≤ length f.bytes.items) made.1.items) }
     ensures all { IfOk result (λ made. AreAllOf made.0 made.1.items) }
 {
     Block::carve(alloc, 1 << job.order, job.size + HEADER)
@@ -121,7 +121,7 @@ fn make_queue(alloc: Global, job: &Job) -> Result<(Block, Queue<Frame>, Vec<Pass
     ensures setup { IfOk result (λ made. (made.1.setup.order ≡ job.now.order) × (made.1.setup.rings ≡ length job.now.topics + 2)
         × (made.1.setup.seats ≡ job.now.workers) × (made.1.setup.limit ≡ 2 ^ 60)) }
     ensures passes { IfOk result (λ made. made.2.items ≡ first_passes made.1 made.1.setup.seats) }
-    ensures room { IfOk result (λ made. All (λ f. job.now.size + 16 ≤ length f.bytes.items) made.1.given) }
+    ensures room { IfOk result (λ made. All (λ f. job.now.size + 24 ≤ length f.bytes.items) made.1.given) }
     ensures all { IfOk result (λ made. AreAllOf made.0 made.1.given) }
 {
     let (block, frames) = make_frames(alloc, job)?;
@@ -158,7 +158,7 @@ fn run_all<R: Threads + Sync, S: Source, G: Gate>(
 )
     requires some { 0 < length desks.old }
     requires rings { queue.now.setup.rings ≡ length job.now.topics + 2 }
-    requires room { All (λ b. job.now.size + 16 ≤ length b.bytes.items) queue.now.given }
+    requires room { All (λ b. job.now.size + 24 ≤ length b.bytes.items) queue.now.given }
     requires fresh { All (IsFresh queue.now) desks.old }
     requires unread { All (λ d. All IsNew d.files.items) desks.old }
     ensures same { (w : ℕ) (d : _) → w < length desks.old
@@ -171,7 +171,7 @@ fn run_all<R: Threads + Sync, S: Source, G: Gate>(
 {
     let threads = desks.len();
     let run = |_: usize, desk: &mut Desk<Frame, S>|
-        requires { (queue.now.setup.rings ≡ length job.now.topics + 2) × All (λ b. job.now.size + 16 ≤ length b.bytes.items) queue.now.given
+        requires { (queue.now.setup.rings ≡ length job.now.topics + 2) × All (λ b. job.now.size + 24 ≤ length b.bytes.items) queue.now.given
             × IsFresh queue.now desk.now × All IsNew desk.now.files.items }
         ensures { (ids_of desk.exit.now.files.items ≡ ids_of desk.entry.now.files.items)
             × (desk.exit.now.worker.pass.number ≡ desk.entry.now.worker.pass.number)
@@ -265,7 +265,7 @@ fn work_in<R: Threads + Sync, S: Source, G: Gate>(
     requires few { vec_len sources ≤ 64 }
     requires setup { (queue.setup.order ≡ job.now.order) × (queue.setup.rings ≡ length job.now.topics + 2) × (queue.setup.seats ≡ job.now.workers)
         × (queue.setup.limit ≡ 2 ^ 60) }
-    requires frames { All (λ f. job.now.size + 16 ≤ length f.bytes.items) queue.given }
+    requires frames { All (λ f. job.now.size + 24 ≤ length f.bytes.items) queue.given }
     requires all { AreAllOf block queue.given }
     requires passes { passes.items ≡ first_passes queue queue.setup.seats }
     requires files { (vec_len room.files ≡ job.now.workers)

@@ -16,10 +16,13 @@ pub send_in-requires-clause-room : goal.send_in-requires-clause-room
 send_in-requires-clause-room g c κs within =
     let laws = g.met.B.Buffer g.world.𝓛 g.world.𝓜 g.world.𝓡 ((λ s x. x), (λ x. x), (λ x. x), (λ x. x)) in
     let given = c.in-Ok.ensures.given in
-    let room = one-of-all (λ b. c.args.job.now.size + 16 ≤ length (g.B.Buffer.contents b)) c.args.queue.now.given c.in-Ok.held.index given.first
+    let room = one-of-all (λ b. c.args.job.now.size + 24 ≤ length (g.B.Buffer.contents b)) c.args.queue.now.given c.in-Ok.held.index given.first
     c.requires.room given.was in
     let same = laws.same_length given.first c.in-Ok.held.buffer given.same in
-    omega (arith, room, same, c.requires.short, c.args.job.now.fits)
+    omega (arith, room, same)
+
+pub send_in-requires-clause-short : goal.send_in-requires-clause-short
+send_in-requires-clause-short g c κs within = omega (arith, c.requires.short, c.args.job.now.fits)
 
 -- the send met Spent
 pub returns-in_err-send_in-in-Ok-clause-left : goal.returns-in_err-send_in-in-Ok-clause-left
