@@ -145,8 +145,8 @@ module _ {S : Type 0} (faults end_count : S → ℕ) (left : S → Option (List 
       | inl is ↦ upto k d (omega arith)
       | inr (inl below) ↦ upto k d (omega arith)
       | inr (inr above) ↦ (let other : k ≢ i = λ is. omega arith in
-            let is : get_or (set mids i new) k d ≡ get_or olds k d = there k d other ∙ same_at mids olds k d (same k (omega arith)) in
-            subst (R (get_or olds k d)) (sym is) (stays (get_or olds k d)))
+          let is : get_or (set mids i new) k d ≡ get_or olds k d = there k d other ∙ same_at mids olds k d (same k (omega arith)) in
+          subst (R (get_or olds k d)) (sym is) (stays (get_or olds k d)))
     ]
 
     pub same_more : (k : ℕ) → i + 1 ≤ k → slice_get (set mids i new) k ≡ slice_get olds k

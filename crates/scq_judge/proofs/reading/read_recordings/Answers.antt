@@ -61,20 +61,22 @@ returns-in_err-read-clause-cause g c =
     handed_on c.from_residual.result fault
     (λ fault. (contents : List (List ℕ)) → HaveContents left olds contents → IsCause contents (fault_of_reading fault)) c.from_residual.ensures.1
     (λ contents have.
-        let within : i < length contents = (let many = have.many in omega arith) in
-        let own = own_content faults end_count left olds mids i new long inside before.same e contents have in
-        let at : i ≡ i + 1 - 1 = omega arith in
-        cause_of_reading contents (i + 1) fault
-        (sound_before contents i c.loop-i.recorded (before.small contents have)
-        (subst (λ n. after_files (n == 1) 1 nothing (take i contents) ≡ Ok c.loop-i.recorded) (sym have.many) (before.front contents have)))
-        (λ f line is. let h = c.in_err-read.ensures.bad_line f line (ap Err is) in
-            (h.0, ap (λ n. after_files (n == 1) 1 nothing contents) have.many ∙ before.text contents have ∙ file_bad _ _ i line _ contents _ within own h.1))
-        (λ f is. let h = c.in_err-read.ensures.large f (ap Err is) in
-            (h.0, record {
-              is_file = record { first = omega arith; last = omega arith };
-              large = subst (λ k. IsSomeAnd (slice_get contents k) (λ content. most_bytes < length content)) at (file_large i contents _ within own h.1);
-            }))
-        (λ f is. c.in_err-read.ensures.read_fault f (ap Err is)))
+    let within : i < length contents = (let many = have.many in omega arith) in
+    let own = own_content faults end_count left olds mids i new long inside before.same e contents have in
+    let at : i ≡ i + 1 - 1 = omega arith in
+    cause_of_reading contents (i + 1) fault
+    (sound_before contents i c.loop-i.recorded (before.small contents have)
+    (subst (λ n. after_files (n == 1) 1 nothing (take i contents) ≡ Ok c.loop-i.recorded) (sym have.many) (before.front contents have)))
+    (λ f line is. let h = c.in_err-read.ensures.bad_line f line (ap Err is) in
+    (h.0, ap (λ n. after_files (n == 1) 1 nothing contents) have.many ∙ before.text contents have ∙ file_bad _ _ i line _ contents _ within own h.1))
+    (λ f is. let h = c.in_err-read.ensures.large f (ap Err is) in (
+      h.0,
+      record {
+        is_file = record { first = omega arith; last = omega arith };
+        large = subst (λ k. IsSomeAnd (slice_get contents k) (λ content. most_bytes < length content)) at (file_large i contents _ within own h.1);
+      },
+    ))
+    (λ f is. c.in_err-read.ensures.read_fault f (ap Err is)))
 
 pub returns-in_err-read-clause-until : goal.returns-in_err-read-clause-until
 returns-in_err-read-clause-until g c =
