@@ -1,5 +1,5 @@
 -- A text that grew part by part
-use Rattle.std.proofs.Common.{◌≡◌, ◌∙◌, ap, ℕ, List, [], ◌++◌}
+use Rattle.std.proofs.Common.{◌≡◌, ◌∙◌, ap, append_assoc, ℕ, List, [], ◌++◌}
 
 -- by ten parts
 pub grown : (t0 t1 t2 t3 t4 t5 t6 t7 t8 t9 t10 a b c d e f g h i j : List ℕ) → t0 ≡ []
@@ -17,3 +17,7 @@ grown t0 t1 t2 t3 t4 t5 t6 t7 t8 t9 t10 a b c d e f g h i j none p1 p2 p3 p4 p5 
     let r8 : t8 ≡ a ++ b ++ c ++ d ++ e ++ f ++ g ++ h = p8 ∙ ap (λ z. z ++ h) r7 in
     let r9 : t9 ≡ a ++ b ++ c ++ d ++ e ++ f ++ g ++ h ++ i = p9 ∙ ap (λ z. z ++ i) r8 in
     p10 ∙ ap (λ z. z ++ j) r9
+
+-- a part more behind those that a text had at first
+pub behind : (first before after front part : List ℕ) → before ≡ first ++ front → after ≡ before ++ part → after ≡ first ++ (front ++ part)
+behind first before after front part had more = more ∙ ap (λ z. z ++ part) had ∙ append_assoc first front part
