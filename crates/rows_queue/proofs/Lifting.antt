@@ -1,5 +1,5 @@
 -- A hand in which the buffer of an index was lifted, or laid.
-use Rattle.std.proofs.Common.{◌≡◌, ℕ, List, ◌∙◌, ap}
+use Rattle.std.proofs.Common.{◌≡◌, ℕ, ◌∙◌, ap}
 use Rattle.std.specs.Prelude.{Some, Option}
 use Rattle.scq_band.specs.Standing.{Standing, in_hand, with_buffer}
 use Rattle.scq_band.proofs.Putting.{laid_there}

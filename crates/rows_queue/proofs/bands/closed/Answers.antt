@@ -1,4 +1,4 @@
-use Rattle.std.proofs.Common.{◌≡◌, ℕ, List, map, subst, sym}
+use Rattle.std.proofs.Common.{ℕ, List, map, subst, sym}
 use Rattle.scq_queue.specs.declared.heap_buffer.HeapBuffer.{HeapBuffer}
 use Rattle.scq_queue.specs.contracts.heap_buffer.HeapBufferBuffer.TheImpl as buffer
 use Rattle.scq_band.specs.Closing.{AreTheLifted}

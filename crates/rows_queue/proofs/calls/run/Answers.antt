@@ -1,4 +1,4 @@
-use Rattle.std.proofs.Common.{◌≡◌, ℕ, ◌<◌, List, [], ◌∷◌, ◌++◌, length, false, true, sym, ◌∙◌, ap, subst, arith}
+use Rattle.std.proofs.Common.{◌≡◌, ◌<◌, List, length, false, true, sym, ◌∙◌, ap, subst, arith}
 use Rattle.std.specs.Prelude.{All, vec_len}
 use Rattle.scq_queue.specs.Passes.{PassStanding, HeldStanding}
 use Rattle.scq_queue.specs.Closing.{AreTheHeld}

@@ -1,4 +1,4 @@
-use Rattle.std.proofs.Common.{◌≡◌, ℕ, List, length, refl, ◌∙◌, ap}
+use Rattle.std.proofs.Common.{refl, ◌∙◌, ap}
 use Rattle.std.specs.Prelude.{Err}
 use Rattle.scq_queue.specs.declared.heap_buffer.HeapBuffer.{HeapBuffer}
 use Rattle.scq_queue.specs.contracts.heap_buffer.HeapBufferBuffer.TheImpl as buffer
