@@ -1,14 +1,13 @@
 -- Puts that ended with Spent, event by event
-use Rattle.std.proofs.Common.{◌≡◌, ℕ, suc, ◌+◌, ◌<◌, ◌↔◌, ◌⊎◌, inl, inr, true, false, not, Bool, IsTrue, List, Option, Some, None, is_some, slice_get, length, if◌then◌else◌, MatchOption}
+use Rattle.std.proofs.Common.{◌≡◌, ℕ, suc, ◌+◌, ◌↔◌, ◌⊎◌, inl, inr, true, false, not, IsTrue, List, Option, Some, None, is_some, slice_get, length, if◌then◌else◌, MatchOption}
 use Rattle.std.proofs.Common.{◌≤◌, sym, subst, ap, refl, arith, ◌∙◌}
 use Rattle.std.proofs.lemmas.Bool.{cases_eq}
 use Rattle.std.proofs.lemmas.Bool.Decides.{eqb_tells}
 use Rattle.std.proofs.lemmas.Option.{slice_get_within}
-use Rattle.scq_hist.specs.Calls.{Names, puts_before}
+use Rattle.scq_hist.specs.Calls.{puts_before}
 use Rattle.scq_hist.specs.Lookups.{got_name}
 use Rattle.scq_hist.specs.declared.events.Event.{Event}
 use Rattle.scq_hist.specs.declared.events.Event.TheVariants.{End}
-use Rattle.scq_hist.specs.declared.events.PutName.{PutName}
 use Rattle.scq_hist.specs.declared.events.PutName.TheVariants.{Opening, Of}
 use Rattle.scq_hist.specs.declared.events.Reply.TheVariants.{Spent}
 use Rattle.scq_hist.proofs.NamesLemmas.{names_there, named_there, same_name as one_name}

@@ -1,4 +1,4 @@
-use Rattle.std.proofs.Common.{refl, sym, ap, not}
+use Rattle.std.proofs.Common.{refl}
 use Rattle.scq_hist.proofs.NamesLemmas.{read}
 use Rattle.scq_check.proofs.RefusedLemmas.{accepted_there, accepted_other}
 use Rattle.scq_check.proofs.refused.is_accepted_at.Goals as goal
