@@ -3,14 +3,16 @@ use Rattle.std.proofs.Common.{◌≡◌, ℕ, suc, ◌<◌, ◌≤◌, ◌↔◌
 use Rattle.std.specs.Prelude.{IfSome, MatchOption}
 use Rattle.std.proofs.lemmas.Bool.{cases_lt}
 use Rattle.std.proofs.lemmas.Option.{slice_get_within}
-use Rattle.scq_hist.specs.Calls.{puts_before, IsFinishedAt, IsGot, IsGetOf, IsGotBefore}
+use Rattle.scq_hist.specs.Calls.{puts_before, IsGot, IsGetOf, IsGotBefore}
 use Rattle.scq_hist.specs.First.{IsFirstFailing}
 use Rattle.scq_hist.specs.Lookups.{EndsDone, NoDoneAt, IsFirstNamed}
 use Rattle.scq_hist.specs.declared.events.Event.{Event}
 use Rattle.scq_hist.specs.declared.events.PutName.{PutName}
 use Rattle.scq_hist.specs.declared.events.PutName.TheVariants.{Opening, Of}
 use Rattle.scq_hist.proofs.TallyLemmas.{names_from_get, one_get}
-use Rattle.scq_check.specs.Waiting.{IsTokenTaken, IsPutTaken}
+use Rattle.scq_check.specs.Waiting.{IsLeftOut, IsTokenLeftOut, IsPutLeftOut, told_of}
+use Rattle.scq_check.specs.declared.waiting.Sought.{Sought}
+use Rattle.scq_check.specs.declared.waiting.Sought.TheVariants.{Every, GotLater}
 
 -- at most one put ends with Done at a position
 pub one_done : (events : List Event) (queue d : ℕ) (a b : PutName) → EndsDone events queue d a → EndsDone events queue d b → a ≡ b
@@ -24,49 +26,83 @@ one_done events queue d (Of k n) (Of l m) x y =
     let numbers : n ≡ m = x.put.counted ∙ ap (λ z. suc (puts_before events k z)) starts ∙ ap (λ z. suc (puts_before events z y.s)) seats ∙ sym y.put.counted in cc
 
 -- the one get of a put decides
-pub taken_by : (events : List Event) (name : PutName) (s e : ℕ) (b : Bool) → ((d : ℕ) × IsGetOf events name s d) → (IsTrue b ↔ (s < e))
+taken_by : (events : List Event) (name : PutName) (s e : ℕ) (b : Bool) → ((d : ℕ) × IsGetOf events name s d) → (IsTrue b ↔ (s < e))
     → IsTrue b ↔ IsGotBefore events e name
 taken_by events name s e b get test = (
   λ t. record { s = s; e = get.0; before = test.0 t; get = get.1 },
   λ h. test.1 (subst (λ z. z < e) (one_get events name h.s s h.e get.0 h.get get.1) h.before),
 )
 
-pub taken_by_none : (events : List Event) (name : PutName) (e : ℕ) → (¬ IsGot events name) → IsTrue false ↔ IsGotBefore events e name
+taken_by_none : (events : List Event) (name : PutName) (e : ℕ) → (¬ IsGot events name) → IsTrue false ↔ IsGotBefore events e name
 taken_by_none events name e none = (λ t. absurd cc, λ h. absurd (none (h.e, names_from_get events name h.s h.e h.get)))
 
+-- whatever is sought
+pub left_out_by : (sought : Sought) (events : List Event) (name : PutName) (s e : ℕ) (b : Bool) → ((d : ℕ) × IsGetOf events name s d) → (IsTrue b ↔ (s < e))
+    → IsTrue b ↔ IsLeftOut sought events e name
+left_out_by Every events name s e b get test = taken_by events name s e b get test
+left_out_by GotLater events name s e b get test =
+    let taken = taken_by events name s e b get test in
+    (λ t _. taken.0 t, λ h. taken.1 (h (get.0, names_from_get events name s get.0 get.1)))
+
+-- nothing has got it
+pub never_every : (sought : Sought) (events : List Event) (name : PutName) (e : ℕ) → sought ≡ Every → (¬ IsGot events name)
+    → IsTrue false ↔ IsLeftOut sought events e name
+never_every sought events name e is none =
+    let L : Sought → Type 0 = λ z. IsTrue false ↔ IsLeftOut z events e name in subst L (sym is) (taken_by_none events name e none)
+
+pub never_later : (sought : Sought) (events : List Event) (name : PutName) (e : ℕ) → sought ≡ GotLater → (¬ IsGot events name)
+    → IsTrue true ↔ IsLeftOut sought events e name
+never_later sought events name e is none =
+    let L : Sought → Type 0 = λ z. IsTrue true ↔ IsLeftOut z events e name in subst L (sym is) (λ _ got. absurd (none got), λ _. refl)
+
 -- so of the put that ends at a position, where one does
-pub put_taken : (events : List Event) (queue m e d : ℕ) (name : PutName) (b : Bool) → d < m → EndsDone events queue d name
-    → (IsTrue b ↔ IsGotBefore events e name) → IsTrue b ↔ IsPutTaken events queue m e d
-put_taken events queue m e d name b lt done test = (
-  λ t other _ ends. subst (λ z. IsGotBefore events e z) (one_done events queue d name other done ends) (test.0 t),
+pub put_left_out : (sought : Sought) (events : List Event) (queue m e d : ℕ) (name : PutName) (b : Bool) → d < m → EndsDone events queue d name
+    → (IsTrue b ↔ IsLeftOut sought events e name) → IsTrue b ↔ IsPutLeftOut sought events queue m e d
+put_left_out sought events queue m e d name b lt done test = (
+  λ t other _ ends. subst (λ z. IsLeftOut sought events e z) (one_done events queue d name other done ends) (test.0 t),
   λ h. test.1 (h name lt done),
 )
 
-pub no_put : (events : List Event) (queue m e d : ℕ) → NoDoneAt events queue d → IsPutTaken events queue m e d
-no_put events queue m e d none (Opening i) lt ends = absurd ends
-no_put events queue m e d none (Of k n) lt ends = absurd (none.none k n ends)
+pub no_put : (sought : Sought) (events : List Event) (queue m e d : ℕ) → NoDoneAt events queue d → IsPutLeftOut sought events queue m e d
+no_put sought events queue m e d none (Opening i) lt ends = absurd ends
+no_put sought events queue m e d none (Of k n) lt ends = absurd (none.none k n ends)
 
-pub puts_past : (events : List Event) (queue m e d : ℕ) → m ≤ d → IsPutTaken events queue m e d
-puts_past events queue m e d past name lt ends = absurd (omega arith)
+pub puts_past : (sought : Sought) (events : List Event) (queue m e d : ℕ) → m ≤ d → IsPutLeftOut sought events queue m e d
+puts_past sought events queue m e d past name lt ends = absurd (omega arith)
 
 -- and of an opening token
-pub token_taken : (opening : List (List ℕ)) (events : List Event) (queue e number : ℕ) (b : Bool) → number < length opening → queue ≡ 0 → number < 2 ^ 32
-    → (IsTrue b ↔ IsGotBefore events e (Opening number)) → IsTrue b ↔ IsTokenTaken opening events queue e number
-token_taken opening events queue e number b within zero small test = (λ t _ _. test.0 t, λ h. test.1 (h small (zero, within)))
+pub token_left_out : (sought : Sought) (opening : List (List ℕ)) (events : List Event) (queue e number : ℕ) (b : Bool) → number < length opening → queue ≡ 0
+    → number < 2 ^ 32 → (IsTrue b ↔ IsLeftOut sought events e (Opening number)) → IsTrue b ↔ IsTokenLeftOut sought opening events queue e number
+token_left_out sought opening events queue e number b within zero small test = (λ t _ _. test.0 t, λ h. test.1 (h small (zero, within)))
 
-pub tokens_past : (opening : List (List ℕ)) (events : List Event) (queue e number : ℕ) → length opening ≤ number → IsTokenTaken opening events queue e number
-tokens_past opening events queue e number past small there = let lt = there.1 in absurd (omega arith)
+pub tokens_past : (sought : Sought) (opening : List (List ℕ)) (events : List Event) (queue e number : ℕ) → length opening ≤ number
+    → IsTokenLeftOut sought opening events queue e number
+tokens_past sought opening events queue e number past small there = let lt = there.1 in absurd (omega arith)
 
-token_small : (opening : List (List ℕ)) (events : List Event) (queue e number : ℕ) → (¬ IsTokenTaken opening events queue e number) → number < 2 ^ 32
-token_small opening events queue e number fails = elim (cases_lt number (2 ^ 32)) [
+token_small : (sought : Sought) (opening : List (List ℕ)) (events : List Event) (queue e number : ℕ) → (¬ IsTokenLeftOut sought opening events queue e number)
+    → number < 2 ^ 32
+token_small sought opening events queue e number fails = elim (cases_lt number (2 ^ 32)) [
   | inl lt ↦ lt
   | inr ge ↦ absurd (fails (λ small _. absurd (omega arith)))
 ]
 
-pub tokens_small : (opening : List (List ℕ)) (events : List Event) (queue e : ℕ) (first : Option ℕ) → IsFirstFailing (IsTokenTaken opening events queue e) first
-    → IfSome first (λ number. number < 2 ^ 32)
-tokens_small opening events queue e None is = tt
-tokens_small opening events queue e (Some number) is = token_small opening events queue e number is.0
+pub tokens_small : (sought : Sought) (opening : List (List ℕ)) (events : List Event) (queue e : ℕ) (first : Option ℕ)
+    → IsFirstFailing (IsTokenLeftOut sought opening events queue e) first → IfSome first (λ number. number < 2 ^ 32)
+tokens_small sought opening events queue e None is = tt
+tokens_small sought opening events queue e (Some number) is = token_small sought opening events queue e number is.0
+
+-- what is told is within what the first are
+pub told_token_within : (late_token late_put token put : Option ℕ) (m : ℕ) → IfSome late_token (λ n. n < m) → IfSome token (λ n. n < m)
+    → IfSome (told_of late_token late_put token put).0 (λ n. n < m)
+told_token_within (Some n) late_put token put m late first = late
+told_token_within None (Some d) token put m late first = tt
+told_token_within None None token put m late first = first
+
+pub told_put_within : (late_token late_put token put : Option ℕ) (m : ℕ) → IfSome late_put (λ d. d < m) → IfSome put (λ d. d < m)
+    → IfSome (told_of late_token late_put token put).1 (λ d. d < m)
+told_put_within (Some n) late_put token put m late first = tt
+told_put_within None (Some d) token put m late first = late
+told_put_within None None token put m late first = first
 
 -- the first Got that names a put stands in the list
 pub first_within : (events : List Event) (name : PutName) (r : Option ℕ) → MatchOption r (¬ IsGot events name) (IsFirstNamed events name)

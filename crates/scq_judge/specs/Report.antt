@@ -60,12 +60,12 @@ abbrev pub got_text : List Place → Option ℕ → List ℕ
 got_text places None = codes ", never got"
 got_text places (Some e) = codes ", got at " ++ place_text (place_at places e)
 
--- how many puts wait, and of the first where it was put and where it is got
+-- how many puts wait, and of the one that is told where it was put and where it is got
 abbrev pub waiting_text : List Place → Option Waiting → List ℕ
 waiting_text places None = []
 waiting_text places (Some w) =
-    codes "; " ++ decimal (w.tokens.count + w.puts.count) ++ codes " waiting, the first put at "
-    ++ put_text places w.tokens.first w.puts.first ++ got_text places w.got
+    codes "; " ++ decimal (w.tokens.count + w.puts.count) ++ codes " waiting, one put at "
+    ++ put_text places w.token w.put ++ got_text places w.got
 
 -- the lines of aspects: the verdict, and behind it what its first event stands against, which is nothing, an event, or puts that wait
 abbrev pub plain_line : List ℕ → List Place → Failures → List ℕ

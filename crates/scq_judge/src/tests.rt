@@ -44,7 +44,7 @@ fn recordings_are_merged_and_judged(rt: HostRuntime) -> Result<(), Fail> {
                 "1 start 0 put 1 61\n2 end 0 done\n5 start 0 put 1 63\n6 end 0 done\n7 start 0 get 1\n8 end 0 got 0 2 63\n11 start 0 get 1\n12 end 0 got 0 1 61",
                 "3 start 1 put 1 62\n4 end 1 done\n9 start 1 get 1\n10 end 1 got 1 1 62\n",
             ],
-            "fresh holds\nonce holds\nin order fails at file 1 line 6, 2 in all; 2 waiting, the first put at file 1 line 2, \
+            "fresh holds\nonce holds\nin order fails at file 1 line 6, 2 in all; 2 waiting, one put at file 1 line 2, \
              got at file 1 line 8\nempty holds\nrefused holds\n\
              events 12\nqueues 1\nseats 2\ncalls 6\noverlapping 0\n",
         ),
@@ -55,7 +55,7 @@ fn recordings_are_merged_and_judged(rt: HostRuntime) -> Result<(), Fail> {
                 "40 start 1 get 0\n60 end 1 got 0 1 -\n110 start 1 get 0\n120 end 1 nothing\n",
             ],
             "fresh holds\nonce fails at file 2 line 2, 1 in all; named before at file 1 line 4\nin order holds\nempty fails at file 1 line 8, 2 in all; \
-             1 waiting, the first put at file 1 line 6, never got\nrefused holds\n\
+             1 waiting, one put at file 1 line 6, never got\nrefused holds\n\
              events 12\nqueues 1\nseats 2\ncalls 6\noverlapping 2\n",
         ),
         // A put that was refused is got all the same, which the four aspects let pass.
@@ -80,7 +80,7 @@ fn recordings_are_merged_and_judged(rt: HostRuntime) -> Result<(), Fail> {
                 "1 start 1 get 0\n3 end 1 nothing\n",
             ],
             "fresh holds\nonce holds\nin order holds\nempty fails at file 2 line 2, 1 in all; \
-             1 waiting, the first put at file 1 line 1, never got\nrefused holds\n\
+             1 waiting, one put at file 1 line 1, never got\nrefused holds\n\
              events 4\nqueues 1\nseats 2\ncalls 2\noverlapping 2\n",
         ),
     ];

@@ -156,17 +156,17 @@ fn add_event(
     Ok(())
 }
 
-// How many puts wait, where the first was put, and where it is got.
+// How many puts wait, and of the one that is told where it was put and where it is got.
 fn add_puts(text: &mut Vec<u8>, places: &[Place], waiting: Option<Waiting>) -> Result<(), NoMemory>
     requires { IfSome waiting (IsToldWithin (length places.now)) }
     ensures { OnOk result (text.new.items ≡ text.old.items ++ waiting_text places.now waiting) }
 {
-    if let Some(Waiting { tokens, puts, got }) = waiting {
+    if let Some(told) = waiting {
         text.extend_from_slice(b"; ")?;
-        add_number(text, tokens.count as u64 + puts.count as u64)?;
-        text.extend_from_slice(b" waiting, the first put at ")?;
-        add_put(text, places, tokens.first, puts.first)?;
-        add_got(text, places, got)?;
+        add_number(text, told.tokens.count as u64 + told.puts.count as u64)?;
+        text.extend_from_slice(b" waiting, one put at ")?;
+        add_put(text, places, told.token, told.put)?;
+        add_got(text, places, told.got)?;
     }
     Ok(())
 }
@@ -185,7 +185,7 @@ fn add_got(text: &mut Vec<u8>, places: &[Place], got: Option<usize>) -> Result<(
     Ok(())
 }
 
-// Where the first of them was put: the line of its opening token, or that of its End.
+// Where the one that is told was put: the line of its opening token, or that of its End.
 fn add_put(
     text: &mut Vec<u8>,
     places: &[Place],

@@ -1,8 +1,6 @@
-use Rattle.std.proofs.Common.{◌≤◌, ◌<◌, length}
-use Rattle.std.specs.Prelude.{IfSome}
 use Rattle.scq_check.specs.Failures.{AreFailuresBefore}
-use Rattle.scq_check.specs.Waiting.{IsPutTaken}
+use Rattle.scq_check.specs.Waiting.{IsPutLeftOut}
 use Rattle.scq_check.proofs.waiting.waiting_puts.Given as goal
 
 abbrev pub invariant-loop-d : goal.invariant-loop-d
-invariant-loop-d l = AreFailuresBefore (IsPutTaken l.events l.queue l.m l.e) l.d l.failures
+invariant-loop-d l = AreFailuresBefore (IsPutLeftOut l.sought l.events l.queue l.m l.e) l.d l.failures

@@ -6,8 +6,8 @@ pub loop-number-init : goal.loop-number-init
 loop-number-init c = failures_none _ _ c.none-failures.ensures.first c.none-failures.ensures.count
 
 pub loop-number-preserved : goal.loop-number-preserved
-loop-number-preserved c = rw c.with-failures.ensures (failures_more _ _ _ _ c.is_token_taken.ensures c.loop-number.invariant)
+loop-number-preserved c = rw c.with-failures.ensures (failures_more _ _ _ _ c.is_token_left_out.ensures c.loop-number.invariant)
 
 pub returns-clause-failures : goal.returns-clause-failures
 returns-clause-failures c =
-    failures_all _ _ _ _ c.loop-number-test.false c.loop-number.invariant (tokens_past c.args.opening.now c.args.events.now c.args.queue c.args.e)
+    failures_all _ _ _ _ c.loop-number-test.false c.loop-number.invariant (tokens_past c.args.sought c.args.opening.now c.args.events.now c.args.queue c.args.e)
