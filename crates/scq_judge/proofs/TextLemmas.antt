@@ -19,5 +19,11 @@ grown t0 t1 t2 t3 t4 t5 t6 t7 t8 t9 t10 a b c d e f g h i j none p1 p2 p3 p4 p5 
     p10 ∙ ap (λ z. z ++ j) r9
 
 -- a part more behind those that a text had at first
-pub behind : (first before after front part : List ℕ) → before ≡ first ++ front → after ≡ before ++ part → after ≡ first ++ (front ++ part)
+behind : (first before after front part : List ℕ) → before ≡ first ++ front → after ≡ before ++ part → after ≡ first ++ (front ++ part)
 behind first before after front part had more = more ∙ ap (λ z. z ++ part) had ∙ append_assoc first front part
+
+-- five more
+pub grown_by_five : (t0 t1 t2 t3 t4 t5 a b c d e : List ℕ) → t1 ≡ t0 ++ a → t2 ≡ t1 ++ b → t3 ≡ t2 ++ c → t4 ≡ t3 ++ d → t5 ≡ t4 ++ e
+    → t5 ≡ t0 ++ (a ++ b ++ c ++ d ++ e)
+grown_by_five t0 t1 t2 t3 t4 t5 a b c d e p1 p2 p3 p4 p5 =
+    behind t0 t4 t5 (a ++ b ++ c ++ d) e (behind t0 t3 t4 (a ++ b ++ c) d (behind t0 t2 t3 (a ++ b) c (behind t0 t1 t2 a b p1 p2) p3) p4) p5
