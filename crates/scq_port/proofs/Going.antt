@@ -11,7 +11,8 @@ use Rattle.scq_port.specs.declared.port_buffer.PortBuffer.{PortBuffer}
 use Rattle.scq_port.specs.Ports.{PortQueue, PortStanding, Value, bytes_of}
 use Rattle.scq_port.specs.Calls.{values_of, GaveBack, HasEnded}
 use Rattle.scq_port.specs.Kept.{Keeps, LetsGo, StandsAt}
-use Rattle.scq_port.proofs.Lists.{contains_times, less_here, less_other, get_before, get_last, get_past, not_last, none_at_all}
+use Rattle.scq_queue.proofs.Leaving.{get_before, get_last, not_last}
+use Rattle.scq_port.proofs.Lists.{contains_times, less_here, less_other, get_past, none_at_all}
 
 cases_spent : (o : Option ℕ) → (o ≡ None) ⊎ ((t : ℕ) × (o ≡ Some t))
 cases_spent None = inl refl
@@ -91,33 +92,21 @@ gives queue old new slots h place w before is =
     unspent : new.spent ≡ old.spent
     unspent = ap (λ (p : PassStanding PortBuffer). p.spent) is
 
--- it can't be given back, since a ticket is spent
-pub loses : (queue : PortQueue) (old new : PassStanding PortBuffer) (slots : List (Option Value)) (h : Value) (ticket : ℕ)
-    → LetsGo queue old (slots ++ Some h ∷ []) → IsAlike old new
-    → (old.spent ≡ None → new ≡ having_seen new.seen (after_spent_put 0 ticket old)) → ((t : ℕ) → old.spent ≡ Some t → new ≡ old) → LetsGo queue new slots
-loses queue old new slots h ticket before is drew kept =
-    record {
-      own = is.queue ∙ before.own;
-      here =
-          λ i v at.
-          let was = before.here i v (get_before slots (Some h) (Some v) i at) in
-          record {
-            queue_of = was.queue_of;
-            pass = was.pass ∙ sym is.number;
-            index = was.index;
-            holds = ap (times i) is.held ∙ was.holds;
-          };
-      free = λ none i at. absurd (spent none);
-      past = λ none i at. absurd (spent none);
-    }
-  where
-    spent : new.spent ≡ None → ⊥
-    spent none =
-        elim (cases_spent old.spent) [
-          | inl fresh ↦ let now : new.spent ≡ Some ticket = ap (λ (p : PassStanding PortBuffer). p.spent) (drew fresh) in cc
-          | inr some ↦
-              let now : new.spent ≡ Some some.0 = ap (λ (p : PassStanding PortBuffer). p.spent) (kept some.0 some.1) ∙ some.1 in cc
-        ]
+-- it can't be given back, since a ticket is spent: what is left is held as before
+pub leaves : (queue : PortQueue) (old new : PassStanding PortBuffer) (slots : List (Option Value)) → LetsGo queue old slots → IsAlike old new
+    → (i : ℕ) (h : Value) → slice_get slots i ≡ Some (Some h) → (h.index ≡ i) × IsHeldBy new h
+leaves queue old new slots before is i h at =
+    let stands = before.here i h at in (
+      stands.index,
+      record {
+        queue = stands.queue_of ∙ sym (is.queue ∙ before.own);
+        pass = stands.pass ∙ sym is.number;
+        holds =
+            contains_times new.held h.index
+            (let one : times h.index new.held ≡ 1 = ap (times h.index) is.held ∙ ap (λ k. times k old.held) stands.index ∙ stands.holds in
+            omega (arith, one));
+      },
+    )
 
 -- all are given back
 pub ends : (queue : PortQueue) (p : PassStanding PortBuffer) (slots : List (Option Value)) → LetsGo queue p slots → length slots ≡ 0 → p.spent ≡ None → p.held ≡ []
@@ -135,30 +124,16 @@ gave_more [] h first old new is back =
     (new, subst (λ (p : PassStanding PortBuffer). WasGivenBack (bytes_of h.buffer) h.index p new) is back, refl)
 gave_more (x ∷ xs) h first old new is back = (is.0, is.1, gave_more xs h is.0 old new is.2 back)
 
--- how far the giving back has come: which values were given back, and which were refused
+-- how far the giving back has come: these values were given back, and those that still stand there weren't
 pub record Goes (all_slots : List (Option Value)) (first : PassStanding PortBuffer) (slots : List (Option Value)) (p : PassStanding PortBuffer) : Type 0 where
   pub given : List Value
-  pub left : List Value
-  pub all : given ++ (left ++ values_of slots) ≡ values_of all_slots
-  pub before : PassStanding PortBuffer
-  pub gave : GaveBack given first before
-  pub none : p.spent ≡ None → (left ≡ []) × (p ≡ before)
-  pub drawn : (t : ℕ) → first.spent ≡ None → p.spent ≡ Some t
-      → (p ≡ having_seen p.seen (after_spent_put 0 t before)) × (first.queue.setup.limit ≤ t)
-  pub kept : (t : ℕ) → first.spent ≡ Some t → (given ≡ []) × (p ≡ first)
+  pub all : given ++ values_of slots ≡ values_of all_slots
+  pub gave : GaveBack given first p
+  pub spent : p.spent ≡ first.spent
+  pub kept : (t : ℕ) → first.spent ≡ Some t → given ≡ []
 
 pub goes_first : (slots : List (Option Value)) (p : PassStanding PortBuffer) → Goes slots p slots p
-goes_first slots p =
-    record {
-      given = [];
-      left = [];
-      all = refl;
-      before = p;
-      gave = refl;
-      none = λ none. (refl, refl);
-      drawn = λ t none some. absurd (let no : None ≡ Some t = sym none ∙ some in cc);
-      kept = λ t some. (refl, refl);
-    }
+goes_first slots p = record { given = []; all = refl; gave = refl; spent = refl; kept = λ t some. refl }
 
 -- the last place has no value
 pub goes_past : (all_slots slots : List (Option Value)) (first p : PassStanding PortBuffer) → Goes all_slots first (slots ++ None ∷ []) p
@@ -166,12 +141,9 @@ pub goes_past : (all_slots slots : List (Option Value)) (first p : PassStanding 
 goes_past all_slots slots first p was =
     record {
       given = was.given;
-      left = was.left;
-      all = ap (λ (l : List Value). was.given ++ (was.left ++ l)) (sym (values_last slots None)) ∙ was.all;
-      before = was.before;
+      all = ap (λ (l : List Value). was.given ++ l) (sym (values_last slots None)) ∙ was.all;
       gave = was.gave;
-      none = was.none;
-      drawn = was.drawn;
+      spent = was.spent;
       kept = was.kept;
     }
 
@@ -182,45 +154,36 @@ pub goes_back : (all_slots slots : List (Option Value)) (h : Value) (first old n
 goes_back all_slots slots h first old new was none back =
     record {
       given = was.given ++ h ∷ [];
-      left = [];
       all =
           append_assoc was.given (h ∷ []) (values_of slots)
-          ∙ ap (λ (l : List Value). was.given ++ l) (sym (values_last slots (Some h)))
-          ∙ ap (λ (l : List Value). was.given ++ (l ++ values_of (slots ++ Some h ∷ []))) (sym (was.none none).0) ∙ was.all;
-      before = new;
-      gave = gave_more was.given h first old new (subst (λ (p : PassStanding PortBuffer). GaveBack was.given first p) (sym (was.none none).1) was.gave) back;
-      none = λ unspent. (refl, refl);
-      drawn = λ t unspent some. absurd (let no : None ≡ Some t = sym (same ∙ none) ∙ some in cc);
-      kept =
-          λ t some.
-          absurd (let no : None ≡ Some t = sym none ∙ ap (λ (p : PassStanding PortBuffer). p.spent) (was.kept t some).1 ∙ some in cc);
+          ∙ ap (λ (l : List Value). was.given ++ l) (sym (values_last slots (Some h))) ∙ was.all;
+      gave = gave_more was.given h first old new was.gave back;
+      spent = ap (λ (p : PassStanding PortBuffer). p.spent) back.pass ∙ was.spent;
+      kept = λ t some. absurd (let no : None ≡ Some t = sym none ∙ was.spent ∙ some in cc);
     }
-  where
-    same : new.spent ≡ old.spent
-    same = ap (λ (p : PassStanding PortBuffer). p.spent) back.pass
 
--- a pass that drew this ticket as it gave one more back
-abbrev Drew : PassStanding PortBuffer → PassStanding PortBuffer → PassStanding PortBuffer → ℕ → Type 0
-Drew first before p t = (p ≡ having_seen p.seen (after_spent_put 0 t before)) × (first.queue.setup.limit ≤ t)
-
--- the last value was refused
-pub goes_refused : (all_slots slots : List (Option Value)) (h : Value) (first old new : PassStanding PortBuffer) (ticket : ℕ)
+-- the last value was refused: it is the first of those that are left
+pub ends_refused : (all_slots slots : List (Option Value)) (h : Value) (first old new : PassStanding PortBuffer) (ticket hold : ℕ)
     → Goes all_slots first (slots ++ Some h ∷ []) old
     → (old.spent ≡ None → (new ≡ having_seen new.seen (after_spent_put 0 ticket old)) × (first.queue.setup.limit ≤ ticket))
-    → ((t : ℕ) → old.spent ≡ Some t → new ≡ old) → Goes all_slots first slots new
-goes_refused all_slots slots h first old new ticket was drew kept =
+    → ((t : ℕ) → old.spent ≡ Some t → new ≡ old) → HasEnded (record { pass = first; slots = all_slots; hold = hold }) new
+ends_refused all_slots slots h first old new ticket hold was drew kept =
     record {
       given = was.given;
-      left = was.left ++ h ∷ [];
-      all =
-          ap (λ (l : List Value). was.given ++ l)
-          (append_assoc was.left (h ∷ []) (values_of slots) ∙ ap (λ (l : List Value). was.left ++ l) (sym (values_last slots (Some h))))
-          ∙ was.all;
-      before = was.before;
+      left = values_of (slots ++ Some h ∷ []);
+      all = was.all;
+      before = old;
       gave = was.gave;
-      none = λ none. absurd (spent none);
-      drawn = drawn;
-      kept = λ t some. let is = was.kept t some in (is.0, kept t (ap (λ (p : PassStanding PortBuffer). p.spent) is.1 ∙ some) ∙ is.1);
+      home = λ none. absurd (spent none);
+      drawn =
+          λ t unspent some.
+          let fresh = drew (was.spent ∙ unspent) in
+          let now : new.spent ≡ Some ticket = ap (λ (p : PassStanding PortBuffer). p.spent) fresh.0 in
+          let same : ticket ≡ t = cc in
+          subst (λ (n : ℕ). (new ≡ having_seen new.seen (after_spent_put 0 n old)) × (first.queue.setup.limit ≤ n)) same fresh;
+      kept =
+          λ t some.
+          (was.kept t some, kept t (was.spent ∙ some) ∙ subst (λ (hs : List Value). GaveBack hs first old) (was.kept t some) was.gave);
     }
   where
     spent : new.spent ≡ None → ⊥
@@ -231,34 +194,18 @@ goes_refused all_slots slots h first old new ticket was drew kept =
               let now : new.spent ≡ Some some.0 = ap (λ (p : PassStanding PortBuffer). p.spent) (kept some.0 some.1) ∙ some.1 in cc
         ]
 
-    drawn : (t : ℕ) → first.spent ≡ None → new.spent ≡ Some t → Drew first was.before new t
-    drawn t unspent some =
-        elim (cases_spent old.spent) [
-          | inl fresh ↦
-              let now : new.spent ≡ Some ticket = ap (λ (p : PassStanding PortBuffer). p.spent) (drew fresh).0 in
-              let same : ticket ≡ t = cc in
-              subst (λ (n : ℕ). Drew first was.before new n) same (
-                (drew fresh).0 ∙ ap (λ (p : PassStanding PortBuffer). having_seen new.seen (after_spent_put 0 ticket p)) (was.none fresh).1,
-                (drew fresh).1,
-              )
-          | inr had ↦
-              let as_before = kept had.0 had.1 in
-              subst (λ (p : PassStanding PortBuffer). Drew first was.before p t) (sym as_before)
-              (was.drawn t unspent (sym (ap (λ (p : PassStanding PortBuffer). p.spent) as_before) ∙ some))
-        ]
-
 -- no place is left
-pub goes_all : (all_slots slots : List (Option Value)) (first p : PassStanding PortBuffer) (hold : ℕ) → Goes all_slots first slots p → length slots ≡ 0
+pub ends_all : (all_slots slots : List (Option Value)) (first p : PassStanding PortBuffer) (hold : ℕ) → Goes all_slots first slots p → length slots ≡ 0
     → (p.spent ≡ None → p.held ≡ []) → HasEnded (record { pass = first; slots = all_slots; hold = hold }) p
-goes_all all_slots [] first p hold was empty home =
+ends_all all_slots [] first p hold was empty home =
     record {
       given = was.given;
-      left = was.left;
-      all = ap (λ (l : List Value). was.given ++ l) (sym (append-nil was.left)) ∙ was.all;
-      before = was.before;
+      left = [];
+      all = was.all;
+      before = p;
       gave = was.gave;
-      home = λ none. ((was.none none).0, (was.none none).1, home none);
-      drawn = was.drawn;
-      kept = was.kept;
+      home = λ none. (refl, refl, home none);
+      drawn = λ t unspent some. absurd (let no : None ≡ Some t = sym (was.spent ∙ unspent) ∙ some in cc);
+      kept = λ t some. (was.kept t some, subst (λ (hs : List Value). GaveBack hs first p) (was.kept t some) was.gave);
     }
-goes_all all_slots (x ∷ xs) first p hold was empty home = absurd (omega (arith, empty))
+ends_all all_slots (x ∷ xs) first p hold was empty home = absurd (omega (arith, empty))

@@ -94,26 +94,12 @@ set_same [] i x is = refl
 set_same (z ∷ zs) zero x is = let same : z ≡ x = cc in ap (λ w. w ∷ zs) (sym same)
 set_same (z ∷ zs) (suc i) x is = ap (λ ws. z ∷ ws) (set_same zs i x is)
 
--- a list and its last
-pub get_before : {A : Type 0} (xs : List A) (y x : A) (i : ℕ) → slice_get xs i ≡ Some x → slice_get (xs ++ y ∷ []) i ≡ Some x
-get_before [] y x i is = absurd (cc)
-get_before (z ∷ zs) y x zero is = is
-get_before (z ∷ zs) y x (suc i) is = get_before zs y x i is
-
-pub get_last : {A : Type 0} (xs : List A) (y : A) → slice_get (xs ++ y ∷ []) (length xs) ≡ Some y
-get_last [] y = refl
-get_last (z ∷ zs) y = get_last zs y
-
+-- a place that isn't there before the last isn't behind it
 pub get_past : {A : Type 0} (xs : List A) (y : A) (i : ℕ) → slice_get xs i ≡ None → i ≢ length xs → slice_get (xs ++ y ∷ []) i ≡ None
 get_past [] y zero is other = absurd (other refl)
 get_past [] y (suc i) is other = refl
 get_past (z ∷ zs) y zero is other = absurd (cc)
 get_past (z ∷ zs) y (suc i) is other = get_past zs y i is (λ e. other (ap suc e))
-
-pub not_last : {A : Type 0} (xs : List A) (x : A) (i : ℕ) → slice_get xs i ≡ Some x → i ≢ length xs
-not_last [] x i is e = cc
-not_last (z ∷ zs) x zero is e = omega (arith, e)
-not_last (z ∷ zs) x (suc i) is e = not_last zs x i is (omega (arith, e))
 
 -- a list in which nothing stands
 pub none_at_all : (xs : List ℕ) → ((i : ℕ) → times i xs ≡ 0) → xs ≡ []

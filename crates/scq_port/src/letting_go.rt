@@ -5,12 +5,11 @@ ghost use Rattle.scq_port.specs.Kept.{KeepsHand, seen_as};
 
 use crate::hand::Hand;
 use crate::port_buffer::PortBuffer;
-use scq_band::Lifted;
 use scq_queue::{Pass, Queue};
 use std::snapshot::Snapshot;
 
 /// Gives back what a pass holds, and answers the pass as it was then. Where a ticket is spent, so that nothing more can be given back, what
-/// is left is freed.
+/// is left stays with the queue.
 pub(crate) fn let_go(
     queue: &Queue<PortBuffer>,
     mut pass: Pass<PortBuffer>,
@@ -27,7 +26,10 @@ pub(crate) fn let_go(
     while let Some(slot) = slots.pop() {
         if let Some(held) = slot {
             if let Err((held, _)) = queue.give_back(&mut pass, held) {
-                let _buffer = held.into_buffer();
+                slots.push_reserved(Some(held));
+                let ended = Snapshot::of(&pass);
+                queue.leave(pass, slots);
+                return ended;
             }
         }
     }

@@ -130,7 +130,7 @@ impl Port {
     /// Closes the port, as dropping it does: gives back what it holds, and answers for contracts alone what its pass was then. The last port
     /// of a queue frees it.
     ///
-    /// Where the pass keeps a spent ticket, or draws one, what can't be given back is freed.
+    /// Where the pass keeps a spent ticket, or draws one, what can't be given back stays with the queue until that is freed.
     pub fn close(self) -> Snapshot<Pass<PortBuffer>>
         ensures ended { HasEnded self result.value }
     {

@@ -1,6 +1,7 @@
 pub mod Hands
 pub mod Records
 mod HeldValues
+pub mod Leaving
 pub mod PassSteps
 mod NewPasses
 mod Ends
