@@ -18,3 +18,5 @@ pub use crew::Crew;
 pub use rested::Rested;
 pub use stand::Stand;
 
+#[cfg(test)]
+mod tests;
