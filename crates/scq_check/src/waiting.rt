@@ -39,13 +39,7 @@ pub(crate) enum Sought {
 }
 
 // Whether the put isn't sought: a get that started before position e has got it, or where it is to be got later, none has.
-fn is_left_out(
-    sought: Sought,
-    tables: &Tables,
-    events: &[Event],
-    name: PutName,
-    e: usize,
-) -> bool
+fn is_left_out(sought: Sought, tables: &Tables, events: &[Event], name: PutName, e: usize) -> bool
     requires tables { IsTables events.now tables.now }
     requires lawful { IsLawful events.now }
     ensures { IsTrue result ↔ IsLeftOut sought events.now e name }
