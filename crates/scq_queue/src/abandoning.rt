@@ -9,6 +9,7 @@ impl<B: Buffer + Drop> Queue<B> {
             band: _band,
             seats: _seats,
             counts: _counts,
+            saw: _saw,
         } = self;
     }
 }

@@ -61,7 +61,10 @@ fn run<B: Buffer + Drop>(
     let place = took(&queue, &mut second, 0, &mut taker);
     assert_eq!(rt; place, Ok(4));
     queue.retire(&mut second);
+    assert!(rt; !first.saw_closed());
     assert!(rt; queue.closed(&mut first));
+    assert!(rt; first.saw_closed());
+    assert!(rt; !second.saw_closed());
     assert!(rt; queue.closed(&mut second));
     passes.push_reserved(first);
     passes.push_reserved(second);
@@ -86,6 +89,7 @@ fn one_pass_tells_the_other(rt: HostRuntime) -> Result<(), Fail> {
     };
     let closed = run(&rt, queue, passes, sender, taker);
     assert_eq!(rt; closed.left.as_slice(), [1, 0].as_slice());
+    assert_eq!(rt; closed.saw.as_slice(), [true, true].as_slice());
     assert_eq!(rt; closed.buffers.len(), 2);
     assert_eq!(rt; closed.buffers[0].bytes().len(), 1);
     assert_eq!(rt; closed.buffers[1].bytes().len(), 2);
