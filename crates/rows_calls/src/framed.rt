@@ -3,7 +3,7 @@ ghost use Rattle.std.specs.Prelude.{◌^◌, ◌≤◌, None};
 
 use anyhow::{Result, ensure};
 use rows_text::{add_bytes, field};
-use scq_frames::{Framer, Message, decode, encode};
+use scq_frames::{Framer, Message, decode, encode, parts_of};
 use scq_outside::{Failed, Source};
 use scq_topics::Topics;
 use scq_word::Bytes;
@@ -108,22 +108,29 @@ fn listed(
     Ok(out)
 }
 
-/// `FILE LINE TOPIC PAYLOAD`: the message's bytes in a room of 20.
+/// `FILE LINE TOPIC SIZE PART PAYLOAD`: the bytes of the message's part in a room of 32.
 pub fn encoded(alloc: Global, given: &str) -> Result<String> {
-    let payload = field(given, 3).as_bytes();
-    ensure!(payload.len() <= 4, "a short payload");
+    let size = field(given, 3).parse::<u32>()?;
+    let part = field(given, 4).parse::<u32>()?;
+    let payload = field(given, 5).as_bytes();
+    ensure!(payload.len() <= 8, "a short payload");
     let message = Message {
         file: field(given, 0).parse::<u32>()?,
         line: field(given, 1).parse::<u32>()?,
         topic: field(given, 2).parse::<u32>()?,
         payload: Bytes::copy_of(alloc, payload)?,
     };
-    let mut bytes = [9u8; 20];
-    encode(&message, &mut bytes);
+    ensure!(0 < size, "a size");
+    ensure!(
+        0 < part && part <= parts_of(&message, size),
+        "one of the parts"
+    );
+    let mut bytes = [9u8; 32];
+    encode(&message, size, part, &mut bytes);
     Ok(hex::encode(alloc, bytes)?)
 }
 
-/// `BYTES`: the message that they begin with.
+/// `BYTES`: the part that they begin with.
 pub fn decoded(alloc: Global, given: &str) -> Result<String> {
     let mut bytes = Vec::new(alloc);
     add_bytes(&mut bytes, given)?;
@@ -131,7 +138,8 @@ pub fn decoded(alloc: Global, given: &str) -> Result<String> {
         Some(view) => {
             let payload = String::from_utf8_lossy(alloc, view.payload)?;
             let (file, line, topic) = (view.file, view.line, view.topic);
-            format!(in alloc; "{file} {line} {topic} {payload}")?
+            let (part, parts) = (view.part, view.parts);
+            format!(in alloc; "{file} {line} {topic} {part} {parts} {payload}")?
         }
         None => String::from_str(alloc, "none")?,
     })

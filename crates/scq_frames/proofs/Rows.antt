@@ -2,6 +2,7 @@
 use Rattle.std.proofs.Common.{◌≡◌, refl, Some, None, true, false, [], ◌∷◌}
 use Rattle.std.specs.Prelude.{codes}
 use Rattle.scq_frames.specs.Text.{messages_of, messages_after}
+use Rattle.scq_frames.specs.Parts.{parts_of, part_bytes}
 use Rattle.scq_frames.specs.Trouble.{trouble_of, trouble_after, counted, LongPayload, ManyBytes}
 
 row-empty : messages_of [] ≡ []
@@ -43,3 +44,21 @@ row-past = refl
 row-many : trouble_of 16 4 false (codes "a\nb\nc") ≡ Some ManyBytes
 unfolding trouble_after counted messages_after
 row-many = refl
+
+row-one-part : parts_of 16 (codes "1234567890123456") ≡ 1
+row-one-part = refl
+
+row-two-parts : parts_of 16 (codes "12345678901234567") ≡ 2
+row-two-parts = refl
+
+row-no-bytes : parts_of 4 [] ≡ 1
+row-no-bytes = refl
+
+row-whole-parts : parts_of 4 (codes "a b cd e") ≡ 2
+row-whole-parts = refl
+
+row-first-part : part_bytes 4 1 (codes "a b cd e") ≡ codes "a b "
+row-first-part = refl
+
+row-last-part : part_bytes 4 2 (codes "hallo") ≡ codes "o"
+row-last-part = refl

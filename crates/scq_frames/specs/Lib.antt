@@ -8,5 +8,6 @@ pub mod Framing
 pub mod Finding
 pub mod Coming
 pub mod FramerState
+pub mod Parts
 pub mod Encoded
 pub mod Views

@@ -1,35 +1,86 @@
 ghost use Rattle.std.specs.Prelude.{◌≡◌, ◌^◌, ◌+◌, ◌<◌, ◌≤◌, ◌++◌, length, take, drop, IfSome, Some};
 ghost use Rattle.std.specs.Option.{option_map};
 ghost use Rattle.byteorder.specs.Endian.{big_bytes};
-ghost use Rattle.scq_frames.specs.declared.message.Message.{Message as TheMessage};
-ghost use Rattle.scq_frames.specs.Encoded.{message_bytes, IsEncodable, BeginsWith, number_at, message_at};
-ghost use Rattle.scq_frames.specs.Views.{message_of_view};
+ghost use Rattle.scq_frames.specs.Parts.{Part as ThePart, IsNumbered, parts_of as the_parts_of, part_bytes, part_of};
+ghost use Rattle.scq_frames.specs.Encoded.{message_bytes, IsEncodable, BeginsWith, number_at, part_at};
+ghost use Rattle.scq_frames.specs.Views.{part_of_view};
 
 use crate::Message;
 use byteorder::{BigEndian, ByteOrder};
 
-/// A message in its bytes, whose payload stays where it is.
+/// A part of a message, whose bytes stay where they are: parts are numbered from 1.
 #[derive(Clone, Copy, Debug)]
 pub struct View<'a> {
     pub file: u32,
     pub line: u32,
     pub topic: u32,
+    pub part: u32,
+    pub parts: u32,
     pub payload: &'a [u8],
 }
 
-/// Writes the message's bytes to the front: file, line, topic and the payload's length in four bytes
-/// each, the highest first, and then the payload. What stands behind them stays.
-pub fn encode(message: &Message, into: &mut [u8])
+/// How many parts of at most `size` bytes a message's payload has: one where it is empty.
+pub fn parts_of(message: &Message, size: u32) -> u32
+    requires size { 0 < size }
     requires short { length message.now.payload < 2 ^ 32 }
-    requires room { 16 + length message.now.payload ≤ length into.old }
-    ensures { into.new ≡ message_bytes message.now ++ drop (16 + length message.now.payload) into.old }
+    ensures parts { result ≡ the_parts_of size message.now.payload }
 {
-    let payload = message.payload.bytes();
-    write_number(into, 0, message.file);
-    write_number(into, 4, message.line);
-    write_number(into, 8, message.topic);
-    write_number(into, 12, payload.len() as u32);
-    write_bytes(into, 16, payload);
+    (message.payload.bytes().len() as u32).div_ceil(size).max(1)
+}
+
+/// The part of a message with this number.
+pub fn view_of(message: &Message, size: u32, part: u32) -> View<'_>
+    requires size { 0 < size }
+    requires short { length message.now.payload < 2 ^ 32 }
+    requires numbered { IsNumbered part (the_parts_of size message.now.payload) }
+    ensures { part_of_view result ≡ part_of size message.now part }
+{
+    View {
+        file: message.file,
+        line: message.line,
+        topic: message.topic,
+        part,
+        parts: parts_of(message, size),
+        payload: bytes_of_part(message.payload.bytes(), size, part),
+    }
+}
+
+/// The bytes of the part of a payload with this number.
+fn bytes_of_part(payload: &[u8], size: u32, part: u32) -> &[u8]
+    requires size { 0 < size }
+    requires short { length payload.now < 2 ^ 32 }
+    requires numbered { IsNumbered part (the_parts_of size payload.now) }
+    ensures { result.now ≡ part_bytes size part payload.now }
+{
+    let rest = &payload[((part - 1) * size) as usize..];
+    &rest[..rest.len().min(size as usize)]
+}
+
+/// Writes the bytes of the message's part with this number to the front: file, line, topic, the part's length, its number and the number of parts
+/// in four bytes each, the highest first, and then the part. What stands behind them stays.
+pub fn encode(message: &Message, size: u32, part: u32, into: &mut [u8])
+    requires size { 0 < size }
+    requires short { length message.now.payload < 2 ^ 32 }
+    requires numbered { IsNumbered part (the_parts_of size message.now.payload) }
+    requires room { 24 + length (part_bytes size part message.now.payload) ≤ length into.old }
+    ensures { into.new ≡ message_bytes (part_of size message.now part) ++ drop (24 + length (part_bytes size part message.now.payload)) into.old }
+{
+    write_part(view_of(message, size, part), into);
+}
+
+/// Writes the bytes of a part to the front.
+fn write_part(view: View<'_>, into: &mut [u8])
+    requires short { length view.payload.now < 2 ^ 32 }
+    requires room { 24 + length view.payload.now ≤ length into.old }
+    ensures { into.new ≡ message_bytes (part_of_view view.entry) ++ drop (24 + length view.entry.payload.now) into.old }
+{
+    write_number(into, 0, view.file);
+    write_number(into, 4, view.line);
+    write_number(into, 8, view.topic);
+    write_number(into, 12, view.payload.len() as u32);
+    write_number(into, 16, view.part);
+    write_number(into, 20, view.parts);
+    write_bytes(into, 24, view.payload);
 }
 
 /// Writes a number in four bytes at a position.
@@ -49,28 +100,36 @@ fn write_bytes(into: &mut [u8], at: usize, bytes: &[u8])
     into[at..at + bytes.len()].copy_from_slice(bytes);
 }
 
-/// The message whose bytes come first, or `None` exactly where no message's bytes do.
+/// The part whose bytes come first, or `None` exactly where no part's bytes do.
 pub fn decode(bytes: &[u8]) -> Option<View<'_>>
-    ensures found { IfSome result (λ view. BeginsWith bytes.now (message_of_view view)) }
-    ensures only { (m : TheMessage) → IsEncodable m → BeginsWith bytes.now m → option_map message_of_view result ≡ Some m }
+    ensures found { IfSome result (λ view. BeginsWith bytes.now (part_of_view view)) }
+    ensures numbered { IfSome result (λ view. IsNumbered view.part view.parts) }
+    ensures only { (p : ThePart) → IsEncodable p → BeginsWith bytes.now p → option_map part_of_view result ≡ Some p }
 {
-    read_message(bytes)
+    read_part(bytes)
 }
 
-/// The message whose bytes come first.
-#[tactic(auto, unfolding(crate::specs::Encoded::message_at))]
-fn read_message(bytes: &[u8]) -> Option<View<'_>>
-    ensures { option_map message_of_view result ≡ message_at bytes.now }
+/// The part whose bytes come first.
+#[tactic(auto, unfolding(crate::specs::Encoded::part_at))]
+fn read_part(bytes: &[u8]) -> Option<View<'_>>
+    ensures { option_map part_of_view result ≡ part_at bytes.now }
 {
     let (file, rest) = read_number(bytes)?;
     let (line, rest) = read_number(rest)?;
     let (topic, rest) = read_number(rest)?;
     let (len, rest) = read_number(rest)?;
+    let (part, rest) = read_number(rest)?;
+    let (parts, rest) = read_number(rest)?;
+    if part < 1 || parts < part {
+        return None;
+    }
     let payload = rest.get(..len as usize)?;
     Some(View {
         file,
         line,
         topic,
+        part,
+        parts,
         payload,
     })
 }

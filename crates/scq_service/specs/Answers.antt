@@ -54,10 +54,11 @@ pub record HaveGiven {S : Type 0} (topics : List (List ℕ × Kind)) (size : ℕ
       → reading.IsWhole size faults end_count left (slice_index_or got k d) (slice_index_or r.sources k d)
   pub gave : AreGiven topics size left 1 got given
 
--- so many workers answered such messages, which are those of the contents where these were told
-abbrev pub IsWork : {S : Type 0} → List (List ℕ × Kind) → ℕ → ℕ → (S → ℕ) → (S → ℕ) → (S → Option (List ℕ)) → List S → Left S → Option Worked → Type 0
-IsWork topics size workers faults end_count left got r worked =
-    IfSome worked (λ w. (given : List (List Message)) × HaveGiven topics size faults end_count left got r given × HasWorked topics size workers given w)
+-- so many workers answered such messages, with payloads of at most `longest` bytes in parts of at most `size`, which are those of the contents where
+-- these were told
+abbrev pub IsWork : {S : Type 0} → List (List ℕ × Kind) → ℕ → ℕ → ℕ → (S → ℕ) → (S → ℕ) → (S → Option (List ℕ)) → List S → Left S → Option Worked → Type 0
+IsWork topics size longest workers faults end_count left got r worked =
+    IfSome worked (λ w. (given : List (List Message)) × HaveGiven topics longest faults end_count left got r given × HasWorked topics size workers given w)
 
 -- the answers in all lists are those of one thread to the contents, where these were told
 abbrev pub IsOfOneThread : {S : Type 0} → List (List ℕ × Kind) → (S → Option (List ℕ)) → List S → Option Worked → Type 0
@@ -68,7 +69,7 @@ IsOfOneThread topics left got worked =
 abbrev pub WorkedAs : {S : Type 0} → (S → ℕ) → (S → ℕ) → (S → Option (List ℕ)) → Result Asked WordsFault → List S → Left S → Option Fault → Option Worked
     → Type 0
 WorkedAs faults end_count left (Ok (asks.run a)) got r end worked =
-    WorkedAt end worked × IsWorkOf a.topics a.size a.workers left got worked × IsWork a.topics a.size a.workers faults end_count left got r worked
+    WorkedAt end worked × IsWorkOf a.topics a.size a.workers left got worked × IsWork a.topics a.size a.size a.workers faults end_count left got r worked
 WorkedAs faults end_count left (Ok (asks.generated a)) got r end worked =
     WorkedAt end worked × IfSome worked (λ w. HasWorked self_topics (2 ^ 16) a.workers (messages_in self_topics 1 (generated a.seed a.lines ∷ [])) w)
 WorkedAs faults end_count left asked got r end worked = worked ≡ None

@@ -8,6 +8,7 @@ use scq_work::Job;
 pub fn job_of(order: u32, size: u32, workers: u32, topics: Topics) -> Job
     requires { IsJob order size workers }
     ensures size { result.size ≡ size }
+    ensures longest { result.longest ≡ size }
     ensures workers { result.workers ≡ workers }
     ensures order { result.order ≡ order }
     ensures topics { result.topics ≡ topics }

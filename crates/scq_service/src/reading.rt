@@ -62,7 +62,7 @@ pub fn read_files<R: Threads + Sync, F: Files, G: Gate>(
       sources = result.sources.items;
       read = result.read;
     }) }
-    ensures ends { ReadsOver job.now.size F.Src.faults F.Src.ends F.Src.left (map string_bytes names.now) result.got.value.items (record {
+    ensures ends { ReadsOver job.now.longest F.Src.faults F.Src.ends F.Src.left (map string_bytes names.now) result.got.value.items (record {
       table = record { old = F.table files.old; new = F.table files.new };
       opens = record { old = F.faults files.old; new = F.faults files.new };
       sources = result.sources.items;
@@ -73,7 +73,7 @@ pub fn read_files<R: Threads + Sync, F: Files, G: Gate>(
     ensures known { IfSome result.worked (λ w. All (λ a. a.topic ≤ length job.now.topics) (members_in w.answered.items)) }
     ensures answers { IsOfOneThread job.now.topics F.Src.left result.got.value.items result.worked }
     ensures told { IsWorkOf job.now.topics job.now.size job.now.workers F.Src.left result.got.value.items result.worked }
-    ensures work { IsWork job.now.topics job.now.size job.now.workers F.Src.faults F.Src.ends F.Src.left result.got.value.items (record {
+    ensures work { IsWork job.now.topics job.now.size job.now.longest job.now.workers F.Src.faults F.Src.ends F.Src.left result.got.value.items (record {
       table = record { old = F.table files.old; new = F.table files.new };
       opens = record { old = F.faults files.old; new = F.faults files.new };
       sources = result.sources.items;
@@ -106,6 +106,6 @@ pub fn read_files<R: Threads + Sync, F: Files, G: Gate>(
                 Outcome::at(sources, Fault::OpenFault { file }).behind(got, left, passes)
             }
         }
-        Err(fault) => Outcome::of_work(sources, job.size, fault).behind(got, left, passes),
+        Err(fault) => Outcome::of_work(sources, job.longest, fault).behind(got, left, passes),
     }
 }

@@ -34,7 +34,7 @@ pub fn run_files<R: Threads + Sync, F: Files, K: Sink, G: Gate>(
       sources = result.sources.items;
       read = result.read;
     }) }
-    ensures ends { EndsOver job.now.size (one_thread_output job.now.topics) F.Src.faults F.Src.ends F.Src.left (map string_bytes names.now)
+    ensures ends { EndsOver job.now.longest (one_thread_output job.now.topics) F.Src.faults F.Src.ends F.Src.left (map string_bytes names.now)
         result.got.value.items
         (record {
           table = record { old = F.table files.old; new = F.table files.new };
@@ -49,7 +49,7 @@ pub fn run_files<R: Threads + Sync, F: Files, K: Sink, G: Gate>(
     ensures status { result.status ≡ status_of result.fault }
     ensures worked { WorkedAt result.fault result.worked }
     ensures told { IsWorkOf job.now.topics job.now.size job.now.workers F.Src.left result.got.value.items result.worked }
-    ensures work { IsWork job.now.topics job.now.size job.now.workers F.Src.faults F.Src.ends F.Src.left result.got.value.items (record {
+    ensures work { IsWork job.now.topics job.now.size job.now.longest job.now.workers F.Src.faults F.Src.ends F.Src.left result.got.value.items (record {
       table = record { old = F.table files.old; new = F.table files.new };
       opens = record { old = F.faults files.old; new = F.faults files.new };
       sources = result.sources.items;

@@ -8,9 +8,9 @@ use Rattle.std.proofs.lemmas.List.Elements.{Contains-append_left, Contains-push}
 use Rattle.std.proofs.lemmas.List.Sorted.{IsPermutation-refl, IsPermutation-trans, IsPermutation-append, IsPermutation-append_left, IsPermutation-append_right, IsPermutation-append_comm}
 use Rattle.std.proofs.lemmas.Slice.Zip.{all_zipped_more}
 use Rattle.scq_topics.specs.declared.kind.Kind.{Kind}
-use Rattle.scq_frames.specs.declared.message.Message.{Message}
-use Rattle.scq_frames.specs.Encoded.{message_at, IsEncodable, BeginsWith}
-use Rattle.scq_frames.proofs.EncodedLemmas.{message_at-again}
+use Rattle.scq_frames.specs.Parts.{Part, message_of}
+use Rattle.scq_frames.specs.Encoded.{part_at, IsEncodable, BeginsWith}
+use Rattle.scq_frames.proofs.EncodedLemmas.{part_at-again}
 use Rattle.scq_collect.specs.Output.{Answer, without_way}
 use Rattle.scq_collect.specs.Collected.{answer_of}
 use Rattle.scq_collect.specs.declared.answered.Answered.{Answered}
@@ -20,15 +20,23 @@ use Rattle.scq_work.specs.Members.{AnswersTake, AnswersSoFar, none, and_answered
 use Rattle.scq_work.specs.Passing.{ArePassedOn, Sends}
 use Rattle.scq_work.specs.Passing as passing
 
--- the answer to the message that bytes begin with; where there is none, to one without bytes
-abbrev pub answer_at : List (List ℕ × Kind) → Placed → Answer
-answer_at topics m = answer_of topics (unwrap_or (message_at m.bytes) (record { file = 0; line = 0; topic = 0; payload = [] }))
+-- a part that stands where there is none
+abbrev pub no_part : Part
+no_part = record { file = 0; line = 0; topic = 0; part = 0; parts = 0; payload = [] }
 
--- the bytes of a sent message are read as the message
-sent-answer : (topics : List (List ℕ × Kind)) (m : Message) (send : Placed) → Sends m send → answer_at topics send ≡ answer_of topics m
+-- the answer to the message that is this part
+abbrev pub answer_of_part : List (List ℕ × Kind) → Part → Answer
+answer_of_part topics p = answer_of topics (message_of p)
+
+-- the answer to the message that is the part that bytes begin with; where there is none, to one without bytes
+abbrev pub answer_at : List (List ℕ × Kind) → Placed → Answer
+answer_at topics m = answer_of_part topics (unwrap_or (part_at m.bytes) no_part)
+
+-- the bytes of a sent part are read as the part
+sent-answer : (topics : List (List ℕ × Kind)) (m : Part) (send : Placed) → Sends m send → answer_at topics send ≡ answer_of_part topics m
 sent-answer topics m send sends =
-    let is : message_at send.bytes ≡ Some m = ap message_at sends.bytes.1 ∙ message_at-again m sends.bytes.0 sends.fits in
-    ap (λ o. answer_of topics (unwrap_or o (record { file = 0; line = 0; topic = 0; payload = [] }))) is
+    let is : part_at send.bytes ≡ Some m = ap part_at sends.bytes.1 ∙ part_at-again m sends.bytes.0 sends.fits in
+    ap (λ o. answer_of_part topics (unwrap_or o no_part)) is
 
 -- a, b, c, d as a, c, b, d
 crossed : {A : Type 0} (a b c d : List A) → IsPermutation ((a ++ b) ++ (c ++ d)) ((a ++ c) ++ (b ++ d))
@@ -49,64 +57,64 @@ together f g h (w ∷ ws) each =
     (IsPermutation-append (f w) (g w ++ h w) (flat_map f ws) (flat_map g ws ++ flat_map h ws) (each w (contains-first w ws)) rest)
     (crossed (g w) (h w) (flat_map g ws) (flat_map h ws))
 
--- a worker's messages, answered, are its sends as they are read and its direct answers
-pub passed-answers : (topics : List (List ℕ × Kind)) (messages : List Message) (sends : List Placed) (directs : List Answered)
+-- a worker's parts, answered, are its sends as they are read and its direct answers
+pub passed-answers : (topics : List (List ℕ × Kind)) (messages : List Part) (sends : List Placed) (directs : List Answered)
     → ArePassedOn topics messages sends directs
-    → IsPermutation (map (answer_of topics) messages) (map (answer_at topics) sends ++ map without_way directs)
+    → IsPermutation (map (answer_of_part topics) messages) (map (answer_at topics) sends ++ map without_way directs)
 passed-answers topics messages sends directs passing.none = IsPermutation-refl []
 passed-answers topics messages sends directs (passing.and_sent {ms} {sends = before} {directs = ds} m send more is) =
-    let answers = map (answer_of topics) ms in
+    let answers = map (answer_of_part topics) ms in
     let reads = map (answer_at topics) before in
     let plain = map without_way directs in
     let rest = passed-answers topics ms before directs more in
-    let left : map (answer_of topics) (ms ++ m ∷ []) ≡ answers ++ answer_of topics m ∷ [] = map-append (answer_of topics) ms (m ∷ []) in
-    let right : map (answer_at topics) (before ++ send ∷ []) ≡ reads ++ answer_of topics m ∷ [] =
+    let left : map (answer_of_part topics) (ms ++ m ∷ []) ≡ answers ++ answer_of_part topics m ∷ [] = map-append (answer_of_part topics) ms (m ∷ []) in
+    let right : map (answer_at topics) (before ++ send ∷ []) ≡ reads ++ answer_of_part topics m ∷ [] =
     map-append (answer_at topics) before (send ∷ []) ∙ ap (λ a. reads ++ a ∷ []) (sent-answer topics m send is) in
     subst (λ l. IsPermutation l (map (answer_at topics) (before ++ send ∷ []) ++ plain)) (sym left)
-    (subst (λ l. IsPermutation (answers ++ answer_of topics m ∷ []) (l ++ plain)) (sym right)
-    (IsPermutation-trans (answers ++ answer_of topics m ∷ []) ((reads ++ plain) ++ answer_of topics m ∷ []) ((reads ++ answer_of topics m ∷ []) ++ plain)
-    (IsPermutation-append_left (answer_of topics m ∷ []) answers (reads ++ plain) rest)
-    (subst (λ l. IsPermutation l ((reads ++ answer_of topics m ∷ []) ++ plain)) (sym (append_assoc reads plain (answer_of topics m ∷ [])))
-    (subst (IsPermutation (reads ++ (plain ++ answer_of topics m ∷ []))) (sym (append_assoc reads (answer_of topics m ∷ []) plain))
-    (IsPermutation-append_right reads (plain ++ answer_of topics m ∷ []) (answer_of topics m ∷ plain)
-    (IsPermutation-append_comm plain (answer_of topics m ∷ [])))))))
+    (subst (λ l. IsPermutation (answers ++ answer_of_part topics m ∷ []) (l ++ plain)) (sym right)
+    (IsPermutation-trans (answers ++ answer_of_part topics m ∷ []) ((reads ++ plain) ++ answer_of_part topics m ∷ []) ((reads ++ answer_of_part topics m ∷ []) ++ plain)
+    (IsPermutation-append_left (answer_of_part topics m ∷ []) answers (reads ++ plain) rest)
+    (subst (λ l. IsPermutation l ((reads ++ answer_of_part topics m ∷ []) ++ plain)) (sym (append_assoc reads plain (answer_of_part topics m ∷ [])))
+    (subst (IsPermutation (reads ++ (plain ++ answer_of_part topics m ∷ []))) (sym (append_assoc reads (answer_of_part topics m ∷ []) plain))
+    (IsPermutation-append_right reads (plain ++ answer_of_part topics m ∷ []) (answer_of_part topics m ∷ plain)
+    (IsPermutation-append_comm plain (answer_of_part topics m ∷ [])))))))
 passed-answers topics messages sends directs (passing.and_answered {ms} {sends = before} {directs = ds} m a more is) =
-    let answers = map (answer_of topics) ms in
+    let answers = map (answer_of_part topics) ms in
     let reads = map (answer_at topics) sends in
     let plain = map without_way ds in
     let rest = passed-answers topics ms sends ds more in
-    let left : map (answer_of topics) (ms ++ m ∷ []) ≡ answers ++ answer_of topics m ∷ [] = map-append (answer_of topics) ms (m ∷ []) in
-    let right : map without_way (ds ++ a ∷ []) ≡ plain ++ answer_of topics m ∷ [] =
+    let left : map (answer_of_part topics) (ms ++ m ∷ []) ≡ answers ++ answer_of_part topics m ∷ [] = map-append (answer_of_part topics) ms (m ∷ []) in
+    let right : map without_way (ds ++ a ∷ []) ≡ plain ++ answer_of_part topics m ∷ [] =
     map-append without_way ds (a ∷ []) ∙ ap (λ b. plain ++ without_way b ∷ []) is.answer in
     subst (λ l. IsPermutation l (reads ++ map without_way (ds ++ a ∷ []))) (sym left)
-    (subst (λ l. IsPermutation (answers ++ answer_of topics m ∷ []) (reads ++ l)) (sym right)
-    (subst (IsPermutation (answers ++ answer_of topics m ∷ [])) (append_assoc reads plain (answer_of topics m ∷ []))
-    (IsPermutation-append_left (answer_of topics m ∷ []) answers (reads ++ plain) rest)))
+    (subst (λ l. IsPermutation (answers ++ answer_of_part topics m ∷ []) (reads ++ l)) (sym right)
+    (subst (IsPermutation (answers ++ answer_of_part topics m ∷ [])) (append_assoc reads plain (answer_of_part topics m ∷ []))
+    (IsPermutation-append_left (answer_of_part topics m ∷ []) answers (reads ++ plain) rest)))
 
--- a take is that of a message on a known topic
-pub record IsMessage (known : ℕ) (take : Placed) : Type 0 where
-  pub message : Message
-  pub fits : IsEncodable message
-  pub begins : BeginsWith take.bytes message
-  pub low : message.topic ≤ known
+-- a take is that of a part on a known topic
+pub record IsPart (known : ℕ) (take : Placed) : Type 0 where
+  pub part : Part
+  pub fits : IsEncodable part
+  pub begins : BeginsWith take.bytes part
+  pub low : part.topic ≤ known
 
 -- where each take is, none is passed over, and the Taken members are the answers as the takes are read
 pub taken-answers : (topics : List (List ℕ × Kind)) (takes : List Placed) (members : List Answered) → AnswersSoFar topics takes members
-    → ((t : Placed) → Contains takes t → IsMessage (length topics) t)
+    → ((t : Placed) → Contains takes t → IsPart (length topics) t)
     → AllZip (AnswersTake topics) takes members × (map without_way members ≡ map (answer_at topics) takes)
 taken-answers topics takes members none each = (tt, refl)
 taken-answers topics takes members (and_answered {takes = before} {members = ms} take a more is) each =
     let rest = taken-answers topics before ms more (λ t has. each t (Contains-append_left before (take ∷ []) t has)) in
     let its = each take (Contains-push before take) in
-    let same : is.message ≡ its.message = is.decodes.only its.message its.fits its.begins in
-    let read : message_at take.bytes ≡ Some its.message = ap message_at its.begins.1 ∙ message_at-again its.message its.begins.0 its.fits in
+    let same : is.part ≡ its.part = is.decodes.only its.part its.fits its.begins in
+    let read : part_at take.bytes ≡ Some its.part = ap part_at its.begins.1 ∙ part_at-again its.part its.begins.0 its.fits in
     let plain : without_way a ≡ answer_at topics take =
-    ap without_way is.answer ∙ ap (answer_of topics) same
-    ∙ sym (ap (λ o. answer_of topics (unwrap_or o (record { file = 0; line = 0; topic = 0; payload = [] }))) read) in (
+    ap without_way is.answer ∙ ap (answer_of_part topics) same
+    ∙ sym (ap (λ o. answer_of_part topics (unwrap_or o no_part)) read) in (
       all_zipped_more (AnswersTake topics) before ms take a rest.0 is,
       map-append without_way ms (a ∷ []) ∙ ap (λ l. l ++ without_way a ∷ []) rest.1 ∙ ap (λ b. map (answer_at topics) before ++ b ∷ []) plain
           ∙ sym (map-append (answer_at topics) before (take ∷ [])),
     )
 taken-answers topics takes members (and_passed_over {takes = before} {members = ms} take more never) each =
     let its = each take (Contains-push before take) in
-    absurd (never its.message its.fits its.begins its.low)
+    absurd (never its.part its.fits its.begins its.low)

@@ -8,6 +8,7 @@ mod WorkerSteps
 mod Sweeps
 mod LeftLemmas
 mod MemberLemmas
+mod MessageParts
 mod PassedOn
 mod FileLists
 mod ReadLemmas

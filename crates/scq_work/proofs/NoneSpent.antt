@@ -21,14 +21,14 @@ use Rattle.scq_work.specs.Working.{IsThrifty}
 use Rattle.scq_work.proofs.SendsAndTakes.{few-takes}
 
 -- the limit for so few puts is at most the greatest
-few-tickets : (c : Setup) (puts : ℕ) → puts ≤ 2 ^ 35 + 4096 → limit_for c.order c.seats puts ≤ 2 ^ 60
+few-tickets : (c : Setup) (puts : ℕ) → puts ≤ 2 ^ 36 + 4096 → limit_for c.order c.seats puts ≤ 2 ^ 60
 few-tickets c puts low =
     let n_small : n_of c.order ≤ 2 ^ 12 = pow_mono c.order_in_range.1 in
     let few = few_seats c in
     let reset : reset_value c.order c.seats < 2 ^ 16 = reset_small c.order c.seats c.order_in_range.1 few in
     let factor : reset_value c.order c.seats + 1 + c.seats ≤ 2 ^ 17 = omega arith in
-    let more : puts + n_of c.order + 1 ≤ 2 ^ 36 + 1 = omega arith in
-    let times : (puts + n_of c.order + 1) * (reset_value c.order c.seats + 1 + c.seats) ≤ (2 ^ 36 + 1) * 2 ^ 17 = mul-le-mul more factor in
+    let more : puts + n_of c.order + 1 ≤ 2 ^ 37 + 1 = omega arith in
+    let times : (puts + n_of c.order + 1) * (reset_value c.order c.seats + 1 + c.seats) ≤ (2 ^ 37 + 1) * 2 ^ 17 = mul-le-mul more factor in
     omega arith
 
 -- a sum of numbers, each at most one more than another
@@ -48,7 +48,7 @@ sums-le f g (x ∷ xs) each =
     omega (arith, sum_by-cons f x xs, sum_by-cons g x xs)
 
 module _ {B : Type 0} where
-  -- the passes of workers, each with how many messages its worker has passed on
+  -- the passes of workers, each with how many parts its worker has passed on
   abbrev pub passes_of : List (ℕ × PassStanding B) → List (PassStanding B)
   passes_of works = map (λ (w : ℕ × PassStanding B). w.1) works
 
@@ -91,7 +91,7 @@ module _ {B : Type 0} where
 
   -- no pass met Spent
   pub none-spent : (c : Setup) (works : List (ℕ × PassStanding B)) → c.limit ≡ 2 ^ 60 → length works ≤ c.seats
-      → messages_of works ≤ 2 ^ 35 → AllThrifty works → EachTakeIsASend (passes_of works) → NoPlaceIsTakenTwice (passes_of works)
+      → messages_of works ≤ 2 ^ 36 → AllThrifty works → EachTakeIsASend (passes_of works) → NoPlaceIsTakenTwice (passes_of works)
       → NoneIsKeptWithinTheLimit c (passes_of works) → NoneSpent (passes_of works)
   none-spent c works limit workers messages each sent once limits =
       let few = few-takes (passes_of works) sent once in
@@ -105,7 +105,7 @@ module _ {B : Type 0} where
       sym (get_or-map (λ (p : PassStanding B). p.spent) (passes_of works) k d d.spent less) ∙ all k d.spent (omega arith)
 
   -- each pass has few sends, takes and Full replies
-  pub all-bounded : (works : List (ℕ × PassStanding B)) → messages_of works ≤ 2 ^ 35 → AllThrifty works → EachTakeIsASend (passes_of works)
+  pub all-bounded : (works : List (ℕ × PassStanding B)) → messages_of works ≤ 2 ^ 36 → AllThrifty works → EachTakeIsASend (passes_of works)
       → NoPlaceIsTakenTwice (passes_of works)
       → (k : ℕ) (d : ℕ × PassStanding B) → k < length works → IsBounded (get_or works k d).1
   all-bounded works messages each sent once k d less =

@@ -103,7 +103,7 @@ given-known topics size left file (x ∷ xs) (own ∷ more) gave =
     (given-known topics size left (file + 1) xs more gave.1)
 
 -- their payloads are short
-given-short : {S : Type 0} (topics : List (List ℕ × Kind)) (size : ℕ) (left : S → Option (List ℕ)) (file : ℕ) (was : List S) (given : List (List Message))
+pub given-short : {S : Type 0} (topics : List (List ℕ × Kind)) (size : ℕ) (left : S → Option (List ℕ)) (file : ℕ) (was : List S) (given : List (List Message))
     → AreGiven topics size left file was given
     → All (λ m. length m.payload ≤ size) (all_of given)
 given-short topics size left file [] [] none = All-nil (λ (m : Message). length m.payload ≤ size)

@@ -4,21 +4,21 @@ use Rattle.std.specs.List.{AllZip}
 use Rattle.scq_topics.specs.declared.kind.Kind.{Kind}
 use Rattle.scq_topics.specs.Reply.{reply_of}
 use Rattle.scq_topics.specs.Topics.{kind_of}
-use Rattle.scq_frames.specs.declared.message.Message.{Message}
+use Rattle.scq_frames.specs.Parts.{Part}
 use Rattle.scq_frames.specs.Encoded.{IsEncodable, BeginsWith}
 use Rattle.scq_collect.specs.declared.answered.Answered.{Answered}
 use Rattle.scq_collect.specs.declared.answered.Way.{Way}
 use Rattle.scq_collect.specs.declared.answered.Way.TheVariants.{Taken, Direct}
 use Rattle.scq_queue.specs.Lists.{Placed}
 
--- the answer to a message, come by in this way
-abbrev pub answered : List (List ℕ × Kind) → Way → Message → Answered
-answered topics way m = record {
-  file = m.file;
-  line = m.line;
-  topic = m.topic;
-  bytes = length m.payload;
-  reply = reply_of (kind_of topics m.topic) m.payload;
+-- the answer to a message that is this part, come by in this way
+abbrev pub answered : List (List ℕ × Kind) → Way → Part → Answered
+answered topics way p = record {
+  file = p.file;
+  line = p.line;
+  topic = p.topic;
+  bytes = length p.payload;
+  reply = reply_of (kind_of topics p.topic) p.payload;
   way = way;
 }
 
@@ -33,17 +33,17 @@ is_taken a = is_way_taken a.way
 abbrev pub is_direct : Answered → Bool
 is_direct a = not (is_way_taken a.way)
 
--- this is the one message that these bytes begin with
-pub record Decodes (bytes : List ℕ) (m : Message) : Type 0 where
-  pub begins : BeginsWith bytes m
-  pub only : (other : Message) → IsEncodable other → BeginsWith bytes other → m ≡ other
+-- this is the one part that these bytes begin with
+pub record Decodes (bytes : List ℕ) (p : Part) : Type 0 where
+  pub begins : BeginsWith bytes p
+  pub only : (other : Part) → IsEncodable other → BeginsWith bytes other → p ≡ other
 
--- a member answers the message that the bytes of a take decode to, at the take's place
+-- a member answers the part that the bytes of a take decode to, at the take's place
 pub record AnswersTake (topics : List (List ℕ × Kind)) (take : Placed) (a : Answered) : Type 0 where
-  pub message : Message
-  pub decodes : Decodes take.bytes message
-  pub known : message.topic ≤ length topics
-  pub answer : a ≡ answered topics (Taken take.place) message
+  pub part : Part
+  pub decodes : Decodes take.bytes part
+  pub known : part.topic ≤ length topics
+  pub answer : a ≡ answered topics (Taken take.place) part
 
 -- a member answers a message directly, where no buffer was free: with this head of the ring of free buffers
 abbrev pub AnswersFull : ℕ → Answered → Type 0
@@ -56,11 +56,11 @@ AnswersItsTakes topics takes members = AllZip (AnswersTake topics) takes (filter
 abbrev pub AnswersItsFulls : List ℕ → List Answered → Type 0
 AnswersItsFulls fulls members = AllZip AnswersFull fulls (filter is_direct members)
 
--- what was taken so far is answered: each take whose bytes decode to a message on a known topic has its member, and there are no others
+-- what was taken so far is answered: each take whose bytes decode to a part on a known topic has its member, and there are no others
 pub data AnswersSoFar (topics : List (List ℕ × Kind)) : List Placed → List Answered → Type 0 where
   none : AnswersSoFar topics [] []
   and_answered : {takes : List Placed} {members : List Answered} (take : Placed) (a : Answered)
       → AnswersSoFar topics takes members → AnswersTake topics take a → AnswersSoFar topics (takes ++ take ∷ []) (members ++ a ∷ [])
   and_passed_over : {takes : List Placed} {members : List Answered} (take : Placed)
-      → AnswersSoFar topics takes members → ((m : Message) → IsEncodable m → BeginsWith take.bytes m → m.topic ≤ length topics → ⊥)
+      → AnswersSoFar topics takes members → ((p : Part) → IsEncodable p → BeginsWith take.bytes p → p.topic ≤ length topics → ⊥)
       → AnswersSoFar topics (takes ++ take ∷ []) members

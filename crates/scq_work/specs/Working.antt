@@ -5,7 +5,7 @@ use Rattle.scq_core.specs.declared.ended.Ended.{Ended}
 use Rattle.scq_core.specs.declared.ended.Ended.TheVariants.{Done, Got, Nothing}
 use Rattle.scq_law.specs.Bounds.{tally, was_put}
 use Rattle.scq_topics.specs.declared.kind.Kind.{Kind}
-use Rattle.scq_frames.specs.declared.message.Message.{Message}
+use Rattle.scq_frames.specs.Parts.{Part}
 use Rattle.scq_collect.specs.declared.answered.Answered.{Answered}
 use Rattle.scq_queue.specs.Lists.{Placed, sends_of, takes_of}
 use Rattle.scq_band.specs.Standing.{Identity}
@@ -41,8 +41,8 @@ module _ {B : Type 0} where
     pub knows : KnowsMore old new
     pub same : (topic : ℕ) → (known_on topic new).finished ≡ (known_on topic old).finished
 
-  -- a pass that was lent a buffer and sent a message in it
-  pub record HasSent (m : Message) (old new : PassStanding B) : Type 0 where
+  -- a pass that was lent a buffer and sent a part in it
+  pub record HasSent (m : Part) (old new : PassStanding B) : Type 0 where
     pub from : ℕ
     pub over : List ℕ
     pub place : ℕ
@@ -87,10 +87,10 @@ module _ {B : Type 0} where
     pub puts : (topic : ℕ) → tally (was_put (suc topic)) p.calls ≤ messages + late
     pub returns : tally (was_put 0) p.calls ≤ length (takes_of p.calls) + late
 
-  -- its list, so far, against its pass and the messages that it has passed on
-  pub record HasListed (topics : List (List ℕ × Kind)) (messages : List Message) (p : PassStanding B) (members : List Answered) : Type 0 where
-    pub passed : HasPassedOn topics messages (sends_of p.calls) members
-    pub follows : FollowsCalls messages p.calls
+  -- its list, so far, against its pass and the parts that it has passed on
+  pub record HasListed (topics : List (List ℕ × Kind)) (parts : List Part) (p : PassStanding B) (members : List Answered) : Type 0 where
+    pub passed : HasPassedOn topics parts (sends_of p.calls) members
+    pub follows : FollowsCalls parts p.calls
     pub takes : AnswersSoFar topics (takes_of p.calls) (filter is_taken members)
     pub fulls : AnswersItsFulls p.fulls members
 
@@ -116,11 +116,11 @@ module _ {B : Type 0} where
   abbrev pub after_retire : PassStanding B → PassStanding B
   after_retire p = record p { retired = Some (length p.calls) }
 
-  -- a worker that has passed on these messages and goes on: its pass, and unless it wanted memory its list
-  pub record IsAtWork (topics : List (List ℕ × Kind)) (messages : List Message) (p : PassStanding B) (members : List Answered) (starved : Bool) : Type 0 where
+  -- a worker that has passed on these parts and goes on: its pass, and unless it wanted memory its list
+  pub record IsAtWork (topics : List (List ℕ × Kind)) (parts : List Part) (p : PassStanding B) (members : List Answered) (starved : Bool) : Type 0 where
     pub producing : IsProducing (length topics + 1) p
-    pub thrifty : IsThrifty 0 (length messages) p
-    pub listed : starved ≡ false → HasListed topics messages p members
+    pub thrifty : IsThrifty 0 (length parts) p
+    pub listed : starved ≡ false → HasListed topics parts p members
 
   -- a worker that met Spent while it read its files, after so many messages, the last one included: its pass, and the value that it keeps
   pub record HasStopped (shared : Identity B) (messages : ℕ) (p : PassStanding B) (kept : Option (HeldStanding B)) : Type 0 where

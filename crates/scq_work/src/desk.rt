@@ -44,13 +44,13 @@ impl<B: Buffer, S: Source> Desk<B, S> {
     /// past the limit, it retires and leaves at once, and keeps the value that came back.
     pub fn run<G: Gate>(&mut self, alloc: Global, job: &Job, queue: &Queue<B>, gate: &G)
         requires rings { queue.now.setup.rings ≡ length job.now.topics + 2 }
-        requires room { All (λ b. job.now.size + 16 ≤ length (B.contents b)) queue.now.given }
+        requires room { All (λ b. job.now.size + 24 ≤ length (B.contents b)) queue.now.given }
         requires pass { self.old.worker.pass ≡ first_pass queue.now self.old.worker.number }
         requires members { self.old.worker.members.items ≡ [] }
         requires kept { self.old.kept ≡ None }
         requires unread { All IsNew self.old.files.items }
         ensures same { ids_of self.new.files.items ≡ ids_of self.old.files.items }
-        ensures run { HasRun queue.now job.now.topics job.now.size S.faults S.ends S.left self.new.files.items self.new.worker.pass
+        ensures run { HasRun queue.now job.now.topics job.now.size job.now.longest S.faults S.ends S.left self.new.files.items self.new.worker.pass
             self.new.worker.members.items self.new.worker.starved self.new.kept }
         ensures number { (self.new.worker.number ≡ self.old.worker.number) × (self.new.worker.pass.number ≡ self.old.worker.number) }
     {

@@ -79,7 +79,7 @@ pub fn gather<B: Buffer, S: Source>(
     requires some { 0 < length desks.old }
     requires dealt { AreDealt 1 was.now.value.items desks.old }
     requires read { All (λ d.
-        All (λ f. IsRead job.now.topics job.now.size S.faults S.ends S.left f.number f.was.value f.source (given_in f.given.value) f.end) d.files.items)
+        All (λ f. IsRead job.now.topics job.now.longest S.faults S.ends S.left f.number f.was.value f.source (given_in f.given.value) f.end) d.files.items)
         desks.old }
     requires empty { (gathered.old.sources.items ≡ []) × (vec_len gathered.old.sources ≡ 0) × (count ≤ vec_capacity gathered.old.sources)
         × (gathered.old.fault ≡ None) }
@@ -87,11 +87,11 @@ pub fn gather<B: Buffer, S: Source>(
     ensures moved { (k : ℕ) (d : S) → k < vec_len was.now.value
         → HasMoved S.faults S.left (slice_index_or was.now.value.items k d) (slice_index_or gathered.new.sources.items k d) }
     ensures sound { gathered.new.fault ≡ None → (k : ℕ) (d : S) → k < vec_len was.now.value
-        → IsWhole job.now.size S.faults S.ends S.left (slice_index_or was.now.value.items k d) (slice_index_or gathered.new.sources.items k d) }
+        → IsWhole job.now.longest S.faults S.ends S.left (slice_index_or was.now.value.items k d) (slice_index_or gathered.new.sources.items k d) }
     ensures whole { gathered.new.fault ≡ None → All (λ d. All (λ f. f.end ≡ FileEnd.Whole) d.files.items) desks.old }
     ensures cause { (file : ℕ) (fault : TheFault) → gathered.new.fault ≡ Some (file, fault) → fault ≢ FrameFault.NoMemory
-        → StopsAt job.now.size S.faults S.ends S.left was.now.value.items gathered.new.sources.items file fault }
-    ensures fed { gathered.new.starved ≡ false → AllEndFed job.now.size S.faults S.ends S.left was.now.value.items gathered.new.sources.items }
+        → StopsAt job.now.longest S.faults S.ends S.left was.now.value.items gathered.new.sources.items file fault }
+    ensures fed { gathered.new.starved ≡ false → AllEndFed job.now.longest S.faults S.ends S.left was.now.value.items gathered.new.sources.items }
     ensures same { map without_files desks.new ≡ map without_files desks.old }
 {
     let workers = desks.len();

@@ -1,16 +1,19 @@
+ghost use Rattle.std.specs.Prelude.{◌≤◌};
 ghost use Rattle.scq_work.specs.Jobs.{IsJob};
 
 use scq_topics::Topics;
 
-/// What workers are to do: messages are answered by `workers` workers through 2^order buffers, and a
-/// payload may have `size` bytes.
+/// What workers are to do: messages are answered by `workers` workers through 2^order buffers. A buffer has
+/// room for a payload of `size` bytes, and a payload may have `longest`.
 #[derive(Drop)]
 pub struct Job {
     pub order: u32,
     pub size: u32,
+    pub longest: u32,
     pub workers: u32,
     pub topics: Topics,
     pub ghost valid: { IsJob order size workers },
+    pub ghost fits: { longest ≤ size },
 }
 
 impl Job {
@@ -22,6 +25,7 @@ impl Job {
         ensures refused { IsNone result ↔ ¬ IsJob order size workers }
         ensures order { IfSome result (λ job. job.order ≡ order) }
         ensures size { IfSome result (λ job. job.size ≡ size) }
+        ensures longest { IfSome result (λ job. job.longest ≡ size) }
         ensures workers { IfSome result (λ job. job.workers ≡ workers) }
         ensures topics { IfSome result (λ job. job.topics ≡ topics) }
     {
@@ -34,6 +38,7 @@ impl Job {
         Some(Job {
             order,
             size,
+            longest: size,
             workers,
             topics,
         })

@@ -1,6 +1,7 @@
 ghost use Rattle.std.specs.Prelude.{◌≡◌, ◌≤◌, ◌<◌, ◌+◌, ◌^◌, ◌++◌, ◌∷◌, ◌==◌, ℕ, suc, List, true, false, [], length, filter, count_by, slice_get, Some, None, Ok, if◌then◌else◌, IfOk, IfErr, IfSome, IsSome, OnOk};
 ghost use Rattle.scq_core.specs.declared.ended.Ended.{Ended as TheEnded};
-ghost use Rattle.scq_frames.specs.Views.{message_of_view};
+ghost use Rattle.scq_frames.specs.Parts.{IsNumbered, parts_of, part_of};
+ghost use Rattle.scq_frames.specs.Views.{part_of_view};
 ghost use Rattle.scq_queue.specs.Lists.{Placed};
 ghost use Rattle.scq_queue.specs.Passes.{known_on, IsHeldBy, after_put, after_spent_put, having_seen};
 ghost use Rattle.scq_work.specs.Records.{is_take};
@@ -11,7 +12,7 @@ ghost use Rattle.scq_work.specs.Working.{Suits, HasTaken, HasAnswered, HasLeft, 
 
 use crate::{Gate, Job, Point};
 use scq_collect::{Answered, Way};
-use scq_frames::{Message, View, decode, encode};
+use scq_frames::{Message, View, decode, encode, view_of};
 use scq_queue::{Held, Pass, Queue, TakeRefusal};
 use scq_topics::reply;
 use scq_word::Buffer;
@@ -34,22 +35,22 @@ pub struct AtLimit<B: Buffer> {
 }
 
 impl<B: Buffer> Worker<B> {
-    /// Puts the answer to a message behind the list.
-    fn answer(&mut self, alloc: Global, job: &Job, message: View<'_>, way: Way)
-        requires { message.topic ≤ length job.now.topics }
+    /// Puts the answer to a message that is this part behind the list.
+    fn answer(&mut self, alloc: Global, job: &Job, part: View<'_>, way: Way)
+        requires { part.topic ≤ length job.now.topics }
         ensures listed { self.new.starved ≡ false
-            → self.new.members.items ≡ self.old.members.items ++ answered job.now.topics way (message_of_view message.entry) ∷ [] }
+            → self.new.members.items ≡ self.old.members.items ++ answered job.now.topics way (part_of_view part.entry) ∷ [] }
         ensures starved { self.new.starved ≡ false → self.old.starved ≡ false }
         ensures same { (self.new.pass ≡ self.old.pass) × (self.new.number ≡ self.old.number) }
     {
-        let kind = job.topics.kind(message.topic);
-        match reply(alloc, kind, message.payload) {
+        let kind = job.topics.kind(part.topic);
+        match reply(alloc, kind, part.payload) {
             Ok(reply) => {
                 let member = Answered {
-                    file: message.file,
-                    line: message.line,
-                    topic: message.topic,
-                    bytes: message.payload.len() as u64,
+                    file: part.file,
+                    line: part.line,
+                    topic: part.topic,
+                    bytes: part.payload.len() as u64,
                     reply,
                     way,
                 };
@@ -61,7 +62,7 @@ impl<B: Buffer> Worker<B> {
         }
     }
 
-    /// Answers what was taken at a place, where its bytes are those of a message on one of the job's topics.
+    /// Answers what was taken at a place, where its bytes are those of a part on one of the job's topics.
     fn answer_taken(&mut self, alloc: Global, job: &Job, place: u64, bytes: &[u8])
         ensures takes { self.new.starved ≡ false → (topic : ℕ) (takes : List Placed)
             → AnswersSoFar job.now.topics takes (filter is_taken self.old.members.items)
@@ -73,9 +74,9 @@ impl<B: Buffer> Worker<B> {
         if self.starved {
             return;
         }
-        if let Some(message) = decode(bytes) {
-            if message.topic <= job.topics.len() {
-                self.answer(alloc, job, message, Way::Taken { place });
+        if let Some(part) = decode(bytes) {
+            if part.topic <= job.topics.len() {
+                self.answer(alloc, job, part, Way::Taken { place });
             }
         }
     }
@@ -143,38 +144,45 @@ impl<B: Buffer> Worker<B> {
         Ok(())
     }
 
-    /// Answers a message directly, where no buffer was free: with this head of the ring of free buffers.
-    pub fn answer_directly(&mut self, alloc: Global, job: &Job, message: &Message, head: u64)
-        requires { message.now.topic ≤ length job.now.topics }
+    /// Answers a part of a message directly, where no buffer was free: with this head of the ring of free buffers.
+    pub fn answer_directly(
+        &mut self,
+        alloc: Global,
+        job: &Job,
+        message: &Message,
+        part: u32,
+        head: u64,
+    )
+        requires known { message.now.topic ≤ length job.now.topics }
+        requires short { length message.now.payload ≤ job.now.longest }
+        requires numbered { IsNumbered part (parts_of job.now.size message.now.payload) }
         ensures listed { self.new.starved ≡ false
-            → self.new.members.items ≡ self.old.members.items ++ answered job.now.topics (Way.Direct head) message.now ∷ [] }
+            → self.new.members.items ≡ self.old.members.items ++ answered job.now.topics (Way.Direct head) (part_of job.now.size message.now part) ∷ [] }
         ensures starved { self.new.starved ≡ false → self.old.starved ≡ false }
         ensures same { (self.new.pass ≡ self.old.pass) × (self.new.number ≡ self.old.number) }
     {
-        let view = View {
-            file: message.file,
-            line: message.line,
-            topic: message.topic,
-            payload: message.payload.bytes(),
-        };
+        let view = view_of(message, job.size, part);
         self.answer(alloc, job, view, Way::Direct { head });
     }
 
-    /// Sends a message in a value that it holds.
+    /// Sends a part of a message in a value that it holds.
     pub fn send_in(
         &mut self,
+        job: &Job,
         queue: &Queue<B>,
         message: &Message,
+        part: u32,
         held: Held<B>,
     ) -> Result<(), AtLimit<B>>
         requires pass { (self.old.pass.queue ≡ queue.now) × (self.old.pass.spent ≡ None) × (self.old.pass.retired ≡ None) }
         requires topic { message.now.topic + 1 < queue.now.setup.rings }
         requires held { IsHeldBy self.old.pass held }
-        requires room { length message.now.payload + 16 ≤ length (B.contents held.buffer) }
-        requires short { length message.now.payload < 2 ^ 32 }
+        requires room { job.now.size + 24 ≤ length (B.contents held.buffer) }
+        requires short { length message.now.payload ≤ job.now.longest }
+        requires numbered { IsNumbered part (parts_of job.now.size message.now.payload) }
         ensures sent { OnOk result ((place : ℕ) × (bytes : List ℕ) × (self.new.pass ≡ having_seen self.new.pass.seen (after_put
             (suc message.now.topic) held.index place bytes self.old.pass))
-            × Sends message.now (record { topic = message.now.topic; place = place; bytes = bytes })) }
+            × Sends (part_of job.now.size message.now part) (record { topic = message.now.topic; place = place; bytes = bytes })) }
         ensures spent { IfErr result (λ l. (ticket : ℕ) × (self.new.pass ≡ having_seen self.new.pass.seen (after_spent_put
             (suc message.now.topic) ticket self.old.pass))) }
         ensures back { IfErr result (λ l. IfSome l.held (λ h. (h.index ≡ held.index) × (h.queue ≡ held.queue))) }
@@ -186,7 +194,7 @@ impl<B: Buffer> Worker<B> {
         let _line = message.line;
         let topic = message.topic;
         let mut held = held;
-        encode(message, held.bytes_mut());
+        encode(message, job.size, part, held.bytes_mut());
         match queue.send(&mut self.pass, topic, held) {
             Ok(_) => Ok(()),
             Err((held, _)) => Err(AtLimit { held: Some(held) }),

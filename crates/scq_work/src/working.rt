@@ -31,8 +31,8 @@ use std::thread::Threads;
 /// The limit of the queue's tickets, which no work comes near.
 const LIMIT: u64 = 1 << 60;
 
-/// How many bytes stand in front of a message's payload.
-const HEADER: u32 = 16;
+/// How many bytes stand in front of a part.
+const HEADER: u32 = 24;
 
 /// What the work needs room for, beside its queue: the lists of each worker's files, the desks, and what the workers leave behind.
 struct Room<S: Source> {
@@ -110,7 +110,7 @@ fn make_room<S: Source>(alloc: Global, job: &Job, files: usize) -> Result<Room<S
 /// The frames of a queue for a job, with the block that they are carved from: each has room for a message.
 fn make_frames(alloc: Global, job: &Job) -> Result<(Block, Vec<Frame>), NoMemory>
     ensures count { IfOk result (λ made. vec_len made.1 ≡ 2 ^ job.now.order) }
-    ensures room { IfOk result (λ made. All (λ f. job.now.size + 16 ≤ length f.bytes.items) made.1.items) }
+    ensures room { IfOk result (λ made. All (λ f. job.now.size + 24 ≤ length f.bytes.items) made.1.items) }
     ensures all { IfOk result (λ made. AreAllOf made.0 made.1.items) }
 {
     Block::carve(alloc, 1 << job.order, job.size + HEADER)
@@ -121,7 +121,7 @@ fn make_queue(alloc: Global, job: &Job) -> Result<(Block, Queue<Frame>, Vec<Pass
     ensures setup { IfOk result (λ made. (made.1.setup.order ≡ job.now.order) × (made.1.setup.rings ≡ length job.now.topics + 2)
         × (made.1.setup.seats ≡ job.now.workers) × (made.1.setup.limit ≡ 2 ^ 60)) }
     ensures passes { IfOk result (λ made. made.2.items ≡ first_passes made.1 made.1.setup.seats) }
-    ensures room { IfOk result (λ made. All (λ f. job.now.size + 16 ≤ length f.bytes.items) made.1.given) }
+    ensures room { IfOk result (λ made. All (λ f. job.now.size + 24 ≤ length f.bytes.items) made.1.given) }
     ensures all { IfOk result (λ made. AreAllOf made.0 made.1.given) }
 {
     let (block, frames) = make_frames(alloc, job)?;
@@ -158,7 +158,7 @@ fn run_all<R: Threads + Sync, S: Source, G: Gate>(
 )
     requires some { 0 < length desks.old }
     requires rings { queue.now.setup.rings ≡ length job.now.topics + 2 }
-    requires room { All (λ b. job.now.size + 16 ≤ length b.bytes.items) queue.now.given }
+    requires room { All (λ b. job.now.size + 24 ≤ length b.bytes.items) queue.now.given }
     requires fresh { All (IsFresh queue.now) desks.old }
     requires unread { All (λ d. All IsNew d.files.items) desks.old }
     ensures same { (w : ℕ) (d : _) → w < length desks.old
@@ -166,16 +166,16 @@ fn run_all<R: Threads + Sync, S: Source, G: Gate>(
     ensures numbers { (w : ℕ) (d : _) → w < length desks.old
         → (slice_index_or desks.new w d).worker.pass.number ≡ (slice_index_or desks.old w d).worker.pass.number }
     ensures run { All (λ d.
-        HasRun queue.now job.now.topics job.now.size S.faults S.ends S.left d.files.items d.worker.pass d.worker.members.items d.worker.starved d.kept)
+        HasRun queue.now job.now.topics job.now.size job.now.longest S.faults S.ends S.left d.files.items d.worker.pass d.worker.members.items d.worker.starved d.kept)
         desks.new }
 {
     let threads = desks.len();
     let run = |_: usize, desk: &mut Desk<Frame, S>|
-        requires { (queue.now.setup.rings ≡ length job.now.topics + 2) × All (λ b. job.now.size + 16 ≤ length b.bytes.items) queue.now.given
+        requires { (queue.now.setup.rings ≡ length job.now.topics + 2) × All (λ b. job.now.size + 24 ≤ length b.bytes.items) queue.now.given
             × IsFresh queue.now desk.now × All IsNew desk.now.files.items }
         ensures { (ids_of desk.exit.now.files.items ≡ ids_of desk.entry.now.files.items)
             × (desk.exit.now.worker.pass.number ≡ desk.entry.now.worker.pass.number)
-            × HasRun queue.entry.now job.entry.now.topics job.entry.now.size S.faults S.ends S.left desk.exit.now.files.items desk.exit.now.worker.pass
+            × HasRun queue.entry.now job.entry.now.topics job.entry.now.size job.entry.now.longest S.faults S.ends S.left desk.exit.now.files.items desk.exit.now.worker.pass
             desk.exit.now.worker.members.items desk.exit.now.worker.starved desk.exit.now.kept }
     { desk.run(alloc, job, queue, gate) };
     thread::for_each_mut(rt, desks, threads, &run);
@@ -213,7 +213,7 @@ pub fn work<R: Threads + Sync, S: Source, G: Gate>(
 
     // Each source was read to its end, and where the bytes of all are visible the answers are those of one thread.
     ensures whole { OnOk result.result ((k : ℕ) (d : S) → k < length sources.items
-        → IsWhole job.now.size S.faults S.ends S.left (slice_index_or sources.items k d) (slice_index_or result.sources.items k d)) }
+        → IsWhole job.now.longest S.faults S.ends S.left (slice_index_or sources.items k d) (slice_index_or result.sources.items k d)) }
     ensures answers { IfOk result.result (λ w. IfSome (all_left S.left sources.items) (λ contents.
         IsPermutation (map without_way (members_in w.answered.items)) (answers_to job.now.topics 1 contents))) }
 
@@ -221,7 +221,7 @@ pub fn work<R: Threads + Sync, S: Source, G: Gate>(
     // every source.
     ensures told { IfOk result.result (λ w. IfSome (all_left S.left sources.items) (λ contents.
         HasWorked job.now.topics job.now.size job.now.workers (messages_in job.now.topics 1 contents) w)) }
-    ensures worked { IfOk result.result (λ w. (given : List (List TheMessage)) × AreGiven job.now.topics job.now.size S.left 1 sources.items given
+    ensures worked { IfOk result.result (λ w. (given : List (List TheMessage)) × AreGiven job.now.topics job.now.longest S.left 1 sources.items given
         × HasWorked job.now.topics job.now.size job.now.workers given w) }
 
     // Whatever the answer is, the queue was closed with each buffer free: each pass has retired, what was sent was taken, and the block was
@@ -233,8 +233,8 @@ pub fn work<R: Threads + Sync, S: Source, G: Gate>(
 
     // A fault is that of its file, and those in front of it were read to their ends. Where there is one of a file, each source is as one
     // whose reading didn't stop for want of memory.
-    ensures cause { IfErr result.result (λ fault. HasCause job.now.size S.faults S.ends S.left sources.items result.sources.items fault) }
-    ensures memory_first { IfErr result.result (λ fault. MemoryIsFirst job.now.size S.faults S.ends S.left sources.items result.sources.items fault) }
+    ensures cause { IfErr result.result (λ fault. HasCause job.now.longest S.faults S.ends S.left sources.items result.sources.items fault) }
+    ensures memory_first { IfErr result.result (λ fault. MemoryIsFirst job.now.longest S.faults S.ends S.left sources.items result.sources.items fault) }
 {
     let Ok(room) = make_room(alloc, job, sources.len()) else {
         return WorkEnd::starved(sources);
@@ -265,7 +265,7 @@ fn work_in<R: Threads + Sync, S: Source, G: Gate>(
     requires few { vec_len sources ≤ 64 }
     requires setup { (queue.setup.order ≡ job.now.order) × (queue.setup.rings ≡ length job.now.topics + 2) × (queue.setup.seats ≡ job.now.workers)
         × (queue.setup.limit ≡ 2 ^ 60) }
-    requires frames { All (λ f. job.now.size + 16 ≤ length f.bytes.items) queue.given }
+    requires frames { All (λ f. job.now.size + 24 ≤ length f.bytes.items) queue.given }
     requires all { AreAllOf block queue.given }
     requires passes { passes.items ≡ first_passes queue queue.setup.seats }
     requires files { (vec_len room.files ≡ job.now.workers)
@@ -278,19 +278,19 @@ fn work_in<R: Threads + Sync, S: Source, G: Gate>(
     ensures moved { (k : ℕ) (d : S) → k < length sources.items
         → HasMoved S.faults S.left (slice_index_or sources.items k d) (slice_index_or result.sources.items k d) }
     ensures whole { OnOk result.result ((k : ℕ) (d : S) → k < length sources.items
-        → IsWhole job.now.size S.faults S.ends S.left (slice_index_or sources.items k d) (slice_index_or result.sources.items k d)) }
+        → IsWhole job.now.longest S.faults S.ends S.left (slice_index_or sources.items k d) (slice_index_or result.sources.items k d)) }
     ensures answers { IfOk result.result (λ w. IfSome (all_left S.left sources.items) (λ contents.
         IsPermutation (map without_way (members_in w.answered.items)) (answers_to job.now.topics 1 contents))) }
     ensures told { IfOk result.result (λ w. IfSome (all_left S.left sources.items) (λ contents.
         HasWorked job.now.topics job.now.size job.now.workers (messages_in job.now.topics 1 contents) w)) }
-    ensures worked { IfOk result.result (λ w. (given : List (List TheMessage)) × AreGiven job.now.topics job.now.size S.left 1 sources.items given
+    ensures worked { IfOk result.result (λ w. (given : List (List TheMessage)) × AreGiven job.now.topics job.now.longest S.left 1 sources.items given
         × HasWorked job.now.topics job.now.size job.now.workers given w) }
     ensures left { IfSome result.left (λ left. IsSomeAnd result.passes (λ passes.
         NothingIsStranded job.now.order (length job.now.topics + 1) job.now.workers passes.value.items left.items)) }
     ensures none { result.left ≡ None → IsErrOf result.result WorkFault.NoMemory }
     ensures same { IfOk result.result (λ w. IsSomeAnd result.passes (λ passes. passes.value.items ≡ w.passes.value.items)) }
-    ensures cause { IfErr result.result (λ fault. HasCause job.now.size S.faults S.ends S.left sources.items result.sources.items fault) }
-    ensures memory_first { IfErr result.result (λ fault. MemoryIsFirst job.now.size S.faults S.ends S.left sources.items result.sources.items fault) }
+    ensures cause { IfErr result.result (λ fault. HasCause job.now.longest S.faults S.ends S.left sources.items result.sources.items fault) }
+    ensures memory_first { IfErr result.result (λ fault. MemoryIsFirst job.now.longest S.faults S.ends S.left sources.items result.sources.items fault) }
 {
     let Room {
         files,

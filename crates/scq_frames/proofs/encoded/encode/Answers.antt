@@ -1,24 +1,22 @@
--- Each write goes behind what was written before it.
-use Rattle.std.proofs.Common.{◌∙◌, ap, refl, ℕ, List, [], ◌++◌, ◌+◌, length, drop}
-use Rattle.byteorder.specs.Endian.{big_bytes}
+-- The view that is written is the part.
+use Rattle.std.proofs.Common.{◌∙◌, ap, ◌-◌, ◌*◌, ◌++◌, ◌+◌, arith, length, drop, length-drop}
+use Rattle.std.proofs.lemmas.List.{length-take}
+use Rattle.scq_frames.specs.Parts.{Part}
 use Rattle.scq_frames.specs.Encoded.{message_bytes}
-use Rattle.scq_frames.proofs.EncodedLemmas.{written}
 use Rattle.scq_frames.proofs.encoded.encode.Goals as goal
 
+pub write_part-requires-clause-short : goal.write_part-requires-clause-short
+write_part-requires-clause-short c =
+    let payload = c.args.message.now.payload in
+    let start = (c.args.part - 1) * c.args.size in
+    let same = ap (λ (p : Part). length p.payload) c.view_of.ensures in
+    omega (arith, same, c.requires.short, length-take c.args.size (drop start payload), length-drop start payload)
+
+pub write_part-requires-clause-room : goal.write_part-requires-clause-room
+write_part-requires-clause-room c =
+    let same = ap (λ (p : Part). length p.payload) c.view_of.ensures in
+    omega (arith, same, c.requires.room)
+
 pub returns : goal.returns
-unfolding message_bytes
 returns c =
-    let m = c.args.message.now in
-    let old = c.args.into.now in
-    let payload = c.bytes-payload.result.now in
-    let one = written [] old old c.write_number.new.into (big_bytes 4 m.file) 0 4 refl refl refl c.write_number.ensures.written in
-    let two = written (big_bytes 4 m.file) old c.write_number.new.into c.write_number-2.new.into (big_bytes 4 m.line) 4 4 one refl refl
-    c.write_number-2.ensures.written in
-    let three = written (big_bytes 4 m.file ++ big_bytes 4 m.line) old c.write_number-2.new.into c.write_number-3.new.into (big_bytes 4 m.topic) 8 4 two
-    refl refl c.write_number-3.ensures.written in
-    let four = written (big_bytes 4 m.file ++ big_bytes 4 m.line ++ big_bytes 4 m.topic) old c.write_number-3.new.into c.write_number-4.new.into
-    (big_bytes 4 (length payload)) 12 4 three refl refl c.write_number-4.ensures.written in
-    let five = written (big_bytes 4 m.file ++ big_bytes 4 m.line ++ big_bytes 4 m.topic ++ big_bytes 4 (length payload)) old c.write_number-4.new.into
-    c.write_bytes.new.into payload 16 (length payload) four refl refl c.write_bytes.ensures in
-    five ∙ ap (λ (p : List ℕ). (big_bytes 4 m.file ++ big_bytes 4 m.line ++ big_bytes 4 m.topic ++ big_bytes 4 (length p) ++ p) ++ drop (16 + length p) old)
-    c.bytes-payload.ensures
+    c.write_part.ensures ∙ ap (λ (p : Part). message_bytes p ++ drop (24 + length p.payload) c.args.into.now) c.view_of.ensures

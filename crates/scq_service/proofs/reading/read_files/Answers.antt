@@ -32,8 +32,8 @@ returns-then-all-clause-got g c =
     let end_count = g.F.Src.Source.ends in
     let left = g.F.Src.Source.left in
     rw (after.read ∙ end.read, come, ap (λ v. v.items) (after.sources ∙ end.sources))
-    (has-got c.args.job.now.size faults end_count left names table opens olds news did.count came.come 0 did.moved
-    (kept-of c.args.job.now.size faults end_count left names table opens olds news did.count came.come c.get_sources-all.result came.all))
+    (has-got c.args.job.now.longest faults end_count left names table opens olds news did.count came.come 0 did.moved
+    (kept-of c.args.job.now.longest faults end_count left names table opens olds news did.count came.come c.get_sources-all.result came.all))
 
 pub returns-then-all-clause-ends : goal.returns-then-all-clause-ends
 returns-then-all-clause-ends g c =
@@ -42,7 +42,7 @@ returns-then-all-clause-ends g c =
     let come : c.behind.result.got.value.items ≡ c.get_sources-all.new.sources.items = ap (λ v. v.value.items) after.got ∙ ap (λ v. v.items) c.of-got.ensures in
     let came = c.get_sources-all.ensures in
     let did = c.work-sources.ensures in
-    let size = c.args.job.now.size in
+    let size = c.args.job.now.longest in
     let names = map string_bytes c.args.names.now in
     let table : Change (Option Table) = record { old = g.F.Files.table c.args.files.now; new = g.F.Files.table c.get_sources-all.new.files } in
     let opens : Change ℕ = record { old = g.F.Files.faults c.args.files.now; new = g.F.Files.faults c.get_sources-all.new.files } in
@@ -73,10 +73,10 @@ returns-then-all-clause-work g c =
     let end_count = g.F.Src.Source.ends in
     let left = g.F.Src.Source.left in
     let W : Result Worked WorkFault → Type 0 =
-    λ r. OnOk r ((k : ℕ) (d : _) → k < length olds → IsWhole job.size faults end_count left (slice_index_or olds k d) (slice_index_or news k d)) in
+    λ r. OnOk r ((k : ℕ) (d : _) → k < length olds → IsWhole job.longest faults end_count left (slice_index_or olds k d) (slice_index_or news k d)) in
     let whole = subst W c.in-Ok-result.is did.whole in
     let G : Result Worked WorkFault → Type 0 =
-    λ r. IfOk r (λ w. (given : List (List Message)) × AreGiven job.topics job.size left 1 olds given
+    λ r. IfOk r (λ w. (given : List (List Message)) × AreGiven job.topics job.longest left 1 olds given
     × HasWorked job.topics job.size job.workers given w) in
     let gave = subst G c.in-Ok-result.is did.worked in
     rw (after.worked ∙ end.worked, come, ap (λ v. v.items) (after.sources ∙ end.sources))
@@ -99,8 +99,8 @@ returns-else-all-clause-got g c =
     let end_count = g.F.Src.Source.ends in
     let left = g.F.Src.Source.left in
     rw (after.read ∙ end.read, come, ap (λ v. v.items) (after.sources ∙ end.sources))
-    (has-got c.args.job.now.size faults end_count left names table opens olds news did.count came.come 0 did.moved
-    (kept-of c.args.job.now.size faults end_count left names table opens olds news did.count came.come c.get_sources-all.result came.all))
+    (has-got c.args.job.now.longest faults end_count left names table opens olds news did.count came.come 0 did.moved
+    (kept-of c.args.job.now.longest faults end_count left names table opens olds news did.count came.come c.get_sources-all.result came.all))
 
 pub returns-else-all-clause-ends : goal.returns-else-all-clause-ends
 returns-else-all-clause-ends g c =
@@ -110,7 +110,7 @@ returns-else-all-clause-ends g c =
     c.of-got.ensures in
     let came = c.get_sources-all.ensures in
     let did = c.work-sources.ensures in
-    let size = c.args.job.now.size in
+    let size = c.args.job.now.longest in
     let names = map string_bytes c.args.names.now in
     let table : Change (Option Table) = record { old = g.F.Files.table c.args.files.now; new = g.F.Files.table c.get_sources-all.new.files } in
     let opens : Change ℕ = record { old = g.F.Files.faults c.args.files.now; new = g.F.Files.faults c.get_sources-all.new.files } in
@@ -145,8 +145,8 @@ returns-in-Err-clause-got g c =
     let end_count = g.F.Src.Source.ends in
     let left = g.F.Src.Source.left in
     rw (come, ap (λ v. v.items) (after.sources ∙ end.sources))
-    (has-got c.args.job.now.size faults end_count left names table opens olds news did.count came.come c.behind-in-Err.result.read did.moved
-    (kept-of c.args.job.now.size faults end_count left names table opens olds news did.count came.come c.get_sources-all.result came.all))
+    (has-got c.args.job.now.longest faults end_count left names table opens olds news did.count came.come c.behind-in-Err.result.read did.moved
+    (kept-of c.args.job.now.longest faults end_count left names table opens olds news did.count came.come c.get_sources-all.result came.all))
 
 pub returns-in-Err-clause-ends : goal.returns-in-Err-clause-ends
 returns-in-Err-clause-ends g c =
@@ -156,7 +156,7 @@ returns-in-Err-clause-ends g c =
     c.of-got.ensures in
     let came = c.get_sources-all.ensures in
     let did = c.work-sources.ensures in
-    let size = c.args.job.now.size in
+    let size = c.args.job.now.longest in
     let names = map string_bytes c.args.names.now in
     let table : Change (Option Table) = record { old = g.F.Files.table c.args.files.now; new = g.F.Files.table c.get_sources-all.new.files } in
     let opens : Change ℕ = record { old = g.F.Files.faults c.args.files.now; new = g.F.Files.faults c.get_sources-all.new.files } in
@@ -195,7 +195,7 @@ pub returns-in-Err-clause-seen : goal.returns-in-Err-clause-seen
 returns-in-Err-clause-seen g c none =
     let err : c.work-sources.result.result ≡ Err NoMemory = c.work-sources.ensures.none (sym c.behind-in-Err.ensures.left.0 ∙ none-seen _ none) in
     let is : c.in-Err.fault ≡ NoMemory = cc (c.in-Err.is, err) in
-    c.behind-in-Err.ensures.fault ∙ c.of_work.ensures.fault ∙ ap (λ f. Some (fault_of_work c.args.job.now.size f)) is
+    c.behind-in-Err.ensures.fault ∙ c.of_work.ensures.fault ∙ ap (λ f. Some (fault_of_work c.args.job.now.longest f)) is
 
 -- the answers are of those passes
 pub returns-then-all-clause-same : goal.returns-then-all-clause-same

@@ -17,11 +17,11 @@ invariant-files g l =
     record {
       long : length l.desks ≡ length l.fn.desks;
       dealt : AreDealt (l.at + 1) (drop l.at l.was.value.items) l.desks;
-      read : All (λ d. All (λ f. IsRead l.job.topics l.job.size faults end_count left f.number f.was.value f.source (given_in f.given.value) f.end)
+      read : All (λ d. All (λ f. IsRead l.job.topics l.job.longest faults end_count left f.number f.was.value f.source (given_in f.given.value) f.end)
           d.files.items) l.desks;
       count : vec_len l.gathered.sources ≡ l.at;
       capacity : vec_capacity l.gathered.sources ≡ vec_capacity l.fn.gathered.sources;
-      so_far : SoFar l.job.size faults end_count left l.was.value.items l.at l.gathered.sources.items l.gathered.fault l.gathered.starved;
+      so_far : SoFar l.job.longest faults end_count left l.was.value.items l.at l.gathered.sources.items l.gathered.fault l.gathered.starved;
       whole : l.gathered.fault ≡ None → AllWhole l.desks → AllWhole l.fn.desks;
       same : map without_files l.desks ≡ map without_files l.fn.desks;
     }

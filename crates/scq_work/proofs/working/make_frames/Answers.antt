@@ -15,6 +15,6 @@ pub carve-requires : goal.carve-requires
 carve-requires c =
     let job = c.args.job.now in
     let few : 2 ^ job.order ≤ 2 ^ 12 = pow_mono job.valid.order_fits in
-    let small : job.size + 16 ≤ 65552 = omega (arith, job.valid.size_fits) in
-    let all : 2 ^ job.order * (job.size + 16) ≤ 2 ^ 12 * 65552 = mul-le (2 ^ job.order) (job.size + 16) (2 ^ 12) 65552 few small in
+    let small : job.size + 24 ≤ 65560 = omega (arith, job.valid.size_fits) in
+    let all : 2 ^ job.order * (job.size + 24) ≤ 2 ^ 12 * 65560 = mul-le (2 ^ job.order) (job.size + 24) (2 ^ 12) 65560 few small in
     rw (exact job.order job.valid.order_fits) (pow_pos job.order, omega arith, omega (arith, all))

@@ -2,6 +2,7 @@ use Rattle.std.proofs.Common.{◌≡◌, ◌<◌, ◌≤◌, ℕ, [], false, len
 use Rattle.std.specs.Prelude.{All, slice_index_or}
 use Rattle.scq_work.specs.Desks.{IsNew, ids_of, all_given}
 use Rattle.scq_work.specs.Given.{given_in}
+use Rattle.scq_work.specs.Passing.{parts_in}
 use Rattle.scq_work.specs.Reading.{IsRead}
 use Rattle.scq_work.specs.Working.{Suits, IsAtWork}
 use Rattle.scq_work.specs.declared.own_file.FileEnd.TheVariants.{Stopped}
@@ -14,12 +15,12 @@ invariant-files g l = record {
   unread : (k : ℕ) (d : _) → k < l.at → IsNew (slice_index_or l.files k d);
   sound : (k : ℕ) (d : _) (fault : _) → l.at ≤ k → k < length l.files → (slice_index_or l.files k d).end ≡ Stopped fault → ⊥;
   same : ids_of l.files ≡ ids_of l.fn.files;
-  read : All (λ f. IsRead l.job.topics l.job.size g.S.Source.faults g.S.Source.ends g.S.Source.left f.number f.was.value f.source (given_in f.given.value)
+  read : All (λ f. IsRead l.job.topics l.job.longest g.S.Source.faults g.S.Source.ends g.S.Source.left f.number f.was.value f.source (given_in f.given.value)
       f.end) l.files;
   suits : Suits l.queue (length l.job.topics) l.self.pass;
   stays : l.self.pass.retired ≡ None;
   work : IsAtWork l.job.topics [] l.fn.self.pass l.fn.self.members.items l.fn.self.starved
-      → IsAtWork l.job.topics (all_given l.files) l.self.pass l.self.members.items l.self.starved;
+      → IsAtWork l.job.topics (parts_in l.job.size (all_given l.files)) l.self.pass l.self.members.items l.self.starved;
   starved : l.self.starved ≡ false → l.fn.self.starved ≡ false;
   number : l.self.number ≡ l.fn.self.number;
   pass : l.self.pass.number ≡ l.fn.self.pass.number;
