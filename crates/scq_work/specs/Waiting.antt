@@ -1,0 +1,48 @@
+-- What is known of workers that wait in place of leaving early: what each saw, how often it rested, and how often it took in vain. `topics`
+-- is the number of topic rings. A count of rests stands still at the last value of 64 bits.
+use Rattle.std.specs.Prelude.{◌≡◌, ◌⊎◌, ℕ, suc, ◌+◌, ◌-◌, ◌*◌, ◌^◌, ◌<◌, ◌≤◌, Bool, true, false, List, [], ◌∷◌, length, All, Some, slice_get, count_by}
+use Rattle.scq_core.specs.declared.ended.Ended.{Ended}
+use Rattle.scq_core.specs.declared.ended.Ended.TheVariants.{Got, Done, Nothing, Spent}
+use Rattle.scq_park.specs.declared.rested.Rested.{Rested}
+use Rattle.scq_queue.specs.Lists.{takes_of}
+use Rattle.scq_queue.specs.Passes.{PassStanding}
+use Rattle.scq_work.specs.Leaving.{IsSweep}
+use Rattle.scq_work.specs.Working.{HasTaken}
+
+-- whether a call is a take of a topic that found nothing, and how many of a record are
+abbrev pub is_vain : Ended → Bool
+is_vain (Nothing (suc topic)) = true
+is_vain call = false
+
+abbrev pub vain_takes : List Ended → ℕ
+vain_takes calls = count_by is_vain calls
+
+module _ {B : Type 0} where
+  -- a worker that reads its files: it takes in vain only where it helps, and that once from each topic after each Full
+  abbrev pub HelpsInVain : ℕ → PassStanding B → Type 0
+  HelpsInVain topics p = vain_takes p.calls ≤ topics * length p.fulls
+
+  -- a worker that has swept: each sweep takes in vain once from each topic, and each but the last got something or was followed by a rest.
+  -- `begun` is 1 once its last sweep has begun, and 0 before it
+  abbrev pub SweepsInVain : ℕ → ℕ → ℕ → PassStanding B → Type 0
+  SweepsInVain topics begun rests p = vain_takes p.calls ≤ topics * (begun + rests + length (takes_of p.calls) + length p.fulls)
+
+  -- it has left after a sweep before which all had retired. There is no other way to leave
+  pub record HasSweptTold (topics : ℕ) (old new : PassStanding B) : Type 0 where
+    pub begun : PassStanding B
+    pub before : HasTaken old begun
+    pub sweep : IsSweep topics 0 begun new
+
+  -- what a worker's whole work says beside `HasRun`, where it met no ticket past the limit
+  pub record HasWaited (topics rests : ℕ) (p : PassStanding B) : Type 0 where
+    pub told : p.spent ≡ None → p.gate ≡ Some 0
+    pub vain : SweepsInVain topics 1 rests p
+
+  -- all workers: each saw the gate closed, rested no more often than it was woken, and took in vain no more often than sweeps that rest do
+  pub record HaveWaited (topics workers : ℕ) (passes : List (PassStanding B)) (saw : List Bool) (rested : List Rested) : Type 0 where
+    pub each_saw : length saw ≡ workers
+    pub each_rested : length rested ≡ workers
+    pub closed : All (λ s. s ≡ true) saw
+    pub woken : All (λ (r : Rested). r.rests ≤ r.wakes) rested
+    pub vain : (w : ℕ) (p : PassStanding B) (r : Rested) → slice_get passes w ≡ Some p → slice_get rested w ≡ Some r
+        → (r.rests ≡ 2 ^ 64 - 1) ⊎ SweepsInVain topics 1 r.rests p
