@@ -21,7 +21,7 @@ pub struct Outcome<S> {
     pub fault: Option<Fault>,
     /// The sources that were got, in the order of the files.
     pub sources: Vec<S>,
-    /// How many bytes were read of a file that is too large; 0 where none is.
+    /// How many bytes were read of a file that is too large; 0 where none is, and of `judge`.
     pub read: u64,
     /// What workers answered: there exactly where `run` or `self` ended with status 0 or 4.
     pub worked: Option<Worked>,

@@ -1,10 +1,10 @@
 -- A worker's list of answers, against what its pass did. `topics` has the names and kinds of the declared topics.
-use Rattle.std.specs.Prelude.{◌≡◌, ℕ, ◌≤◌, Bool, true, false, not, List, [], ◌∷◌, ◌++◌, length, filter}
+use Rattle.std.specs.Prelude.{◌≡◌, ℕ, ◌^◌, ◌<◌, ◌≤◌, Bool, true, false, not, List, [], ◌∷◌, ◌++◌, length, filter}
 use Rattle.std.specs.List.{AllZip}
 use Rattle.scq_topics.specs.declared.kind.Kind.{Kind}
 use Rattle.scq_topics.specs.Reply.{reply_of}
 use Rattle.scq_topics.specs.Topics.{kind_of}
-use Rattle.scq_frames.specs.Parts.{Part}
+use Rattle.scq_frames.specs.Parts.{Part, IsNumbered}
 use Rattle.scq_frames.specs.Encoded.{IsEncodable, BeginsWith}
 use Rattle.scq_collect.specs.declared.answered.Answered.{Answered}
 use Rattle.scq_collect.specs.declared.answered.Way.{Way}
@@ -33,8 +33,10 @@ is_taken a = is_way_taken a.way
 abbrev pub is_direct : Answered → Bool
 is_direct a = not (is_way_taken a.way)
 
--- this is the one part that these bytes begin with
+-- this is the one part that these bytes begin with: it is one of its parts, whose number fits 32 bits, and no other encodable part begins them
 pub record Decodes (bytes : List ℕ) (p : Part) : Type 0 where
+  pub numbered : IsNumbered p.part p.parts
+  pub few : p.parts < 2 ^ 32
   pub begins : BeginsWith bytes p
   pub only : (other : Part) → IsEncodable other → BeginsWith bytes other → p ≡ other
 

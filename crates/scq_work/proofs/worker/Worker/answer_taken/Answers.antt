@@ -1,4 +1,4 @@
-use Rattle.std.proofs.Common.{◌≡◌, ap, arith, Some}
+use Rattle.std.proofs.Common.{rules, ◌≡◌, ap, arith, Some}
 use Rattle.scq_frames.specs.Parts.{Part}
 use Rattle.scq_frames.specs.Views.{part_of_view}
 use Rattle.scq_work.specs.Members.{and_passed_over}
@@ -11,7 +11,7 @@ returns-then-part-len-clause-takes g c fed topic takes before =
     let p : Part = part_of_view c.in-Some.part in
     so-far-answered c.args.job.now.topics takes c.args.self.now.members.items c.answer.new.self.members.items
     (record { topic = topic; place = c.args.place; bytes = c.args.bytes.now }) p (omega arith)
-    c.in-Some.ensures.found
+    c.in-Some.ensures.numbered (search rules) c.in-Some.ensures.found
     (λ other fits begins. let same = c.in-Some.ensures.only other fits begins in cc)
     (c.answer.ensures.listed fed) before
 
