@@ -159,8 +159,8 @@ uint32_t scq_counts_of(scq_port *port, scq_counts *out);
  * Answers: SCQ_SPENT, and *ticket is the ticket; SCQ_OK where it keeps none; SCQ_CLOSED. */
 uint32_t scq_spent(scq_port *port, uint64_t *ticket);
 
-/* Closes the port: gives back what it holds (where its tickets have run out, those buffers stay with the queue, which lends them to nobody), and sets it to SCQ_NONE. The
- * last port of a queue that is closed frees the queue, with what stands on its topics.
+/* Closes the port: gives back what it holds (where its tickets have run out, those buffers stay with the queue, which lends them to nobody),
+ * and sets it to SCQ_NONE. The last port of a queue that is closed frees the queue, with what stands on its topics.
  *
  * Tested: that the port is open.
  * Answers: SCQ_OK; SCQ_CLOSED. */
