@@ -1,5 +1,5 @@
 -- A port may go to another thread: so may its pass and its values, and the queue may go and be shared; and buffers may go and be shared.
-use denote.Builtin.{u8, u64, usize}
+use denote.Builtin.{u8, u64, usize, bool}
 use denote.Param.Send.{IsSend, IsSync, sendable, view_send}
 use denote.Param.SendFields.{declared_send, declared_sync}
 use Rattle.std.proofs.Crossing as crossing
@@ -50,6 +50,9 @@ slot_sent = declared_send (slot.the_type buffer.the_row) (option_sent buffer.the
 setup_sent : IsSend setup.the_row
 setup_sent = search (sendable, crossing.crosses) depth 20
 
+bool_sent : IsSend bool
+bool_sent = search sendable
+
 counts_sent : IsSend counts.the_row
 counts_sent = declared_send counts.the_type (u64_sent, (u64_sent, (u64_sent, tt)))
 
@@ -84,7 +87,7 @@ queue_sent =
       band_sent,
       (
         vec_sent (seat.the_row buffer.the_row buffers.ghosts) (seat_sent buffer.the_row buffers.ghosts buffer_sent),
-        (vec_sent counts.the_row counts_sent, tt),
+        (vec_sent counts.the_row counts_sent, (vec_sent bool bool_sent, tt)),
       ),
     ))
 

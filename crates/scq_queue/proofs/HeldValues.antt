@@ -8,7 +8,7 @@ use Rattle.scq_band.specs.declared.calls.DeqRefusal.TheVariants.{Empty, Spent}
 use Rattle.scq_band.specs.Standing as band
 use Rattle.scq_band.specs.Standing.{Standing, in_hand, with_buffer, without_index, HasTaken}
 use Rattle.scq_band.specs.Closing.{indices_of}
-use Rattle.scq_queue.specs.Passes.{PassStanding, HeldStanding, IsHeldBy, HasGot, FoundNothing, without, having_seen, after_put, after_get, after_spent_put, after_spent_get}
+use Rattle.scq_queue.specs.Passes.{HeldStanding, IsHeldBy, HasGot, FoundNothing, without, having_seen, after_put, after_get, after_spent_put, after_spent_get}
 use Rattle.scq_queue.specs.Kept.{all_lifted, AreLifted, pass_over, held_of}
 use Rattle.scq_queue.proofs.Hands.{indices-all_lifted, held_lifted, lifted_and_put, came_in_hand, came_and_lifted, contains_last, not_held}
 
@@ -133,17 +133,17 @@ module _ {B : Type 0} where
       → ((head : ℕ) → refusal ≡ Empty head → band.FoundEmpty ring head s later)
       → ((ticket : ℕ) → refusal ≡ Spent ticket → s.spent ≡ None → later ≡ band.having_seen later.seen (band.after_spent_get ring ticket s))
       → ((ticket : ℕ) → s.spent ≡ Some ticket → later ≡ s)
-      → (later.hand ≡ s.hand) × (later.band ≡ s.band) × (later.number ≡ s.number)
+      → (later.hand ≡ s.hand) × (later.band ≡ s.band) × (later.number ≡ s.number) × (later.gate ≡ s.gate)
   refused s later ring refusal empty spent kept =
       elim (cases_refusal refusal) [
         | inl found ↦ let is = (empty found.0 found.1).seat in
-            (ap (λ (t : Standing B). t.hand) is, ap (λ (t : Standing B). t.band) is, ap (λ (t : Standing B). t.number) is)
+            (ap (λ (t : Standing B). t.hand) is, ap (λ (t : Standing B). t.band) is, ap (λ (t : Standing B). t.number) is, ap (λ (t : Standing B). t.gate) is)
         | inr drew ↦
             elim (cases_spent s.spent) [
               | inl none ↦ let is = spent drew.0 drew.1 none in
-                  (ap (λ (t : Standing B). t.hand) is, ap (λ (t : Standing B). t.band) is, ap (λ (t : Standing B). t.number) is)
+                  (ap (λ (t : Standing B). t.hand) is, ap (λ (t : Standing B). t.band) is, ap (λ (t : Standing B). t.number) is, ap (λ (t : Standing B). t.gate) is)
               | inr some ↦ let is = kept some.0 some.1 in
-                  (ap (λ (t : Standing B). t.hand) is, ap (λ (t : Standing B). t.band) is, ap (λ (t : Standing B). t.number) is)
+                  (ap (λ (t : Standing B). t.hand) is, ap (λ (t : Standing B). t.band) is, ap (λ (t : Standing B). t.number) is, ap (λ (t : Standing B). t.gate) is)
             ]
       ]
 

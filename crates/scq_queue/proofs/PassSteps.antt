@@ -1,6 +1,6 @@
 -- What a call of its seat makes of a pass: what it keeps, and its lists.
 use Rattle.std.proofs.Common.{◌≡◌, ℕ, suc, ◌+◌, ◌-◌, ◌^◌, ◌<◌, ◌≤◌, List, [], ◌∷◌, ◌++◌, length, refl, sym, ◌∙◌, ap, subst, inl, inr, arith}
-use Rattle.std.specs.Prelude.{Some, None, min}
+use Rattle.std.specs.Prelude.{Bool, Some, None, min}
 use Rattle.std.proofs.lemmas.List.{append-nil, length-append}
 use Rattle.scq_core.specs.declared.ended.Ended.{Ended}
 use Rattle.scq_core.specs.declared.ended.Ended.TheVariants.{Done, Got, Nothing, Spent}
@@ -9,8 +9,8 @@ use Rattle.scq_band.specs.Numbers.{known_of}
 use Rattle.scq_band.specs.Standing.{Identity, Standing}
 use Rattle.scq_queue.specs.declared.counts.Counts.{Counts}
 use Rattle.scq_queue.specs.Lists.{sent_by, taken_by, was_full, fulls_in, sends_of, takes_of, with_send, with_take, with_full, counted, counts_of}
-use Rattle.scq_queue.specs.Passes.{PassStanding, HeldStanding, HasGot, WasLent, WasGivenBack, lists_of, having_seen, after_put}
-use Rattle.scq_queue.specs.Kept.{AreLifted, IsPass, pass_over}
+use Rattle.scq_queue.specs.Passes.{PassStanding, HeldStanding, HasGot, WasLent, WasGivenBack, lists_of, having_seen, after_put, was_told}
+use Rattle.scq_queue.specs.Kept.{StaysLifted, IsPass, pass_over}
 use Rattle.scq_queue.proofs.HeldValues.{cases_spent}
 use Rattle.scq_queue.proofs.Records.{sends-append, takes-append}
 
@@ -72,22 +72,24 @@ module _ {B : Type 0} where
       rw (ap sends_of calls ∙ sends_none p.calls (Nothing 0) refl, ap takes_of calls ∙ takes_none p.calls (Nothing 0) refl, fulls) refl
 
   -- what a pass keeps, once its seat made a call
-  pub keeps_same : (s later : Standing B) (heads : List ℕ) (counts : Counts) (e : Ended) → AddsNothing e → IsPass s heads counts → AreLifted later
-      → later.calls ≡ s.calls ++ e ∷ [] → IsPass later heads counts
+  pub keeps_same : {saw : Bool} (s later : Standing B) (heads : List ℕ) (counts : Counts) (e : Ended) → AddsNothing e → IsPass s heads counts saw → StaysLifted s later
+      → later.calls ≡ s.calls ++ e ∷ [] → IsPass later heads counts saw
   keeps_same s later heads counts e adds is lifted calls =
       record {
-        lifted = lifted;
+        lifted = lifted.lifted;
+        told = is.told ∙ ap was_told (sym lifted.gate);
         all_fulls =
             (let before = is.all_fulls in let more = ap fulls_in calls ∙ tally-append was_full s.calls e in let none = adds.full in omega arith);
         counted = is.counted ∙ ap counts_of (sym (same_lists (pass_over s heads) (pass_over later heads) e adds calls refl));
       }
 
-  pub keeps_sent : (s later : Standing B) (heads : List ℕ) (counts : Counts) (sent t place : ℕ) (w : List ℕ) → IsPass s heads counts → AreLifted later
-      → later.calls ≡ s.calls ++ Done (suc t) place w ∷ [] → sent ≡ min (counts.sent + 1) (2 ^ 64 - 1) → IsPass later heads (record counts { sent = sent })
+  pub keeps_sent : {saw : Bool} (s later : Standing B) (heads : List ℕ) (counts : Counts) (sent t place : ℕ) (w : List ℕ) → IsPass s heads counts saw → StaysLifted s later
+      → later.calls ≡ s.calls ++ Done (suc t) place w ∷ [] → sent ≡ min (counts.sent + 1) (2 ^ 64 - 1) → IsPass later heads (record counts { sent = sent }) saw
   keeps_sent s later heads counts sent t place w is lifted calls one =
       let l = lists_of (pass_over s heads) in
       record {
-        lifted = lifted;
+        lifted = lifted.lifted;
+        told = is.told ∙ ap was_told (sym lifted.gate);
         all_fulls =
             (let before = is.all_fulls in let more = ap fulls_in calls ∙ tally-append was_full s.calls (Done (suc t) place w) in omega arith);
         counted =
@@ -97,12 +99,13 @@ module _ {B : Type 0} where
             ∙ ap counts_of (sym (one_send (pass_over s heads) (pass_over later heads) t place w calls refl));
       }
 
-  pub keeps_taken : (s later : Standing B) (heads : List ℕ) (counts : Counts) (taken t place : ℕ) (w : List ℕ) → IsPass s heads counts → AreLifted later
-      → later.calls ≡ s.calls ++ Got (suc t) place w ∷ [] → taken ≡ min (counts.taken + 1) (2 ^ 64 - 1) → IsPass later heads (record counts { taken = taken })
+  pub keeps_taken : {saw : Bool} (s later : Standing B) (heads : List ℕ) (counts : Counts) (taken t place : ℕ) (w : List ℕ) → IsPass s heads counts saw → StaysLifted s later
+      → later.calls ≡ s.calls ++ Got (suc t) place w ∷ [] → taken ≡ min (counts.taken + 1) (2 ^ 64 - 1) → IsPass later heads (record counts { taken = taken }) saw
   keeps_taken s later heads counts taken t place w is lifted calls one =
       let l = lists_of (pass_over s heads) in
       record {
-        lifted = lifted;
+        lifted = lifted.lifted;
+        told = is.told ∙ ap was_told (sym lifted.gate);
         all_fulls =
             (let before = is.all_fulls in let more = ap fulls_in calls ∙ tally-append was_full s.calls (Got (suc t) place w) in omega arith);
         counted =
@@ -112,13 +115,14 @@ module _ {B : Type 0} where
             ∙ ap counts_of (sym (one_take (pass_over s heads) (pass_over later heads) t place w calls refl));
       }
 
-  pub keeps_full : (s later : Standing B) (heads more : List ℕ) (head : ℕ) (counts : Counts) (full : ℕ) → IsPass s heads counts → AreLifted later
+  pub keeps_full : {saw : Bool} (s later : Standing B) (heads more : List ℕ) (head : ℕ) (counts : Counts) (full : ℕ) → IsPass s heads counts saw → StaysLifted s later
       → later.calls ≡ s.calls ++ Nothing 0 ∷ [] → more ≡ heads ++ head ∷ [] → full ≡ min (counts.full + 1) (2 ^ 64 - 1)
-      → IsPass later more (record counts { full = full })
+      → IsPass later more (record counts { full = full }) saw
   keeps_full s later heads more head counts full is lifted calls grown one =
       let l = lists_of (pass_over s heads) in
       record {
-        lifted = lifted;
+        lifted = lifted.lifted;
+        told = is.told ∙ ap was_told (sym lifted.gate);
         all_fulls =
             (let before = is.all_fulls in let one_more = ap fulls_in calls ∙ tally-append was_full s.calls (Nothing 0) in
             let longer = ap length grown ∙ length-append heads (head ∷ []) in omega arith);
@@ -129,10 +133,10 @@ module _ {B : Type 0} where
       }
 
   -- a pass whose call was refused for a spent ticket, which it kept or drew now
-  pub refused_spent : (s later : Standing B) (heads : List ℕ) (counts : Counts) (e : Ended) → AddsNothing e → IsPass s heads counts → AreLifted later
+  pub refused_spent : {saw : Bool} (s later : Standing B) (heads : List ℕ) (counts : Counts) (e : Ended) → AddsNothing e → IsPass s heads counts saw → StaysLifted s later
       → (s.spent ≡ None → later.calls ≡ s.calls ++ e ∷ []) → ((ticket : ℕ) → s.spent ≡ Some ticket → later ≡ s)
-      → IsPass later heads counts × (lists_of (pass_over later heads) ≡ lists_of (pass_over s heads))
-  refused_spent s later heads counts e adds is lifted drew kept =
+      → IsPass later heads counts saw × (lists_of (pass_over later heads) ≡ lists_of (pass_over s heads))
+  refused_spent {saw = saw} s later heads counts e adds is lifted drew kept =
       elim (cases_spent s.spent) [
         | inl none ↦ (
           keeps_same s later heads counts e adds is lifted (drew none),
@@ -140,7 +144,7 @@ module _ {B : Type 0} where
         )
         | inr some ↦
             let same = kept some.0 some.1 in (
-              subst (λ (t : Standing B). IsPass t heads counts) (sym same) is,
+              subst (λ (t : Standing B). IsPass t heads counts saw) (sym same) is,
               ap (λ (t : Standing B). lists_of (pass_over t heads)) same,
             )
       ]

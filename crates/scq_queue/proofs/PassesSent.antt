@@ -1,6 +1,6 @@
 -- A pass may be sent to another thread where the buffers may.
 use denote.RattleType.{RattleType}
-use denote.Builtin.{u8}
+use denote.Builtin.{u8, bool}
 use denote.Param.Send.{IsSend, sendable, view_send}
 use denote.Param.SendFields.{declared_send}
 use Rattle.scq_word.specs.declared.buffer.Buffer.{Ghosts}
@@ -11,13 +11,16 @@ use Rattle.scq_queue.specs.contracts.heap_buffer.HeapBuffer as heap_buffer
 use Rattle.scq_queue.specs.contracts.pass.Pass as pass
 use Rattle.scq_queue.specs.contracts.pass.Pass.TheInside as pass_inside
 
+bool_sent : IsSend bool
+bool_sent = search sendable
+
 counts_sent : IsSend counts.the_row
 counts_sent = declared_send counts.the_type (u64_sent, (u64_sent, (u64_sent, tt)))
 
 pub pass_sent : (B : RattleType) (buffer : Ghosts B.Denot) → IsSend B → IsSend (pass.the_row B buffer)
 pass_sent B buffer sends =
     view_send (pass_inside.the_row B buffer) _ _ _ _
-    (declared_send (pass_inside.the_type B buffer) (seat_sent B buffer sends, (snapshot_sent fulls.the_row, (counts_sent, tt))))
+    (declared_send (pass_inside.the_type B buffer) (seat_sent B buffer sends, (snapshot_sent fulls.the_row, (counts_sent, (bool_sent, tt)))))
 
 -- a buffer on the heap may
 pub heap_buffer_sent : IsSend heap_buffer.the_row

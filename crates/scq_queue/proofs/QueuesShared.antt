@@ -1,6 +1,6 @@
 -- A queue may be shared by threads where its buffers may be sent and shared.
 use denote.RattleType.{RattleType}
-use denote.Builtin.{u8, u64}
+use denote.Builtin.{u8, u64, bool}
 use denote.Param.Send.{IsSend, IsSync, sendable, view_sync}
 use denote.Param.SendFields.{declared_sync}
 use Rattle.scq_word.specs.declared.buffer.Buffer.{Ghosts}
@@ -14,6 +14,9 @@ use Rattle.scq_queue.specs.contracts.queue.Queue.TheInside as queue_inside
 u64_sync : IsSync u64
 u64_sync = search sendable
 
+bool_sync : IsSync bool
+bool_sync = search sendable
+
 counts_sync : IsSync counts.the_row
 counts_sync = declared_sync counts.the_type (u64_sync, (u64_sync, (u64_sync, tt)))
 
@@ -22,7 +25,7 @@ queue_sync B buffer sends shares =
     view_sync (queue_inside.the_row B buffer) _ _ _ _
     (declared_sync (queue_inside.the_type B buffer) (
       band_sync B buffer sends shares,
-      (vec_sync (seat.the_row B buffer) (seat_sync B buffer sends), (vec_sync counts.the_row counts_sync, tt)),
+      (vec_sync (seat.the_row B buffer) (seat_sync B buffer sends), (vec_sync counts.the_row counts_sync, (vec_sync bool bool_sync, tt))),
     ))
 
 -- a buffer on the heap may be shared

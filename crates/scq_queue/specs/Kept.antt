@@ -1,12 +1,12 @@
 -- For private calls: what a queue, a pass and a held value keep.
-use Rattle.std.specs.Prelude.{◌≡◌, ℕ, ◌≤◌, List, [], ◌∷◌, ◌++◌, map, length, Option, None}
+use Rattle.std.specs.Prelude.{◌≡◌, ℕ, ◌≤◌, Bool, List, [], ◌∷◌, ◌++◌, map, length, Option, None}
 use Rattle.scq_band.specs.Standing.{Identity, Standing, IsAsGiven}
 use Rattle.scq_band.specs.Closing.{indices_of}
 use Rattle.scq_queue.specs.declared.counts.Counts.{Counts}
 use Rattle.scq_queue.specs.declared.fulls.Fulls.{Fulls}
 use Rattle.scq_queue.specs.declared.fulls.Fulls.TheVariants.{Never, After'}
 use Rattle.scq_queue.specs.Lists.{fulls_in, counts_of}
-use Rattle.scq_queue.specs.Passes.{PassStanding, HeldStanding, lists_of}
+use Rattle.scq_queue.specs.Passes.{PassStanding, HeldStanding, lists_of, was_told}
 
 -- the heads, in the order in which they came
 abbrev pub heads_of : Fulls → List ℕ
@@ -54,12 +54,18 @@ module _ {B : Type 0} where
   abbrev pub AreLifted : Standing B → Type 0
   AreLifted s = s.hand ≡ all_lifted (indices_of s.hand)
 
-  -- what a pass keeps: the buffers of all its values are lifted, its Full replies are those in its record, and its counts are the
-  -- lengths of its lists
-  pub record IsPass (s : Standing B) (fulls : List ℕ) (counts : Counts) : Type 0 where
+  -- the same of a seat after a call, which read no gate
+  pub record StaysLifted (s later : Standing B) : Type 0 where
+    pub lifted : AreLifted later
+    pub gate : later.gate ≡ s.gate
+
+  -- what a pass keeps: the buffers of all its values are lifted, its Full replies are those in its record, its counts are the lengths
+  -- of its lists, and it says that all have retired where its last reading was 0
+  pub record IsPass (s : Standing B) (fulls : List ℕ) (counts : Counts) (saw : Bool) : Type 0 where
     pub lifted : AreLifted s
     pub all_fulls : length fulls ≡ fulls_in s.calls
     pub counted : counts ≡ counts_of (lists_of (pass_over s fulls))
+    pub told : saw ≡ was_told s.gate
 
   -- the value of an index that a pass got with its seat
   abbrev pub held_of : Standing B → ℕ → B → HeldStanding B
@@ -73,9 +79,12 @@ module _ {B : Type 0} where
   abbrev pub IsGiven : (B → B → Type 0) → HeldStanding B → Type 0
   IsGiven IsSame h = IsAsGiven IsSame h.queue.given h.index h.buffer
 
-  -- what a queue keeps: empty lists with room for all seats and their counts
-  pub record IsQueue (queue : Identity B) (seats : List (Standing B)) (seat_room : ℕ) (counts : List Counts) (count_room : ℕ) : Type 0 where
+  -- what a queue keeps: empty lists with room for all seats, their counts and what each was told
+  pub record IsQueue (queue : Identity B) (seats : List (Standing B)) (seat_room : ℕ) (counts : List Counts) (count_room : ℕ) (saw : List Bool)
+      (saw_room : ℕ) : Type 0 where
     pub no_seat : seats ≡ []
     pub all_seats : queue.setup.seats ≤ seat_room
     pub no_count : counts ≡ []
     pub all_counts : queue.setup.seats ≤ count_room
+    pub no_saw : saw ≡ []
+    pub all_saw : queue.setup.seats ≤ saw_room

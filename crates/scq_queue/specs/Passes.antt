@@ -1,6 +1,6 @@
 -- What contracts see of a pass and of a value that it holds, and what each call makes of a pass. A queue is seen as its band is: by
 -- its setup, and by the buffers that it was given, that of index i at i.
-use Rattle.std.specs.Prelude.{◌≡◌, ℕ, zero, suc, ◌+◌, ◌<◌, ◌≤◌, true, false, not, ◌==◌, List, [], ◌∷◌, ◌++◌, filter, Option, Some, None}
+use Rattle.std.specs.Prelude.{◌≡◌, ℕ, zero, suc, ◌+◌, ◌<◌, ◌≤◌, Bool, true, false, not, ◌==◌, List, [], ◌∷◌, ◌++◌, filter, Option, Some, None}
 use Rattle.std.specs.List.{Contains}
 use Rattle.scq_core.specs.declared.ended.Ended.{Ended}
 use Rattle.scq_core.specs.declared.ended.Ended.TheVariants.{Done, Got, Nothing, Spent}
@@ -42,6 +42,11 @@ pub record HeldStanding (B : Type 0) : Type 0 where
 -- the indices without one
 abbrev pub without : ℕ → List ℕ → List ℕ
 without i held = filter (λ j. not (j == i)) held
+
+-- whether one whose last reading was this was told that all passes had retired: so where it was 0
+abbrev pub was_told : Option ℕ → Bool
+was_told None = false
+was_told (Some found) = found == 0
 
 module _ {B : Type 0} where
   -- a pass of a new queue, and those below a number, in order

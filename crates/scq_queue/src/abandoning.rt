@@ -37,6 +37,7 @@ impl<B: Buffer> Queue<B> {
             mut seat,
             fulls: _fulls,
             counts: _counts,
+            saw: _saw,
         } = pass;
         while let Some(place) = held.pop() {
             if let Some(value) = place {
@@ -54,6 +55,7 @@ impl<B: Buffer + Drop> Queue<B> {
             band: _band,
             seats: _seats,
             counts: _counts,
+            saw: _saw,
         } = self;
     }
 }

@@ -3,7 +3,7 @@ ghost use Rattle.std.specs.Prelude.{◌≡◌, ◌≤◌, [], map, All, vec_len,
 ghost use Rattle.scq_band.specs.Closing.{IsOneRunToTheEnd, AreTheSame, ComesBackAsItWas, EachIsInOneHand, EachLeftIsItsPut};
 ghost use Rattle.scq_band.specs.Buffers.{opening_of};
 ghost use Rattle.scq_queue.specs.Lists.{counts_of};
-ghost use Rattle.scq_queue.specs.Passes.{lists_of};
+ghost use Rattle.scq_queue.specs.Passes.{lists_of, was_told};
 ghost use Rattle.scq_queue.specs.Closing.{EachTakeIsASend, NoPlaceIsSentTwice, NoPlaceIsTakenTwice, IsBalance, EachSendPassedIsTaken, IsAllThere, AllFullsStand, EachKeptIsPastTheBound, NoneIsKeptWithinTheLimit, AllRetiredWhereTold, EachSeenRetiredHas, AreTheHeld, records_of, all_held, callers_of};
 ghost use Rattle.scq_queue.specs.Kept.{seat_of, value_of, IsGiven};
 
@@ -15,22 +15,30 @@ use scq_band::{BandClosed, Seat};
 use scq_word::Buffer;
 use std::snapshot::Snapshot;
 
-/// What is left of a queue: its buffers in order of index, for each ring how many indices were left in it, and the counts of each pass.
+/// What is left of a queue: its buffers in order of index, for each ring how many indices were left in it, and of each pass the counts, and
+/// whether it saw that all had retired.
 /// `passes` are the passes as they came, for contracts alone: it has no bytes when the program runs.
 #[derive(Drop)]
 pub struct Closed<B: Buffer> {
     pub buffers: Vec<B>,
     pub left: Vec<u64>,
     pub counts: Vec<Counts>,
+    pub saw: Vec<bool>,
     pub passes: Snapshot<Vec<Pass<B>>>,
 }
 
-/// The seats of these passes and their counts, in their order, put into empty lists with room.
-fn unpack<B: Buffer>(mut passes: Vec<Pass<B>>, seats: &mut Vec<Seat<B>>, counts: &mut Vec<Counts>)
-    requires empty { (seats.old.items ≡ []) × (counts.old.items ≡ []) }
-    requires room { (vec_len passes ≤ vec_capacity seats.old) × (vec_len passes ≤ vec_capacity counts.old) }
+/// The seats of these passes, their counts and what they saw, in their order, put into empty lists with room.
+fn unpack<B: Buffer>(
+    mut passes: Vec<Pass<B>>,
+    seats: &mut Vec<Seat<B>>,
+    counts: &mut Vec<Counts>,
+    saw: &mut Vec<bool>,
+)
+    requires empty { (seats.old.items ≡ []) × (counts.old.items ≡ []) × (saw.old.items ≡ []) }
+    requires room { (vec_len passes ≤ vec_capacity seats.old) × (vec_len passes ≤ vec_capacity counts.old) × (vec_len passes ≤ vec_capacity saw.old) }
     ensures seats { seats.new.items ≡ map seat_of passes.items }
     ensures counts { counts.new.items ≡ map (λ p. counts_of (lists_of p)) passes.items }
+    ensures saw { saw.new.items ≡ map (λ p. was_told p.gate) passes.items }
     ensures fulls { AllFullsStand passes.items }
 {
     passes.reverse();
@@ -39,9 +47,11 @@ fn unpack<B: Buffer>(mut passes: Vec<Pass<B>>, seats: &mut Vec<Seat<B>>, counts:
             seat,
             fulls: _fulls,
             counts: its,
+            saw: closed,
         } = pass;
         seats.push_reserved(seat);
         counts.push_reserved(its);
+        saw.push_reserved(closed);
     }
     passes.destroy_empty();
 }
@@ -69,6 +79,7 @@ impl<B: Buffer> Queue<B> {
             (all_held passes.items) (map B.contents result.buffers.items) }
         ensures buffers { AreTheSame B.IsSameBuffer self.given result.buffers.items }
         ensures counts { result.counts.items ≡ map (λ p. counts_of (lists_of p)) passes.items }
+        ensures saw { result.saw.items ≡ map (λ p. was_told p.gate) passes.items }
         ensures passes { result.passes.value.items ≡ passes.items }
         ensures takes { EachTakeIsASend passes.items }
         ensures sent_once { NoPlaceIsSentTwice passes.items }
@@ -90,15 +101,17 @@ impl<B: Buffer> Queue<B> {
             band,
             mut seats,
             mut counts,
+            mut saw,
         } = self;
         let given = Snapshot::of(&passes);
         all_given(&held);
-        unpack(passes, &mut seats, &mut counts);
+        unpack(passes, &mut seats, &mut counts, &mut saw);
         let BandClosed { buffers, left } = band.close(seats, held);
         Closed {
             buffers,
             left,
             counts,
+            saw,
             passes: given,
         }
     }

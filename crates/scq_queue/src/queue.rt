@@ -1,10 +1,10 @@
 //! A queue, and how it is made with its passes.
-ghost use Rattle.std.specs.Prelude.{◌≡◌, ℕ, ◌<◌, ◌≤◌, ◌==◌, [], map, length, Some, None, All, IfOk, IfErr, vec_len, vec_capacity};
+ghost use Rattle.std.specs.Prelude.{◌≡◌, ℕ, ◌<◌, ◌≤◌, ◌==◌, false, [], map, length, Some, None, All, IfOk, IfErr, vec_len, vec_capacity};
 ghost use Rattle.scq_word.specs.Sizes.{n_of};
 ghost use Rattle.scq_band.specs.Standing.{Standing};
 ghost use Rattle.scq_band.specs.Buffers.{opening_of};
 ghost use Rattle.scq_band.specs.RunSeen.{IsReadingInRun};
-ghost use Rattle.scq_queue.specs.Passes.{first_passes, after_look, having_seen, caller_of};
+ghost use Rattle.scq_queue.specs.Passes.{first_passes, after_look, having_seen, caller_of, was_told};
 ghost use Rattle.scq_queue.specs.Kept.{pass_over};
 
 use crate::counts::Counts;
@@ -17,11 +17,12 @@ use std::marker::Model;
 
 /// A queue of fixed buffers. Threads share it and make calls on it, each with a pass of its own. It must be spent: it ends in `close`.
 ///
-/// `seats` and `counts` are empty lists, with room for what `close` needs.
+/// `seats`, `counts` and `saw` are empty lists, with room for what `close` needs.
 pub struct Queue<B: Buffer> {
     pub(crate) band: Band<B>,
     pub(crate) seats: Vec<Seat<B>>,
     pub(crate) counts: Vec<Counts>,
+    pub(crate) saw: Vec<bool>,
 }
 
 impl<B: Buffer> Model for Queue<B> {
@@ -34,12 +35,12 @@ impl<B: Buffer> Model for Queue<B> {
 
     ghost view = { λ q. q.band };
 
-    ghost invariant = { λ q. IsQueue q.band q.seats.items (vec_capacity q.seats) q.counts.items (vec_capacity q.counts) };
+    ghost invariant = { λ q. IsQueue q.band q.seats.items (vec_capacity q.seats) q.counts.items (vec_capacity q.counts) q.saw.items (vec_capacity q.saw) };
 }
 
 /// A pass over a seat that has made no call.
 fn pass_of<B: Buffer>(seat: Seat<B>) -> Pass<B>
-    requires { (seat.hand ≡ []) × (seat.calls ≡ []) }
+    requires { (seat.hand ≡ []) × (seat.calls ≡ []) × (was_told seat.gate ≡ false) }
     ensures { result ≡ pass_over seat [] }
 {
     Pass {
@@ -50,12 +51,13 @@ fn pass_of<B: Buffer>(seat: Seat<B>) -> Pass<B>
             taken: 0,
             full: 0,
         },
+        saw: false,
     }
 }
 
 /// A pass over each of these seats, in their order. The list of the seats is left empty, with its room.
 fn passes_of<B: Buffer>(seats: &mut Vec<Seat<B>>, mut passes: Vec<Pass<B>>) -> Vec<Pass<B>>
-    requires new { All (λ s. (s.hand ≡ []) × (s.calls ≡ [])) seats.old.items }
+    requires new { All (λ s. (s.hand ≡ []) × (s.calls ≡ []) × (was_told s.gate ≡ false)) seats.old.items }
     requires empty { passes.items ≡ [] }
     requires room { vec_len seats.old ≤ vec_capacity passes }
     ensures passes { result.items ≡ map (λ s. pass_over s []) seats.old.items }
@@ -92,6 +94,10 @@ impl<B: Buffer> Queue<B> {
             passes.destroy_empty();
             return Err((buffers, NoMemory));
         };
+        let Ok(saw) = Vec::with_capacity(alloc, setup.seats() as usize) else {
+            passes.destroy_empty();
+            return Err((buffers, NoMemory));
+        };
         match Band::make(alloc, setup, buffers) {
             Ok((band, mut seats)) => {
                 let passes = passes_of(&mut seats, passes);
@@ -99,6 +105,7 @@ impl<B: Buffer> Queue<B> {
                     band,
                     seats,
                     counts,
+                    saw,
                 };
                 Ok((queue, passes))
             }
@@ -129,6 +136,8 @@ impl<B: Buffer> Queue<B> {
         ensures fell { (last found : ℕ) → pass.old.gate ≡ Some last → pass.new.gate ≡ Some found → found ≤ last }
         ensures own { (calls found : ℕ) → pass.old.retired ≡ Some calls → pass.new.gate ≡ Some found → found < self.now.setup.seats }
     {
-        self.band.gate_closed(&mut pass.seat)
+        let closed = self.band.gate_closed(&mut pass.seat);
+        pass.saw = closed;
+        closed
     }
 }

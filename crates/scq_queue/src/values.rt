@@ -6,7 +6,7 @@ ghost use Rattle.scq_band.specs.Numbers.{known_of};
 ghost use Rattle.scq_band.specs.RunSeen.{IsCallInRun, WasEmptyInRun};
 ghost use Rattle.scq_band.specs.Standing.{IsAsGiven, caller_of};
 ghost use Rattle.scq_queue.specs.Passes.{HasGot, IsHeldBy, FoundNothing, having_seen, after_put, after_spent_put, after_spent_get};
-ghost use Rattle.scq_queue.specs.Kept.{pass_over, AreLifted};
+ghost use Rattle.scq_queue.specs.Kept.{pass_over, AreLifted, StaysLifted};
 
 use crate::held::Held;
 use scq_band::{Band, DeqRefusal, Seat, Spent};
@@ -24,7 +24,7 @@ pub fn get<B: Buffer>(
     requires lifted { AreLifted seat.old }
     requires ring { ring < band.now.setup.rings }
     ensures band { (seat.new.band ≡ seat.old.band) × (seat.new.number ≡ seat.old.number) }
-    ensures lifted { AreLifted seat.new }
+    ensures lifted { StaysLifted seat.old seat.new }
     ensures got { IfOk result (λ r. (fulls : List ℕ) → HasGot B.contents ring r.0 (pass_over seat.old fulls) (pass_over seat.new fulls) r.1) }
     ensures given { IfOk result (λ r. IsAsGiven B.IsSameBuffer band.now.given r.1.index r.1.buffer) }
     ensures place { IfOk result (λ r. (r.0 < band.now.setup.limit) × ((known_of seat.old.numbers ring).head ≤ r.0)) }
@@ -67,7 +67,7 @@ pub fn put<B: Buffer>(
     requires ring { ring < band.now.setup.rings }
     requires held { (fulls : List ℕ) × IsHeldBy (pass_over seat.old fulls) held }
     ensures band { (seat.new.band ≡ seat.old.band) × (seat.new.number ≡ seat.old.number) }
-    ensures lifted { AreLifted seat.new }
+    ensures lifted { StaysLifted seat.old seat.new }
     ensures put { IfOk result (λ place. (fulls : List ℕ)
         → pass_over seat.new fulls ≡ having_seen seat.new.seen (after_put ring held.index place (B.contents held.buffer) (pass_over seat.old fulls))) }
     ensures place { IfOk result (λ place. (place < band.now.setup.limit) × ((known_of seat.old.numbers ring).seen < place)) }

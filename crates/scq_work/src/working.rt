@@ -321,6 +321,7 @@ fn work_in<R: Threads + Sync, S: Source, G: Gate>(
         buffers,
         left,
         counts,
+        saw: _saw,
         passes,
     } = queue.close(passes, held);
     block.merge(buffers);

@@ -15,6 +15,8 @@ loop-pass-init g c =
       search rules,
       search rules,
       search rules,
+      search rules,
+      search rules,
       λ all. subst (λ (ps : List (PassStanding g.row.B.Denot)). AllFullsStand ps) whole all,
     )
 
@@ -29,7 +31,9 @@ loop-pass-preserved g c =
       grind (arith, common_steps),
       search rules,
       search rules,
+      grind (arith, common_steps),
+      search rules,
       λ all.
-          c.loop-pass.invariant.4 (subst (λ (ps : List (PassStanding g.row.B.Denot)). AllFullsStand ps) (sym turned)
+          c.loop-pass.invariant.6 (subst (λ (ps : List (PassStanding g.row.B.Denot)). AllFullsStand ps) (sym turned)
           (All-cons (λ (p : PassStanding g.row.B.Denot). length p.fulls ≡ fulls_in p.calls) pass (reverse left) stands all)),
     )

@@ -1,7 +1,7 @@
 use Rattle.std.proofs.Common.{◌≡◌, ◌+◌, ◌≤◌, ◌++◌, map}
 use Rattle.std.specs.Prelude.{vec_len, vec_capacity, reverse}
 use Rattle.scq_queue.specs.Lists.{counts_of}
-use Rattle.scq_queue.specs.Passes.{PassStanding, lists_of}
+use Rattle.scq_queue.specs.Passes.{PassStanding, lists_of, was_told}
 use Rattle.scq_queue.specs.Closing.{AllFullsStand}
 use Rattle.scq_queue.specs.Kept.{seat_of}
 use Rattle.scq_queue.proofs.closing.unpack.Given as goal
@@ -13,6 +13,9 @@ invariant-loop-pass g l =
     ≡ map (λ (p : PassStanding g.row.B.Denot). counts_of (lists_of p)) l.fn.passes.items)
     × (vec_len l.seats + vec_len l.passes ≤ vec_capacity l.seats)
     × (vec_len l.counts + vec_len l.passes ≤ vec_capacity l.counts)
+    × (l.saw.items ++ map (λ (p : PassStanding g.row.B.Denot). was_told p.gate) (reverse l.passes.items)
+    ≡ map (λ (p : PassStanding g.row.B.Denot). was_told p.gate) l.fn.passes.items)
+    × (vec_len l.saw + vec_len l.passes ≤ vec_capacity l.saw)
     × (AllFullsStand (reverse l.passes.items) → AllFullsStand l.fn.passes.items)
 
 abbrev pub decreases-loop-pass : goal.decreases-loop-pass

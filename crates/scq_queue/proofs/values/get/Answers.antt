@@ -1,4 +1,4 @@
-use Rattle.std.proofs.Common.{◌≡◌, refl, sym, ap, subst}
+use Rattle.std.proofs.Common.{◌≡◌, sym, ◌∙◌, ap, subst}
 use Rattle.std.specs.Prelude.{Err}
 use Rattle.scq_band.specs.declared.calls.DeqRefusal.{DeqRefusal}
 use Rattle.scq_band.specs.declared.calls.DeqRefusal.TheVariants.{Empty, Spent}
@@ -19,8 +19,13 @@ lift-buffer-requires-clause-laid g c κs within =
 
 pub returns-in-Ok-clause-lifted : goal.returns-in-Ok-clause-lifted
 returns-in-Ok-clause-lifted g c =
-    got_lifted g.B.Buffer.contents g.B.Buffer.IsSameBuffer c.args.seat.now c.deq.new.seat c.args.ring c.in-Ok.place c.in-Ok.index c.requires.lifted
-    c.in-Ok.ensures.got c.lift-buffer.new.seat c.lift-buffer.result c.lift-buffer.ensures.buffer c.lift-buffer.ensures.lifted
+    record {
+      lifted =
+          got_lifted g.B.Buffer.contents g.B.Buffer.IsSameBuffer c.args.seat.now c.deq.new.seat c.args.ring c.in-Ok.place c.in-Ok.index c.requires.lifted
+          c.in-Ok.ensures.got c.lift-buffer.new.seat c.lift-buffer.result c.lift-buffer.ensures.buffer c.lift-buffer.ensures.lifted;
+      gate =
+          ap (λ (s : Standing g.row.B.Denot). s.gate) c.lift-buffer.ensures.lifted ∙ ap (λ (s : Standing g.row.B.Denot). s.gate) c.in-Ok.ensures.got.seat;
+    }
 
 pub returns-in-Ok-clause-got : goal.returns-in-Ok-clause-got
 returns-in-Ok-clause-got g c fulls =
@@ -40,7 +45,7 @@ pub returns-in-Err-clause-lifted : goal.returns-in-Err-clause-lifted
 returns-in-Err-clause-lifted g c =
     let stays = refused c.args.seat.now c.deq.new.seat c.args.ring c.in-Err.refusal (λ head is. c.in-Err.ensures.empty head (ap (λ (r : DeqRefusal). Err r) is))
     (λ ticket is none. (c.in-Err.ensures.spent ticket (ap (λ (r : DeqRefusal). Err r) is) none).0) (λ ticket some. (c.in-Err.ensures.kept ticket some).1) in
-    refused_lifted c.args.seat.now c.deq.new.seat c.requires.lifted stays.0
+    record { lifted = refused_lifted c.args.seat.now c.deq.new.seat c.requires.lifted stays.0; gate = stays.3 }
 
 pub returns-in-Err-clause-empty : goal.returns-in-Err-clause-empty
 returns-in-Err-clause-empty g c head is =

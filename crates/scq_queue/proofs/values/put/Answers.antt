@@ -1,5 +1,5 @@
-use Rattle.std.proofs.Common.{◌≡◌, refl, sym, ◌∙◌, ap, subst, inl, inr}
-use Rattle.std.specs.Prelude.{Some, None, Err}
+use Rattle.std.proofs.Common.{◌≡◌, refl, ◌∙◌, ap, inl, inr}
+use Rattle.std.specs.Prelude.{Err}
 use Rattle.scq_band.specs.declared.calls.Spent.{Spent}
 use Rattle.scq_band.specs.Standing.{Standing}
 use Rattle.scq_queue.specs.Passes.{HeldStanding, having_seen, after_put}
@@ -13,8 +13,12 @@ put-requires-clause-lifted g c κs within =
 
 pub returns-in-Ok-clause-lifted : goal.returns-in-Ok-clause-lifted
 returns-in-Ok-clause-lifted g c =
-    (value_put c.args.seat.now c.put.new.seat c.args.ring c.held.inside.index c.in-Ok.place (g.B.Buffer.contents c.held.inside.buffer) c.requires.lifted
-    c.in-Ok.ensures.put).0
+    record {
+      lifted =
+          (value_put c.args.seat.now c.put.new.seat c.args.ring c.held.inside.index c.in-Ok.place (g.B.Buffer.contents c.held.inside.buffer)
+          c.requires.lifted c.in-Ok.ensures.put).0;
+      gate = ap (λ (s : Standing g.row.B.Denot). s.gate) c.in-Ok.ensures.put;
+    }
 
 pub returns-in-Ok-clause-put : goal.returns-in-Ok-clause-put
 returns-in-Ok-clause-put g c fulls =
@@ -27,8 +31,18 @@ returns-in-Ok-clause-put g c fulls =
 pub returns-in-Err-clause-lifted : goal.returns-in-Err-clause-lifted
 returns-in-Err-clause-lifted g c =
     elim (cases_spent c.args.seat.now.spent) [
-      | inl none ↦ (put_spent c.args.seat.now c.put.new.seat c.args.ring c.in-Err.spent.ticket c.requires.lifted (c.in-Err.ensures.spent none).0).0
-      | inr some ↦ stays_lifted c.args.seat.now c.put.new.seat c.requires.lifted (c.in-Err.ensures.kept some.0 some.1).1
+      | inl none ↦
+          let is = (c.in-Err.ensures.spent none).0 in
+          record {
+            lifted = (put_spent c.args.seat.now c.put.new.seat c.args.ring c.in-Err.spent.ticket c.requires.lifted is).0;
+            gate = ap (λ (s : Standing g.row.B.Denot). s.gate) is;
+          }
+      | inr some ↦
+          let is = (c.in-Err.ensures.kept some.0 some.1).1 in
+          record {
+            lifted = stays_lifted c.args.seat.now c.put.new.seat c.requires.lifted is;
+            gate = ap (λ (s : Standing g.row.B.Denot). s.gate) is;
+          }
     ]
 
 pub returns-in-Err-clause-back : goal.returns-in-Err-clause-back

@@ -10,8 +10,8 @@ pub returns-clause-in_run : goal.returns-clause-in_run
 returns-clause-in_run g c found is =
     let opening = λ (given : List g.row.B.Denot). opening_of g.B.Buffer.contents given in
     let of = c.self.inside.band in
-    let later : Caller = band.caller_of c.gate_closed.new.seat in
+    let later : Caller = band.caller_of c.gate_closed-closed.new.seat in
     subst (λ (q : Identity g.row.B.Denot). IsReadingInRun q.setup (opening q.given) c.args.pass.now.retired
     (caller_of c.args.pass.now) later found) c.self.view_is
     (subst (λ (p : PassStanding g.row.B.Denot). IsReadingInRun of.setup (opening of.given) p.retired (caller_of p) later found) c.pass.view_is
-    (c.gate_closed.ensures.in_run found is))
+    (c.gate_closed-closed.ensures.in_run found is))
