@@ -41,7 +41,7 @@ rank_fits c x small =
     let top = (rank_in_range (ring_slots c) x).1 in
     omega arith
 
--- what finds_room and exchange say of the seat, told of the view that the loop began with
+-- what load_vacant and exchange say of the seat, told of the view that the loop began with
 pub room_then : (v w later : Known) (r i : ℕ) (content : List ℕ) (t l e : ℕ) → w ≡ goes_to (AtE2 r i content t l) v
     → later ≡ goes_to (AtE4 r (index_of (my_phase w)) (content_of (my_phase w)) t e) w → later ≡ goes_to (AtE4 r i content t e) v
 room_then v w later r i content t l e first next =

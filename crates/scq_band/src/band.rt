@@ -96,7 +96,7 @@ impl<B: Buffer> Band<B> {
         }
     }
 
-    // What a call needs of a ring.
+    // What a call needs to know of a ring.
     #[inline(always)]
     pub(crate) fn ring(&self, number: u32) -> Ring
         requires { number < self.now.setup.rings }
@@ -112,7 +112,7 @@ impl<B: Buffer> Band<B> {
         }
     }
 
-    /// The seat retires.
+    /// The seat retires. Wait-free: one step.
     pub fn retire(&self, seat: &mut Seat<B>)
         requires seat { seat.old.band ≡ self.now }
         requires stays { seat.old.retired ≡ None }
@@ -122,7 +122,7 @@ impl<B: Buffer> Band<B> {
     }
 
     /// Whether every seat had retired when the gate was read. The number that is read there, of the seats that haven't retired,
-    /// never rises. The seat has then seen the whole run, and with it all calls that seats made before they retired.
+    /// never rises. The seat has then seen the whole run, and with it all calls that seats made before they retired. Wait-free: one step.
     pub fn gate_closed(&self, seat: &mut Seat<B>) -> bool
         requires seat { seat.old.band ≡ self.now }
         ensures looked { (found : ℕ) × (seat.new ≡ having_seen seat.new.seen (after_look found seat.old)) × (result ≡ (found == 0)) }

@@ -1,10 +1,10 @@
-//! What a seat knows of the rings, carried to another.
+//! Notes, as callers have them: what one seat knows of the rings, carried to another.
 ghost use Rattle.std.specs.Prelude.{◌≡◌, ◌<◌, ◌≤◌, length, take, vec_len, vec_capacity};
 ghost use Rattle.scq_band.specs.Numbers.{joined};
 ghost use Rattle.scq_band.specs.RunSeen.{both_seen};
 
+use crate::badges::{learn, note};
 use crate::band::Band;
-use crate::notes::{learn, note};
 use crate::numbers::Numbers;
 use crate::seat::Seat;
 use crate::view::View;
@@ -20,7 +20,7 @@ const MOST_RINGS: usize = 18;
 pub struct BandNote {
     badge: Badge<View>,
     rings: usize,
-    numbers: [Numbers; 18],
+    numbers: [Numbers; MOST_RINGS],
 }
 
 impl Model for BandNote {
@@ -37,10 +37,10 @@ impl Model for BandNote {
 }
 
 // A copy of the numbers of each ring.
-fn copied(numbers: &Vec<Numbers>) -> [Numbers; 18]
-    requires { vec_len numbers.now ≤ 18 }
+fn copied(numbers: &Vec<Numbers>) -> [Numbers; MOST_RINGS]
+    requires { vec_len numbers.now ≤ MOST_RINGS }
     ensures copied { take (vec_len numbers.now) result ≡ numbers.now.items }
-    ensures room { length result ≡ 18 }
+    ensures room { length result ≡ MOST_RINGS }
 {
     let mut copy = [Numbers {
         finished: 0,
@@ -55,7 +55,7 @@ fn copied(numbers: &Vec<Numbers>) -> [Numbers; 18]
     copy
 }
 
-// Each number is raised by that of the other list.
+// Raises each number to that of the other list, where that is larger.
 fn join_all(numbers: &mut Vec<Numbers>, other: &[Numbers])
     ensures joined { numbers.new.items ≡ joined numbers.old.items other.now }
     ensures len { vec_len numbers.new ≡ vec_len numbers.old }
@@ -69,7 +69,7 @@ fn join_all(numbers: &mut Vec<Numbers>, other: &[Numbers])
 }
 
 impl<B: Buffer> Band<B> {
-    /// A note of what the seat knows.
+    /// A note of what the seat knows. Wait-free: one step.
     pub fn note(&self, seat: &mut Seat<B>) -> BandNote
         requires seat { seat.old.band ≡ self.now }
         ensures same { seat.new ≡ seat.old }
@@ -85,7 +85,7 @@ impl<B: Buffer> Band<B> {
         }
     }
 
-    /// From then on the seat knows the larger of each number.
+    /// From then on the seat knows the larger of each number, its own or the note's. Wait-free: one step.
     pub fn learn(&self, seat: &mut Seat<B>, note: BandNote)
         requires seat { seat.old.band ≡ self.now }
         requires note { note.table ≡ self.now.table }

@@ -1,8 +1,12 @@
-//! The calls on a ring.
-ghost use Rattle.std.specs.Prelude.{◌≡◌, ℕ, ◌<◌, ◌≤◌, Some, None, Err, IfOk, IfErr};
+//! The calls on a ring: enqueue (`enq`, and `put`, which lays a buffer first) and dequeue (`deq`). They are lock-free: none waits for
+//! another seat, and each tries again within the bounds that `scq_law` has of the machine's steps. As tickets are finite each also ends
+//! after a bounded number of its own steps, which the field calls wait-free; but the bound is astronomical. The linearization points are
+//! those of `scq_law`'s `specs/Points`: of an enqueue mostly the step that drew its place, of a dequeue the one that drew its own or the
+//! enqueue's point, whichever is later, and of an Empty the step that decided it.
+ghost use Rattle.std.specs.Prelude.{◌≡◌, ℕ, ◌<◌, ◌≤◌, List, [], ◌∷◌, ◌++◌, Some, None, Err, IfOk, IfErr, length, vec_capacity};
 ghost use Rattle.scq_word.specs.Sizes.{n_of};
 ghost use Rattle.scq_band.specs.Buffers.{opening_of};
-ghost use Rattle.scq_band.specs.Numbers.{known_of};
+ghost use Rattle.scq_band.specs.Numbers.{known_of, changed, finishes};
 ghost use Rattle.scq_band.specs.RunSeen.{IsCallInRun, WasEmptyInRun};
 ghost use Rattle.scq_band.specs.Standing.{caller_of, in_hand, bytes_in_hand, having_seen, after_put, after_spent_put, after_spent_get, IsAsGiven, HasTaken, FoundEmpty};
 
@@ -11,6 +15,7 @@ use crate::dequeue::{Without, dequeue};
 use crate::enqueue::enqueue;
 use crate::hand::bring_to_front;
 use crate::lending::{lay_first, lift_first};
+use crate::numbers::Numbers;
 use crate::seat::Seat;
 use scq_word::Buffer;
 
@@ -20,7 +25,7 @@ pub struct Spent {
     pub ticket: u64,
 }
 
-/// Why a get answers no index: the ring was empty, its Head being at or past this number, or the seat keeps a ticket at
+/// Why a dequeue answers no index: the ring was empty, its Head being at or past this number, or the seat keeps a ticket at
 /// or past the limit.
 #[derive(Clone, Copy, Debug, PartialEq, Eq)]
 pub enum DeqRefusal {
@@ -28,8 +33,21 @@ pub enum DeqRefusal {
     Spent { ticket: u64 },
 }
 
+// The index at the end of a hand was enqueued at a place: it leaves the hand, and the place is known to be finished.
+#[inline(always)]
+fn let_go(hand: &mut Vec<u32>, numbers: &mut Vec<Numbers>, ring: u32, place: u64)
+    requires { ring < length numbers.old.items }
+    ensures hand { (others : List ℕ) (index : ℕ) → hand.old.items ≡ others ++ index ∷ [] → hand.new.items ≡ others }
+    ensures room { vec_capacity hand.new ≡ vec_capacity hand.old }
+    ensures numbers { numbers.new.items ≡ changed (finishes place) ring numbers.old.items }
+{
+    hand.pop();
+    let known = numbers[ring as usize];
+    numbers[ring as usize] = known.finishes(place);
+}
+
 impl<B: Buffer> Band<B> {
-    /// Puts an index that the seat has in its hand on a ring, with its buffer: answers its place, which is below the limit.
+    /// Enqueues an index that the seat has in its hand, with its buffer: answers its place, which is below the limit.
     /// The call is one of the run of all seats, behind all that the seat had seen of it. Spent where the ticket that was drawn
     /// is at or past the limit; the seat keeps it, and answers it from then on, with no step made.
     #[inline(always)]
@@ -53,9 +71,7 @@ impl<B: Buffer> Band<B> {
         bring_to_front(&mut seat.token, &mut seat.hand, index);
         match enqueue(&self.table.shared, &mut seat.token, self.ring(ring), index) {
             Ok(place) => {
-                seat.hand.pop();
-                let known = seat.numbers[ring as usize];
-                seat.numbers[ring as usize] = known.finishes(place);
+                let_go(&mut seat.hand, &mut seat.numbers, ring, place);
                 Ok(place)
             }
             Err(ticket) => {
@@ -65,7 +81,7 @@ impl<B: Buffer> Band<B> {
         }
     }
 
-    /// Lays a buffer back that was lifted, and puts its index on a ring: what `lay` and `enq` do one after the other. Where the put is
+    /// Lays a buffer back that was lifted, and enqueues its index: what `lay` and `enq` do one after the other. Where the enqueue is
     /// refused, the buffer comes back, and is lifted as it was.
     #[inline(always)]
     pub fn put(
@@ -96,9 +112,7 @@ impl<B: Buffer> Band<B> {
         lay_first(&self.table.shared, &mut seat.token, index, buffer);
         match enqueue(&self.table.shared, &mut seat.token, self.ring(ring), index) {
             Ok(place) => {
-                seat.hand.pop();
-                let known = seat.numbers[ring as usize];
-                seat.numbers[ring as usize] = known.finishes(place);
+                let_go(&mut seat.hand, &mut seat.numbers, ring, place);
                 Ok(place)
             }
             Err(ticket) => {
@@ -109,12 +123,12 @@ impl<B: Buffer> Band<B> {
         }
     }
 
-    /// Gets an index from a ring, with its buffer: answers its place, which is below the limit, and the index.
+    /// Dequeues an index, with its buffer: answers its place, which is below the limit, and the index.
     /// Empty where the ring was found empty: its Head is at or past the number answered, so whatever the seat knew to be
     /// finished there had been claimed. The number is what the seat's view knows of Head now, which is true of the words at
     /// every moment (`laws::each_view_knows_the_truth`). In the run of all seats Head was at or past it after the call's last
-    /// step, and at a moment inside the call each put of the ring that had ended was claimed: by a get that got it, or by one that
-    /// was under way (the clause `empty_in_run`). Spent as with `enq`.
+    /// step, and at a moment inside the call each enqueue of the ring that had ended was claimed: by the dequeue that got its index, or
+    /// by one that was under way (the clause `empty_in_run`). Spent as with `enq`.
     #[inline(always)]
     pub fn deq(&self, seat: &mut Seat<B>, ring: u32) -> Result<(u64, u32), DeqRefusal>
         requires seat { seat.old.band ≡ self.now }

@@ -1,4 +1,4 @@
-//! The end of a table: each slot that is out goes home, and the seats' views are joined into one.
+//! The end of a band: each slot that a seat holds goes home to the table, the seats' views are joined into one, and the table is closed.
 ghost use Rattle.std.specs.Prelude.{◌≡◌, ℕ, ◌+◌, ◌<◌, ◌≤◌, is_none, IsTrue, [], ◌∷◌, map, length, vec_len, sum_by, All};
 ghost use Rattle.std.specs.List.Sorted.{IsPermutation};
 ghost use Rattle.atomic_table.specs.Table.{rest};
@@ -11,19 +11,21 @@ ghost use Rattle.scq_band.specs.Closing.{indices_of, lifted_of, IsOneRunToTheEnd
 ghost use Rattle.scq_band.specs.Homes.{at_home, MayBring, IsLaidBack, times_lifted, WentHome, OutOrHome, AllOutGiven, MayLeave, IsMemberOf, HasAll, all_seen};
 ghost use Rattle.scq_band.specs.Sights.{known_me};
 
+use crate::badges::Gathers;
 use crate::band::Band;
-use crate::closed::{count_left, unload};
 use crate::layout::GATE;
+use crate::leftovers::{count_left, unload};
+use crate::lending::lay_first;
 use crate::lifted::Lifted;
-use crate::notes::Gathers;
 use crate::rule::{Token, Words};
 use crate::seat::Seat;
 use crate::slot::Slot;
 use scq_word::Buffer;
 use std::marker::Brand;
 
-/// The slot that stands first goes home.
-fn bring<B: Buffer>(words: &Words<B>, token: &mut Token<B>)
+/// The slot that stands first goes home. Only the view changes: it does so at a step of the table, and a load is one that leaves the words
+/// as they are. So the gate is loaded, and its number isn't used.
+fn bring_home<B: Buffer>(words: &Words<B>, token: &mut Token<B>)
     requires own { token.old.table_id ≡ words.now.table_id }
     requires room { 0 < words.now.table_id.words }
     requires may { MayBring (LiesIn B.contents B.IsSameBuffer words.now.key.given.value.items) (front_bytes B.contents token.old.me.1)
@@ -36,8 +38,8 @@ fn bring<B: Buffer>(words: &Words<B>, token: &mut Token<B>)
     words.load::<Brand>(token, GATE);
 }
 
-/// The buffer of an index, taken from those that are out.
-fn taken_out<B, T: Lifted<B>>(out: &mut Vec<T>, index: u32) -> B
+/// Takes the buffer of an index out of those that were lifted.
+fn take_out<B, T: Lifted<B>>(out: &mut Vec<T>, index: u32) -> B
     requires { 0 < times index (indices_of (map T.pair out.old.items)) }
     ensures { IsPermutation (map T.pair out.old.items) ((index, result) ∷ map T.pair out.new.items) }
 {
@@ -51,7 +53,7 @@ fn taken_out<B, T: Lifted<B>>(out: &mut Vec<T>, index: u32) -> B
     unreachable!()
 }
 
-/// The slot that stands first, of this index, has its buffer again where it is lifted.
+/// The slot that stands first, that of the index, has its buffer again where that was lifted.
 fn lay_back<B: Buffer, T: Lifted<B>>(
     words: &Words<B>,
     token: &mut Token<B>,
@@ -68,16 +70,9 @@ fn lay_back<B: Buffer, T: Lifted<B>>(
     let Slot { buffer } = words.exchange(token, index as usize, Slot { buffer: None });
     let buffer = match buffer {
         Some(buffer) => buffer,
-        None => taken_out(out, index),
+        None => take_out(out, index),
     };
-    let Slot { buffer: hole } = words.exchange(
-        token,
-        index as usize,
-        Slot {
-            buffer: Some(buffer),
-        },
-    );
-    let None = hole else { unreachable!() };
+    lay_first(words, token, index, buffer);
 }
 
 /// All slots of a seat go home, each with its buffer.
@@ -99,12 +94,16 @@ fn bring_all<B: Buffer, T: Lifted<B>>(
 {
     while let Some(index) = hand.pop() {
         lay_back(words, token, index, out);
-        bring(words, token);
+        bring_home(words, token);
     }
 }
 
-/// The token of a seat, with all its slots at home.
-fn one_home<B: Buffer, T: Lifted<B>>(words: &Words<B>, seat: Seat<B>, out: &mut Vec<T>) -> Token<B>
+/// Brings all slots of a seat home, and answers its token.
+fn bring_seat_home<B: Buffer, T: Lifted<B>>(
+    words: &Words<B>,
+    seat: Seat<B>,
+    out: &mut Vec<T>,
+) -> Token<B>
     requires band { seat.band ≡ identity_of words.now.table_id words.now.key }
     requires room { 0 < words.now.table_id.words }
     requires lifted { (i : ℕ) → times i (lifted_of seat.hand) ≤ times i (indices_of (map T.pair out.old.items)) }
@@ -131,7 +130,7 @@ fn one_home<B: Buffer, T: Lifted<B>>(words: &Words<B>, seat: Seat<B>, out: &mut 
     token
 }
 
-/// The tokens of all seats as one: the view of each stands in its view. What was lifted is laid back.
+/// Joins the tokens of all seats into one, in whose view each of them stands. What was lifted is laid back.
 pub fn gather<B: Buffer, T: Lifted<B>>(
     words: &Words<B>,
     mut seats: Vec<Seat<B>>,
@@ -150,9 +149,9 @@ pub fn gather<B: Buffer, T: Lifted<B>>(
     let Some(last) = seats.pop() else {
         unreachable!()
     };
-    let mut first = one_home(words, last, &mut out);
+    let mut first = bring_seat_home(words, last, &mut out);
     while let Some(seat) = seats.pop() {
-        let token = one_home(words, seat, &mut out);
+        let token = bring_seat_home(words, seat, &mut out);
         words.join_seat::<Gathers>(&mut first, token);
     }
     seats.destroy_empty();

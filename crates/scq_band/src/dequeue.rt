@@ -1,14 +1,10 @@
 //! A dequeue, step by step.
-ghost use Rattle.std.specs.Prelude.{◌≡◌, ℕ, ◌+◌, ◌/◌, ◌^◌, ◌<◌, ◌≤◌, Option, IfSome, IfNone, IfOk, IfErr, IsTrue, IsFalse, Some, None, Err, slice_get, length, true, false};
-ghost use Rattle.scq_word.specs.Sizes.{n_of, slots_of};
+ghost use Rattle.std.specs.Prelude.{◌≡◌, ℕ, ◌+◌, ◌^◌, ◌<◌, ◌≤◌, IfSome, IfNone, IfOk, IfErr, IsTrue, IsFalse, Some, None, Err, slice_get, length, true};
+ghost use Rattle.scq_word.specs.Sizes.{n_of};
 ghost use Rattle.scq_law.specs.Hands.{times};
-ghost use Rattle.scq_word.specs.Tickets.{cycle_of};
-ghost use Rattle.scq_word.specs.Entries.{IsIndexOrMark};
-ghost use Rattle.scq_word.specs.declared.setup.Setup.{Setup};
 ghost use Rattle.scq_core.specs.declared.phase.Phase.TheVariants.{Idle, AtD2, AtD6, AtD7, AtD10};
-ghost use Rattle.scq_core.specs.Table.{ring_slots, passed, zero_level};
 ghost use Rattle.scq_band.specs.declared.numbers.Numbers.{Numbers};
-ghost use Rattle.scq_band.specs.Layout.{at, word_count, entry_at};
+ghost use Rattle.scq_band.specs.Layout.{word_count};
 ghost use Rattle.scq_band.specs.Rings.{IsRing};
 ghost use Rattle.scq_band.specs.Buffers.{LiesIn, opening_of};
 ghost use Rattle.scq_band.specs.Sights.{known_me, Went};
@@ -18,35 +14,17 @@ ghost use Rattle.scq_band.specs.Seats.{IsAlone, IsSeeking, IsBehind, HasGot, Has
 use crate::ring::Ring;
 use crate::rule::{Token, Words};
 use crate::steps::{consume, count_down, draw, exchange, load};
-use scq_word::{Buffer, Entry, cycle_of, pack, unpack};
+use scq_core::{ZERO_LEVEL, passed};
+use scq_word::{Buffer, cycle_of, unpack};
 
-// The word that stands for a Threshold of 0.
-const ZERO_LEVEL: u64 = 1 << 32;
-
-// What a dequeue leaves in an entry of an earlier cycle.
+/// D3 to D5, again where the exchange fails: takes the index that stands at the ticket. With None there is none, and the slot was passed.
 #[inline(always)]
-fn passed_by(ring: Ring, ticket: u64, found: u64) -> u64
-    requires fits { cycle_of (slots_of ring.shape.order) ticket < 2 ^ 62 / n_of ring.shape.order }
-    requires entry { IsIndexOrMark ring.shape.order found }
-    ensures { (c : Setup) → IsRing c ring → result ≡ passed c ticket found }
-{
-    let entry = unpack(ring.shape, found);
-    let left = match entry.index {
-        None => Entry {
-            cycle: cycle_of(ring.shape, ticket),
-            ..entry
-        },
-        Some(_) => Entry {
-            safe: false,
-            ..entry
-        },
-    };
-    pack(ring.shape, left)
-}
-
-/// D3 to D5 until an index is taken, or the ticket is given up.
-#[inline(always)]
-fn takes<B: Buffer>(words: &Words<B>, token: &mut Token<B>, ring: Ring, ticket: u64) -> Option<u32>
+fn try_take<B: Buffer>(
+    words: &Words<B>,
+    token: &mut Token<B>,
+    ring: Ring,
+    ticket: u64,
+) -> Option<u32>
     requires own { (token.old.table_id ≡ words.now.table_id) × (words.now.table_id.words ≡ word_count words.now.key.setup) }
     requires ring { IsRing words.now.key.setup ring }
     requires alone { IsAlone token.old.me.0.known }
@@ -54,9 +32,8 @@ fn takes<B: Buffer>(words: &Words<B>, token: &mut Token<B>, ring: Ring, ticket: 
     requires seeks { IsSeeking ring.number ticket (my_phase token.old.me.0.known) }
     ensures own { (token.new.table_id ≡ token.old.table_id) × (token.new.id ≡ token.old.id) }
     ensures went { Went words.now.key.setup (opening_of B.contents words.now.key.given.value.items) token.old.me.0 token.new.me.0 }
-    ensures got { IfSome result
-        (λ index. HasGot (LiesIn B.contents B.IsSameBuffer words.now.key.given.value.items) ring.number ticket index (known_me token.old.me)
-        (known_me token.new.me)) }
+    ensures got { IfSome result (λ index. HasGot (LiesIn B.contents B.IsSameBuffer words.now.key.given.value.items) ring.number ticket index
+        (known_me token.old.me) (known_me token.new.me)) }
     ensures small { IfSome result (λ index. index < n_of words.now.key.setup.order) }
     ensures fits { IfSome result (λ index. length (my token.new.me.0.known).part.hand ≤ n_of words.now.key.setup.order) }
     ensures once { IfSome result (λ index. (i : ℕ) → times i (my token.new.me.0.known).part.hand ≤ 1) }
@@ -84,7 +61,7 @@ fn takes<B: Buffer>(words: &Words<B>, token: &mut Token<B>, ring: Ring, ticket: 
             token,
             ring.entry(ticket),
             found,
-            passed_by(ring, ticket, found),
+            passed(ring.shape, ticket, found),
         ) == found
         {
             return None;
@@ -118,9 +95,10 @@ fn catch_up<B: Buffer>(words: &Words<B>, token: &mut Token<B>, ring: Ring, ticke
     }
 }
 
-/// D6, and what follows a ticket that was given up: whether the call ends with Nothing.
+/// D6 to D10, for a ticket at which no index was taken: lifts Tail where it is behind, and takes one off Threshold. Whether the call
+/// ends with Nothing.
 #[inline(always)]
-fn is_over<B: Buffer>(words: &Words<B>, token: &mut Token<B>, ring: Ring, ticket: u64) -> bool
+fn give_up<B: Buffer>(words: &Words<B>, token: &mut Token<B>, ring: Ring, ticket: u64) -> bool
     requires own { (token.old.table_id ≡ words.now.table_id) × (words.now.table_id.words ≡ word_count words.now.key.setup) }
     requires ring { IsRing words.now.key.setup ring }
     requires alone { IsAlone token.old.me.0.known }
@@ -161,9 +139,8 @@ pub fn dequeue<B: Buffer>(
     requires idle { (my_phase token.old.me.0.known ≡ Idle) × ((my token.old.me.0.known).part.spent ≡ None) }
     ensures own { (token.new.table_id ≡ token.old.table_id) × (token.new.id ≡ token.old.id) }
     ensures went { Went words.now.key.setup (opening_of B.contents words.now.key.given.value.items) token.old.me.0 token.new.me.0 }
-    ensures got { IfOk result
-        (λ r. HasGotAfter (LiesIn B.contents B.IsSameBuffer words.now.key.given.value.items) ring.number r.0 r.1 (known_me token.old.me)
-        (known_me token.new.me)) }
+    ensures got { IfOk result (λ r. HasGotAfter (LiesIn B.contents B.IsSameBuffer words.now.key.given.value.items) ring.number r.0 r.1
+        (known_me token.old.me) (known_me token.new.me)) }
     ensures small { IfOk result (λ r. (r.0 < words.now.key.setup.limit) × (r.1 < n_of words.now.key.setup.order)) }
     ensures fits { IfOk result (λ r. length (my token.new.me.0.known).part.hand ≤ n_of words.now.key.setup.order) }
     ensures once { IfOk result (λ r. (i : ℕ) → times i (my token.new.me.0.known).part.hand ≤ 1) }
@@ -186,10 +163,10 @@ pub fn dequeue<B: Buffer>(
         if ticket >= ring.limit {
             return Err(Without::Spent(ticket));
         }
-        if let Some(index) = takes(words, token, ring, ticket) {
+        if let Some(index) = try_take(words, token, ring, ticket) {
             return Ok((ticket, index));
         }
-        if is_over(words, token, ring, ticket) {
+        if give_up(words, token, ring, ticket) {
             return Err(Without::Nothing(Some(ticket)));
         }
     }

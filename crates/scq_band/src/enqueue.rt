@@ -7,7 +7,7 @@ ghost use Rattle.scq_core.specs.declared.phase.Phase.TheVariants.{Idle, AtE1, At
 ghost use Rattle.scq_word.specs.Sizes.{n_of};
 ghost use Rattle.scq_word.specs.Words.{rank_in};
 ghost use Rattle.scq_core.specs.Table.{ring_slots, holds_index};
-ghost use Rattle.scq_band.specs.Layout.{at, word_count, entry_at};
+ghost use Rattle.scq_band.specs.Layout.{word_count};
 ghost use Rattle.scq_band.specs.declared.numbers.Numbers.{Numbers};
 ghost use Rattle.scq_band.specs.Rings.{IsRing};
 ghost use Rattle.scq_band.specs.Sights.{known_me, Went};
@@ -17,11 +17,12 @@ ghost use Rattle.scq_band.specs.Seats.{IsAlone, IsLooking, IsEnding, goes_to, pl
 use crate::ring::Ring;
 use crate::rule::{Token, Words};
 use crate::steps::{draw, exchange, load, reset};
-use scq_word::{Buffer, Entry, cycle_of, pack, unpack};
+use scq_core::filled;
+use scq_word::{Buffer, cycle_of, unpack};
 
-/// E2, and E3 where the entry is unsafe: the entry that the slot of the ticket takes an index in, if it takes one.
+/// E2, and E3 where the entry is unsafe: loads the entry of the ticket's slot, and answers it where an index may be placed there.
 #[inline(always)]
-fn finds_room<B: Buffer>(
+fn load_vacant<B: Buffer>(
     words: &Words<B>,
     token: &mut Token<B>,
     ring: Ring,
@@ -34,10 +35,9 @@ fn finds_room<B: Buffer>(
     ensures own { (token.new.table_id ≡ token.old.table_id) × (token.new.id ≡ token.old.id) }
     ensures went { Went words.now.key.setup (opening_of B.contents words.now.key.given.value.items) token.old.me.0 token.new.me.0 }
     ensures slots { token.new.me.1 ≡ token.old.me.1 }
-    ensures room { IfSome result
-        (λ found. token.new.me.0.known
-        ≡ goes_to (AtE4 ring.number (index_of (my_phase token.old.me.0.known)) (content_of
-        (my_phase token.old.me.0.known)) ticket found) token.old.me.0.known) }
+    ensures room { IfSome result (λ found. token.new.me.0.known
+        ≡ goes_to (AtE4 ring.number (index_of (my_phase token.old.me.0.known)) (content_of (my_phase token.old.me.0.known)) ticket found)
+        token.old.me.0.known) }
     ensures least { IfSome result (λ found. least_of (my_phase token.old.me.0.known) ≤ rank_in (ring_slots words.now.key.setup) found) }
     ensures no_room { IfNone result
         (token.new.me.0.known ≡ goes_to (AtE1 ring.number (index_of (my_phase token.old.me.0.known)) (content_of (my_phase token.old.me.0.known))
@@ -54,9 +54,9 @@ fn finds_room<B: Buffer>(
     Some(found)
 }
 
-/// E2 to E4 until the index is placed, or the slot is found passed.
+/// E2 to E4, again where the exchange fails: places the index at the ticket, unless the slot was passed; whether it is placed.
 #[inline(always)]
-fn is_placed<B: Buffer>(
+fn try_place<B: Buffer>(
     words: &Words<B>,
     token: &mut Token<B>,
     ring: Ring,
@@ -69,24 +69,19 @@ fn is_placed<B: Buffer>(
     requires looks { IsLooking ring.number ticket (my_phase token.old.me.0.known) }
     requires limit { ticket < ring.limit }
     requires index { (index ≡ index_of (my_phase token.old.me.0.known)) × (index < n_of words.now.key.setup.order) }
-    requires front { Fronts (LiesIn B.contents B.IsSameBuffer words.now.key.given.value.items) index (content_of
-        (my_phase token.old.me.0.known)) token.old.me.1 }
+    requires front { Fronts (LiesIn B.contents B.IsSameBuffer words.now.key.given.value.items) index
+        (content_of (my_phase token.old.me.0.known)) token.old.me.1 }
     ensures own { (token.new.table_id ≡ token.old.table_id) × (token.new.id ≡ token.old.id) }
     ensures went { Went words.now.key.setup (opening_of B.contents words.now.key.given.value.items) token.old.me.0 token.new.me.0 }
     ensures slots { token.new.me.1 ≡ (if result then rest token.old.me.1 else token.old.me.1) }
-    ensures placed { IsTrue result → token.new.me.0.known ≡ placed_to ring.number index (content_of
-        (my_phase token.old.me.0.known)) ticket token.old.me.0.known }
-    ensures passed { IsFalse result → token.new.me.0.known ≡ goes_to (AtE1 ring.number index (content_of (my_phase token.old.me.0.known))
-        (ticket + 1)) token.old.me.0.known }
+    ensures placed { IsTrue result → token.new.me.0.known
+        ≡ placed_to ring.number index (content_of (my_phase token.old.me.0.known)) ticket token.old.me.0.known }
+    ensures passed { IsFalse result → token.new.me.0.known
+        ≡ goes_to (AtE1 ring.number index (content_of (my_phase token.old.me.0.known)) (ticket + 1)) token.old.me.0.known }
 {
-    let entry = Entry {
-        cycle: cycle_of(ring.shape, ticket),
-        safe: true,
-        index: Some(index),
-    };
-    let new = pack(ring.shape, entry);
+    let new = filled(ring.shape, ticket, index);
     'tries: loop {
-        let Some(found) = finds_room(words, token, ring, ticket) else {
+        let Some(found) = load_vacant(words, token, ring, ticket) else {
             return false;
         };
         if exchange(words, token, ring.entry(ticket), found, new) == found {
@@ -95,9 +90,9 @@ fn is_placed<B: Buffer>(
     }
 }
 
-/// E5, and E6 where Threshold isn't what it is reset to.
+/// E5, and E6 where Threshold isn't at the reset value.
 #[inline(always)]
-fn ends<B: Buffer>(words: &Words<B>, token: &mut Token<B>, ring: Ring, ticket: u64)
+fn reset_threshold<B: Buffer>(words: &Words<B>, token: &mut Token<B>, ring: Ring, ticket: u64)
     requires own { (token.old.table_id ≡ words.now.table_id) × (words.now.table_id.words ≡ word_count words.now.key.setup) }
     requires ring { IsRing words.now.key.setup ring }
     requires alone { IsAlone token.old.me.0.known }
@@ -131,9 +126,8 @@ pub fn enqueue<B: Buffer>(
     ensures went { Went words.now.key.setup (opening_of B.contents words.now.key.given.value.items) token.old.me.0 token.new.me.0 }
     ensures placed { IfOk result (λ place. token.new.me.0.known ≡ put_at ring.number index place (front_bytes B.contents token.old.me.1) token.old.me.0.known) }
     ensures given { IfOk result (λ place. token.new.me.1 ≡ rest token.old.me.1) }
-    ensures above { IfOk result
-        (λ place. (place < words.now.key.setup.limit) × ((known : Numbers) → slice_get token.old.me.0.known.numbers ring.number ≡ Some known
-        → known.seen < place)) }
+    ensures above { IfOk result (λ place. (place < words.now.key.setup.limit)
+        × ((known : Numbers) → slice_get token.old.me.0.known.numbers ring.number ≡ Some known → known.seen < place)) }
     ensures spent { IfErr result (λ ticket. token.new.me.0.known ≡ spent_at ring.number ticket true token.old.me.0.known) }
     ensures kept { IfErr result (λ ticket. (token.new.me.1 ≡ token.old.me.1) × (words.now.key.setup.limit ≤ ticket)) }
 {
@@ -142,8 +136,8 @@ pub fn enqueue<B: Buffer>(
         if ticket >= ring.limit {
             return Err(ticket);
         }
-        if is_placed(words, token, ring, ticket, index) {
-            ends(words, token, ring, ticket);
+        if try_place(words, token, ring, ticket, index) {
+            reset_threshold(words, token, ring, ticket);
             return Ok(ticket);
         }
     }

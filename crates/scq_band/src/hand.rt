@@ -1,4 +1,5 @@
-//! The slots that a seat holds, with their indices in the order of the table.
+//! The slots that a seat holds stand in a row in its token, and only the first can be used. The seat keeps their indices in the same row,
+//! but backwards: that of the first slot is the last.
 ghost use Rattle.std.specs.Prelude.{◌≡◌, ◌<◌, vec_capacity};
 ghost use Rattle.scq_law.specs.Hands.{times};
 ghost use Rattle.scq_band.specs.Steps.{front_index};
@@ -7,7 +8,7 @@ ghost use Rattle.scq_band.specs.Kept.{in_order, IsRotation};
 use crate::rule::Token;
 use scq_word::Buffer;
 
-/// Turns the slots until that of the index stands first.
+/// Turns the row of the slots, and with it the hand, until the slot of the index stands first.
 #[inline(always)]
 pub fn bring_to_front<B: Buffer>(token: &mut Token<B>, hand: &mut Vec<u32>, index: u32)
     requires order { hand.old.items ≡ in_order token.old.me.1 }

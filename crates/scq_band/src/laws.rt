@@ -1,5 +1,5 @@
-//! Laws of all words and views that the rule of a band allows, of what its seats have seen, and of where the words stand. The functions do nothing: each stands
-//! for its contract.
+//! Laws of all words and views that the rule of a band allows, of what its seats have seen, and of where the words stand. The functions do
+//! nothing: each stands for its contract.
 ghost use Rattle.std.specs.Prelude.{List};
 ghost use Rattle.scq_word.specs.declared.setup.Setup.{Setup};
 ghost use Rattle.scq_band.specs.Buffers.{LiesIn, opening_of};
@@ -10,7 +10,7 @@ ghost use Rattle.scq_band.specs.SeenCalls.{EachSeenCallComesFirst};
 use scq_word::Buffer;
 
 /// What a seat or a note knows is true at every moment, between any two steps: Head of a ring is at or past the head number,
-/// Tail is past the seen number, the finished number is the place of a put that has ended (or the one known at the start), and
+/// Tail is past the seen number, the finished number is the place of an enqueue that has ended (or the one known at the start), and
 /// the gate is no higher than the seat last found it. The numbers that contracts see of a seat are those of its view.
 pub fn each_view_knows_the_truth<B: Buffer>()
     ensures { (given : List B) (c : Setup) → EachViewKnowsTruth (LiesIn B.contents B.IsSameBuffer given) (opening_of B.contents given) c }

@@ -11,7 +11,7 @@ use crate::seat::Seat;
 use crate::slot::Slot;
 use scq_word::Buffer;
 
-/// Lays a buffer in the slot that stands first, of this index, where none is laid.
+/// Lays a buffer in the slot that stands first, that of the index, where none is laid.
 #[inline(always)]
 pub fn lay_first<B: Buffer>(words: &Words<B>, token: &mut Token<B>, index: u32, buffer: B)
     requires own { token.old.table_id ≡ words.now.table_id }
@@ -26,7 +26,7 @@ pub fn lay_first<B: Buffer>(words: &Words<B>, token: &mut Token<B>, index: u32, 
     let None = hole else { unreachable!() };
 }
 
-/// The buffer that is laid in the slot that stands first, of this index.
+/// Lifts the buffer out of the slot that stands first, that of the index.
 #[inline(always)]
 pub fn lift_first<B: Buffer>(words: &Words<B>, token: &mut Token<B>, index: u32) -> B
     requires own { token.old.table_id ≡ words.now.table_id }
@@ -41,7 +41,7 @@ pub fn lift_first<B: Buffer>(words: &Words<B>, token: &mut Token<B>, index: u32)
 }
 
 impl<B: Buffer> Band<B> {
-    /// The buffer of an index in the seat's hand.
+    /// Lifts the buffer of an index in the seat's hand: the seat has the index still, and its caller the buffer.
     #[inline(always)]
     pub fn lift(&self, seat: &mut Seat<B>, index: u32) -> B
         requires seat { seat.old.band ≡ self.now }
@@ -51,12 +51,7 @@ impl<B: Buffer> Band<B> {
         ensures lifted { seat.new ≡ record seat.old { hand = with_buffer index None seat.old.hand } }
     {
         bring_to_front(&mut seat.token, &mut seat.hand, index);
-        let Slot { buffer } = self
-            .table
-            .shared
-            .exchange(&mut seat.token, index as usize, Slot { buffer: None });
-        let Some(buffer) = buffer else { unreachable!() };
-        buffer
+        lift_first(&self.table.shared, &mut seat.token, index)
     }
 
     /// Lays a buffer back that was lifted.
@@ -68,13 +63,6 @@ impl<B: Buffer> Band<B> {
         ensures laid { seat.new ≡ record seat.old { hand = with_buffer index (Some buffer) seat.old.hand } }
     {
         bring_to_front(&mut seat.token, &mut seat.hand, index);
-        let laid = Slot {
-            buffer: Some(buffer),
-        };
-        let Slot { buffer: hole } = self
-            .table
-            .shared
-            .exchange(&mut seat.token, index as usize, laid);
-        let None = hole else { unreachable!() };
+        lay_first(&self.table.shared, &mut seat.token, index, buffer);
     }
 }

@@ -1,12 +1,12 @@
 //! What is known of the rings.
-ghost use Rattle.std.specs.Prelude.{◌≡◌, ◌+◌, ◌<◌, ◌^◌, max, IfSome};
+ghost use Rattle.std.specs.Prelude.{◌≡◌, ◌+◌, ◌<◌, ◌^◌, IfSome};
 ghost use Rattle.scq_band.specs.Numbers.{first_numbers_of, finishes, sees, passes, drew, empties, larger};
 
 use scq_word::Setup;
 
 /// What a seat knows of one ring. Each number only rises, and stays true.
 ///
-/// `finished` is the highest place at which it knows that a put has ended, `seen` the highest place at which
+/// `finished` is the highest place at which it knows that an enqueue has ended, `seen` the highest place at which
 /// it knows that an index was placed; as long as it knows of none, each is the number before the ring's first
 /// place. `head` is a number that Head has reached.
 #[derive(Clone, Copy, Debug, PartialEq, Eq)]
@@ -14,14 +14,6 @@ pub struct Numbers {
     pub finished: u64,
     pub seen: u64,
     pub head: u64,
-}
-
-// The larger of two.
-#[inline(always)]
-fn higher(a: u64, b: u64) -> u64
-    ensures { result ≡ max a b }
-{
-    if a < b { b } else { a }
 }
 
 impl Numbers {
@@ -42,25 +34,25 @@ impl Numbers {
         }
     }
 
-    /// A put of the seat's own has ended at a place.
+    /// An enqueue of the seat's own has ended at a place.
     #[inline(always)]
     pub(crate) fn finishes(self, place: u64) -> Numbers
         ensures { result ≡ finishes place self }
     {
         Numbers {
-            finished: higher(self.finished, place),
-            seen: higher(self.seen, place),
+            finished: self.finished.max(place),
+            seen: self.seen.max(place),
             head: self.head,
         }
     }
 
-    /// The seat has got an index at a place.
+    /// The seat has dequeued an index from a place.
     #[inline(always)]
     pub(crate) fn sees(self, place: u64) -> Numbers
         ensures { result ≡ sees place self }
     {
         Numbers {
-            seen: higher(self.seen, place),
+            seen: self.seen.max(place),
             ..self
         }
     }
@@ -72,7 +64,7 @@ impl Numbers {
         ensures { result ≡ passes (ticket + 1) self }
     {
         Numbers {
-            head: higher(self.head, ticket + 1),
+            head: self.head.max(ticket + 1),
             ..self
         }
     }
@@ -89,7 +81,7 @@ impl Numbers {
             Some(ticket) => self.draws(ticket),
         };
         Numbers {
-            head: higher(past.head, past.finished + 1),
+            head: past.head.max(past.finished + 1),
             ..past
         }
     }
@@ -99,9 +91,9 @@ impl Numbers {
         ensures { result ≡ larger self other }
     {
         Numbers {
-            finished: higher(self.finished, other.finished),
-            seen: higher(self.seen, other.seen),
-            head: higher(self.head, other.head),
+            finished: self.finished.max(other.finished),
+            seen: self.seen.max(other.seen),
+            head: self.head.max(other.head),
         }
     }
 }

@@ -1,4 +1,4 @@
-/// What stands in a slot of the table: the buffer of its index, but while it is lifted.
+/// What stands in a slot of the table: the buffer of the slot's index, or none while that is lifted.
 #[derive(Drop)]
 pub struct Slot<B> {
     pub buffer: Option<B>,

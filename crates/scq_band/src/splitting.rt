@@ -1,4 +1,4 @@
-//! All seats stand in the first view of a table, and are split off one by one.
+//! A table begins with one token, in whose view all seats stand. They are split off one by one.
 ghost use Rattle.std.specs.Prelude.{◌≡◌, ℕ, suc, ◌+◌, ◌<◌, ◌≤◌, [], All, length, vec_len, vec_capacity};
 ghost use Rattle.scq_band.specs.Sights.{first_sight};
 ghost use Rattle.scq_band.specs.Standing.{first_standing, first_standings};
@@ -13,7 +13,7 @@ use atomic_table::Split;
 use scq_word::Buffer;
 use std::snapshot::Snapshot;
 
-/// The first seat is split off a view.
+/// How a view is split for a seat: the first seat that stands in it goes, the others stay.
 pub struct Peels {}
 
 impl Split<View> for Peels {
@@ -24,7 +24,7 @@ impl Split<View> for Peels {
     ghost right = { first_sight_of };
 }
 
-// The next seat.
+// Splits a seat off, and gives it its room.
 fn peel<B: Buffer>(words: &Words<B>, rest: &mut Token<B>, key: &Key<B>, room: Room) -> Seat<B>
     requires own { (rest.old.table_id ≡ words.now.table_id) × (words.now.key ≡ key.now) }
     requires words { 0 < words.now.table_id.words }

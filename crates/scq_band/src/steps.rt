@@ -1,5 +1,5 @@
-//! The six operations of the table that the sixteen steps are made of. Each makes one turn of the seat: its phase, or
-//! the first step of a call.
+//! The six atomic operations that the machine's sixteen steps are made of. Each makes one step of the seat: the one that its call is at,
+//! or the first of a call.
 ghost use Rattle.std.specs.Prelude.{◌≡◌, ◌<◌};
 ghost use Rattle.scq_word.specs.Words.{mark_of};
 ghost use Rattle.scq_core.specs.Table.{ring_slots, reset_level, location_of};
@@ -13,7 +13,7 @@ use crate::rule::{Token, Words};
 use scq_word::Buffer;
 use std::marker::Brand;
 
-/// E2, E3, E5, D1, D3, D6, D8 and D9.
+/// E2, E3, E5, D1, D3, D6, D8 and D9: a load.
 #[inline(always)]
 pub fn load<B: Buffer>(words: &Words<B>, token: &mut Token<B>, word: usize) -> u64
     requires own { token.old.table_id ≡ words.now.table_id }
@@ -29,7 +29,7 @@ pub fn load<B: Buffer>(words: &Words<B>, token: &mut Token<B>, word: usize) -> u
     words.load::<Brand>(token, word)
 }
 
-/// E1 and D2.
+/// E1 and D2: a fetch-and-add, which draws a ticket from Tail or Head.
 #[inline(always)]
 pub fn draw<B: Buffer>(words: &Words<B>, token: &mut Token<B>, word: usize) -> u64
     requires own { token.old.table_id ≡ words.now.table_id }
@@ -45,7 +45,7 @@ pub fn draw<B: Buffer>(words: &Words<B>, token: &mut Token<B>, word: usize) -> u
     words.fetch_add::<Brand>(token, word, 1)
 }
 
-/// E4, D5 and D7: the word as it was, which has become `new` if it was `old`.
+/// E4, D5 and D7: a compare-and-exchange. Answers the word as it was; it has become `new` if it was `old`.
 #[inline(always)]
 pub fn exchange<B: Buffer>(
     words: &Words<B>,
@@ -62,14 +62,13 @@ pub fn exchange<B: Buffer>(
     requires carries { Carries (LiesIn B.contents B.IsSameBuffer words.now.key.given.value.items) (my_phase token.old.me.0.known) token.old.me.1 }
     ensures own { (token.new.table_id ≡ token.old.table_id) × (token.new.id ≡ token.old.id) }
     ensures turned { Turned (LiesIn B.contents B.IsSameBuffer words.now.key.given.value.items) words.now.key.setup (my_phase token.old.me.0.known)
-        (known_me token.old.me)
-        result (known_me token.new.me) }
+        (known_me token.old.me) result (known_me token.new.me) }
     ensures went { Went words.now.key.setup (opening_of B.contents words.now.key.given.value.items) token.old.me.0 token.new.me.0 }
 {
     words.compare_exchange::<Brand>(token, word, old, new)
 }
 
-/// E6.
+/// E6: the reset value into Threshold.
 #[inline(always)]
 pub fn reset<B: Buffer>(words: &Words<B>, token: &mut Token<B>, word: usize, level: u64)
     requires own { token.old.table_id ≡ words.now.table_id }
@@ -80,14 +79,13 @@ pub fn reset<B: Buffer>(words: &Words<B>, token: &mut Token<B>, word: usize, lev
     requires level { level ≡ reset_level words.now.key.setup }
     ensures own { (token.new.table_id ≡ token.old.table_id) × (token.new.id ≡ token.old.id) }
     ensures turned { Turned (LiesIn B.contents B.IsSameBuffer words.now.key.given.value.items) words.now.key.setup (my_phase token.old.me.0.known)
-        (known_me token.old.me) level
-        (known_me token.new.me) }
+        (known_me token.old.me) level (known_me token.new.me) }
     ensures went { Went words.now.key.setup (opening_of B.contents words.now.key.given.value.items) token.old.me.0 token.new.me.0 }
 {
     words.store::<Brand>(token, word, level)
 }
 
-/// D4.
+/// D4: a fetch-and-or of the mark, which takes the index out of the entry.
 #[inline(always)]
 pub fn consume<B: Buffer>(words: &Words<B>, token: &mut Token<B>, word: usize, mark: u64) -> u64
     requires own { token.old.table_id ≡ words.now.table_id }
@@ -98,14 +96,13 @@ pub fn consume<B: Buffer>(words: &Words<B>, token: &mut Token<B>, word: usize, m
     requires mark { mark ≡ mark_of (ring_slots words.now.key.setup) }
     ensures own { (token.new.table_id ≡ token.old.table_id) × (token.new.id ≡ token.old.id) }
     ensures turned { Turned (LiesIn B.contents B.IsSameBuffer words.now.key.given.value.items) words.now.key.setup (my_phase token.old.me.0.known)
-        (known_me token.old.me)
-        result (known_me token.new.me) }
+        (known_me token.old.me) result (known_me token.new.me) }
     ensures went { Went words.now.key.setup (opening_of B.contents words.now.key.given.value.items) token.old.me.0 token.new.me.0 }
 {
     words.fetch_or::<Brand>(token, word, mark)
 }
 
-/// D10.
+/// D10: one off Threshold.
 #[inline(always)]
 pub fn count_down<B: Buffer>(words: &Words<B>, token: &mut Token<B>, word: usize) -> u64
     requires own { token.old.table_id ≡ words.now.table_id }
@@ -115,8 +112,7 @@ pub fn count_down<B: Buffer>(words: &Words<B>, token: &mut Token<B>, word: usize
     requires word { word ≡ at words.now.key.setup (location_of words.now.key.setup (my_phase token.old.me.0.known)) }
     ensures own { (token.new.table_id ≡ token.old.table_id) × (token.new.id ≡ token.old.id) }
     ensures turned { Turned (LiesIn B.contents B.IsSameBuffer words.now.key.given.value.items) words.now.key.setup (my_phase token.old.me.0.known)
-        (known_me token.old.me)
-        result (known_me token.new.me) }
+        (known_me token.old.me) result (known_me token.new.me) }
     ensures went { Went words.now.key.setup (opening_of B.contents words.now.key.given.value.items) token.old.me.0 token.new.me.0 }
 {
     words.fetch_sub::<Brand>(token, word, 1)

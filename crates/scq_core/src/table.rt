@@ -1,7 +1,9 @@
 //! Where a turn reads and writes, and what it writes there.
 
-ghost use Rattle.std.specs.Prelude.{◌≡◌, ℕ, ◌<◌};
-ghost use Rattle.scq_word.specs.Sizes.{n_of};
+ghost use Rattle.std.specs.Prelude.{◌≡◌, ℕ, ◌/◌, ◌^◌, ◌<◌};
+ghost use Rattle.scq_word.specs.Sizes.{n_of, slots_of};
+ghost use Rattle.scq_word.specs.Tickets.{cycle_of};
+ghost use Rattle.scq_word.specs.declared.setup.Setup.{Setup};
 ghost use Rattle.scq_word.specs.Words.{mark_of, packed, safe_in, cycle_in};
 ghost use Rattle.scq_word.specs.Entries.{IsIndexOrMark};
 ghost use Rattle.scq_core.specs.declared.slot.Cell.TheVariants.{Entry as EntryCell};
@@ -10,7 +12,7 @@ ghost use Rattle.scq_core.specs.Turn.{ends_call, IsReady};
 
 use crate::phase::Phase;
 use crate::slot::Cell;
-use scq_word::{Entry, Setup, cycle_of, pack, slot_of, unpack};
+use scq_word::{Entry, Setup, Shape, cycle_of, pack, slot_of, unpack};
 
 /// The word that stands for a Threshold of 0: it is kept as so much more than its value.
 pub const ZERO_LEVEL: u64 = 1 << 32;
@@ -86,11 +88,11 @@ pub fn written(setup: &Setup, turn: &Phase, found: u64) -> u64
             ticket,
             word,
             ..
-        } if found == *word => filled(setup, *ticket, *index),
+        } if found == *word => filled(setup.shape(), *ticket, *index),
         Phase::AtE6 { .. } => reset_level(setup),
         Phase::AtD2 { .. } => found + 1,
         Phase::AtD4 { .. } => consumed(setup, found),
-        Phase::AtD5 { ticket, word, .. } if found == *word => passed(setup, *ticket, found),
+        Phase::AtD5 { ticket, word, .. } if found == *word => passed(setup.shape(), *ticket, found),
         Phase::AtD7 { from, to, .. } if found == *from => *to,
         Phase::AtD10 { .. } => found - 1,
         _ => found,
@@ -115,12 +117,12 @@ pub fn ends_call(setup: &Setup, turn: &Phase, found: u64) -> bool
 }
 
 /// The word of an index at its ticket.
-pub fn filled(setup: &Setup, ticket: u64, index: u32) -> u64
-    requires below_limit { ticket < setup.now.limit }
-    requires own { index < n_of setup.now.order }
-    ensures { result ≡ packed (ring_slots setup.now) (cycle setup.now ticket) 1 index }
+#[inline(always)]
+pub fn filled(shape: Shape, ticket: u64, index: u32) -> u64
+    requires fits { cycle_of (slots_of shape.order) ticket < 2 ^ 62 / n_of shape.order }
+    requires own { index < n_of shape.order }
+    ensures { (c : Setup) → shape.order ≡ c.order → result ≡ packed (ring_slots c) (cycle c ticket) 1 index }
 {
-    let shape = setup.shape();
     let entry = Entry {
         cycle: cycle_of(shape, ticket),
         safe: true,
@@ -146,12 +148,12 @@ fn consumed(setup: &Setup, found: u64) -> u64
 
 /// What a dequeue leaves in an entry of an earlier cycle: without an index it is moved to the cycle of
 /// the dequeue's ticket, so that no enqueue with an earlier one fills it; an index is marked unsafe.
-pub fn passed(setup: &Setup, ticket: u64, found: u64) -> u64
-    requires below_limit { ticket < setup.now.limit }
-    requires entry { IsIndexOrMark setup.now.order found }
-    ensures { result ≡ passed setup.now ticket found }
+#[inline(always)]
+pub fn passed(shape: Shape, ticket: u64, found: u64) -> u64
+    requires fits { cycle_of (slots_of shape.order) ticket < 2 ^ 62 / n_of shape.order }
+    requires entry { IsIndexOrMark shape.order found }
+    ensures { (c : Setup) → shape.order ≡ c.order → result ≡ passed c ticket found }
 {
-    let shape = setup.shape();
     let entry = unpack(shape, found);
     let left = match entry.index {
         None => Entry {

@@ -19,8 +19,8 @@ lay_back-requires-clause-first g c κs within =
     let first = first_slot me.1 others i may.order in
     (first.0, first.1, λ lifted. is_out Same buffers me others i out first.0 may first.1 lifted)
 
-pub bring-requires-clause-may : goal.bring-requires-clause-may
-bring-requires-clause-may g c κs within =
+pub bring_home-requires-clause-may : goal.bring_home-requires-clause-may
+bring_home-requires-clause-may g c κs within =
     let Same = g.B.Buffer.IsSameBuffer in
     let buffers = c.args.words.now.key.given.value.items in
     let me = known_me c.loop-index.token.me in
@@ -44,16 +44,16 @@ loop-index-preserved g c =
     let may = subst (λ (l : List ℕ). MayLeave Same buffers me l out) c.in-Some.ensures.items c.loop-index.invariant.2 in
     let l = leaves g.B.Buffer.contents Same buffers me others i out c.lay_back.new.token.me.1 (map g.T.Lifted.pair c.lay_back.new.out.items) may
     c.lay_back.ensures.laid in
-    let n = goes_on g.B.Buffer.contents Same buffers me (known_me c.lay_back.new.token.me) (known_me c.bring.new.token.me) others i out
+    let n = goes_on g.B.Buffer.contents Same buffers me (known_me c.lay_back.new.token.me) (known_me c.bring_home.new.token.me) others i out
     (map g.T.Lifted.pair c.lay_back.new.out.items) l
-    (ap known_in c.lay_back.ensures.view) c.bring.ensures.home in (
-      c.bring.ensures.own.0 ∙ c.lay_back.ensures.own.0 ∙ c.loop-index.invariant.0,
-      c.bring.ensures.own.1 ∙ c.lay_back.ensures.own.1 ∙ c.loop-index.invariant.1,
+    (ap known_in c.lay_back.ensures.view) c.bring_home.ensures.home in (
+      c.bring_home.ensures.own.0 ∙ c.lay_back.ensures.own.0 ∙ c.loop-index.invariant.0,
+      c.bring_home.ensures.own.1 ∙ c.lay_back.ensures.own.1 ∙ c.loop-index.invariant.1,
       n.may,
-      went_more g.B.Buffer.contents (known_me c.args.token.now.me) me (known_me c.bring.new.token.me) (map g.T.Lifted.pair c.args.out.now.items) out
+      went_more g.B.Buffer.contents (known_me c.args.token.now.me) me (known_me c.bring_home.new.token.me) (map g.T.Lifted.pair c.args.out.now.items) out
           (map g.T.Lifted.pair c.lay_back.new.out.items) c.loop-index.invariant.3 n.went,
       λ j. let now = n.less j in let before = c.loop-index.invariant.4 j in omega arith,
-      c.bring.ensures.seen ∙ ap (λ (v : Sight). v.seen) c.lay_back.ensures.view ∙ c.loop-index.invariant.5,
+      c.bring_home.ensures.seen ∙ ap (λ (v : Sight). v.seen) c.lay_back.ensures.view ∙ c.loop-index.invariant.5,
     )
 
 pub loop-index-init : goal.loop-index-init

@@ -19,8 +19,8 @@ use Rattle.scq_band.proofs.closing.gather.Goals as goal
 
 pub loop-seat-init : goal.loop-seat-init
 loop-seat-init g c =
-    let w = c.one_home-first.result.me.0.known in
-    let e = c.one_home-first.ensures in
+    let w = c.bring_seat_home-first.result.me.0.known in
+    let e = c.bring_seat_home-first.ensures in
     let left = c.pop.new.self.items in
     let bands = All-pop (λ (s : Standing g.row.B.Denot). s.band ≡ identity_of c.args.words.now.table_id c.args.words.now.key) c.args.seats.items left
     (Some c.in-Some.last)
@@ -30,22 +30,22 @@ loop-seat-init g c =
       λ i.
           out_less (λ (s : Standing g.row.B.Denot). times i (lifted_of s.hand)) c.args.seats.items left c.in-Some.last
           (times i (indices_of (map g.T.Lifted.pair c.args.out.items)))
-          (times i (indices_of (map g.T.Lifted.pair c.one_home-first.new.out.items))) (c.requires.lifted i) c.in-Some.ensures.items (e.less i),
+          (times i (indices_of (map g.T.Lifted.pair c.bring_seat_home-first.new.out.items))) (c.requires.lifted i) c.in-Some.ensures.items (e.less i),
       e.given,
       gathered_first g.B.Buffer.contents c.args.words.now.key.setup.rings c.args.seats.items left c.in-Some.last w c.in-Some.ensures.items e.alone e.member
-          e.numbers.0 e.numbers.1 e.gate c.one_home-first.result.me.0.seen e.seen,
-      subst (λ (xs : List Member). OutOrHome g.B.Buffer.contents (map g.T.Lifted.pair c.args.out.items) (map g.T.Lifted.pair c.one_home-first.new.out.items) xs)
+          e.numbers.0 e.numbers.1 e.gate c.bring_seat_home-first.result.me.0.seen e.seen,
+      subst (λ (xs : List Member). OutOrHome g.B.Buffer.contents (map g.T.Lifted.pair c.args.out.items) (map g.T.Lifted.pair c.bring_seat_home-first.new.out.items) xs)
           (sym e.alone) e.home,
     )
 
-pub one_home-token-requires-clause-band : goal.one_home-token-requires-clause-band
-one_home-token-requires-clause-band g c κs within =
+pub bring_seat_home-token-requires-clause-band : goal.bring_seat_home-token-requires-clause-band
+bring_seat_home-token-requires-clause-band g c κs within =
     let bands = All-pop (λ (s : Standing g.row.B.Denot). s.band ≡ identity_of c.args.words.now.table_id c.args.words.now.key) c.loop-seat.seats.items
     c.pop-in-loop-seat.new.self.items (Some c.in-Some-pop.seat) c.in-Some-pop.ensures.items c.loop-seat.invariant.1 in
     bands.1
 
-pub one_home-token-requires-clause-lifted : goal.one_home-token-requires-clause-lifted
-one_home-token-requires-clause-lifted g c κs within i =
+pub bring_seat_home-token-requires-clause-lifted : goal.bring_seat_home-token-requires-clause-lifted
+bring_seat_home-token-requires-clause-lifted g c κs within i =
     out_some (λ (s : Standing g.row.B.Denot). times i (lifted_of s.hand)) c.loop-seat.seats.items c.pop-in-loop-seat.new.self.items c.in-Some-pop.seat
     (times i (indices_of (map g.T.Lifted.pair c.loop-seat.out.items))) (c.loop-seat.invariant.2 i) c.in-Some-pop.ensures.items
 
@@ -54,21 +54,21 @@ join_seat-requires g c =
     let k = c.args.words.now.key in
     let Lie = LiesIn g.B.Buffer.contents g.B.Buffer.IsSameBuffer k.given.value.items in
     let v = c.loop-seat.first.me.0 in
-    let w = c.one_home-token.result.me.0 in
-    let e = c.one_home-token.ensures in (
+    let w = c.bring_seat_home-token.result.me.0 in
+    let e = c.bring_seat_home-token.ensures in (
       c.loop-seat.invariant.0,
       e.own,
       e.none,
       c.requires.room,
-      joins_run Lie k.setup c.loop-seat.first.id v c.one_home-token.result.id w (both_sight v w) spent_sight refl refl
-          (λ gone run. joins Lie k.setup c.loop-seat.first.id v.known c.one_home-token.result.id w.known c.loop-seat.invariant.4.some),
+      joins_run Lie k.setup c.loop-seat.first.id v c.bring_seat_home-token.result.id w (both_sight v w) spent_sight refl refl
+          (λ gone run. joins Lie k.setup c.loop-seat.first.id v.known c.bring_seat_home-token.result.id w.known c.loop-seat.invariant.4.some),
     )
 
 pub loop-seat-preserved : goal.loop-seat-preserved
 loop-seat-preserved g c =
-    let e = c.one_home-token.ensures in
+    let e = c.bring_seat_home-token.ensures in
     let v = c.loop-seat.first.me.0.known in
-    let w = c.one_home-token.result.me.0.known in
+    let w = c.bring_seat_home-token.result.me.0.known in
     let told = c.loop-seat.first.me.0.seen in
     let before = c.loop-seat.seats.items in
     let left = c.pop-in-loop-seat.new.self.items in
@@ -78,16 +78,16 @@ loop-seat-preserved g c =
     c.in-Some-pop.ensures.items c.loop-seat.invariant.1 in
     let more = gathered_more g.B.Buffer.contents rings c.args.seats.items before left c.in-Some-pop.seat v w told c.loop-seat.invariant.4
     c.in-Some-pop.ensures.items e.alone e.member
-    e.numbers.0 e.numbers.1 e.gate c.one_home-token.result.me.0.seen e.seen in
+    e.numbers.0 e.numbers.1 e.gate c.bring_seat_home-token.result.me.0.seen e.seen in
     let out = map g.T.Lifted.pair c.args.out.items in
-    let still = map g.T.Lifted.pair c.one_home-token.new.out.items in
+    let still = map g.T.Lifted.pair c.bring_seat_home-token.new.out.items in
     let home = out_joined g.B.Buffer.contents out (map g.T.Lifted.pair c.loop-seat.out.items) still v w e.alone c.loop-seat.invariant.5 e.home in (
       c.join_seat.ensures.0 ∙ c.loop-seat.invariant.0,
       bands.0,
       λ i.
           out_less (λ (s : Standing g.row.B.Denot). times i (lifted_of s.hand)) before left c.in-Some-pop.seat
           (times i (indices_of (map g.T.Lifted.pair c.loop-seat.out.items)))
-          (times i (indices_of (map g.T.Lifted.pair c.one_home-token.new.out.items))) (c.loop-seat.invariant.2 i) c.in-Some-pop.ensures.items (e.less i),
+          (times i (indices_of (map g.T.Lifted.pair c.bring_seat_home-token.new.out.items))) (c.loop-seat.invariant.2 i) c.in-Some-pop.ensures.items (e.less i),
       e.given,
       subst (λ (m : Me (Slot g.row.B.Denot) Sight). AreGathered g.B.Buffer.contents rings c.args.seats.items left m.0.known m.0.seen)
           (sym c.join_seat.ensures.2) more,

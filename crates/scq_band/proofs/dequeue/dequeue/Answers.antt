@@ -159,7 +159,7 @@ returns-in-Some-clause-got g c =
     (known_me c.draw-ticket.new.token.me) c.draw-ticket.result turn c.draw-ticket.ensures.turned).slots
     ∙ c.draws.invariant.2 in
     got_then Lie r c.draw-ticket.result c.in-Some.index v c.args.token.now.me.1 (known_me c.draw-ticket.new.token.me)
-    (known_me c.takes.new.token.me) now slots c.in-Some.ensures.got
+    (known_me c.try_take.new.token.me) now slots c.in-Some.ensures.got
 
 pub returns-in-Some-clause-above : goal.returns-in-Some-clause-above
 returns-in-Some-clause-above g c =
@@ -173,8 +173,8 @@ returns-in-Some-clause-above g c =
     (ap my_phase here) in
     drew_above_head Lie k v (known_me c.draws.token.me) (known_me c.draw-ticket.new.token.me) _ c.draw-ticket.result r l turn here c.draw-ticket.ensures.turned
 
-pub returns-then-is_over-clause-nothing_left : goal.returns-then-is_over-clause-nothing_left
-returns-then-is_over-clause-nothing_left g c ticket is =
+pub returns-then-give_up-clause-nothing_left : goal.returns-then-give_up-clause-nothing_left
+returns-then-give_up-clause-nothing_left g c ticket is =
     let k = c.args.words.now.key.setup in
     let r = c.args.ring.number in
     let Lie = LiesIn g.B.Buffer.contents g.B.Buffer.IsSameBuffer c.args.words.now.key.given.value.items in
@@ -192,7 +192,7 @@ returns-then-is_over-clause-nothing_left g c ticket is =
     (omega arith) c.draw-ticket.ensures.turned in
     let same : h ≡ ticket = cc in
     rw (← same) (
-      c.if-is_over.ensures.over refl ∙ ap (nothing_at r) (c.in_default.ensures.given_up) ∙ ap (λ u. nothing_at r (goes_to (AtD6 r h) u)) now,
+      c.if-give_up.ensures.over refl ∙ ap (nothing_at r) (c.in_default.ensures.given_up) ∙ ap (λ u. nothing_at r (goes_to (AtD6 r h) u)) now,
       omega arith,
       drew_above_head Lie k v (known_me c.draws.token.me) (known_me c.draw-ticket.new.token.me) _ h r l turn here c.draw-ticket.ensures.turned,
     )
@@ -217,17 +217,17 @@ draws-preserved g c =
     (omega arith) c.draw-ticket.ensures.turned in
     let slots = (turned_as Lie k _ (AtD2 r l) (known_me c.draws.token.me) (known_me c.draw-ticket.new.token.me) h turn c.draw-ticket.ensures.turned).slots
     ∙ c.draws.invariant.2 in
-    let next : c.is_over.new.token.me.0.known ≡ to_draw r (h + 1) v =
-    c.if-is_over.ensures.on refl ∙ ap (goes_to (AtD2 r (h + 1))) (c.in_default.ensures.given_up)
+    let next : c.give_up.new.token.me.0.known ≡ to_draw r (h + 1) v =
+    c.if-give_up.ensures.on refl ∙ ap (goes_to (AtD2 r (h + 1))) (c.in_default.ensures.given_up)
     ∙ ap (λ u. goes_to (AtD2 r (h + 1)) (goes_to (AtD6 r h) u)) now in
-    let least : least_of (my_phase c.is_over.new.token.me.0.known) ≡ h + 1 = ap (λ u. least_of (my_phase u)) next in (
-      c.is_over.ensures.own.0 ∙ c.takes.ensures.own.0 ∙ c.draw-ticket.ensures.own.0 ∙ c.draws.invariant.0,
-      c.is_over.ensures.own.1 ∙ c.takes.ensures.own.1 ∙ c.draw-ticket.ensures.own.1 ∙ c.draws.invariant.1,
-      c.is_over.ensures.slots ∙ c.in_default.ensures.slots ∙ slots,
+    let least : least_of (my_phase c.give_up.new.token.me.0.known) ≡ h + 1 = ap (λ u. least_of (my_phase u)) next in (
+      c.give_up.ensures.own.0 ∙ c.try_take.ensures.own.0 ∙ c.draw-ticket.ensures.own.0 ∙ c.draws.invariant.0,
+      c.give_up.ensures.own.1 ∙ c.try_take.ensures.own.1 ∙ c.draw-ticket.ensures.own.1 ∙ c.draws.invariant.1,
+      c.give_up.ensures.slots ∙ c.in_default.ensures.slots ∙ slots,
       next ∙ ap (λ n. to_draw r n v) (sym least),
-      inr (goes_then k opening c.args.token.now.me.0 c.draws.token.me.0 c.is_over.new.token.me.0 c.draws.invariant.4
-          (went_on k opening c.draws.token.me.0 c.draw-ticket.new.token.me.0 c.is_over.new.token.me.0 c.draw-ticket.ensures.went
-          (went_on k opening c.draw-ticket.new.token.me.0 c.takes.new.token.me.0 c.is_over.new.token.me.0 c.takes.ensures.went c.is_over.ensures.went))),
+      inr (goes_then k opening c.args.token.now.me.0 c.draws.token.me.0 c.give_up.new.token.me.0 c.draws.invariant.4
+          (went_on k opening c.draws.token.me.0 c.draw-ticket.new.token.me.0 c.give_up.new.token.me.0 c.draw-ticket.ensures.went
+          (went_on k opening c.draw-ticket.new.token.me.0 c.try_take.new.token.me.0 c.give_up.new.token.me.0 c.try_take.ensures.went c.give_up.ensures.went))),
     )
 
 pub returns-then-ticket-ring-clause-went : goal.returns-then-ticket-ring-clause-went
@@ -244,16 +244,16 @@ returns-in-Some-clause-went g c =
     let opening = opening_of g.B.Buffer.contents key.given.value.items in
     let a = c.draws.token.me.0 in
     let b = c.draw-ticket.new.token.me.0 in
-    let d = c.takes.new.token.me.0 in
-    goes_then key.setup opening c.args.token.now.me.0 a d c.draws.invariant.4 (went_on key.setup opening a b d c.draw-ticket.ensures.went c.takes.ensures.went)
+    let d = c.try_take.new.token.me.0 in
+    goes_then key.setup opening c.args.token.now.me.0 a d c.draws.invariant.4 (went_on key.setup opening a b d c.draw-ticket.ensures.went c.try_take.ensures.went)
 
-pub returns-then-is_over-clause-went : goal.returns-then-is_over-clause-went
-returns-then-is_over-clause-went g c =
+pub returns-then-give_up-clause-went : goal.returns-then-give_up-clause-went
+returns-then-give_up-clause-went g c =
     let key = c.args.words.now.key in
     let opening = opening_of g.B.Buffer.contents key.given.value.items in
     let a = c.draws.token.me.0 in
     let b = c.draw-ticket.new.token.me.0 in
-    let d = c.takes.new.token.me.0 in
-    let e = c.is_over.new.token.me.0 in
+    let d = c.try_take.new.token.me.0 in
+    let e = c.give_up.new.token.me.0 in
     goes_then key.setup opening c.args.token.now.me.0 a e c.draws.invariant.4 (went_on key.setup opening a b e c.draw-ticket.ensures.went
-    (went_on key.setup opening b d e c.takes.ensures.went c.is_over.ensures.went))
+    (went_on key.setup opening b d e c.try_take.ensures.went c.give_up.ensures.went))

@@ -53,8 +53,8 @@ returns-then-ticket-ring-clause-spent g c =
     (known_me c.draw-ticket.new.token.me) _ c.draw-ticket.result c.args.ring.number c.args.index
     (front_bytes contents slots) _ turn c.requires.alone c.draws.invariant.3 (omega arith) c.draw-ticket.ensures.turned
 
-pub is_placed-requires-clause-looks : goal.is_placed-requires-clause-looks
-is_placed-requires-clause-looks g c κs within =
+pub try_place-requires-clause-looks : goal.try_place-requires-clause-looks
+try_place-requires-clause-looks g c κs within =
     let k = c.args.words.now.key.setup in
     let contents = g.B.Buffer.contents in
     let Lie = LiesIn contents g.B.Buffer.IsSameBuffer c.args.words.now.key.given.value.items in
@@ -68,8 +68,8 @@ is_placed-requires-clause-looks g c κs within =
     (front_bytes contents slots) _ turn c.requires.alone c.draws.invariant.3 (omega arith) c.draw-ticket.ensures.turned in
     looks_as c.draw-ticket.new.token.me.0.known c.args.ring.number c.args.index (front_bytes contents slots) c.draw-ticket.result 0 (ap my_phase now)
 
-pub returns-then-is_placed-clause-above : goal.returns-then-is_placed-clause-above
-returns-then-is_placed-clause-above g c =
+pub returns-then-try_place-clause-above : goal.returns-then-try_place-clause-above
+returns-then-try_place-clause-above g c =
     let k = c.args.words.now.key.setup in
     let contents = g.B.Buffer.contents in
     let Lie = LiesIn contents g.B.Buffer.IsSameBuffer c.args.words.now.key.given.value.items in
@@ -90,16 +90,16 @@ returns-then-ticket-ring-clause-went g c =
     let opening = opening_of g.B.Buffer.contents key.given.value.items in
     goes_then key.setup opening c.args.token.now.me.0 c.draws.token.me.0 c.draw-ticket.new.token.me.0 c.draws.invariant.5 c.draw-ticket.ensures.went
 
-pub returns-then-is_placed-clause-went : goal.returns-then-is_placed-clause-went
-returns-then-is_placed-clause-went g c =
+pub returns-then-try_place-clause-went : goal.returns-then-try_place-clause-went
+returns-then-try_place-clause-went g c =
     let key = c.args.words.now.key in
     let opening = opening_of g.B.Buffer.contents key.given.value.items in
     let a = c.draws.token.me.0 in
     let b = c.draw-ticket.new.token.me.0 in
-    let d = c.is_placed.new.token.me.0 in
-    let e = c.ends.new.token.me.0 in
+    let d = c.try_place.new.token.me.0 in
+    let e = c.reset_threshold.new.token.me.0 in
     goes_then key.setup opening c.args.token.now.me.0 a e c.draws.invariant.5
-    (went_on key.setup opening a b e c.draw-ticket.ensures.went (went_on key.setup opening b d e c.is_placed.ensures.went c.ends.ensures.went))
+    (went_on key.setup opening a b e c.draw-ticket.ensures.went (went_on key.setup opening b d e c.try_place.ensures.went c.reset_threshold.ensures.went))
 
 pub draws-preserved : goal.draws-preserved
 draws-preserved g c =
@@ -107,12 +107,12 @@ draws-preserved g c =
     let opening = opening_of g.B.Buffer.contents key.given.value.items in
     let a = c.draws.token.me.0 in
     let b = c.draw-ticket.new.token.me.0 in
-    let d = c.is_placed.new.token.me.0 in (
+    let d = c.try_place.new.token.me.0 in (
       search rules,
       search rules,
       search rules,
       search rules,
       search rules,
       inr (goes_then key.setup opening c.args.token.now.me.0 a d c.draws.invariant.5
-          (went_on key.setup opening a b d c.draw-ticket.ensures.went c.is_placed.ensures.went)),
+          (went_on key.setup opening a b d c.draw-ticket.ensures.went c.try_place.ensures.went)),
     )

@@ -1,6 +1,5 @@
-use Rattle.std.proofs.Common.{◌≡◌, ◌<◌, ◌≤◌, ◌-◌, ◌^◌, ◌++◌, ℕ, List, [], ◌∷◌, length, take, true, refl, sym, ◌∙◌, ap, subst, arith}
-use Rattle.std.specs.Prelude.{Some, slice_get, slice_set, vec_len, vec_capacity}
-use Rattle.std.proofs.lemmas.List.{length-append}
+use Rattle.std.proofs.Common.{◌≡◌, ◌<◌, ◌≤◌, ◌^◌, ℕ, List, length, true, refl, sym, ◌∙◌, ap, subst, arith}
+use Rattle.std.specs.Prelude.{Some, slice_get, vec_capacity}
 use Rattle.atomic_table.specs.Table.{rest}
 use Rattle.scq_word.specs.declared.setup.Setup.{Setup}
 use Rattle.scq_word.specs.Sizes.{n_of}
@@ -16,9 +15,9 @@ use Rattle.scq_band.specs.Steps.{my, front_bytes}
 use Rattle.scq_band.specs.Seats.{put_at, spent_at}
 use Rattle.scq_band.specs.Standing.{Identity, Standing, in_hand}
 use Rattle.scq_band.specs.Kept.{in_order, IsKept}
-use Rattle.scq_band.proofs.Slots.{take_front, holds_times}
+use Rattle.scq_band.proofs.Slots.{holds_times}
 use Rattle.scq_band.proofs.Exchanging.{held, brought, kept_turned}
-use Rattle.scq_band.proofs.Keeping.{kept_put, kept_still, put_standing, spent_standing, seen, call_seen, known_read, known_there}
+use Rattle.scq_band.proofs.Keeping.{kept_put, kept_still, put_standing, spent_standing, seen, call_seen, known_there}
 use Rattle.scq_band.proofs.band.Band.enq.Goals as goal
 
 pub bring_to_front-requires-clause-held : goal.bring_to_front-requires-clause-held
@@ -62,6 +61,13 @@ enqueue-requires-clause-front g c κs within =
     let ident = ap (λ (s : Standing g.row.B.Denot). s.band) c.seat.view_is ∙ c.requires.seat ∙ sym c.self.view_is in
     seen g.B.Buffer.contents Same me ms key.given.value.items _ c.args.index buffer b (ap (λ (i : Identity g.row.B.Denot). i.given) ident)
 
+pub let_go-requires : goal.let_go-requires
+let_go-requires g c =
+    let rings = c.seat.invariant.rings in
+    let setup = ap (λ (i : Identity g.row.B.Denot). i.setup.rings) (ap (λ (s : Standing g.row.B.Denot). s.band) c.seat.view_is ∙ c.requires.seat) in
+    let ring = c.requires.ring in
+    omega (arith, rings, setup, ring)
+
 pub invariant_of-seat : goal.invariant_of-seat
 invariant_of-seat g c =
     let Same = g.B.Buffer.IsSameBuffer in
@@ -79,25 +85,14 @@ invariant_of-seat g c =
     let numbers = c.seat.inside.numbers.items in
     let place = c.in-Ok.place in
     let contents = g.B.Buffer.contents in
-    let low : r < length numbers =
-    let rings = c.seat.invariant.rings in
-    let setup = ap (λ (i : Identity g.row.B.Denot). i.setup.rings) (ap (λ (s : Standing g.row.B.Denot). s.band) c.seat.view_is ∙ c.requires.seat) in
-    let ring = c.requires.ring in
-    omega (arith, rings, setup, ring) in
-    let known = known_read numbers r c.index-known.result.now low c.index-known.ensures in
-    let new = ap (λ (x : Numbers). slice_set numbers r x) (c.finishes.ensures ∙ ap (finishes place) known)
+    let new = c.let_go.ensures.numbers
     ∙ ap (changed (finishes place) r) (c.seat.invariant.numbers ∙ ap (λ (u : Known). u.numbers) (sym (ap known_in c.bring_to_front.ensures.own.2))) in
     let small : place < 2 ^ 60 =
     let below = c.in-Ok.ensures.above.0 in
     let limit = c.self.inside.table.shared.key.setup.limit_in_range in
     omega (arith, below, limit) in
-    let order : c.pop.new.self.items ≡ in_order b.others =
-    let whole = c.bring_to_front.new.hand.ok in
-    let full : c.bring_to_front.new.hand.items ≡ in_order b.others ++ c.args.index ∷ [] = c.bring_to_front.ensures.order ∙ ap in_order b.is in
-    let size : vec_len c.bring_to_front.new.hand - 1 ≡ length (in_order b.others) =
-    let l = ap length full ∙ length-append (in_order b.others) (c.args.index ∷ []) in omega (arith, whole, l) in
-    c.pop.ensures.rest ∙ ap (λ (l : List ℕ). take (vec_len c.bring_to_front.new.hand - 1) l) full
-    ∙ ap (λ k. take k (in_order b.others ++ c.args.index ∷ [])) size ∙ take_front (in_order b.others) (c.args.index ∷ []) in
+    let order : c.let_go.new.hand.items ≡ in_order b.others =
+    c.let_go.ensures.hand (in_order b.others) c.args.index (c.bring_to_front.ensures.order ∙ ap in_order b.is) in
     let turned_so = kept_turned Same key me v ms c.seat.inside.hand.items c.bring_to_front.new.hand.items _ (vec_capacity c.bring_to_front.new.hand) _ _
     c.seat.invariant (ap known_in c.bring_to_front.ensures.own.2) turned c.bring_to_front.ensures.order c.bring_to_front.ensures.room in
     let front = subst (λ (l : List (ℕ × Slot g.row.B.Denot)). IsKept Same key (v, l) c.bring_to_front.new.hand.items (vec_capacity c.bring_to_front.new.hand)
@@ -105,9 +100,9 @@ invariant_of-seat g c =
     let now = ap (λ (u : Known). (u, c.enqueue.new.token.me.1))
     (c.in-Ok.ensures.placed ∙ ap (λ n. put_at n c.args.index place (front_bytes contents ms) v) c.ring.ensures.number)
     ∙ ap (λ (l : List (ℕ × Slot g.row.B.Denot)). (put_at r c.args.index place (front_bytes contents ms) v, l)) (c.in-Ok.ensures.given ∙ ap rest b.is) in
-    kept_put Same key (known_me c.enqueue.new.token.me) v c.args.index b.slot b.others c.bring_to_front.new.hand.items c.pop.new.self.items _ _ numbers _ _ r
+    kept_put Same key (known_me c.enqueue.new.token.me) v c.args.index b.slot b.others c.bring_to_front.new.hand.items c.let_go.new.hand.items _ _ numbers _ _ r
     place
-    (front_bytes contents ms) front order c.pop.ensures.capacity new small now
+    (front_bytes contents ms) front order c.let_go.ensures.room new small now
 
 pub invariant_of-seat-in-Err : goal.invariant_of-seat-in-Err
 invariant_of-seat-in-Err g c =

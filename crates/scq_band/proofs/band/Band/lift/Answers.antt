@@ -16,24 +16,13 @@ bring_to_front-requires-clause-held g c κs within =
     ap (λ (s : Standing g.row.B.Denot). in_hand s.hand c.args.index) c.seat.view_is ∙ c.requires.laid.1 in
     held Same key me c.seat.inside.hand.items _ _ _ c.args.index (Some c.requires.laid.0) c.seat.invariant is
 
-pub exchange-buffer-requires : goal.exchange-buffer-requires
-exchange-buffer-requires g c =
-    let Same = g.B.Buffer.IsSameBuffer in
-    let key = c.seat.inside.key.value in
-    let me = known_me c.seat.inside.token.me in
-    let is : in_hand _ c.args.index ≡ Some (Some c.requires.laid.0) =
-    ap (λ (s : Standing g.row.B.Denot). in_hand s.hand c.args.index) c.seat.view_is ∙ c.requires.laid.1 in
-    let ms = c.bring_to_front.new.token.me.1 in
-    let turned = c.bring_to_front.ensures.turned in
-    let b = brought Same key me ms c.seat.inside.hand.items _ _ _ c.args.index (Some c.requires.laid.0) c.seat.invariant turned
-    c.bring_to_front.ensures.first is in
-    let ident = ap (λ (s : Standing g.row.B.Denot). s.band) c.seat.view_is ∙ c.requires.seat ∙ sym c.self.view_is in (
-      c.bring_to_front.ensures.own.0 ∙ ap (λ (i : Identity g.row.B.Denot). i.table) ident,
-      (b.slot, b.is ∙ ap (λ (os : List (ℕ × Slot g.row.B.Denot)). (c.args.index, b.slot) ∷ os) (sym (ap rest b.is))),
-    )
+pub lift_first-requires-clause-own : goal.lift_first-requires-clause-own
+lift_first-requires-clause-own g c κs within =
+    let ident = ap (λ (s : Standing g.row.B.Denot). s.band) c.seat.view_is ∙ c.requires.seat ∙ sym c.self.view_is in
+    c.bring_to_front.ensures.own.0 ∙ ap (λ (i : Identity g.row.B.Denot). i.table) ident
 
-pub unreachable-requires : goal.unreachable-requires
-unreachable-requires g c =
+pub lift_first-requires-clause-first : goal.lift_first-requires-clause-first
+lift_first-requires-clause-first g c κs within =
     let Same = g.B.Buffer.IsSameBuffer in
     let key = c.seat.inside.key.value in
     let me = known_me c.seat.inside.token.me in
@@ -43,9 +32,11 @@ unreachable-requires g c =
     let turned = c.bring_to_front.ensures.turned in
     let b = brought Same key me ms c.seat.inside.hand.items _ _ _ c.args.index (Some c.requires.laid.0) c.seat.invariant turned
     c.bring_to_front.ensures.first is in
-    let slot = same_slot c.args.index b.slot c.exchange-buffer.result b.others _ ms b.is c.exchange-buffer.ensures.2 in
-    let never = sym (ap (λ (s : Slot g.row.B.Denot). s.buffer) (sym slot) ∙ b.has) ∙ c.in_default.is in
-    absurd (cc)
+    let front : ms ≡ (c.args.index, record { buffer = Some c.requires.laid.0 }) ∷ b.others = b.is
+    ∙ ap (λ (o : Option g.row.B.Denot). (c.args.index, record { buffer = o }) ∷ b.others) b.has in (
+      c.requires.laid.0,
+      front ∙ ap (λ (os : List (ℕ × Slot g.row.B.Denot)). (c.args.index, record { buffer = Some c.requires.laid.0 }) ∷ os) (sym (ap rest front)),
+    )
 
 pub invariant_of-seat : goal.invariant_of-seat
 invariant_of-seat g c =
@@ -58,12 +49,12 @@ invariant_of-seat g c =
     let turned = c.bring_to_front.ensures.turned in
     let b = brought Same key me ms c.seat.inside.hand.items _ _ _ c.args.index (Some c.requires.laid.0) c.seat.invariant turned
     c.bring_to_front.ensures.first is in
-    kept_lent Same key me (known_me c.exchange-buffer.new.seat.me) c.bring_to_front.new.token.me.0.known ms c.seat.inside.hand.items
+    kept_lent Same key me (known_me c.lift_first.new.token.me) c.bring_to_front.new.token.me.0.known ms c.seat.inside.hand.items
     c.bring_to_front.new.hand.items _ _ _ _
     c.args.index (Some c.requires.laid.0)
     (record { buffer = None }) c.seat.invariant (ap known_in c.bring_to_front.ensures.own.2) turned c.bring_to_front.ensures.order
     c.bring_to_front.ensures.room b
-    (λ x is. absurd (cc)) (ap known_me c.exchange-buffer.ensures.3)
+    (λ x is. absurd (cc)) (ap known_me c.lift_first.ensures.lifted)
 
 pub returns-clause-buffer : goal.returns-clause-buffer
 returns-clause-buffer g c =
@@ -76,8 +67,8 @@ returns-clause-buffer g c =
     let turned = c.bring_to_front.ensures.turned in
     let b = brought Same key me ms c.seat.inside.hand.items _ _ _ c.args.index (Some c.requires.laid.0) c.seat.invariant turned
     c.bring_to_front.ensures.first is in
-    let slot = same_slot c.args.index b.slot c.exchange-buffer.result b.others _ ms b.is c.exchange-buffer.ensures.2 in
-    let same : Some c.requires.laid.0 ≡ Some c.in-Some.buffer = sym b.has ∙ ap (λ (s : Slot g.row.B.Denot). s.buffer) slot ∙ c.in-Some.is in
+    let slot = same_slot c.args.index b.slot (record { buffer = Some c.lift_first.result }) b.others _ ms b.is c.lift_first.ensures.buffer in
+    let same : Some c.requires.laid.0 ≡ Some c.lift_first.result = sym b.has ∙ ap (λ (s : Slot g.row.B.Denot). s.buffer) slot in
     c.requires.laid.1 ∙ ap (λ (o : Option g.row.B.Denot). Some o) same
 
 pub returns-clause-given : goal.returns-clause-given
@@ -91,11 +82,11 @@ returns-clause-given g c =
     let turned = c.bring_to_front.ensures.turned in
     let b = brought Same key me ms c.seat.inside.hand.items _ _ _ c.args.index (Some c.requires.laid.0) c.seat.invariant turned
     c.bring_to_front.ensures.first is in
-    let slot = same_slot c.args.index b.slot c.exchange-buffer.result b.others _ ms b.is c.exchange-buffer.ensures.2 in
+    let slot = same_slot c.args.index b.slot (record { buffer = Some c.lift_first.result }) b.others _ ms b.is c.lift_first.ensures.buffer in
     let given : key.given.value.items ≡ c.args.self.now.given = ap (λ (i : Identity g.row.B.Denot). i.given)
     (ap (λ (s : Standing g.row.B.Denot). s.band) c.seat.view_is ∙ c.requires.seat) in
-    subst (λ (bs : List g.row.B.Denot). IsAsGiven Same bs c.args.index c.in-Some.buffer) given
-    (b.given_so c.in-Some.buffer (ap (λ (s : Slot g.row.B.Denot). s.buffer) slot ∙ c.in-Some.is))
+    subst (λ (bs : List g.row.B.Denot). IsAsGiven Same bs c.args.index c.lift_first.result) given
+    (b.given_so c.lift_first.result (ap (λ (s : Slot g.row.B.Denot). s.buffer) slot))
 
 pub returns-clause-lifted : goal.returns-clause-lifted
 returns-clause-lifted g c =
@@ -108,8 +99,8 @@ returns-clause-lifted g c =
     let turned = c.bring_to_front.ensures.turned in
     let b = brought Same key me ms c.seat.inside.hand.items _ _ _ c.args.index (Some c.requires.laid.0) c.seat.invariant turned
     c.bring_to_front.ensures.first is in
-    lent_standing Same c.seat.inside.token.me.0.seen c.exchange-buffer.new.seat.me.0.seen c.seat.inside.token.table_id c.exchange-buffer.new.seat.table_id
-    key me (known_me c.exchange-buffer.new.seat.me) c.bring_to_front.new.token.me.0.known ms
+    lent_standing Same c.seat.inside.token.me.0.seen c.lift_first.new.token.me.0.seen c.seat.inside.token.table_id c.lift_first.new.token.table_id
+    key me (known_me c.lift_first.new.token.me) c.bring_to_front.new.token.me.0.known ms
     key.given.value.items c.args.index (Some c.requires.laid.0) (record { buffer = None }) c.args.seat.now c.seat.view_is
-    (ap (λ (m : Me (Slot g.row.B.Denot) Sight). m.0.seen) c.exchange-buffer.ensures.3 ∙ ap (λ (v : Sight). v.seen) c.bring_to_front.ensures.own.2)
-    (c.exchange-buffer.ensures.0 ∙ c.bring_to_front.ensures.own.0) (ap known_in c.bring_to_front.ensures.own.2) b (ap known_me c.exchange-buffer.ensures.3)
+    (ap (λ (m : Me (Slot g.row.B.Denot) Sight). m.0.seen) c.lift_first.ensures.lifted ∙ ap (λ (v : Sight). v.seen) c.bring_to_front.ensures.own.2)
+    (c.lift_first.ensures.own.0 ∙ c.bring_to_front.ensures.own.0) (ap known_in c.bring_to_front.ensures.own.2) b (ap known_me c.lift_first.ensures.lifted)

@@ -1,6 +1,5 @@
-use Rattle.std.proofs.Common.{◌≡◌, ◌<◌, ◌≤◌, ◌-◌, ◌^◌, ◌++◌, ℕ, List, [], ◌∷◌, length, take, true, refl, sym, ◌∙◌, ap, subst, arith}
-use Rattle.std.specs.Prelude.{Some, None, Option, Err, slice_get, slice_set, vec_len, vec_capacity}
-use Rattle.std.proofs.lemmas.List.{length-append}
+use Rattle.std.proofs.Common.{◌≡◌, ◌<◌, ◌≤◌, ◌^◌, ℕ, List, ◌∷◌, length, true, refl, sym, ◌∙◌, ap, subst, arith}
+use Rattle.std.specs.Prelude.{Some, None, slice_get, vec_capacity}
 use Rattle.atomic_table.specs.Table.{Me, rest}
 use Rattle.scq_word.specs.declared.setup.Setup.{Setup}
 use Rattle.scq_word.specs.Sizes.{n_of}
@@ -16,9 +15,9 @@ use Rattle.scq_band.specs.Steps.{my, front_index, front_bytes}
 use Rattle.scq_band.specs.Seats.{put_at, spent_at}
 use Rattle.scq_band.specs.Standing.{Identity, Standing, in_hand, with_buffer, IsAsGiven}
 use Rattle.scq_band.specs.Kept.{in_order, IsKept}
-use Rattle.scq_band.proofs.Slots.{take_front, holds_times}
+use Rattle.scq_band.proofs.Slots.{holds_times}
 use Rattle.scq_band.proofs.Exchanging.{held, brought, kept_turned, kept_lent, same_slot, lent_standing}
-use Rattle.scq_band.proofs.Keeping.{kept_put, kept_still, put_standing, spent_standing, seen, call_seen, known_read, known_there}
+use Rattle.scq_band.proofs.Keeping.{kept_put, kept_still, put_standing, spent_standing, seen, call_seen, known_there}
 use Rattle.scq_band.proofs.Putting.{laid_there, put_laid, laid_brought, lifted_again}
 use Rattle.scq_band.proofs.band.Band.put.Goals as goal
 
@@ -110,6 +109,13 @@ lift_first-buffer-requires-clause-first g c κs within =
     let still = c.in-Err.ensures.kept.0 ∙ front in
     (c.args.buffer, still ∙ ap (λ (os : List (ℕ × Slot g.row.B.Denot)). (c.args.index, with_it) ∷ os) (sym (ap rest still)))
 
+pub let_go-requires : goal.let_go-requires
+let_go-requires g c =
+    let rings = c.seat.invariant.rings in
+    let setup = ap (λ (i : Identity g.row.B.Denot). i.setup.rings) (ap (λ (s : Standing g.row.B.Denot). s.band) c.seat.view_is ∙ c.requires.seat) in
+    let ring = c.requires.ring in
+    omega (arith, rings, setup, ring)
+
 pub invariant_of-seat : goal.invariant_of-seat
 invariant_of-seat g c =
     let Same = g.B.Buffer.IsSameBuffer in
@@ -139,32 +145,21 @@ invariant_of-seat g c =
     let numbers = c.seat.inside.numbers.items in
     let place = c.in-Ok.place in
     let bytes = front_bytes g.B.Buffer.contents me2.1 in
-    let low : r < length numbers =
-    let rings = c.seat.invariant.rings in
-    let setup = ap (λ (i : Identity g.row.B.Denot). i.setup.rings) (ap (λ (s : Standing g.row.B.Denot). s.band) c.seat.view_is ∙ c.requires.seat) in
-    let ring = c.requires.ring in
-    omega (arith, rings, setup, ring) in
-    let known = known_read numbers r c.index-known.result.now low c.index-known.ensures in
-    let new = ap (λ (x : Numbers). slice_set numbers r x) (c.finishes.ensures ∙ ap (finishes place) known)
+    let new = c.let_go.ensures.numbers
     ∙ ap (changed (finishes place) r) (c.seat.invariant.numbers ∙ ap (λ (u : Known). u.numbers) (sym (ap known_in c.bring_to_front.ensures.own.2))) in
     let small : place < 2 ^ 60 =
     let below = c.in-Ok.ensures.above.0 in
     let limit = c.self.inside.table.shared.key.setup.limit_in_range in
     omega (arith, below, limit) in
     let others = rest ms in
-    let order : c.pop.new.self.items ≡ in_order others =
-    let whole = c.bring_to_front.new.hand.ok in
-    let full : c.bring_to_front.new.hand.items ≡ in_order others ++ c.args.index ∷ [] = c.bring_to_front.ensures.order
-    ∙ ap in_order (b.is ∙ ap (λ (os : List (ℕ × Slot g.row.B.Denot)). (c.args.index, b.slot) ∷ os) (sym (ap rest b.is))) in
-    let size : vec_len c.bring_to_front.new.hand - 1 ≡ length (in_order others) =
-    let l = ap length full ∙ length-append (in_order others) (c.args.index ∷ []) in omega (arith, whole, l) in
-    c.pop.ensures.rest ∙ ap (λ (l : List ℕ). take (vec_len c.bring_to_front.new.hand - 1) l) full
-    ∙ ap (λ k. take k (in_order others ++ c.args.index ∷ [])) size ∙ take_front (in_order others) (c.args.index ∷ []) in
+    let order : c.let_go.new.hand.items ≡ in_order others =
+    c.let_go.ensures.hand (in_order others) c.args.index (c.bring_to_front.ensures.order
+    ∙ ap in_order (b.is ∙ ap (λ (os : List (ℕ × Slot g.row.B.Denot)). (c.args.index, b.slot) ∷ os) (sym (ap rest b.is)))) in
     let now = ap (λ (u : Known). (u, c.enqueue.new.token.me.1))
     (c.in-Ok.ensures.placed ∙ ap (λ n. put_at n c.args.index place bytes me2.0) c.ring.ensures.number ∙ ap (put_at r c.args.index place bytes) view)
     ∙ ap (λ (l : List (ℕ × Slot g.row.B.Denot)). (put_at r c.args.index place bytes v, l)) (c.in-Ok.ensures.given ∙ ap rest front) in
-    kept_put Same key (known_me c.enqueue.new.token.me) v c.args.index with_it others c.bring_to_front.new.hand.items c.pop.new.self.items _ _ numbers _ _ r
-    place bytes kept order c.pop.ensures.capacity new small now
+    kept_put Same key (known_me c.enqueue.new.token.me) v c.args.index with_it others c.bring_to_front.new.hand.items c.let_go.new.hand.items _ _ numbers _ _ r
+    place bytes kept order c.let_go.ensures.room new small now
 
 pub invariant_of-seat-in-Err : goal.invariant_of-seat-in-Err
 invariant_of-seat-in-Err g c =

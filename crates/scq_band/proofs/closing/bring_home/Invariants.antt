@@ -1,0 +1,14 @@
+use Rattle.std.proofs.Common.{◌≡◌, [], ◌∷◌}
+use Rattle.atomic_table.specs.Table.{rest}
+use Rattle.scq_band.specs.Sights.{known_me}
+use Rattle.scq_band.specs.Steps.{front_index, front_bytes}
+use Rattle.scq_band.specs.Homes.{at_home}
+use Rattle.scq_band.proofs.closing.bring_home.Given as goal
+
+abbrev pub ghosts-load : goal.ghosts-load
+ghosts-load g a =
+    record {
+      then =
+          λ st me n later.
+          (known_me later ≡ (at_home ((front_index me.1, front_bytes g.B.Buffer.contents me.1) ∷ []) me.0.known, rest me.1)) × (later.0.seen ≡ me.0.seen);
+    }

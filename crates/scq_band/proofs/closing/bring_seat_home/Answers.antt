@@ -1,0 +1,73 @@
+use Rattle.std.proofs.Common.{◌≡◌, ◌≤◌, ◌∙◌, sym, ap, subst, map, length, arith}
+use Rattle.std.specs.Prelude.{vec_capacity}
+use Rattle.scq_law.specs.Hands.{times}
+use Rattle.scq_band.specs.Known.{Known}
+use Rattle.scq_band.specs.Sights.{known_me}
+use Rattle.scq_band.specs.Steps.{my}
+use Rattle.scq_band.specs.Standing.{Standing, Identity}
+use Rattle.scq_band.specs.Closing.{indices_of, lifted_of}
+use Rattle.scq_band.specs.Homes.{times_lifted, IsMemberOf}
+use Rattle.scq_band.proofs.SeatsHome.{lifted_as, may_leave, leaves_alone, is_member, out_or_home}
+use Rattle.scq_band.proofs.closing.bring_seat_home.Goals as goal
+
+pub bring_all-requires-clause-may : goal.bring_all-requires-clause-may
+bring_all-requires-clause-may g c κs within =
+    let s = c.seat.inside in
+    let Same = g.B.Buffer.IsSameBuffer in
+    let buffers = c.args.words.now.key.given.value.items in
+    let same : buffers ≡ s.key.value.given.value.items =
+    sym (ap (λ (b : Identity g.row.B.Denot). b.given) (ap (λ (t : Standing g.row.B.Denot). t.band) c.seat.view_is ∙ c.requires.band)) in
+    may_leave Same s.key.value (known_me s.token.me) s.hand.items (vec_capacity s.hand) s.numbers.items s.spent c.seat.invariant buffers
+    (map g.T.Lifted.pair c.args.out.now.items) same
+    c.requires.given
+    (λ i. subst (λ (t : Standing g.row.B.Denot). times i (lifted_of t.hand) ≤ times i (indices_of (map g.T.Lifted.pair c.args.out.now.items)))
+    (sym c.seat.view_is)
+    (c.requires.lifted i))
+
+pub returns-clause-member : goal.returns-clause-member
+returns-clause-member g c =
+    let s = c.seat.inside in
+    let Same = g.B.Buffer.IsSameBuffer in
+    let contents = g.B.Buffer.contents in
+    let next = known_me c.bring_all.new.token.me in
+    let member = is_member Same s.key.value (known_me s.token.me) s.hand.items
+    (vec_capacity s.hand) s.numbers.items s.spent c.seat.invariant contents (map g.T.Lifted.pair c.args.out.now.items)
+    (map g.T.Lifted.pair c.bring_all.new.out.items) next c.bring_all.ensures.home s.token.me.0.seen s.token.table_id c.bring_all.ensures.none in
+    subst (λ (t : Standing g.row.B.Denot). IsMemberOf contents t (my next.0)) c.seat.view_is member
+
+pub returns-clause-home : goal.returns-clause-home
+returns-clause-home g c =
+    let s = c.seat.inside in
+    out_or_home g.B.Buffer.IsSameBuffer s.key.value (known_me s.token.me) s.hand.items
+    (vec_capacity s.hand) s.numbers.items s.spent c.seat.invariant g.B.Buffer.contents (map g.T.Lifted.pair c.args.out.now.items)
+    (map g.T.Lifted.pair c.bring_all.new.out.items) (known_me c.bring_all.new.token.me) c.bring_all.ensures.home
+
+pub returns-clause-alone : goal.returns-clause-alone
+returns-clause-alone g c =
+    let s = c.seat.inside in
+    leaves_alone g.B.Buffer.IsSameBuffer s.key.value (known_me s.token.me) s.hand.items
+    (vec_capacity s.hand) s.numbers.items s.spent c.seat.invariant g.B.Buffer.contents (map g.T.Lifted.pair c.args.out.now.items)
+    (map g.T.Lifted.pair c.bring_all.new.out.items) (known_me c.bring_all.new.token.me) c.bring_all.ensures.home
+
+pub returns-clause-numbers : goal.returns-clause-numbers
+returns-clause-numbers g c =
+    let view = c.bring_all.ensures.home.view in
+    let is = c.seat.view_is in (
+      ap (λ (v : Known). v.numbers) view ∙ ap (λ (t : Standing g.row.B.Denot). t.numbers) is,
+      ap (λ (t : Standing g.row.B.Denot). length t.numbers) (sym is) ∙ ap length (sym c.seat.invariant.numbers) ∙ c.seat.invariant.rings
+          ∙ ap (λ (b : Identity g.row.B.Denot). b.setup.rings) (ap (λ (t : Standing g.row.B.Denot). t.band) is ∙ c.requires.band),
+    )
+
+pub returns-clause-gate : goal.returns-clause-gate
+returns-clause-gate g c =
+    ap (λ (v : Known). v.gate) c.bring_all.ensures.home.view ∙ ap (λ (t : Standing g.row.B.Denot). t.gate) c.seat.view_is
+
+pub returns-clause-less : goal.returns-clause-less
+returns-clause-less g c i =
+    let s = c.seat.inside in
+    let Same = g.B.Buffer.IsSameBuffer in
+    let lifted = lifted_as Same s.key.value (known_me s.token.me) s.hand.items (vec_capacity s.hand) s.numbers.items s.spent c.seat.invariant i in
+    let all = c.bring_all.ensures.less i in
+    let hand : times i (lifted_of c.args.seat.hand) ≡ times_lifted i s.token.me.1 =
+    ap (λ (t : Standing g.row.B.Denot). times i (lifted_of t.hand)) (sym c.seat.view_is) ∙ lifted in
+    omega (arith, all, hand)

@@ -1,0 +1,18 @@
+use Rattle.std.proofs.Common.{◌≡◌, ◌-◌, ◌^◌}
+use Rattle.scq_core.specs.declared.phase.Phase.TheVariants.{AtE2}
+use Rattle.scq_band.specs.Buffers.{opening_of}
+use Rattle.scq_band.specs.Sights.{GoesOn}
+use Rattle.scq_band.specs.Steps.{my_phase}
+use Rattle.scq_band.specs.Seats.{goes_to, content_of, least_of}
+use Rattle.scq_band.proofs.enqueue.try_place.Given as goal
+
+abbrev pub invariant-tries : goal.invariant-tries
+invariant-tries g l =
+    (l.token.table_id ≡ l.fn.token.table_id) × (l.token.id ≡ l.fn.token.id) × (l.token.me.1 ≡ l.fn.token.me.1)
+    × (l.token.me.0.known ≡ goes_to (AtE2 l.fn.ring.number l.fn.index (content_of (my_phase l.fn.token.me.0.known)) l.fn.ticket (least_of
+    (my_phase l.token.me.0.known)))
+    l.fn.token.me.0.known)
+    × GoesOn l.words.key.setup (opening_of g.B.Buffer.contents l.words.key.given.value.items) l.fn.token.me.0 l.token.me.0
+
+abbrev pub decreases-tries : goal.decreases-tries
+decreases-tries g l = 2 ^ 64 - least_of (my_phase l.token.me.0.known)
