@@ -1,10 +1,11 @@
-//! A buffer written through the loan that its trait gives, and bytes that are copied.
+//! Buffers written through the loan that their trait gives, the frames of a block, and bytes that are copied.
 ghost use Rattle.std.specs.Prelude.{◌≡◌, length, refl};
 ghost use Rattle.std.proofs.Common.{sym, ◌∙◌};
 ghost use Rattle.std.specs.Vec.{with_items};
 ghost use Rattle.scq_word.specs.Written.{rewritten};
 
 use anyhow::{Result, ensure};
+use scq_block::{Block, Frame};
 use scq_word::{Buffer, Bytes};
 use std::alloc::Global;
 
@@ -71,4 +72,37 @@ pub fn copied(alloc: Global, given: &str) -> Result<String> {
     let vec: Vec<u8> = copy.into();
     let len = Bytes::from(vec).bytes().len();
     Ok(format!(in alloc; "{shown} {len}")?)
+}
+
+/// Adds each frame's number and bytes.
+fn list(into: &mut String, alloc: Global, frames: &[Frame]) -> Result<()> {
+    for frame in frames {
+        let (number, bytes) = (frame.number(), hex::encode(alloc, frame.bytes())?);
+        write!(into, "{number} {bytes};")?;
+    }
+    Ok(())
+}
+
+/// `BYTES`, which are two: three frames of two bytes, once the bytes are written into the first.
+pub fn carved(alloc: Global, given: &str) -> Result<String> {
+    let bytes = given.as_bytes();
+    ensure!(bytes.len() == 2, "two bytes");
+    let mut text = String::new(alloc);
+    let (block, mut frames) = Block::carve(alloc, 3, 2)?;
+    fill(&mut frames[0], bytes);
+    let listed = list(&mut text, alloc, &frames);
+    block.merge(frames);
+    listed?;
+    Ok(text)
+}
+
+/// Three frames of one byte, in the order in which they are merged: from the last on.
+pub fn reversed(alloc: Global) -> Result<String> {
+    let mut text = String::new(alloc);
+    let (block, mut frames) = Block::carve(alloc, 3, 1)?;
+    frames.reverse();
+    let listed = list(&mut text, alloc, &frames);
+    block.merge(frames);
+    listed?;
+    Ok(text)
 }

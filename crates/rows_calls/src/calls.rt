@@ -1,12 +1,13 @@
 //! The calls that rows can make.
 
 use crate::answers::{merged, written};
-use crate::buffers::{copied, filled};
+use crate::buffers::{carved, copied, filled, reversed};
 use crate::entries::{cycle, entry, limit, met, reset, setup, shape, slot};
 use crate::faults::fault_text;
 use crate::framed::{decoded, encoded, framed};
 use crate::histories::{broken, first_out_of_place};
 use crate::lined::{below, content_in, fields, first_line, number_in};
+use crate::outside::{opened, plain, streamed, taken, told};
 use crate::runs::run;
 use crate::topical::{found, generated, reply_to, topics};
 use crate::worded::{read_whole, request};
@@ -46,8 +47,15 @@ impl Calls for Libraries {
             "generated" => generated(alloc, given),
             "words" => request(alloc, given),
             "whole" => read_whole(alloc, given),
+            "plain" => plain(alloc, given),
+            "told" => told(alloc, given),
+            "taken" => taken(alloc, given),
+            "opened" => opened(alloc, given),
+            "streamed" => streamed(alloc, given),
             "filled" => filled(alloc, given),
             "copied" => copied(alloc, given),
+            "carved" => carved(alloc, given),
+            "reversed" => reversed(alloc),
             "run" => run(alloc, given),
             "fault" => fault_text(alloc, given),
             _ => Err(anyhow!("no such call")),

@@ -1,6 +1,6 @@
 //! What faults say.
 
-use anyhow::{Result, anyhow};
+use anyhow::Result;
 use scq_check::HistoryFault;
 use scq_core::ApplyFault;
 use scq_frames::FrameFault;
@@ -13,30 +13,79 @@ use std::alloc::Global;
 
 /// `TYPE VARIANT`, whose numbers are 7 and 8: what the fault says.
 pub fn fault_text(alloc: Global, given: &str) -> Result<String> {
-    Ok(match given {
-        "NoMemory" => NoMemory.to_string(alloc)?,
-        "Setup BadOrder" => SetupFault::BadOrder.to_string(alloc)?,
-        "Setup BadRings" => SetupFault::BadRings.to_string(alloc)?,
-        "Setup BadSeats" => SetupFault::BadSeats.to_string(alloc)?,
-        "Setup BadLimit" => SetupFault::BadLimit.to_string(alloc)?,
-        "Apply NotEnabled" => ApplyFault::NotEnabled.to_string(alloc)?,
-        "Apply NoMemory" => ApplyFault::NoMemory.to_string(alloc)?,
-        "Replay NotEnabled" => ReplayFault::NotEnabled { at: 7 }.to_string(alloc)?,
-        "Replay NoMemory" => ReplayFault::NoMemory.to_string(alloc)?,
-        "Failed" => Failed.to_string(alloc)?,
-        "ReadAll NoMemory" => ReadAllFault::NoMemory.to_string(alloc)?,
-        "Frame ReadFault" => FrameFault::ReadFault.to_string(alloc)?,
-        "Frame TooLong" => FrameFault::TooLong { line: 7, len: 8 }.to_string(alloc)?,
-        "Frame TooLarge" => FrameFault::TooLarge { bytes: 7 }.to_string(alloc)?,
-        "Frame NoMemory" => FrameFault::NoMemory.to_string(alloc)?,
-        "History BadLine" => HistoryFault::BadLine { line: 7 }.to_string(alloc)?,
-        "History Unlawful" => HistoryFault::Unlawful { line: 7 }.to_string(alloc)?,
-        "History NoMemory" => HistoryFault::NoMemory.to_string(alloc)?,
-        "Schedule BadLine" => ScheduleFault::BadLine { line: 7 }.to_string(alloc)?,
-        "Schedule NotEnabled" => ScheduleFault::NotEnabled { line: 7 }.to_string(alloc)?,
-        "Schedule NoMemory" => ScheduleFault::NoMemory.to_string(alloc)?,
-        "Words TooManyFiles" => WordsError::Refused(WordsFault::TooManyFiles).to_string(alloc)?,
-        "Words NoMemory" => WordsError::NoMemory.to_string(alloc)?,
-        _ => return Err(anyhow!("no such fault")),
-    })
+    let (of, variant) = given.split_once(' ').unwrap_or((given, ""));
+    match of {
+        "NoMemory" => Ok(NoMemory.to_string(alloc)?),
+        "Failed" => Ok(Failed.to_string(alloc)?),
+        "ReadAll" => Ok(ReadAllFault::NoMemory.to_string(alloc)?),
+        "Setup" => setup(alloc, variant),
+        "Apply" => apply(alloc, variant),
+        "Replay" => replay(alloc, variant),
+        "Frame" => frame(alloc, variant),
+        "History" => history(alloc, variant),
+        "Schedule" => schedule(alloc, variant),
+        _ => words(alloc, variant),
+    }
+}
+
+fn setup(alloc: Global, variant: &str) -> Result<String> {
+    let fault = match variant {
+        "BadOrder" => SetupFault::BadOrder,
+        "BadRings" => SetupFault::BadRings,
+        "BadSeats" => SetupFault::BadSeats,
+        _ => SetupFault::BadLimit,
+    };
+    Ok(fault.to_string(alloc)?)
+}
+
+fn apply(alloc: Global, variant: &str) -> Result<String> {
+    let fault = match variant {
+        "NotEnabled" => ApplyFault::NotEnabled,
+        _ => ApplyFault::NoMemory,
+    };
+    Ok(fault.to_string(alloc)?)
+}
+
+fn replay(alloc: Global, variant: &str) -> Result<String> {
+    let fault = match variant {
+        "NotEnabled" => ReplayFault::NotEnabled { at: 7 },
+        _ => ReplayFault::NoMemory,
+    };
+    Ok(fault.to_string(alloc)?)
+}
+
+fn frame(alloc: Global, variant: &str) -> Result<String> {
+    let fault = match variant {
+        "ReadFault" => FrameFault::ReadFault,
+        "TooLong" => FrameFault::TooLong { line: 7, len: 8 },
+        "TooLarge" => FrameFault::TooLarge { bytes: 7 },
+        _ => FrameFault::NoMemory,
+    };
+    Ok(fault.to_string(alloc)?)
+}
+
+fn history(alloc: Global, variant: &str) -> Result<String> {
+    let fault = match variant {
+        "BadLine" => HistoryFault::BadLine { line: 7 },
+        "Unlawful" => HistoryFault::Unlawful { line: 7 },
+        _ => HistoryFault::NoMemory,
+    };
+    Ok(fault.to_string(alloc)?)
+}
+
+fn schedule(alloc: Global, variant: &str) -> Result<String> {
+    let fault = match variant {
+        "BadLine" => ScheduleFault::BadLine { line: 7 },
+        "NotEnabled" => ScheduleFault::NotEnabled { line: 7 },
+        _ => ScheduleFault::NoMemory,
+    };
+    Ok(fault.to_string(alloc)?)
+}
+
+fn words(alloc: Global, variant: &str) -> Result<String> {
+    let fault = match variant {
+        "TooManyFiles" => WordsError::Refused(WordsFault::TooManyFiles),
+        _ => WordsError::NoMemory,
+    };
+    Ok(fault.to_string(alloc)?)
 }

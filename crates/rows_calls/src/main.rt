@@ -1,5 +1,5 @@
 //! Runs calls of the libraries over rows that stand in files, prints each row whose answer is another, and how many rows of
-//! each file ran. `calls.rt` has the calls, and `rows_text` the form of a row.
+//! each file ran; and then reads files of the system and writes to its streams. `calls.rt` has the calls, and `rows_text` the form of a row.
 #![tactic(auto)]
 
 mod answers;
@@ -10,13 +10,16 @@ mod faults;
 mod framed;
 mod histories;
 mod lined;
+mod outside;
 mod runs;
 mod topical;
 mod worded;
 
 use anyhow::Result;
 use calls::Libraries;
+use outside::on_disk;
 use rows_text::run_rows;
+use scq_outside::{Sink, StdSink, StdStream};
 use std::{env, fs};
 
 fn main(rt: HostRuntime) -> Result<()> {
@@ -24,6 +27,18 @@ fn main(rt: HostRuntime) -> Result<()> {
         let text = fs::read_to_string(&rt, &name)?;
         let rows = run_rows(&rt, rt.alloc(), &Libraries, &name, &text)?;
         println!(rt; "{name}: {rows} rows")?;
+    }
+    // A name is taken as it stands, with the spaces at its ends.
+    for name in ["outside.txt", " outside "] {
+        let given = on_disk(&rt, rt.alloc(), name)?;
+        println!(rt; "file: {given:?}")?;
+    }
+    for stream in [
+        StdStream::Output(rt.stdout()),
+        StdStream::Errors(rt.stderr()),
+    ] {
+        let taken = StdSink::new(stream).write(b"taken\n").is_ok();
+        println!(rt; "stream: {taken}")?;
     }
     Ok(())
 }

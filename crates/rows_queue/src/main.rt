@@ -1,12 +1,13 @@
-//! Runs calls of the band and of the queue over rows that stand in files, prints each row whose answer is another, and how many rows of
-//! each file ran; and then lets two threads pass indices round. `calls.rt` and `pair.rt` have the calls of the queue, `moves.rt` those of
-//! the band, and `rows_text` has the form of a row.
+//! Runs calls of the band, of the queue and of its ports over rows that stand in files, prints each row whose answer is another, and how many rows of
+//! each file ran; and then lets two threads pass indices round. `calls.rt` and `pair.rt` have the calls of the queue, `ports.rt` those of
+//! its ports, `moves.rt` those of the band, and `rows_text` has the form of a row.
 #![tactic(auto)]
 
 mod bands;
 mod calls;
 mod moves;
 mod pair;
+mod ports;
 mod replies;
 mod threads;
 
@@ -15,12 +16,13 @@ use bands::lifted;
 use calls::called;
 use moves::moves;
 use pair::told;
+use ports::ported;
 use rows_text::{Calls, run_rows};
 use std::alloc::Global;
 use std::{env, fs};
 use threads::two_threads;
 
-/// The calls of the band and of the queue.
+/// The calls of the band, of the queue and of its ports.
 struct Queues;
 
 impl Calls for Queues {
@@ -30,6 +32,7 @@ impl Calls for Queues {
             "lifted" => lifted(alloc),
             "called" => called(alloc, given),
             "told" => told(alloc),
+            "ported" => ported(alloc, given),
             _ => Err(anyhow!("no such call")),
         }
     }

@@ -35,6 +35,15 @@ fn numbers(text: &str) -> Result<(usize, u32, u32)> {
     Ok((seat, from, to))
 }
 
+/// A setup, as a row says it.
+fn setup_in(text: &str) -> Result<Setup> {
+    let order = field(text, 0).parse::<u32>()?;
+    let rings = field(text, 1).parse::<u32>()?;
+    let seats = field(text, 2).parse::<u32>()?;
+    let limit = field(text, 3).parse::<u64>()?;
+    Ok(Setup::new(order, rings, seats, limit)?)
+}
+
 /// Adds the replies to moves.
 fn replies(
     into: &mut String,
@@ -64,11 +73,8 @@ fn replies(
 /// put; or the head of an Empty, or the ticket of a Spent; and what the band closed with.
 pub fn moves(alloc: Global, given: &str) -> Result<String> {
     let (setup, moves) = given.split_once("; ").unwrap_or((given, ""));
-    let order = field(setup, 0).parse::<u32>()?;
-    let rings = field(setup, 1).parse::<u32>()?;
-    let number = field(setup, 2).parse::<u32>()?;
-    let limit = field(setup, 3).parse::<u64>()?;
-    let setup = Setup::new(order, rings, number, limit)?;
+    let setup = setup_in(setup)?;
+    let rings = setup.rings();
     let (band, mut seats) = made(alloc, setup)?;
     let mut text = String::new(alloc);
     if !moves.is_empty() {

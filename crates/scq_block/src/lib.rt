@@ -11,8 +11,6 @@ mod block;
 mod frame;
 pub mod laws;
 mod span;
-#[cfg(test)]
-mod tests;
 
 pub use block::Block;
 pub use frame::Frame;

@@ -19,7 +19,7 @@ use scq_word::{Bytes, NoMemory};
 use std::alloc::Global;
 
 /// What the first event that breaks an aspect stands against, where one does.
-#[derive(Clone, Copy, Debug, PartialEq, Eq)]
+#[derive(Clone, Copy)]
 pub struct Counterparts {
     /// The position of the first Got that names the same put.
     pub once: Option<usize>,

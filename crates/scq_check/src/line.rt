@@ -1,6 +1,7 @@
 //! The lines of a history's text, read one by one.
 
 ghost use Rattle.std.specs.Prelude.{◌≡◌, [], ◌∷◌, IfOk};
+ghost use Rattle.std.specs.Str.{bytes_eq};
 ghost use Rattle.scq_lines.specs.Lines.{fields_of, fields_after};
 ghost use Rattle.scq_check.specs.Line.{seat_in, content_in, name_of, call_of, bare_reply, reply_of, opened, started, ended, said};
 
@@ -10,7 +11,7 @@ use scq_word::{Bytes, NoMemory};
 use std::alloc::Global;
 
 /// The greatest seat, queue and number of an opening token that a line may name.
-#[derive(Clone, Copy, Debug, PartialEq, Eq)]
+#[derive(Clone, Copy)]
 pub struct Bounds {
     pub seat: u32,
     pub queue: u32,
@@ -28,12 +29,19 @@ pub(crate) const SMALL: Bounds = Bounds {
 const MOST_CONTENT: u32 = 64;
 
 /// What a line says.
-#[derive(Debug, Drop)]
+#[derive(Drop)]
 pub enum Line {
     /// `opening X`
     Opening { content: Bytes },
     /// `start S ..` or `end S ..`
     Happens { event: Event },
+}
+
+// Whether a field is this word.
+fn is_word(field: &[u8], word: &[u8]) -> bool
+    ensures { result ≡ bytes_eq field.now word.now }
+{
+    field == word
 }
 
 /// What a line says within these bounds, where it is of the form.
@@ -60,11 +68,11 @@ pub fn read_fields(
     let Some((field, rest)) = next_field(rest) else {
         return Ok(None);
     };
-    if word == b"opening".as_slice() {
+    if is_word(word, b"opening") {
         opening(alloc, field, rest)
-    } else if word == b"start".as_slice() {
+    } else if is_word(word, b"start") {
         start(alloc, bounds, field, rest)
-    } else if word == b"end".as_slice() {
+    } else if is_word(word, b"end") {
         end(alloc, bounds, field, rest)
     } else {
         Ok(None)
@@ -75,9 +83,12 @@ pub fn read_fields(
 fn opening(alloc: Global, field: &[u8], rest: &[u8]) -> Result<Option<Line>, NoMemory>
     ensures { IfOk result (λ line. line ≡ opened (content_in field.now) (fields_after rest.now)) }
 {
-    match (content(alloc, MOST_CONTENT, field)?, next_field(rest)) {
-        (Some(content), None) => Ok(Some(Line::Opening { content })),
-        _ => Ok(None),
+    if next_field(rest).is_some() {
+        return Ok(None);
+    }
+    match content(alloc, MOST_CONTENT, field)? {
+        Some(content) => Ok(Some(Line::Opening { content })),
+        None => Ok(None),
     }
 }
 
@@ -85,11 +96,14 @@ fn opening(alloc: Global, field: &[u8], rest: &[u8]) -> Result<Option<Line>, NoM
 fn start(alloc: Global, bounds: Bounds, field: &[u8], rest: &[u8]) -> Result<Option<Line>, NoMemory>
     ensures { IfOk result (λ line. line ≡ started (seat_in bounds field.now) (call_of bounds (fields_after rest.now))) }
 {
-    match (number_up_to(bounds.seat, field), call(alloc, bounds, rest)?) {
-        (Some(seat), Some(call)) => Ok(Some(Line::Happens {
+    let Some(seat) = number_up_to(bounds.seat, field) else {
+        return Ok(None);
+    };
+    match call(alloc, bounds, rest)? {
+        Some(call) => Ok(Some(Line::Happens {
             event: Event::Start { seat, call },
         })),
-        _ => Ok(None),
+        None => Ok(None),
     }
 }
 
@@ -97,14 +111,14 @@ fn start(alloc: Global, bounds: Bounds, field: &[u8], rest: &[u8]) -> Result<Opt
 fn end(alloc: Global, bounds: Bounds, field: &[u8], rest: &[u8]) -> Result<Option<Line>, NoMemory>
     ensures { IfOk result (λ line. line ≡ ended (seat_in bounds field.now) (reply_of bounds (fields_after rest.now))) }
 {
-    match (
-        number_up_to(bounds.seat, field),
-        reply(alloc, bounds, rest)?,
-    ) {
-        (Some(seat), Some(reply)) => Ok(Some(Line::Happens {
+    let Some(seat) = number_up_to(bounds.seat, field) else {
+        return Ok(None);
+    };
+    match reply(alloc, bounds, rest)? {
+        Some(reply) => Ok(Some(Line::Happens {
             event: Event::End { seat, reply },
         })),
-        _ => Ok(None),
+        None => Ok(None),
     }
 }
 
@@ -128,7 +142,7 @@ fn get(bounds: Bounds, word: &[u8], queue: &[u8]) -> Option<Call>
     ensures { result ≡ call_of bounds (word.now ∷ queue.now ∷ []) }
 {
     match number_up_to(bounds.queue, queue) {
-        Some(queue) if word == b"get".as_slice() => Some(Call::Get { queue }),
+        Some(queue) if is_word(word, b"get") => Some(Call::Get { queue }),
         _ => None,
     }
 }
@@ -143,15 +157,15 @@ fn put(
 ) -> Result<Option<Call>, NoMemory>
     ensures { IfOk result (λ call. call ≡ call_of bounds (word.now ∷ queue.now ∷ field.now ∷ fields_after rest.now)) }
 {
-    if word != b"put".as_slice() || next_field(rest).is_some() {
+    if !is_word(word, b"put") || next_field(rest).is_some() {
         return Ok(None);
     }
-    match (
-        number_up_to(bounds.queue, queue),
-        content(alloc, MOST_CONTENT, field)?,
-    ) {
-        (Some(queue), Some(content)) => Ok(Some(Call::Put { queue, content })),
-        _ => Ok(None),
+    let Some(queue) = number_up_to(bounds.queue, queue) else {
+        return Ok(None);
+    };
+    match content(alloc, MOST_CONTENT, field)? {
+        Some(content) => Ok(Some(Call::Put { queue, content })),
+        None => Ok(None),
     }
 }
 
@@ -171,11 +185,11 @@ fn reply(alloc: Global, bounds: Bounds, rest: &[u8]) -> Result<Option<Reply>, No
 fn bare_reply(word: &[u8]) -> Option<Reply>
     ensures { result ≡ bare_reply word.now }
 {
-    if word == b"done".as_slice() {
+    if is_word(word, b"done") {
         Some(Reply::Done)
-    } else if word == b"nothing".as_slice() {
+    } else if is_word(word, b"nothing") {
         Some(Reply::Nothing)
-    } else if word == b"spent".as_slice() {
+    } else if is_word(word, b"spent") {
         Some(Reply::Spent)
     } else {
         None
@@ -197,15 +211,15 @@ fn got(
     let Some((field, rest)) = next_field(rest) else {
         return Ok(None);
     };
-    if word != b"got".as_slice() || next_field(rest).is_some() {
+    if !is_word(word, b"got") || next_field(rest).is_some() {
         return Ok(None);
     }
-    match (
-        name(bounds, by, number),
-        content(alloc, MOST_CONTENT, field)?,
-    ) {
-        (Some(name), Some(content)) => Ok(Some(Reply::Got { name, content })),
-        _ => Ok(None),
+    let Some(name) = name(bounds, by, number) else {
+        return Ok(None);
+    };
+    match content(alloc, MOST_CONTENT, field)? {
+        Some(content) => Ok(Some(Reply::Got { name, content })),
+        None => Ok(None),
     }
 }
 
@@ -213,7 +227,7 @@ fn got(
 fn name(bounds: Bounds, by: &[u8], field: &[u8]) -> Option<PutName>
     ensures { result ≡ name_of bounds by.now field.now }
 {
-    if by == b"o".as_slice() {
+    if is_word(by, b"o") {
         let number = number_up_to(bounds.token, field)?;
         return Some(PutName::Opening { number });
     }

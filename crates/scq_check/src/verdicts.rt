@@ -33,7 +33,7 @@ pub struct Verdict {
 }
 
 /// What breaks each aspect of a history, and the events that name refused puts.
-#[derive(Clone, Copy, Debug, PartialEq, Eq)]
+#[derive(Clone, Copy)]
 pub struct Breaches {
     /// The Gots that name no put of their queue and content that is an opening token or began before.
     pub fresh: Failures,
@@ -70,11 +70,12 @@ pub fn find_breaches(
     let in_order = out_of_order(alloc, &tables, opening, events)?;
     let empty_right = wrong_empties(alloc, &tables, opening, events)?;
     let accepted = refused_gots(alloc, &tables, events)?;
+    let refused = refused_first(alloc, &tables, events, &accepted)?;
     let counterparts = Counterparts {
         once: named_first(&tables, events, &once),
         in_order: overtaken(&tables, opening, events, &in_order),
         empty_right: waiting_beside(&tables, opening, events, &empty_right),
-        accepted: refused_first(alloc, &tables, events, &accepted)?,
+        accepted: refused,
     };
     Ok(Breaches {
         fresh: unfresh(&tables, opening, events),

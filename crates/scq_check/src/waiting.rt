@@ -16,7 +16,7 @@ use scq_word::Bytes;
 
 /// Finished puts that no get which had started by then has got. One of them is told: the first that a later get has got, tokens
 /// before others; where there is none, the first.
-#[derive(Clone, Copy, Debug, PartialEq, Eq)]
+#[derive(Clone, Copy)]
 pub struct Waiting {
     /// The opening tokens: the number of the first, from 0, and how many they are.
     pub tokens: Failures,

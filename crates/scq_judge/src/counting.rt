@@ -11,7 +11,7 @@ use std::alloc::Global;
 use std::collections::HashMap;
 
 /// How many events, queues, seats and calls a history has, and how many of its calls overlap another.
-#[derive(Clone, Copy, Debug, PartialEq, Eq)]
+#[derive(Clone, Copy)]
 pub struct Counts {
     pub events: usize,
     pub queues: usize,

@@ -20,7 +20,7 @@ const WIDE: Bounds = Bounds {
 pub(crate) const MOST_LINE: usize = 1024;
 
 /// What a line says.
-#[derive(Debug, Drop)]
+#[derive(Drop)]
 pub(crate) enum Entry {
     Opening { content: Bytes },
     Happens { stamp: Option<u64>, event: Event },

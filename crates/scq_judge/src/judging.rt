@@ -21,7 +21,7 @@ use std::alloc::Global;
 use thiserror::Error;
 
 /// What is said of a history: the events that break each aspect, and what it has.
-#[derive(Clone, Copy, Debug, PartialEq, Eq)]
+#[derive(Clone, Copy)]
 pub struct Report {
     pub breaches: Breaches,
     pub counts: Counts,

@@ -18,7 +18,7 @@ pub(crate) struct Merged {
 }
 
 /// Why recordings were not merged.
-#[derive(Clone, Copy, Debug, PartialEq, Eq)]
+#[derive(Clone, Copy)]
 pub(crate) enum MergeFault {
     /// The event of this place has the stamp of another.
     SameStamp { place: Place },

@@ -14,7 +14,6 @@ use memchr::memchr;
 use scq_outside::{Failed, Source};
 use scq_word::NoMemory;
 use std::alloc::{AllocError, Global};
-use thiserror::Error;
 
 /// The most bytes that one read is asked for.
 const PIECE: usize = 65536;
@@ -23,16 +22,12 @@ const PIECE: usize = 65536;
 const MOST_BYTES: u64 = (1 << 31) - 2;
 
 /// Why recordings were not read to their ends. Files and lines are numbered from 1.
-#[derive(Clone, Copy, Debug, PartialEq, Eq, Error)]
+#[derive(Clone, Copy)]
 pub(crate) enum ReadingFault {
     /// The line is not of the form, or may not stand there.
-    #[error("file {file} line {line}: not understood")]
     BadLine { file: u32, line: u32 },
-    #[error("file {file}: read fault")]
     ReadFault { file: u32 },
-    #[error("file {file}: more than 2147483646 bytes")]
     TooLarge { file: u32 },
-    #[error("out of memory")]
     NoMemory,
 }
 

@@ -10,17 +10,16 @@ use scq_hist::Event;
 use scq_word::{Bytes, NoMemory};
 use std::alloc::{AllocFailed, Global};
 use std::marker::Model;
-use thiserror::Error;
 
 /// Where a line stands: its file and its number, both from 1.
-#[derive(Clone, Copy, Debug, PartialEq, Eq)]
+#[derive(Clone, Copy)]
 pub struct Place {
     pub file: u32,
     pub line: u32,
 }
 
 /// An event with its stamp and its place.
-#[derive(Debug, Drop)]
+#[derive(Drop)]
 pub struct Stamped {
     pub stamp: u64,
     pub place: Place,
@@ -28,7 +27,7 @@ pub struct Stamped {
 }
 
 /// What stood in front of the last event of a file.
-#[derive(Clone, Copy, Debug, PartialEq, Eq)]
+#[derive(Clone, Copy)]
 pub enum Last {
     NoEvent,
     Bare,
@@ -52,11 +51,9 @@ impl Model for Recorded {
 }
 
 /// Why a line was not taken.
-#[derive(Clone, Copy, Debug, PartialEq, Eq, Error)]
+#[derive(Clone, Copy)]
 pub(crate) enum LineFault {
-    #[error("not understood")]
     NotUnderstood,
-    #[error("out of memory")]
     NoMemory,
 }
 

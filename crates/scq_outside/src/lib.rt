@@ -16,8 +16,6 @@ mod script;
 mod sink;
 mod source;
 mod std_sink;
-#[cfg(test)]
-mod tests;
 mod whole;
 
 pub use disk::{DiskFiles, DiskSource};

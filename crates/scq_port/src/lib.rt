@@ -23,6 +23,3 @@ pub use port::Port;
 pub use port_buffer::PortBuffer;
 pub use refusals::{GiveBackRefusal, LendRefusal, SendRefusal, TakeRefusal};
 pub use sight::Sight;
-
-#[cfg(test)]
-mod tests;

@@ -1,6 +1,6 @@
 //! The lines that are printed of the steps of a schedule.
 
-ghost use Rattle.std.specs.Prelude.{◌≡◌, ◌+◌, ◌++◌, ◌<◌, ◌≤◌, ◌^◌, pos, codes, decimal, IfSome, OnOk};
+ghost use Rattle.std.specs.Prelude.{◌≡◌, ◌+◌, ◌++◌, ◌<◌, ◌≤◌, ◌^◌, pos, codes, decimal, Some, IfSome, OnOk};
 ghost use Rattle.std.specs.Fmt.{signed_decimal};
 ghost use Rattle.std.specs.Option.{option_copied};
 ghost use Rattle.scq_core.specs.Reach.{IsReachable};
@@ -155,16 +155,28 @@ pub(crate) fn add_reply(text: &mut Vec<u8>, ended: Option<&Ended>) -> Result<(),
     ensures { OnOk result (text.new.items ≡ text.old.items ++ reply_words (option_copied ended.entry)) }
 {
     match ended {
+        Some(ended) => add_ended(text, ended),
         None => Ok(()),
-        Some(Ended::Done { place, .. }) => add_number(text, b" done ", *place),
-        Some(Ended::Got { place, content, .. }) => {
-            add_number(text, b" got ", *place)?;
-            text.extend_from_slice(b" ")?;
-            add_content(text, content)
-        }
-        Some(Ended::Nothing { .. }) => Ok(text.extend_from_slice(b" nothing")?),
-        Some(Ended::Spent { ticket, .. }) => add_number(text, b" spent ", *ticket),
     }
+}
+
+fn add_ended(text: &mut Vec<u8>, ended: &Ended) -> Result<(), NoMemory>
+    ensures { OnOk result (text.new.items ≡ text.old.items ++ reply_words (Some ended.now)) }
+{
+    match ended {
+        Ended::Done { place, .. } => add_number(text, b" done ", *place),
+        Ended::Got { place, content, .. } => add_got(text, *place, content),
+        Ended::Nothing { .. } => Ok(text.extend_from_slice(b" nothing")?),
+        Ended::Spent { ticket, .. } => add_number(text, b" spent ", *ticket),
+    }
+}
+
+fn add_got(text: &mut Vec<u8>, place: u64, content: &Bytes) -> Result<(), NoMemory>
+    ensures { OnOk result (text.new.items ≡ text.old.items ++ codes " got " ++ decimal place ++ codes " " ++ content_text content.now) }
+{
+    add_number(text, b" got ", place)?;
+    text.extend_from_slice(b" ")?;
+    add_content(text, content)
 }
 
 fn add_content(text: &mut Vec<u8>, content: &Bytes) -> Result<(), NoMemory>

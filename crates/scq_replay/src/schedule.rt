@@ -1,6 +1,7 @@
 //! The lines of a schedule, read one by one.
 
 ghost use Rattle.std.specs.Prelude.{◌≡◌, [], ◌∷◌, ◌<◌, ℕ, None, IfOk, IfSome, MatchOption};
+ghost use Rattle.std.specs.Str.{bytes_eq};
 ghost use Rattle.scq_word.specs.declared.setup.Setup.{Setup as SetupOf};
 ghost use Rattle.scq_lines.specs.Lines.{fields_of, fields_after};
 ghost use Rattle.scq_replay.specs.Schedule.{setup_said, IsSetupLine, bare_step, step_said, turn_in};
@@ -18,12 +19,19 @@ const MOST_ORDER: u64 = 4;
 const MOST_CONTENT: u32 = 16;
 
 /// The numbers of a setup as its line says them.
-#[derive(Clone, Copy, Debug)]
+#[derive(Clone, Copy)]
 pub(crate) struct SetupNumbers {
     order: u64,
     rings: u64,
     seats: u64,
     limit: u64,
+}
+
+// Whether a field is this word.
+fn is_word(field: &[u8], word: &[u8]) -> bool
+    ensures { result ≡ bytes_eq field.now word.now }
+{
+    field == word
 }
 
 /// The setup that a line says.
@@ -69,7 +77,7 @@ fn numbers_of(
 ) -> Option<SetupNumbers>
     ensures { result ≡ setup_said (word.now ∷ order.now ∷ rings.now ∷ seats.now ∷ limit.now ∷ []) }
 {
-    if word != b"setup".as_slice() {
+    if !is_word(word, b"setup") {
         return None;
     }
     Some(SetupNumbers {
@@ -91,12 +99,12 @@ pub(crate) fn read_turn(
     ensures ring { IfOk result (λ turn. IfSome turn (λ turn. IfSome (begun_on turn.1) (λ ring. ring < setup.now.rings))) }
 {
     let (seat, rest) = first_field(line);
-    match (
-        number_below(setup.seats(), seat),
-        read_step(alloc, setup, rest)?,
-    ) {
-        (Some(seat), Some(step)) => Ok(Some((seat, step))),
-        _ => Ok(None),
+    let Some(seat) = number_below(setup.seats(), seat) else {
+        return Ok(None);
+    };
+    match read_step(alloc, setup, rest)? {
+        Some(step) => Ok(Some((seat, step))),
+        None => Ok(None),
     }
 }
 
@@ -122,7 +130,7 @@ fn get(setup: &Setup, name: &[u8], ring: &[u8]) -> Option<Step>
     ensures ring { IfSome result (λ step. IfSome (begun_on step) (λ ring. ring < setup.now.rings)) }
 {
     match number_below(setup.rings(), ring) {
-        Some(ring) if name == b"D1".as_slice() => Some(Step::D1 { ring }),
+        Some(ring) if is_word(name, b"D1") => Some(Step::D1 { ring }),
         _ => None,
     }
 }
@@ -142,18 +150,22 @@ fn put(
     let Some((field, rest)) = next_field(rest) else {
         return Ok(None);
     };
-    if name != b"E1".as_slice() || next_field(rest).is_some() {
+    if !is_word(name, b"E1") || next_field(rest).is_some() {
         return Ok(None);
     }
-    let ring = number_below(setup.rings(), ring);
-    let index = number_below(setup.shape().n(), index);
-    match (ring, index, content(alloc, MOST_CONTENT, field)?) {
-        (Some(ring), Some(index), Some(content)) => Ok(Some(Step::E1 {
+    let Some(ring) = number_below(setup.rings(), ring) else {
+        return Ok(None);
+    };
+    let Some(index) = number_below(setup.shape().n(), index) else {
+        return Ok(None);
+    };
+    match content(alloc, MOST_CONTENT, field)? {
+        Some(content) => Ok(Some(Step::E1 {
             ring,
             index,
             content,
         })),
-        _ => Ok(None),
+        None => Ok(None),
     }
 }
 
