@@ -9,7 +9,7 @@ use crate::span::Span;
 use scq_word::Buffer;
 use std_alloc::vec::Lodged;
 
-/// A piece of a block: its bytes lie apart from those of the other frames, and it ends only in `Block::merge`.
+/// A piece of a block: its bytes lie apart from those of the other frames. It ends in `Block::merge`, or where it is abandoned.
 pub struct Frame {
     pub(crate) bytes: Vec<u8, Lodged>,
     pub(crate) number: u32,
@@ -21,6 +21,12 @@ impl Frame {
         ensures { result ≡ self.now.number }
     {
         self.number
+    }
+
+    /// Lets the frame go. Its bytes lie where they are, and its block can't be merged any more: `merge` wants all frames.
+    pub fn abandon(self) {
+        let Frame { bytes, number: _ } = self;
+        drop(bytes);
     }
 
     // The frame of this number over its own bytes, in a block that begins at `start`.

@@ -1,13 +1,13 @@
 -- The passes come back: what each parker then has, and what is told of its worker.
 use Rattle.std.proofs.Common.{◌≡◌, ℕ, zero, suc, ◌+◌, ◌-◌, ◌<◌, ◌≤◌, List, [], ◌∷◌, ◌++◌, map, length, set, refl, sym, ◌∙◌, ap, subst, arith}
-use Rattle.std.specs.Prelude.{All, Option, Some, None, slice_get}
+use Rattle.std.specs.Prelude.{All, Option, Some, slice_get}
 use Rattle.std.proofs.lemmas.List.{append_assoc, map-append}
 use Rattle.std.proofs.lemmas.List.Elements.{All-nil, All-cons, All-head, All-tail}
 use Rattle.atomic_table.specs.Seated.{TableId}
 use Rattle.scq_park.specs.declared.rested.Rested.{Rested}
 use Rattle.scq_park.specs.Rule.{Deeds, deeds, added}
 use Rattle.scq_park.specs.Crews.{Post, no_wakes, rested_of, plus, woken, ended, AreInOrder, AreAll}
-use Rattle.scq_park.specs.Kept.{Tally, tally, parkers_of, one_rested, IsLink, IsStand, post_of, AreFor, with_row, gathered, told, told_by, CanEnd, EachEnds, ends}
+use Rattle.scq_park.specs.Kept.{Tally, tally, parkers_of, one_rested, IsLink, IsStand, post_of, AreFor, with_row, gathered, told, told_by, EachEnds, ends}
 use Rattle.scq_park.proofs.Rows.{same_some, parkers_length}
 
 -- the last of a row, at its parker

@@ -1,10 +1,10 @@
 -- Each step of a parker, each cut and each join of its passes keeps its rule. A step changes one pass, so each total changes by what
 -- that pass does.
-use Rattle.std.proofs.Common.{◌≡◌, ℕ, zero, suc, ◌+◌, ◌-◌, ◌<◌, ◌≤◌, Bool, true, false, List, [], ◌∷◌, ◌++◌, set, refl, sym, ◌∙◌, ap, subst, arith}
+use Rattle.std.proofs.Common.{◌≡◌, ℕ, zero, suc, ◌+◌, ◌<◌, ◌≤◌, true, false, List, [], ◌∷◌, ◌++◌, set, refl, sym, ◌∙◌, ap, subst, arith}
 use mathlib.Core.Option.{some, some-injective, some-ne-none}
 use lib.ListN.{get_elem?}
 use Rattle.crossbeam_utils.specs.Register.{TurnsAt, Turns, Forks, Merges}
-use Rattle.scq_park.specs.Rule.{Deeds, deeds, once_woken, once_rested, one_part_less, added, total, worth, IsIdleWithoutPart, AreIdleWithoutPart, IsCovered}
+use Rattle.scq_park.specs.Rule.{Deeds, deeds, once_woken, once_rested, one_part_less, added, total, IsIdleWithoutPart, AreIdleWithoutPart, IsCovered}
 
 -- a total after a change of one pass, and with one pass more
 total-set : (f : Deeds → ℕ) (vs : List Deeds) (i : ℕ) (v w : Deeds) → get_elem? vs i ≡ some v → total f (set vs i w) + f v ≡ total f vs + f w

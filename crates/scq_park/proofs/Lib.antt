@@ -2,3 +2,4 @@ pub mod Keeps
 mod Rows
 mod Ends
 pub mod Crossing
+pub mod Firsts

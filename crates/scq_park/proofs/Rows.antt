@@ -1,11 +1,11 @@
 -- Lists of passes, as one of them changes, and as they are cut off the parkers one by one.
 use Rattle.std.proofs.Common.{◌≡◌, ℕ, zero, suc, ◌+◌, ◌-◌, ◌<◌, ◌≤◌, List, [], ◌∷◌, ◌++◌, map, length, set, get_or, refl, sym, ◌∙◌, ap, subst, arith}
-use Rattle.std.specs.Prelude.{All, Option, Some, None, slice_get, slice_index}
+use Rattle.std.specs.Prelude.{All, Some, None, slice_get, slice_index}
 use Rattle.std.proofs.lemmas.Option.{slice_get_read}
 use Rattle.std.proofs.lemmas.List.Elements.{All-nil, All-cons, All-head, All-tail, All-set}
 use Rattle.atomic_table.specs.Seated.{TableId}
 use Rattle.scq_park.specs.Rule.{Deeds, deeds, once_woken, once_rested}
-use Rattle.scq_park.specs.Crews.{Post, post, no_wakes, first_post, with_wake, with_rest}
+use Rattle.scq_park.specs.Crews.{post, no_wakes, first_post, with_wake}
 use Rattle.scq_park.specs.Kept.{Tally, tally, parkers_of, one_rested, IsLink, post_of, IsStand, first_link, with_part_less, cut_below}
 
 pub same_some : {A : Type 0} (x y : A) → Some x ≡ Some y → x ≡ y

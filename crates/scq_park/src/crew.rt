@@ -75,8 +75,9 @@ impl Crew {
         stand.sleeper.rest(rt);
     }
 
-    /// Closes a crew whose stands all come back, in order of worker. For each worker it says how often it rested, and how often all
-    /// stands woke it, which is no less. Takes no memory.
+    /// Closes a crew whose stands all come back. They have to stand in the order of their workers, as `make` gave them, whatever order they
+    /// came back in. For each worker, in that order, it says how often it rested, and how often all stands woke it, which is no less. Takes no
+    /// memory.
     pub fn close(self, stands: Vec<Stand>) -> Vec<Rested>
         requires stands { AreAll self stands.items }
         ensures counts { result.items ≡ ended stands.items (woken (no_wakes self) stands.items) }

@@ -6,6 +6,7 @@ mod PassLemmas
 mod RecordSteps
 mod WorkerSteps
 mod Sweeps
+mod Vain
 mod LeftLemmas
 mod MemberLemmas
 mod PassedOn

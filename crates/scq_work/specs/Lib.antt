@@ -12,3 +12,4 @@ pub mod Desks
 pub mod Dealings
 pub mod Ends
 pub mod AllWorkers
+pub mod Waiting

@@ -10,6 +10,7 @@ mod job;
 mod own_file;
 mod passing;
 mod reading;
+mod waiting;
 mod worked;
 mod worker;
 mod working;

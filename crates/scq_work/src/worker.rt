@@ -8,6 +8,7 @@ ghost use Rattle.scq_work.specs.Records.{is_take};
 ghost use Rattle.scq_work.specs.Members.{answered, is_taken, is_direct, AnswersSoFar};
 ghost use Rattle.scq_work.specs.Passing.{Sends};
 ghost use Rattle.scq_work.specs.Leaving.{FoundTopicEmpty, HasSweptLast, TookNothing};
+ghost use Rattle.scq_work.specs.Waiting.{TookInVain, TookMore};
 ghost use Rattle.scq_work.specs.Working.{Suits, HasTaken, HasAnswered, HasLeft, takes_left, after_retire};
 
 use crate::{Gate, Job, Point};
@@ -102,6 +103,9 @@ impl<B: Buffer> Worker<B> {
         ensures empty { result ≡ Ok false → (known_on topic self.new.pass).finished < (known_on topic self.new.pass).head }
         ensures found { result ≡ Ok false → FoundTopicEmpty topic self.old.pass self.new.pass }
         ensures nothing { result ≡ Ok false → TookNothing self.old.pass self.new.pass }
+        ensures vain { OnOk result (TookInVain 1 self.old.pass self.new.pass) }
+        ensures more { result ≡ Ok true → TookInVain 0 self.old.pass self.new.pass × TookMore self.old.pass self.new.pass }
+        ensures gate { OnOk result (self.new.pass.gate ≡ self.old.pass.gate) }
         ensures left { IfErr result (λ l. (messages : ℕ) → HasLeft messages messages self.old.pass self.new.pass l.held) }
         ensures starved { self.new.starved ≡ false → self.old.starved ≡ false }
         ensures number { self.new.number ≡ self.old.number }
@@ -134,6 +138,7 @@ impl<B: Buffer> Worker<B> {
             → count_by (is_take t) self.new.pass.calls ≡ count_by (is_take t) self.old.pass.calls + 1) }
         ensures answered { OnOk result (self.new.starved ≡ false
             → HasAnswered job.now.topics self.old.pass self.new.pass self.old.members.items self.new.members.items) }
+        ensures vain { OnOk result (TookInVain (length job.now.topics + 1) self.old.pass self.new.pass) }
         ensures left { IfErr result (λ l. (messages : ℕ) → HasLeft messages messages self.old.pass self.new.pass l.held) }
         ensures starved { self.new.starved ≡ false → self.old.starved ≡ false }
         ensures number { self.new.number ≡ self.old.number }
@@ -212,6 +217,9 @@ impl<B: Buffer> Worker<B> {
         ensures empty { OnOk result ((known_on topic self.new.pass).finished < (known_on topic self.new.pass).head) }
         ensures found { OnOk result (FoundTopicEmpty topic self.old.pass self.new.pass) }
         ensures nothing { result ≡ Ok false → TookNothing self.old.pass self.new.pass }
+        ensures vain { OnOk result (TookInVain 1 self.old.pass self.new.pass) }
+        ensures more { result ≡ Ok true → TookMore self.old.pass self.new.pass }
+        ensures gate { OnOk result (self.new.pass.gate ≡ self.old.pass.gate) }
         ensures answered { OnOk result (self.new.starved ≡ false
             → HasAnswered job.now.topics self.old.pass self.new.pass self.old.members.items self.new.members.items) }
         ensures some { result ≡ Ok true → ((known_on topic self.old.pass).head < (known_on topic self.new.pass).head)
@@ -232,7 +240,7 @@ impl<B: Buffer> Worker<B> {
     }
 
     /// Takes from each topic until nothing is there. Whether anything was in any.
-    fn sweep<G: Gate>(
+    pub fn sweep<G: Gate>(
         &mut self,
         alloc: Global,
         job: &Job,
@@ -245,6 +253,9 @@ impl<B: Buffer> Worker<B> {
             → (known_on t self.new.pass).finished < (known_on t self.new.pass).head) }
         ensures found { OnOk result ((t : ℕ) → t < length job.now.topics + 1 → FoundTopicEmpty t self.old.pass self.new.pass) }
         ensures nothing { result ≡ Ok false → TookNothing self.old.pass self.new.pass }
+        ensures vain { OnOk result (TookInVain (length job.now.topics + 1) self.old.pass self.new.pass) }
+        ensures more { result ≡ Ok true → TookMore self.old.pass self.new.pass }
+        ensures gate { OnOk result (self.new.pass.gate ≡ self.old.pass.gate) }
         ensures answered { OnOk result (self.new.starved ≡ false
             → HasAnswered job.now.topics self.old.pass self.new.pass self.old.members.items self.new.members.items) }
         ensures some { result ≡ Ok true → takes_left queue.now.setup.limit (length job.now.topics + 1) self.new.pass
@@ -282,6 +293,28 @@ impl<B: Buffer> Worker<B> {
         ensures number { self.new.number ≡ self.old.number }
     {
         queue.retire(&mut self.pass);
+        self.sweep_out(alloc, job, queue, gate)
+    }
+
+    /// Sweeps, and leaves after a sweep before which every worker had retired, or after 64 in a row that took nothing.
+    fn sweep_out<G: Gate>(
+        &mut self,
+        alloc: Global,
+        job: &Job,
+        queue: &Queue<B>,
+        gate: &G,
+    ) -> Result<(), AtLimit<B>>
+        requires suits { Suits queue.now (length job.now.topics) self.old.pass }
+        ensures taken { OnOk result (HasTaken self.old.pass self.new.pass) }
+        ensures empty { OnOk result ((t : ℕ) → t < length job.now.topics + 1
+            → (known_on t self.new.pass).finished < (known_on t self.new.pass).head) }
+        ensures swept { OnOk result (HasSweptLast (length job.now.topics + 1) 64 self.old.pass self.new.pass) }
+        ensures answered { OnOk result (self.new.starved ≡ false
+            → HasAnswered job.now.topics self.old.pass self.new.pass self.old.members.items self.new.members.items) }
+        ensures left { IfErr result (λ l. (messages : ℕ) → HasLeft messages messages self.old.pass self.new.pass l.held) }
+        ensures starved { self.new.starved ≡ false → self.old.starved ≡ false }
+        ensures number { self.new.number ≡ self.old.number }
+    {
         let mut idle = 0;
         'sweeps: loop {
             let over = queue.closed(&mut self.pass);

@@ -1,4 +1,4 @@
-use Rattle.std.proofs.Common.{◌≡◌, ◌<◌, List, [], ◌∷◌, ◌++◌, length, ◌∙◌, subst, arith}
+use Rattle.std.proofs.Common.{◌≡◌, List, length, ◌∙◌, subst, arith}
 use Rattle.scq_park.specs.Kept.{Tally, AreFor}
 use Rattle.scq_park.proofs.Rows.{read_at}
 use Rattle.scq_park.proofs.Ends.{last_at, last_within, took_last}

@@ -1,4 +1,4 @@
-use Rattle.std.proofs.Common.{◌≡◌, ℕ, ◌+◌, ◌<◌, ◌≤◌, List, [], ◌∷◌, ◌++◌, length, sym, ◌∙◌, ap, arith, add-one}
+use Rattle.std.proofs.Common.{◌≡◌, ℕ, ◌<◌, ◌≤◌, List, [], ◌∷◌, ◌++◌, length, sym, ◌∙◌, ap, arith, add-one}
 use Rattle.std.specs.Prelude.{Some, slice_get, slice_set}
 use Rattle.scq_park.specs.Kept.{Tally, cut_below}
 use Rattle.scq_park.proofs.Rows.{read_at, one_of_all, length-cut_below, cut_at, cut_next, cut_all, links_below, links_next, links_all}

@@ -1,4 +1,4 @@
-use Rattle.std.proofs.Common.{◌≡◌, List, sym, ◌∙◌, ap, subst}
+use Rattle.std.proofs.Common.{List, sym, ◌∙◌, ap, subst}
 use Rattle.atomic_table.specs.Seated.{TableId}
 use Rattle.scq_park.specs.Crews.{AreAll, no_wakes, woken, ended}
 use Rattle.scq_park.specs.Kept.{Tally, EachEnds, ends}

@@ -13,6 +13,7 @@ topics-init g c = record {
   answered = λ fed. answered-nothing c.args.job.now.topics c.args.self.now.pass c.args.self.now.members.items;
   starved = λ fed. fed;
   number = refl;
+  vain = omega arith;
   below = λ t low. absurd (omega arith);
   above = λ t low. refl;
 }
@@ -26,6 +27,7 @@ topics-preserved g c =
           c.topics.self.members.items c.take_one.new.self.members.items (inv.answered (c.take_one.ensures.starved fed)) (c.in_ok-take_one.ensures.answered fed);
       starved = λ fed. inv.starved (c.take_one.ensures.starved fed);
       number = c.take_one.ensures.number ∙ inv.number;
+      vain = omega (arith, inv.vain, c.in_ok-take_one.ensures.vain);
       below = counted-below c.topics.topic (λ t. count_by (is_take t) c.args.self.now.pass.calls) (λ t. count_by (is_take t) c.topics.self.pass.calls)
           (λ t. count_by (is_take t) c.take_one.new.self.pass.calls) inv.below inv.above c.in_ok-take_one.ensures.one;
       above = counted-above c.topics.topic (λ t. count_by (is_take t) c.args.self.now.pass.calls) (λ t. count_by (is_take t) c.topics.self.pass.calls)

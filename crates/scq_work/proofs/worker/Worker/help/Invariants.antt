@@ -1,6 +1,7 @@
 use Rattle.std.proofs.Common.{◌≡◌, ◌≤◌, ◌<◌, ◌+◌, ℕ, false}
 use Rattle.std.specs.Prelude.{count_by}
 use Rattle.scq_work.specs.Records.{is_take}
+use Rattle.scq_work.specs.Waiting.{TookInVain}
 use Rattle.scq_work.specs.Working.{HasTaken, HasAnswered}
 use Rattle.scq_work.proofs.worker.Worker.help.Given as goal
 
@@ -11,6 +12,7 @@ invariant-topics g l = record {
   answered : l.self.starved ≡ false → HasAnswered l.job.topics l.fn.self.pass l.self.pass l.fn.self.members.items l.self.members.items;
   starved : l.self.starved ≡ false → l.fn.self.starved ≡ false;
   number : l.self.number ≡ l.fn.self.number;
+  vain : TookInVain l.topic l.fn.self.pass l.self.pass;
   below : (t : ℕ) → t < l.topic → count_by (is_take t) l.self.pass.calls ≡ count_by (is_take t) l.fn.self.pass.calls + 1;
   above : (t : ℕ) → l.topic ≤ t → count_by (is_take t) l.self.pass.calls ≡ count_by (is_take t) l.fn.self.pass.calls;
 }

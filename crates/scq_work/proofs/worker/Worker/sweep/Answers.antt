@@ -1,5 +1,5 @@
 use Rattle.std.proofs.Common.{rules, ◌≡◌, ◌+◌, ◌∙◌, ap, sym, subst, arith, refl, inl, inr, ℕ, true, false, length, Ok}
-use Rattle.std.proofs.lemmas.Bool.{cases_lt}
+use Rattle.std.proofs.lemmas.Bool.{cases_lt, cases_Bool}
 use Rattle.std.specs.Prelude.{IfErr, Result, Err}
 use Rattle.scq_work.specs.Leaving.{FoundTopicEmpty}
 use Rattle.scq_work.specs.Working.{HasLeft}
@@ -20,6 +20,10 @@ swept-init g c = record {
   found = λ t low. absurd (omega arith);
   nothing = λ none. refl;
   some = λ h. absurd (cc);
+  vain = omega arith;
+  long = omega arith;
+  gate = refl;
+  more = λ h. absurd (cc);
 }
 
 pub swept-preserved : goal.swept-preserved
@@ -62,6 +66,19 @@ swept-preserved g c =
                 let falls = left-falls-at limit all c.swept.topic c.swept.self.pass c.sweep_topic.new.self.pass more.knows (omega arith) said.0 said.1 in
                 omega arith
           ];
+      gate = c.in_ok-more.ensures.gate ∙ inv.gate;
+      vain = omega (arith, inv.vain, c.in_ok-more.ensures.vain);
+      long = elim (cases_Bool c.in_ok-more.more) [
+        | inl full ↦ let some_ = c.in_ok-more.ensures.more (ap Ok full) in omega (arith, inv.long, some_)
+        | inr idle ↦ omega (arith, inv.long, ap length (c.in_ok-more.ensures.nothing (ap Ok idle)))
+      ];
+      more = λ h. elim (cases_Bool c.in_ok-more.more) [
+        | inl full ↦ let some_ = c.in_ok-more.ensures.more (ap Ok full) in omega (arith, inv.long, some_)
+        | inr idle ↦ elim c.if-some.branch [
+          | then-some w ↦ let was = inv.more w.if-some.true in omega (arith, was, ap length (c.in_ok-more.ensures.nothing (ap Ok idle)))
+          | else-some w ↦ absurd (cc)
+        ]
+      ];
     }
 
 pub returns-in_err-more-clause-left : goal.returns-in_err-more-clause-left

@@ -1,6 +1,8 @@
-use Rattle.std.proofs.Common.{◌≡◌, ◌<◌, ◌+◌, ℕ, true, false, length}
+use Rattle.std.proofs.Common.{◌≡◌, ◌<◌, ◌≤◌, ◌+◌, ℕ, true, false, length}
+use Rattle.scq_queue.specs.Lists.{takes_of}
 use Rattle.scq_queue.specs.Passes.{known_on}
 use Rattle.scq_work.specs.Leaving.{FoundTopicEmpty, TookNothing}
+use Rattle.scq_work.specs.Waiting.{TookInVain, TookMore}
 use Rattle.scq_work.specs.Working.{HasTaken, HasAnswered, takes_left}
 use Rattle.scq_work.proofs.worker.Worker.sweep.Given as goal
 
@@ -16,4 +18,8 @@ invariant-swept g l = record {
   nothing : l.some ≡ false → TookNothing l.fn.self.pass l.self.pass;
   some : l.some ≡ true → takes_left l.queue.setup.limit (length l.job.topics + 1) l.self.pass
       < takes_left l.queue.setup.limit (length l.job.topics + 1) l.fn.self.pass;
+  vain : TookInVain l.topic l.fn.self.pass l.self.pass;
+  long : length (takes_of l.fn.self.pass.calls) ≤ length (takes_of l.self.pass.calls);
+  gate : l.self.pass.gate ≡ l.fn.self.pass.gate;
+  more : l.some ≡ true → TookMore l.fn.self.pass l.self.pass;
 }

@@ -1,4 +1,4 @@
-use Rattle.std.proofs.Common.{rules, ◌≡◌, ◌∙◌, sym, subst, arith, refl, ℕ}
+use Rattle.std.proofs.Common.{rules, ◌≡◌, ◌∙◌, ap, sym, subst, arith, refl, ℕ, length}
 use Rattle.std.specs.Prelude.{IfErr, Result, Err}
 use Rattle.scq_work.specs.Working.{HasLeft}
 use Rattle.scq_work.proofs.PassLemmas.{taken-nothing, taken-along}
@@ -15,6 +15,10 @@ takes-init g c = record {
   number = refl;
   some = λ h. absurd (cc);
   nothing = λ none. refl;
+  vain = omega arith;
+  long = omega arith;
+  gate = refl;
+  more = λ h. absurd (cc);
 }
 
 pub takes-preserved : goal.takes-preserved
@@ -22,6 +26,7 @@ takes-preserved g c =
     let inv = c.takes.invariant in
     let more = inv.taken.knows.head c.args.topic in
     let said = c.take_one.ensures.some (cc) in
+    let got = c.take_one.ensures.more (cc) in
     record {
       taken = taken-along c.args.self.now.pass c.takes.self.pass c.take_one.new.self.pass inv.taken c.in_ok-more.ensures.taken;
       answered = λ fed. answered-along c.args.job.now.topics c.args.self.now.pass c.takes.self.pass c.take_one.new.self.pass c.args.self.now.members.items
@@ -30,6 +35,10 @@ takes-preserved g c =
       number = c.take_one.ensures.number ∙ inv.number;
       some = λ h. (let rises = said.0 in omega arith, let low = said.1 in omega arith);
       nothing = λ none. absurd (cc);
+      gate = c.in_ok-more.ensures.gate ∙ inv.gate;
+      vain = omega (arith, inv.vain, got.0);
+      long = omega (arith, inv.long, got.1);
+      more = λ h. omega (arith, inv.long, got.1);
     }
 
 pub takes-smaller : goal.takes-smaller
@@ -56,3 +65,12 @@ returns-in_err-more-clause-left g c =
     subst (λ (r : Result _ _). IfErr r (λ l. (messages : ℕ) → HasLeft messages messages c.args.self.now.pass c.take_one.new.self.pass l.held)) (sym is)
     (λ messages. left-taken messages messages c.args.self.now.pass c.takes.self.pass c.take_one.new.self.pass _ c.takes.invariant.taken
     (c.in_err-more.ensures.left messages))
+
+pub returns-else-more-clause-vain : goal.returns-else-more-clause-vain
+returns-else-more-clause-vain g c = omega (arith, c.takes.invariant.vain, c.in_ok-more.ensures.vain)
+
+pub returns-else-more-clause-more : goal.returns-else-more-clause-more
+returns-else-more-clause-more g c is = let was = c.takes.invariant.more (cc) in omega (arith, was, ap length (c.take_one.ensures.nothing (cc)))
+
+pub returns-else-more-clause-gate : goal.returns-else-more-clause-gate
+returns-else-more-clause-gate g c = c.in_ok-more.ensures.gate ∙ c.takes.invariant.gate

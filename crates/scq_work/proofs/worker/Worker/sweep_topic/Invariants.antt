@@ -1,6 +1,8 @@
-use Rattle.std.proofs.Common.{◌≡◌, ◌<◌, ◌-◌, true, false}
+use Rattle.std.proofs.Common.{◌≡◌, ◌<◌, ◌≤◌, ◌-◌, true, false, length}
+use Rattle.scq_queue.specs.Lists.{takes_of}
 use Rattle.scq_queue.specs.Passes.{known_on}
 use Rattle.scq_work.specs.Leaving.{TookNothing}
+use Rattle.scq_work.specs.Waiting.{TookInVain, TookMore}
 use Rattle.scq_work.specs.Working.{HasTaken, HasAnswered}
 use Rattle.scq_work.proofs.worker.Worker.sweep_topic.Given as goal
 
@@ -14,6 +16,10 @@ invariant-takes g l = record {
   some : l.some ≡ true → ((known_on l.topic l.fn.self.pass).head < (known_on l.topic l.self.pass).head)
       × ((known_on l.topic l.fn.self.pass).head < l.queue.setup.limit);
   nothing : l.some ≡ false → TookNothing l.fn.self.pass l.self.pass;
+  vain : TookInVain 0 l.fn.self.pass l.self.pass;
+  long : length (takes_of l.fn.self.pass.calls) ≤ length (takes_of l.self.pass.calls);
+  gate : l.self.pass.gate ≡ l.fn.self.pass.gate;
+  more : l.some ≡ true → TookMore l.fn.self.pass l.self.pass;
 }
 
 -- each take that gets something has a place that is not below the head known, and below the limit

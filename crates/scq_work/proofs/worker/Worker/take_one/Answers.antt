@@ -4,8 +4,10 @@ use Rattle.std.proofs.lemmas.List.Sums.{sum_by-append}
 use Rattle.scq_core.specs.declared.ended.Ended.TheVariants.{Nothing}
 use Rattle.scq_queue.specs.Passes.{PassStanding, WasGivenBack, having_seen, after_spent_put}
 use Rattle.scq_work.specs.Records.{is_take}
+use Rattle.scq_work.specs.Waiting.{TookInVain, TookMore}
 use Rattle.scq_work.proofs.PassLemmas.{took-one, found-none}
 use Rattle.scq_work.proofs.Sweeps.{found-now, found-takes}
+use Rattle.scq_work.proofs.Vain.{vain-none, vain-got}
 use Rattle.scq_work.proofs.LeftLemmas.{left-at-get, left-at-return}
 use Rattle.scq_work.proofs.worker.Worker.take_one.Goals as goal
 
@@ -57,3 +59,32 @@ pub returns-in-Err-Spent-clause-left : goal.returns-in-Err-Spent-clause-left
 returns-in-Err-Spent-clause-left g c messages =
     left-at-get messages (suc c.args.topic) c.in-Err-Spent.field-0-0 c.args.self.now.pass c.take.new.pass
     (c.in-Err-Spent.ensures.spent c.in-Err-Spent.field-0-0 (cc) c.requires.suits.spent).0
+
+-- what it got it gave back
+once : (g : _) (c : goal.In-Ok-give_back g) → TookInVain 0 c.args.self.now.pass c.give_back.new.pass × TookMore c.args.self.now.pass c.give_back.new.pass
+once g c =
+    vain-got g.B.Buffer.contents c.args.topic c.in-Ok.place c.args.self.now.pass c.take.new.pass c.give_back.new.pass c.in-Ok.held c.in-Ok.ensures.took
+    (subst (λ (p : PassStanding _). WasGivenBack (g.B.Buffer.contents c.in-Ok.held.buffer) c.in-Ok.held.index p c.give_back.new.pass)
+    c.answer_taken.ensures.same.0 c.in-Ok-give_back.ensures.given)
+
+pub returns-in-Ok-give_back-clause-vain : goal.returns-in-Ok-give_back-clause-vain
+returns-in-Ok-give_back-clause-vain g c = let few = (once g c).0 in omega (arith, few)
+
+pub returns-in-Ok-give_back-clause-more : goal.returns-in-Ok-give_back-clause-more
+returns-in-Ok-give_back-clause-more g c is = once g c
+
+pub returns-in-Err-Empty-clause-vain : goal.returns-in-Err-Empty-clause-vain
+returns-in-Err-Empty-clause-vain g c =
+    let found = c.in-Err-Empty.ensures.empty c.in-Err-Empty.field-0-0 (cc) in
+    vain-none c.args.topic c.args.self.now.pass c.take.new.pass (ap (λ (x : PassStanding _). x.calls) found.pass)
+
+-- no call of these reads the gate
+pub returns-in-Ok-give_back-clause-gate : goal.returns-in-Ok-give_back-clause-gate
+returns-in-Ok-give_back-clause-gate g c =
+    ap (λ (x : PassStanding _). x.gate) c.in-Ok-give_back.ensures.given.pass ∙ ap (λ (x : PassStanding _). x.gate) c.answer_taken.ensures.same.0
+    ∙ ap (λ (x : PassStanding _). x.gate) c.in-Ok.ensures.took.pass
+
+pub returns-in-Err-Empty-clause-gate : goal.returns-in-Err-Empty-clause-gate
+returns-in-Err-Empty-clause-gate g c =
+    let found = c.in-Err-Empty.ensures.empty c.in-Err-Empty.field-0-0 (cc) in
+    ap (λ (x : PassStanding _). x.gate) found.pass

@@ -1,16 +1,16 @@
 use Rattle.std.proofs.Common.{◌≡◌, ◌<◌, ◌+◌, ◌-◌, ◌*◌, false, length}
 use Rattle.scq_work.specs.Leaving.{HasIdled}
-use Rattle.scq_work.specs.Working.{HasTaken, HasAnswered, takes_left, after_retire}
-use Rattle.scq_work.proofs.worker.Worker.leave.Given as goal
+use Rattle.scq_work.specs.Working.{HasTaken, HasAnswered, takes_left}
+use Rattle.scq_work.proofs.worker.Worker.sweep_out.Given as goal
 
 abbrev pub invariant-sweeps : goal.invariant-sweeps
 invariant-sweeps g l = record {
-  taken : HasTaken (after_retire l.fn.self.pass) l.self.pass;
+  taken : HasTaken l.fn.self.pass l.self.pass;
   answered : l.self.starved ≡ false → HasAnswered l.job.topics l.fn.self.pass l.self.pass l.fn.self.members.items l.self.members.items;
   starved : l.self.starved ≡ false → l.fn.self.starved ≡ false;
   number : l.self.number ≡ l.fn.self.number;
   idle : l.idle < 64;
-  idling : HasIdled (length l.job.topics + 1) l.idle (after_retire l.fn.self.pass) l.self.pass;
+  idling : HasIdled (length l.job.topics + 1) l.idle l.fn.self.pass l.self.pass;
 }
 
 -- a sweep that takes something leaves less to take, and one that doesn't is one of at most 64 in a row

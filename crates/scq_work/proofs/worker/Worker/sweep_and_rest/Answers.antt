@@ -1,0 +1,144 @@
+use Rattle.std.proofs.Common.{rules, ◌≡◌, ◌+◌, ◌∙◌, ap, sym, subst, arith, refl, ℕ, true, false, length, Ok}
+use Rattle.std.specs.Prelude.{IfErr, Result, Err}
+use Rattle.std.proofs.lemmas.Bool.{eqb-true, cases_Bool}
+use Rattle.scq_park.specs.Crews.{Post}
+use Rattle.scq_queue.specs.Lists.{takes_of}
+use Rattle.scq_queue.specs.Passes.{PassStanding}
+use Rattle.scq_work.specs.Leaving.{IsSweep}
+use Rattle.scq_work.specs.Working.{HasTaken, HasAnswered, HasLeft}
+use Rattle.scq_work.proofs.PassLemmas.{taken-nothing, taken-along, looked}
+use Rattle.scq_work.proofs.LeftLemmas.{left-taken}
+use Rattle.scq_work.proofs.Sweeps.{sweep-of}
+use Rattle.scq_work.proofs.Vain.{vain-swept, takes-rise}
+use Rattle.scq_work.proofs.WorkerSteps.{answered-along, answered-nothing}
+use Rattle.scq_work.proofs.worker.Worker.sweep_and_rest.Goals as goal
+
+pub sweeps-init : goal.sweeps-init
+sweeps-init g c = record {
+  next = tt;
+  finite = tt;
+  taken = taken-nothing c.args.self.now.pass;
+  answered = λ fed. answered-nothing c.args.job.now.topics c.args.self.now.pass c.args.self.now.members.items;
+  starved = λ fed. fed;
+  number = refl;
+  vain = λ was. was;
+  crew = refl;
+  worker = refl;
+}
+
+pub returns-in_err-some-clause-left : goal.returns-in_err-some-clause-left
+returns-in_err-some-clause-left g c =
+    let p = c.args.self.now.pass in
+    let at = c.sweeps.self.pass in
+    let said = c.closed-over.ensures.looked in
+    let look : HasTaken at c.closed-over.new.pass = subst (λ (q : PassStanding _). HasTaken at q) (sym said.1) (looked at said.0 c.closed-over.new.pass.seen) in
+    let is : c.from_residual.result ≡ Err c.in_err-some.field-0.0 = search rules in
+    subst (λ (r : Result _ _). IfErr r (λ l. (messages : ℕ) → HasLeft messages messages p c.sweep.new.self.pass l.held)) (sym is)
+    (λ messages. left-taken messages messages p c.closed-over.new.pass c.sweep.new.self.pass _
+    (taken-along p at c.closed-over.new.pass c.sweeps.invariant.taken look) (c.in_err-some.ensures.left messages))
+
+pub returns-then-over-clause-taken : goal.returns-then-over-clause-taken
+returns-then-over-clause-taken g c =
+    let p = c.args.self.now.pass in
+    let at = c.sweeps.self.pass in
+    let said = c.closed-over.ensures.looked in
+    let look : HasTaken at c.closed-over.new.pass = subst (λ (q : PassStanding _). HasTaken at q) (sym said.1) (looked at said.0 c.closed-over.new.pass.seen) in
+    taken-along p c.closed-over.new.pass c.sweep.new.self.pass (taken-along p at c.closed-over.new.pass c.sweeps.invariant.taken look)
+    c.in_ok-some.ensures.taken
+
+pub returns-then-over-clause-swept : goal.returns-then-over-clause-swept
+returns-then-over-clause-swept g c =
+    let at = c.sweeps.self.pass in
+    let now = c.sweep.new.self.pass in
+    let all = length c.args.job.now.topics + 1 in
+    let said = c.closed-over.ensures.looked in
+    let none : said.0 ≡ 0 = eqb-true said.0 0 (sym said.2 ∙ c.if-over.true) in
+    record {
+      begun = at;
+      before = c.sweeps.invariant.taken;
+      sweep = subst (λ n. IsSweep all n at now) none (sweep-of all said.0 at c.closed-over.new.pass now said.1 c.in_ok-some.ensures.taken c.in_ok-some.ensures.found);
+    }
+
+pub returns-then-over-clause-vain : goal.returns-then-over-clause-vain
+returns-then-over-clause-vain g c was =
+    let at = c.sweeps.self.pass in
+    let mid = c.closed-over.new.pass in
+    let now = c.sweep.new.self.pass in
+    let all = length c.args.job.now.topics + 1 in
+    let said = c.closed-over.ensures.looked in
+    let calls = ap (λ (x : PassStanding _). x.calls) said.1 in
+    let took = c.in_ok-some.ensures.taken in
+    let rise = takes-rise mid now took in
+    let same = ap (λ l. length (takes_of l)) calls in
+    vain-swept all 0 c.sweeps.stand.rests 1 c.sweeps.stand.rests at mid now calls (ap (λ (x : PassStanding _). x.fulls) said.1)
+    (ap (λ (x : PassStanding _). x.fulls) took.pass) c.in_ok-some.ensures.vain (omega (arith, rise, same)) (c.sweeps.invariant.vain was)
+
+-- it took nothing, and rested
+pub sweeps-preserved-then-not-some : goal.sweeps-preserved-then-not-some
+sweeps-preserved-then-not-some g c =
+    let p = c.args.self.now.pass in
+    let at = c.sweeps.self.pass in
+    let mid = c.closed-over.new.pass in
+    let now = c.sweep.new.self.pass in
+    let inv = c.sweeps.invariant in
+    let topics = c.args.job.now.topics in
+    let all = length topics + 1 in
+    let xs = c.sweeps.self.members.items in
+    let said = c.closed-over.ensures.looked in
+    let look : HasTaken at mid = subst (λ (q : PassStanding _). HasTaken at q) (sym said.1) (looked at said.0 mid.seen) in
+    let asked : HasAnswered topics at mid xs xs =
+    subst (λ (q : PassStanding _). HasAnswered topics at q xs xs) (sym said.1) (record { takes = λ h. h; directs = refl }) in
+    let calls = ap (λ (x : PassStanding _). x.calls) said.1 in
+    let took = c.in_ok-some.ensures.taken in
+    let rise = takes-rise mid now took in
+    let same = ap (λ l. length (takes_of l)) calls in
+    let rested = ap (λ (s : Post). s.rests) c.rest.ensures in
+    record {
+      next = tt;
+      finite = tt;
+      taken = taken-along p mid now (taken-along p at mid inv.taken look) took;
+      answered = λ fed. answered-along topics p mid now c.args.self.now.members.items xs c.sweep.new.self.members.items
+          (answered-along topics p at mid c.args.self.now.members.items xs xs (inv.answered (c.sweep.ensures.starved fed)) asked)
+          (c.in_ok-some.ensures.answered fed);
+      starved = λ fed. inv.starved (c.sweep.ensures.starved fed);
+      number = c.sweep.ensures.number ∙ inv.number;
+      vain = λ was. vain-swept all 0 c.sweeps.stand.rests 0 c.rest.new.stand.rests at mid now calls (ap (λ (x : PassStanding _). x.fulls) said.1)
+          (ap (λ (x : PassStanding _). x.fulls) took.pass) c.in_ok-some.ensures.vain (omega (arith, rise, same, rested)) (inv.vain was);
+      crew = ap (λ (s : Post). s.crew) c.rest.ensures ∙ inv.crew;
+      worker = ap (λ (s : Post). s.worker) c.rest.ensures ∙ inv.worker;
+    }
+
+-- it took something
+pub sweeps-preserved : goal.sweeps-preserved
+sweeps-preserved g c =
+    let p = c.args.self.now.pass in
+    let at = c.sweeps.self.pass in
+    let mid = c.closed-over.new.pass in
+    let now = c.sweep.new.self.pass in
+    let inv = c.sweeps.invariant in
+    let topics = c.args.job.now.topics in
+    let all = length topics + 1 in
+    let xs = c.sweeps.self.members.items in
+    let said = c.closed-over.ensures.looked in
+    let look : HasTaken at mid = subst (λ (q : PassStanding _). HasTaken at q) (sym said.1) (looked at said.0 mid.seen) in
+    let asked : HasAnswered topics at mid xs xs =
+    subst (λ (q : PassStanding _). HasAnswered topics at q xs xs) (sym said.1) (record { takes = λ h. h; directs = refl }) in
+    let calls = ap (λ (x : PassStanding _). x.calls) said.1 in
+    let took = c.in_ok-some.ensures.taken in
+    let full : c.in_ok-some.some ≡ true = c.if-not-some.false in
+    let more = c.in_ok-some.ensures.more (ap Ok full) in
+    let same = ap (λ l. length (takes_of l)) calls in
+    record {
+      next = tt;
+      finite = tt;
+      taken = taken-along p mid now (taken-along p at mid inv.taken look) took;
+      answered = λ fed. answered-along topics p mid now c.args.self.now.members.items xs c.sweep.new.self.members.items
+          (answered-along topics p at mid c.args.self.now.members.items xs xs (inv.answered (c.sweep.ensures.starved fed)) asked)
+          (c.in_ok-some.ensures.answered fed);
+      starved = λ fed. inv.starved (c.sweep.ensures.starved fed);
+      number = c.sweep.ensures.number ∙ inv.number;
+      vain = λ was. vain-swept all 0 c.sweeps.stand.rests 0 c.sweeps.stand.rests at mid now calls (ap (λ (x : PassStanding _). x.fulls) said.1)
+          (ap (λ (x : PassStanding _). x.fulls) took.pass) c.in_ok-some.ensures.vain (omega (arith, more, same)) (inv.vain was);
+      crew = inv.crew;
+      worker = inv.worker;
+    }
