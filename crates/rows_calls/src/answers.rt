@@ -1,68 +1,48 @@
 //! Answers merged and written.
-ghost use Rattle.std.specs.Prelude.{◌≤◌, All, length};
+ghost use Rattle.std.specs.Prelude.{◌≤◌, All, IfOk, length};
+ghost use Rattle.scq_collect.specs.Merging.{members_in};
 
 use anyhow::{Context, Result, ensure};
 use rows_text::{add_bytes, field};
-use scq_collect::{Answered, Way, merge, output};
+use scq_collect::{Answered, Way, Whole, merge, output};
 use scq_topics::{ReplyBytes, Topics};
 use std::alloc::Global;
 
-/// An answer: `FILE LINE TOPIC BYTES WAY NUMBER REPLY`, where the way is `taken` or `direct`.
+/// The bytes that a text says.
+fn bytes_of(alloc: Global, text: &str) -> Result<ReplyBytes> {
+    let mut bytes = Vec::new(alloc);
+    add_bytes(&mut bytes, text)?;
+    Ok(ReplyBytes::copy_of(alloc, bytes.as_slice())?)
+}
+
+/// The topics of a table, or none where it is `-`.
+fn topics_of(table: &str) -> Result<Topics> {
+    Ok(match table {
+        "-" => Topics::none(),
+        declared => Topics::read(declared)?,
+    })
+}
+
+/// An answer to a part: `FILE LINE TOPIC PART PARTS BYTES WAY NUMBER TEXT`, where the way is `taken` or `direct`.
 fn answered_of(alloc: Global, text: &str) -> Result<Answered> {
-    let number = field(text, 5).parse::<u64>()?;
-    let mut reply = Vec::new(alloc);
-    add_bytes(&mut reply, field(text, 6))?;
+    let number = field(text, 7).parse::<u64>()?;
     Ok(Answered {
         file: field(text, 0).parse::<u32>()?,
         line: field(text, 1).parse::<u32>()?,
         topic: field(text, 2).parse::<u32>()?,
-        bytes: field(text, 3).parse::<u64>()?,
-        reply: ReplyBytes::copy_of(alloc, reply.as_slice())?,
-        way: match field(text, 4) {
+        part: field(text, 3).parse::<u32>()?,
+        parts: field(text, 4).parse::<u32>()?,
+        bytes: field(text, 5).parse::<u64>()?,
+        text: bytes_of(alloc, field(text, 8))?,
+        way: match field(text, 6) {
             "taken" => Way::Taken { place: number },
             _ => Way::Direct { head: number },
         },
     })
 }
 
-/// Lists with `/` between them, of answers with `,` between: the answers merged, as such a list.
-pub fn merged(alloc: Global, given: &str) -> Result<String> {
-    let mut lists = Vec::new(alloc);
-    for part in given.split('/') {
-        let mut list = Vec::new(alloc);
-        for text in part.split(',') {
-            if !text.is_empty() {
-                list.push(answered_of(alloc, text)?)?;
-            }
-        }
-        lists.push(list)?;
-    }
-    let mut text = String::new(alloc);
-    for member in &merge(alloc, lists.as_slice())? {
-        text.push_str(text_of(alloc, member)?.as_str())?;
-    }
-    Ok(text)
-}
-
-/// An answer as a row has it, and a comma.
-fn text_of(alloc: Global, answered: &Answered) -> Result<String> {
-    let reply = String::from_utf8_lossy(alloc, answered.reply.bytes())?;
-    let way = match answered.way {
-        Way::Taken { place } => format!(in alloc; "taken {place}")?,
-        Way::Direct { head } => format!(in alloc; "direct {head}")?,
-    };
-    let Answered {
-        file,
-        line,
-        topic,
-        bytes,
-        ..
-    } = answered;
-    Ok(format!(in alloc; "{file} {line} {topic} {bytes} {way} {reply},")?)
-}
-
-/// Adds an answer, whose topic is declared or the number behind the last.
-fn push_answer(alloc: Global, topics: &Topics, text: &str, to: &mut Vec<Answered>) -> Result<()>
+/// Adds an answer to a part, whose topic is declared or the number behind the last.
+fn push_part(alloc: Global, topics: &Topics, text: &str, to: &mut Vec<Answered>) -> Result<()>
     requires { All (λ a. a.topic ≤ length topics.now) to.old.items }
     ensures { All (λ a. a.topic ≤ length topics.now) to.new.items }
 {
@@ -72,16 +52,85 @@ fn push_answer(alloc: Global, topics: &Topics, text: &str, to: &mut Vec<Answered
     Ok(())
 }
 
-/// `TABLE ANSWERS`, which have `,` behind each: their text.
-pub fn written(alloc: Global, given: &str) -> Result<String> {
-    let (table, answers) = given.split_once(' ').context("a table and answers")?;
-    let topics = Topics::read(table)?;
-    let mut answered = Vec::new(alloc);
-    for text in answers.split(',') {
+/// The answers to parts of a text that has `,` between them.
+fn list_of(alloc: Global, topics: &Topics, given: &str) -> Result<Vec<Answered>>
+    ensures { IfOk result (λ list. All (λ a. a.topic ≤ length topics.now) list.items) }
+{
+    let mut list = Vec::new(alloc);
+    for text in given.split(',') {
         if !text.is_empty() {
-            push_answer(alloc, &topics, text, &mut answered)?;
+            push_part(alloc, topics, text, &mut list)?;
         }
     }
-    let text = output(alloc, &topics, answered.as_slice())?;
+    Ok(list)
+}
+
+/// Adds a list behind the others.
+fn push_list(topics: &Topics, lists: &mut Vec<Vec<Answered>>, list: Vec<Answered>) -> Result<()>
+    requires list { All (λ a. a.topic ≤ length topics.now) list.items }
+    requires lists { All (λ a. a.topic ≤ length topics.now) (members_in lists.old.items) }
+    ensures { All (λ a. a.topic ≤ length topics.now) (members_in lists.new.items) }
+{
+    lists.push(list)?;
+    Ok(())
+}
+
+/// `TABLE LISTS`, lists with `/` between them: the answers to the messages whose parts stand in them.
+pub fn merged(alloc: Global, given: &str) -> Result<String> {
+    let (table, given) = given.split_once(' ').context("a table and lists")?;
+    let topics = topics_of(table)?;
+    let mut lists = Vec::new(alloc);
+    for part in given.split('/') {
+        let list = list_of(alloc, &topics, part)?;
+        push_list(&topics, &mut lists, list)?;
+    }
+    let mut text = String::new(alloc);
+    for whole in &merge(alloc, &topics, lists.as_slice())? {
+        text.push_str(text_of(alloc, whole)?.as_str())?;
+    }
+    Ok(text)
+}
+
+/// An answer to a message, `FILE LINE TOPIC BYTES REPLY`, and a comma.
+fn text_of(alloc: Global, whole: &Whole) -> Result<String> {
+    let reply = String::from_utf8_lossy(alloc, whole.reply.bytes())?;
+    let Whole {
+        file,
+        line,
+        topic,
+        bytes,
+        ..
+    } = whole;
+    Ok(format!(in alloc; "{file} {line} {topic} {bytes} {reply},")?)
+}
+
+/// Adds an answer to a message, whose topic is declared or the number behind the last.
+fn push_whole(alloc: Global, topics: &Topics, text: &str, to: &mut Vec<Whole>) -> Result<()>
+    requires { All (λ a. a.topic ≤ length topics.now) to.old.items }
+    ensures { All (λ a. a.topic ≤ length topics.now) to.new.items }
+{
+    let topic = field(text, 2).parse::<u32>()?;
+    ensure!(topic <= topics.len(), "a topic");
+    to.push(Whole {
+        file: field(text, 0).parse::<u32>()?,
+        line: field(text, 1).parse::<u32>()?,
+        topic,
+        bytes: field(text, 3).parse::<u64>()?,
+        reply: bytes_of(alloc, field(text, 4))?,
+    })?;
+    Ok(())
+}
+
+/// `TABLE ANSWERS`, of answers to messages that have `,` behind each: their text.
+pub fn written(alloc: Global, given: &str) -> Result<String> {
+    let (table, answers) = given.split_once(' ').context("a table and answers")?;
+    let topics = topics_of(table)?;
+    let mut wholes = Vec::new(alloc);
+    for text in answers.split(',') {
+        if !text.is_empty() {
+            push_whole(alloc, &topics, text, &mut wholes)?;
+        }
+    }
+    let text = output(alloc, &topics, wholes.as_slice())?;
     Ok(String::from_utf8_lossy(alloc, text.bytes())?)
 }

@@ -100,7 +100,7 @@ fn sources_without_end_are_too_large(rt: HostRuntime) -> Result<(), Fail> {
 fn want_of_memory_is_reported(rt: HostRuntime) -> Result<(), Fail> {
     let alloc = rt.alloc();
     let rows = [
-        "$ run --topics s=sum f g\n< f\n| s 1 2\n< g\n| x\\c\nreads 5 0\nwrites 7 0\nerrors 7 0\n\
+        "$ run --size 2 --topics s=sum f g\n< f\n| s 1 2\n< g\n| x\\c\nreads 5 0\nwrites 7 0\nerrors 7 0\n\
          > 1:1 s 3\n> 2:1 - 0\n> total s 1 3\n> total - 1 0",
         "$ self --seed 1 --lines 1\n\
          > lines 1\n> total l 1 12\n> total w 0 0\n> total s 0 0\n> total h 0 0\n> total e 0 0\n> total - 0 0\n\

@@ -16,7 +16,7 @@ use Rattle.scq_collect.proofs.Distinct.{IsDistinct, included}
 use Rattle.scq_collect.proofs.Orders.{Ascends, ascends, before-before, not-before-itself}
 
 -- members in order are different ones
-distinct-ascends : {A : Type 0} (place : A → ℕ × ℕ) (xs : List A) → Ascends place xs → IsDistinct xs
+distinct-ascends : {A : Type 0} (place : A → ℕ × ℕ × ℕ) (xs : List A) → Ascends place xs → IsDistinct xs
 distinct-ascends place [] up = λ i j d less within. absurd (omega arith)
 distinct-ascends {A} place (x ∷ xs) up =
     AllPairs-cons (λ (x y : A). x ≢ y) x xs
@@ -27,7 +27,7 @@ none : {A : Type 0} (xs : List A) → length xs ≡ 0 → xs ≡ []
 none [] few = refl
 none (x ∷ xs) few = absurd (omega arith)
 
-pub merged-from : {A : Type 0} (place : A → ℕ × ℕ) (members all : List A) → IsInOrder place all → All (Contains members) all
+pub merged-from : {A : Type 0} (place : A → ℕ × ℕ × ℕ) (members all : List A) → IsInOrder place all → All (Contains members) all
     → length all ≡ length members → IsMerged place members all
 merged-from {A} place members all order from count =
     let more = included all members (distinct-ascends place all (ascends place all order))
@@ -52,7 +52,7 @@ contains-in (list ∷ lists) (suc k) d m within has =
     (Contains-append_right list.items (members_in lists) m (contains-in lists k d m (omega arith) has))
 
 -- a member that stands behind the last
-pub in-order-push : {A : Type 0} (place : A → ℕ × ℕ) (last : ℕ × ℕ) (xs : List A) (x : A) → IsInOrder place xs
+pub in-order-push : {A : Type 0} (place : A → ℕ × ℕ × ℕ) (last : ℕ × ℕ × ℕ) (xs : List A) (x : A) → IsInOrder place xs
     → ((k : ℕ) (d : A) → k + 1 ≡ length xs → place (slice_index_or xs k d) ≡ last) → IsBefore last (place x) → IsInOrder place (xs ++ x ∷ [])
 in-order-push {A} place last xs x order ends before k d within = at (cases_lt (k + 1) (length xs)) where
   at : (k + 1 < length xs) ⊎ (length xs ≤ k + 1) → IsBefore (place (slice_index_or (xs ++ x ∷ []) k d)) (place (slice_index_or (xs ++ x ∷ []) (k + 1) d))

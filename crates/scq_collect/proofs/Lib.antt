@@ -1,10 +1,14 @@
 mod Rows
+pub mod Cuts
+pub mod Cutting
 pub mod Distinct
 pub mod FromSlots
 pub mod InChunks
 pub mod Judging
 pub mod Lines
 pub mod Merged
+pub mod OneEach
+pub mod Parted
 pub mod Orders
 pub mod Positions
 pub mod Sums

@@ -10,39 +10,40 @@ use Rattle.std.proofs.lemmas.Map.Keys.{IsDistinct-cons, IsDistinct-from_apart, I
 use Rattle.scq_collect.specs.Merging.{AreApart, IsBefore, IsInOrder, IsSorted}
 
 -- the same place, as a test
-abbrev pub is_place : ℕ × ℕ → ℕ × ℕ → Bool
-is_place p q = (p.0 == q.0) && (p.1 == q.1)
+abbrev pub is_place : ℕ × ℕ × ℕ → ℕ × ℕ × ℕ → Bool
+is_place p q = (p.0 == q.0) && ((p.1 == q.1) && (p.2 == q.2))
 
-pub before-before : (p q r : ℕ × ℕ) → IsBefore p q → IsBefore q r → IsBefore p r
+pub before-before : (p q r : ℕ × ℕ × ℕ) → IsBefore p q → IsBefore q r → IsBefore p r
 before-before p q r first second = grind arith
 
-pub not-before-itself : (p : ℕ × ℕ) → ¬ IsBefore p p
+pub not-before-itself : (p : ℕ × ℕ × ℕ) → ¬ IsBefore p p
 not-before-itself p before = grind arith
 
-before-other : (p q : ℕ × ℕ) → IsBefore p q → is_place p q ≡ false
+before-other : (p q : ℕ × ℕ × ℕ) → IsBefore p q → is_place p q ≡ false
 before-other p q before = grind (arith, nat_tests)
 
-other-before : (p q : ℕ × ℕ) → ¬ IsBefore q p → is_place p q ≡ false → IsBefore p q
+other-before : (p q : ℕ × ℕ × ℕ) → ¬ IsBefore q p → is_place p q ≡ false → IsBefore p q
 other-before p q not_before other = grind (arith, nat_tests)
 
-pub is_place-flip : (p q : ℕ × ℕ) → is_place p q ≡ is_place q p
+pub is_place-flip : (p q : ℕ × ℕ × ℕ) → is_place p q ≡ is_place q p
 is_place-flip p q = grind (arith, nat_tests)
 
-apart-other : (p q : ℕ × ℕ) → p ≢ q → is_place p q ≡ false
+apart-other : (p q : ℕ × ℕ × ℕ) → p ≢ q → is_place p q ≡ false
 apart-other p q apart = at (is_place p q) refl where
   at : (b : Bool) → is_place p q ≡ b → b ≡ false
   at false e = refl
   at true e =
       let file : p.0 ≡ q.0 = grind (arith, nat_tests) in
       let line : p.1 ≡ q.1 = grind (arith, nat_tests) in
-      absurd (apart (λ i. (file i, line i)))
+      let part : p.2 ≡ q.2 = grind (arith, nat_tests) in
+      absurd (apart (λ i. (file i, line i, part i)))
 
 -- each member stands before all that follow it
-abbrev pub Ascends : {A : Type 0} → (A → ℕ × ℕ) → List A → Type 0
+abbrev pub Ascends : {A : Type 0} → (A → ℕ × ℕ × ℕ) → List A → Type 0
 Ascends place [] = Unit {0}
 Ascends place (x ∷ xs) = All (λ z. IsBefore (place x) (place z)) xs × Ascends place xs
 
-pub ascends : {A : Type 0} (place : A → ℕ × ℕ) (xs : List A) → IsInOrder place xs → Ascends place xs
+pub ascends : {A : Type 0} (place : A → ℕ × ℕ × ℕ) (xs : List A) → IsInOrder place xs → Ascends place xs
 ascends place [] order = tt
 ascends {A} place (x ∷ []) order = (All-nil (λ (z : A). IsBefore (place x) (place z)), tt)
 ascends {A} place (x ∷ y ∷ xs) order =
@@ -61,7 +62,7 @@ ascends {A} place (x ∷ y ∷ xs) order =
         subst (λ j. IsBefore (place (slice_index_or (y ∷ xs) k d)) (place (slice_index_or (x ∷ y ∷ xs) j d))) same here
 
 -- members that ascend, and behind them all others that do
-pub ascends-append : {A : Type 0} (place : A → ℕ × ℕ) (xs ys : List A) → Ascends place xs → Ascends place ys
+pub ascends-append : {A : Type 0} (place : A → ℕ × ℕ × ℕ) (xs ys : List A) → Ascends place xs → Ascends place ys
     → All (λ x. All (λ y. IsBefore (place x) (place y)) ys) xs → Ascends place (xs ++ ys)
 ascends-append place [] ys first second across = second
 ascends-append {A} place (x ∷ xs) ys first second across = (
@@ -70,7 +71,7 @@ ascends-append {A} place (x ∷ xs) ys first second across = (
 )
 
 -- those that ascend are apart
-pub ascends-distinct : {A : Type 0} (place : A → ℕ × ℕ) (xs : List A) → Ascends place xs → IsDistinct (λ (x y : A). is_place (place x) (place y)) xs
+pub ascends-distinct : {A : Type 0} (place : A → ℕ × ℕ × ℕ) (xs : List A) → Ascends place xs → IsDistinct (λ (x y : A). is_place (place x) (place y)) xs
 unfolding IsDistinct
 ascends-distinct place [] up = tt
 ascends-distinct {A} place (x ∷ xs) up =
@@ -80,13 +81,13 @@ ascends-distinct {A} place (x ∷ xs) up =
     (λ z before. before-other (place x) (place z) before) xs up.0))
     (ascends-distinct place xs up.1)
 
-pub apart-distinct : {A : Type 0} (place : A → ℕ × ℕ) (xs : List A) → AreApart place xs → IsDistinct (λ (x y : A). is_place (place x) (place y)) xs
+pub apart-distinct : {A : Type 0} (place : A → ℕ × ℕ × ℕ) (xs : List A) → AreApart place xs → IsDistinct (λ (x y : A). is_place (place x) (place y)) xs
 apart-distinct {A} place xs apart =
     IsDistinct-from_apart (λ (x y : A). is_place (place x) (place y)) xs
     (λ i j d less within. apart-other (place (slice_index_or xs i d)) (place (slice_index_or xs j d)) (apart i j d less within))
 
 -- members that are apart and sorted are in order
-pub sorted-in-order : {A : Type 0} (place : A → ℕ × ℕ) (members merged : List A) → IsDistinct (λ (x y : A). is_place (place x) (place y)) members
+pub sorted-in-order : {A : Type 0} (place : A → ℕ × ℕ × ℕ) (members merged : List A) → IsDistinct (λ (x y : A). is_place (place x) (place y)) members
     → IsPermutation members merged → IsSorted place merged → IsInOrder place merged
 sorted-in-order {A} place members merged distinct same sorted k d within =
     let test : A → A → Bool = λ x y. is_place (place x) (place y) in
@@ -106,11 +107,11 @@ pub contains-more : {A : Type 0} (y z : A) (ys : List A) → Contains ys z → C
 contains-more y z ys (k, within, is) = (suc k, omega arith, is)
 
 -- what stands among those behind x stands behind x
-behind : {A : Type 0} (place : A → ℕ × ℕ) (x z : A) (xs : List A) → Ascends place (x ∷ xs) → Contains xs z → IsBefore (place x) (place z)
+behind : {A : Type 0} (place : A → ℕ × ℕ × ℕ) (x z : A) (xs : List A) → Ascends place (x ∷ xs) → Contains xs z → IsBefore (place x) (place z)
 behind place x z xs up (k, within, is) = subst (λ a. IsBefore (place x) (place a)) is (up.0 k z within)
 
 -- the first of each is among the other's, and neither stands behind the other
-first-same : {A : Type 0} (place : A → ℕ × ℕ) (x y : A) (xs ys : List A) → Ascends place (x ∷ xs) → Ascends place (y ∷ ys)
+first-same : {A : Type 0} (place : A → ℕ × ℕ × ℕ) (x y : A) (xs ys : List A) → Ascends place (x ∷ xs) → Ascends place (y ∷ ys)
     → (y ≡ x) ⊎ Contains ys x → (x ≡ y) ⊎ Contains xs y → x ≡ y
 first-same place x y xs ys up up' (inl e) other = sym e
 first-same place x y xs ys up up' (inr c) (inl e) = e
@@ -118,7 +119,7 @@ first-same place x y xs ys up up' (inr c) (inr d) =
     absurd (not-before-itself (place x) (before-before (place x) (place y) (place x) (behind place x y xs up d) (behind place y x ys up' c)))
 
 -- what stands behind one first is among those behind the same first
-others-same : {A : Type 0} (place : A → ℕ × ℕ) (z x y : A) (xs ys : List A) → x ≡ y → Ascends place (x ∷ xs) → Contains xs z → (y ≡ z) ⊎ Contains ys z
+others-same : {A : Type 0} (place : A → ℕ × ℕ × ℕ) (z x y : A) (xs ys : List A) → x ≡ y → Ascends place (x ∷ xs) → Contains xs z → (y ≡ z) ⊎ Contains ys z
     → Contains ys z
 others-same {A} place z x y xs ys same up c (inl e) =
     absurd (not-before-itself (place x) (subst (λ (m : A). IsBefore (place x) (place m)) (sym e ∙ sym same) (behind place x z xs up c)))
@@ -128,7 +129,7 @@ contains-none : {A : Type 0} (z : A) → ¬ Contains [] z
 contains-none z (k, within, is) = absurd (omega arith)
 
 -- two lists that ascend and have the same members are one
-pub same-members : {A : Type 0} (place : A → ℕ × ℕ) (xs ys : List A) → Ascends place xs → Ascends place ys
+pub same-members : {A : Type 0} (place : A → ℕ × ℕ × ℕ) (xs ys : List A) → Ascends place xs → Ascends place ys
     → ((z : A) → Contains xs z → Contains ys z) → ((z : A) → Contains ys z → Contains xs z) → xs ≡ ys
 same-members place [] [] up up' there back = refl
 same-members place [] (y ∷ ys) up up' there back = absurd (contains-none y (back y (contains-first y ys)))
@@ -143,7 +144,7 @@ same-members {A} place (x ∷ xs) (y ∷ ys) up up' there back =
     λ i. head i ∷ tails i
 
 -- sorted members in order of places, where as many others that ascend are the same
-pub exactly : {A : Type 0} (place : A → ℕ × ℕ) (members merged given : List A) → IsPermutation members merged → IsSorted place merged
+pub exactly : {A : Type 0} (place : A → ℕ × ℕ × ℕ) (members merged given : List A) → IsPermutation members merged → IsSorted place merged
     → Ascends place given → IsPermutation members given → merged ≡ given
 exactly {A} place members merged given same sorted up all =
     let test : A → A → Bool = λ x y. is_place (place x) (place y) in

@@ -3,27 +3,16 @@ use Rattle.std.proofs.Common.{◌≡◌, ◌≢◌, ◌∙◌, sym, ap, inl, inr
 use Rattle.std.proofs.lemmas.Bool.Decides.{eqb_tells}
 use Rattle.std.proofs.lemmas.List.{length-append}
 use Rattle.std.proofs.lemmas.List.Sums.{sum_by_push}
-use Rattle.scq_collect.specs.declared.answered.Answered.{Answered}
-use Rattle.std.proofs.lemmas.List.Folds.{fold-map}
-use Rattle.std.specs.Prelude.{map}
-use Rattle.scq_collect.specs.Output.{Answer, bytes_on, count_on, without_way}
-use Rattle.scq_collect.specs.Sums.{bytes_in, count_in}
-
--- they are those of the answers without the ways
-pub count-on : (topic : ℕ) (members : List Answered) → count_in topic members ≡ count_on topic (map without_way members)
-count-on topic members = sym (fold-map (λ (s : ℕ) (a : Answer). s + cond (eqb a.topic topic) 1 0) without_way 0 members)
-
-pub bytes-on : (topic : ℕ) (members : List Answered) → bytes_in topic members ≡ bytes_on topic (map without_way members)
-bytes-on topic members = sym (fold-map (λ (s : ℕ) (a : Answer). s + cond (eqb a.topic topic) a.bytes 0) without_way 0 members)
+use Rattle.scq_collect.specs.Output.{Answer, bytes_on, count_on}
 
 -- how many answers are on the topic, with one more
-pub count-push : (members : List Answered) (a : Answered) (topic : ℕ) → count_in topic (members ++ a ∷ []) ≡ count_in topic members + cond (eqb a.topic topic) 1 0
-count-push members a topic = sum_by_push (λ (a : Answered). cond (eqb a.topic topic) 1 0) members a
+pub count-push : (answers : List Answer) (a : Answer) (topic : ℕ) → count_on topic (answers ++ a ∷ []) ≡ count_on topic answers + cond (eqb a.topic topic) 1 0
+count-push answers a topic = sum_by_push (λ (a : Answer). cond (eqb a.topic topic) 1 0) answers a
 
 -- how many bytes they have
-pub bytes-push : (members : List Answered) (a : Answered) (topic : ℕ)
-    → bytes_in topic (members ++ a ∷ []) ≡ bytes_in topic members + cond (eqb a.topic topic) a.bytes 0
-bytes-push members a topic = sum_by_push (λ (a : Answered). cond (eqb a.topic topic) a.bytes 0) members a
+pub bytes-push : (answers : List Answer) (a : Answer) (topic : ℕ)
+    → bytes_on topic (answers ++ a ∷ []) ≡ bytes_on topic answers + cond (eqb a.topic topic) a.bytes 0
+bytes-push answers a topic = sum_by_push (λ (a : Answer). cond (eqb a.topic topic) a.bytes 0) answers a
 
 -- a table of one number for each topic, in which what is added to one of them is added
 pub added : (table : List ℕ) (before after : ℕ → ℕ) (at more : ℕ) → length table ≡ 17 → at < 17 → ((k : ℕ) → k < 17 → get_or table k 0 ≡ before k)
@@ -42,11 +31,11 @@ added table before after at more long within was grows k small = elim (eqb_tells
 ]
 
 -- each answer adds less than 2 ^ 64
-pub bytes-small : (members : List Answered) (a : Answered) (topic : ℕ) → a.bytes ≤ 18446744073709551615
-    → bytes_in topic members ≤ length members * 18446744073709551615
-    → bytes_in topic (members ++ a ∷ []) ≤ length (members ++ a ∷ []) * 18446744073709551615
-bytes-small members a topic few small = at (eqb a.topic topic) (bytes-push members a topic) where
-  at : (b : Bool) → bytes_in topic (members ++ a ∷ []) ≡ bytes_in topic members + cond b a.bytes 0
-      → bytes_in topic (members ++ a ∷ []) ≤ length (members ++ a ∷ []) * 18446744073709551615
-  at true grown = omega (arith, grown, few, small, length-append members (a ∷ []))
-  at false grown = omega (arith, grown, small, length-append members (a ∷ []))
+pub bytes-small : (answers : List Answer) (a : Answer) (topic : ℕ) → a.bytes ≤ 18446744073709551615
+    → bytes_on topic answers ≤ length answers * 18446744073709551615
+    → bytes_on topic (answers ++ a ∷ []) ≤ length (answers ++ a ∷ []) * 18446744073709551615
+bytes-small answers a topic few small = at (eqb a.topic topic) (bytes-push answers a topic) where
+  at : (b : Bool) → bytes_on topic (answers ++ a ∷ []) ≡ bytes_on topic answers + cond b a.bytes 0
+      → bytes_on topic (answers ++ a ∷ []) ≤ length (answers ++ a ∷ []) * 18446744073709551615
+  at true grown = omega (arith, grown, few, small, length-append answers (a ∷ []))
+  at false grown = omega (arith, grown, small, length-append answers (a ∷ []))

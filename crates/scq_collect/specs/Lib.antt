@@ -2,5 +2,6 @@ pub mod Output
 pub mod Judged
 pub mod Collected
 pub mod Merging
+pub mod Joined
 pub mod Sums
 pub mod Pieces

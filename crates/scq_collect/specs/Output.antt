@@ -6,7 +6,8 @@ use Rattle.scq_topics.specs.declared.kind.Kind.{Kind}
 use Rattle.scq_topics.specs.Reply.{reply_of}
 use Rattle.scq_topics.specs.Topics.{topic_of, name_of, kind_of}
 use Rattle.scq_frames.specs.Text.{Framed, messages_of}
-use Rattle.scq_collect.specs.declared.answered.Answered.{Answered}
+use Rattle.scq_collect.specs.declared.whole.AnswerView.{AnswerView}
+use Rattle.scq_collect.specs.declared.whole.Whole.{Whole}
 
 -- the answer to a message: its file and line, its topic's number, how many bytes its payload has, and the reply
 pub record Answer : Type 0 where
@@ -16,9 +17,12 @@ pub record Answer : Type 0 where
   pub bytes : ℕ
   pub reply : List ℕ
 
--- the answer alone, without the way in which a worker came to it
-abbrev pub without_way : Answered → Answer
-without_way a = record { file = a.file; line = a.line; topic = a.topic; bytes = a.bytes; reply = a.reply }
+-- the answer that is kept whole, or whose reply stays where it is
+abbrev pub answer_of_whole : Whole → Answer
+answer_of_whole w = record { file = w.file; line = w.line; topic = w.topic; bytes = w.bytes; reply = w.reply }
+
+abbrev pub answer_of_view : AnswerView → Answer
+answer_of_view v = record { file = v.file; line = v.line; topic = v.topic; bytes = v.bytes; reply = v.reply.now }
 
 -- the answer to a message of this file
 abbrev pub answer_to : List (List ℕ × Kind) → ℕ → Framed → Answer

@@ -1,43 +1,47 @@
-ghost use Rattle.std.specs.Prelude.{◌≡◌, IfOk};
+ghost use Rattle.std.specs.Prelude.{◌≡◌};
+ghost use Rattle.scq_collect.specs.Joined.{answer_of_one, without_way};
+ghost use Rattle.scq_collect.specs.Output.{answer_of_view};
 
+use crate::whole::AnswerView;
 use scq_topics::ReplyBytes;
-use scq_word::NoMemory;
-use std::alloc::Global;
 
-/// How a worker came to answer a message.
+/// How a worker came to answer a part of a message.
 #[derive(Clone, Copy, Debug, PartialEq, Eq)]
 pub enum Way {
-    /// It took the message from its topic's ring, at this place.
+    /// It took the part from its topic's ring, at this place.
     Taken { place: u64 },
-    /// It answered a message of its own file itself, since no buffer was free: with this head of the
-    /// ring of free buffers.
+    /// It answered a part of a message of its own file itself, since no buffer was free: with this head of
+    /// the ring of free buffers.
     Direct { head: u64 },
 }
 
-/// The answer to a message: its file and line, both numbered from 1, its topic's number, how many
-/// bytes its payload has, the reply, and how a worker came to answer it.
+/// The answer to a part of a message: the message's file and line, both numbered from 1, its topic's
+/// number, the part's number, from 1, how many parts the message has, how many bytes the part has, the
+/// text, and how a worker came to answer it. The text is the reply where the message has one part, else
+/// the bytes of the part.
 #[derive(Debug, Drop)]
 pub struct Answered {
     pub file: u32,
     pub line: u32,
     pub topic: u32,
+    pub part: u32,
+    pub parts: u32,
     pub bytes: u64,
-    pub reply: ReplyBytes,
+    pub text: ReplyBytes,
     pub way: Way,
 }
 
 impl Answered {
-    /// A copy. It takes memory only where the reply is a long one.
-    pub fn copy(&self, alloc: Global) -> Result<Answered, NoMemory>
-        ensures { IfOk result (λ copy. copy ≡ self.now) }
+    /// The answer to the message, where this is its one part.
+    pub fn view(&self) -> AnswerView<'_>
+        ensures { answer_of_view result ≡ answer_of_one (without_way self.now) }
     {
-        Ok(Answered {
+        AnswerView {
             file: self.file,
             line: self.line,
             topic: self.topic,
             bytes: self.bytes,
-            reply: ReplyBytes::copy_of(alloc, self.reply.bytes())?,
-            way: self.way,
-        })
+            reply: self.text.bytes(),
+        }
     }
 }

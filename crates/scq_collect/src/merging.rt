@@ -1,39 +1,55 @@
-ghost use Rattle.std.specs.Prelude.{◌≡◌, List, ℕ, map, IfOk};
+ghost use Rattle.std.specs.Prelude.{◌≡◌, ◌<◌, ◌≤◌, List, ℕ, length, map, IfOk};
+ghost use Rattle.std.specs.List.{All};
 ghost use Rattle.std.specs.List.Sorted.{IsPermutation};
-ghost use Rattle.scq_topics.specs.declared.kind.Kind.{Kind as TheKind};
 ghost use Rattle.scq_collect.specs.declared.answered.Answered.{Answered as TheAnswered};
-ghost use Rattle.scq_collect.specs.Merging.{AreApart, IsInOrder, IsMerged, members_in, place_of_answered};
-ghost use Rattle.scq_collect.specs.Output.{answers_to, without_way};
+ghost use Rattle.scq_collect.specs.Collected.{messages_to};
+ghost use Rattle.scq_collect.specs.Joined.{AreWhole, IsJoined, answers_of, part_answers, plain, without_way};
+ghost use Rattle.scq_collect.specs.Merging.{IsInOrder, members_in, place_of_answer, place_of_part};
+ghost use Rattle.scq_collect.specs.Output.{answer_of_whole, answers_to};
 
-use crate::Answered;
+use crate::joining::whole_of;
+use crate::messages::message_end;
 use crate::ordering::ordered;
+use crate::{Answered, Whole};
+use scq_topics::Topics;
 use scq_word::NoMemory;
 use std::alloc::Global;
 
-/// Copies of the members of all lists, in order of file and line. The members of a list may stand in
-/// any order.
-pub fn merge(alloc: Global, lists: &[Vec<Answered>]) -> Result<Vec<Answered>, NoMemory>
-    ensures merged { IfOk result (λ all. IsMerged place_of_answered (members_in lists.now) all.items) }
-    ensures in_order { AreApart place_of_answered (members_in lists.now) → IfOk result (λ all. IsInOrder place_of_answered all.items) }
+/// The answers to the messages whose parts stand in the lists, in order of file and line. The members of
+/// a list may stand in any order.
+pub fn merge(
+    alloc: Global,
+    topics: &Topics,
+    lists: &[Vec<Answered>],
+) -> Result<Vec<Whole>, NoMemory>
+    requires { All (λ a. a.topic ≤ length topics.now) (members_in lists.now) }
+    ensures joined { IfOk result (λ wholes. IsJoined topics.now (members_in lists.now) (map answer_of_whole wholes.items)) }
+
+    // Where all parts of each message are there, each message stands once.
+    ensures in_order { AreWhole (members_in lists.now) → IfOk result (λ wholes. IsInOrder place_of_answer (map answer_of_whole wholes.items)) }
 
     // However the members are divided into lists, what is made of them is the same.
-    ensures exact { (given : List TheAnswered) → IsInOrder place_of_answered given → IsPermutation (members_in lists.now) given
-        → IfOk result (λ all. all.items ≡ given) }
-    ensures one_thread { (topics : List (List ℕ × TheKind)) (contents : List (List ℕ))
-        → IsPermutation (map without_way (members_in lists.now)) (answers_to topics 1 contents)
-        → IfOk result (λ all. map without_way all.items ≡ answers_to topics 1 contents) }
+    ensures exact { (given : List TheAnswered) → IsInOrder place_of_part given → IsPermutation (members_in lists.now) given
+        → IfOk result (λ wholes. map answer_of_whole wholes.items ≡ answers_of topics.now (map without_way given)) }
+    ensures one_thread { (size : ℕ) (contents : List (List ℕ)) → 0 < size
+        → IsPermutation (map without_way (members_in lists.now)) (part_answers topics.now size (messages_to topics.now 1 contents))
+        → IfOk result (λ wholes. map answer_of_whole wholes.items ≡ answers_to topics.now 1 contents) }
 {
     let members = ordered(alloc, lists)?;
-    copies_of(alloc, members.as_slice())
+    wholes_of(alloc, topics, members.as_slice())
 }
 
-/// Copies of members, in their order.
-fn copies_of(alloc: Global, members: &[&Answered]) -> Result<Vec<Answered>, NoMemory>
-    ensures { IfOk result (λ copies. copies.items ≡ map (λ m. m.now) members.now) }
+/// The answers to the messages of parts that stand in order.
+fn wholes_of(alloc: Global, topics: &Topics, members: &[&Answered]) -> Result<Vec<Whole>, NoMemory>
+    requires { All (λ m. m.now.topic ≤ length topics.now) members.now }
+    ensures { IfOk result (λ wholes. map answer_of_whole wholes.items ≡ answers_of topics.now (plain members.now)) }
 {
-    let mut copies = Vec::with_capacity(alloc, members.len())?;
-    'members: for member in members {
-        copies.push_reserved(member.copy(alloc)?);
+    let mut wholes = Vec::new(alloc);
+    let mut at = 0;
+    'messages: while at < members.len() {
+        let end = message_end(members, at);
+        wholes.push(whole_of(alloc, topics, &members[at..end])?)?;
+        at = end;
     }
-    Ok(copies)
+    Ok(wholes)
 }

@@ -1,16 +1,20 @@
 //! The text of what several workers answered, made where the answers lie, in pieces, by several threads.
-ghost use Rattle.std.specs.Prelude.{◌≡◌, ℕ, ◌+◌, ◌*◌, ◌/◌, ◌%◌, ◌≤◌, ◌<◌, List, length, map, min, take, drop, slice_index_or, IfOk};
+ghost use Rattle.std.specs.Prelude.{◌≡◌, ℕ, ◌+◌, ◌<◌, ◌≤◌, ◌^◌, List, length, map, flat_map, slice_index_or, IfOk};
 ghost use Rattle.std.specs.List.{All};
 ghost use Rattle.std.specs.List.Sorted.{IsPermutation};
-ghost use Rattle.scq_collect.specs.declared.answered.Answered.{Answered as TheAnswered};
-ghost use Rattle.scq_collect.specs.Merging.{IsMerged, members_in, place_of_answered};
-ghost use Rattle.scq_collect.specs.Output.{answers_to, one_thread_output, text_of_answers, without_way};
-ghost use Rattle.scq_collect.specs.Pieces.{IsPieceOf, bytes_of};
+ghost use Rattle.scq_collect.specs.Collected.{messages_to};
+ghost use Rattle.scq_collect.specs.Joined.{IsJoined, answers_of, messages_in_order, part_answers, plain, without_way};
+ghost use Rattle.scq_collect.specs.Merging.{members_in};
+ghost use Rattle.scq_collect.specs.Output.{Answer, answer_of_view, one_thread_output, text_of_answers};
+ghost use Rattle.scq_collect.specs.Pieces.{ArePiecesOf, IsPieceOf, all_answers, bytes_of};
 
 use crate::Answered;
+use crate::joining::whole_of;
+use crate::messages::{message_end, piece_end};
 use crate::ordering::ordered;
 use crate::text::{push_all_totals, push_line};
 use crate::totals::Totals;
+use crate::whole::AnswerView;
 use scq_topics::Topics;
 use scq_word::NoMemory;
 use std::alloc::Global;
@@ -18,7 +22,7 @@ use std::marker::Model;
 use std::thread;
 use std::thread::Threads;
 
-/// How many answers a piece has at least, where it isn't the last.
+/// How many parts a piece has at least, where it isn't the last.
 const LEAST: usize = 1 << 14;
 
 /// Lines for some answers, and their totals.
@@ -52,8 +56,9 @@ impl Text {
     }
 }
 
-/// The text that `output` makes of what `merge` gives, in pieces to be written one behind the other. No answer is copied, and
-/// about so many threads make the pieces. It fails only for want of memory.
+/// The text that `output` makes of what `merge` gives, in pieces to be written one behind the other. No answer of one part is copied,
+/// the texts of a message's parts are joined while its line is made, and about so many threads make the pieces. It fails only for want
+/// of memory.
 pub fn output_in_pieces<R: Threads + Sync>(
     rt: &R,
     alloc: Global,
@@ -62,45 +67,125 @@ pub fn output_in_pieces<R: Threads + Sync>(
     threads: u32,
 ) -> Result<Text, NoMemory>
     requires { All (λ a. a.topic ≤ length topics.now) (members_in lists.now) }
-    ensures text { IfOk result (λ text. (all : List TheAnswered) × IsMerged place_of_answered (members_in lists.now) all
-        × (text ≡ text_of_answers topics.now (map without_way all))) }
+    ensures text { IfOk result (λ text. (answers : List Answer) × IsJoined topics.now (members_in lists.now) answers
+        × (text ≡ text_of_answers topics.now answers)) }
 
-    // However the answers to all messages of files are divided into lists, the pieces are the output of one thread.
-    ensures one_thread { (contents : List (List ℕ)) → IsPermutation (map without_way (members_in lists.now)) (answers_to topics.now 1 contents)
+    // However the answers to all parts of the messages of files are divided into lists, the pieces are the output of one thread.
+    ensures one_thread { (size : ℕ) (contents : List (List ℕ)) → 0 < size
+        → IsPermutation (map without_way (members_in lists.now)) (part_answers topics.now size (messages_to topics.now 1 contents))
         → IfOk result (λ text. text ≡ one_thread_output topics.now contents) }
 {
     let numbers = topics.len() + 1;
     let all = ordered(alloc, lists)?;
-    let size = size_of_piece(all.len(), threads);
-    let piece = |_: usize, members: &[&Answered]| -> Result<Piece, NoMemory>
-        requires { (length topics.now ≤ 16) × All (λ m. m.now.topic ≤ length topics.now) members.now }
-        ensures { IfOk result (λ p. IsPieceOf topics.entry.now (map (λ m. m.now) members.entry.now) p) }
-    { piece_of(alloc, topics, members) };
-    let pieces = thread::map_chunks(rt, alloc, all.as_slice(), size, &piece)?;
-    let pieces = joined(alloc, topics, numbers, all.as_slice(), size, pieces)?;
+    let cuts = cuts_of(alloc, all.as_slice(), size_of_piece(all.len(), threads))?;
+    let pieces = pieces_of(rt, alloc, topics, cuts.as_slice())?;
+    let pieces = joined(alloc, topics, numbers, pieces)?;
     Ok(Text { pieces })
 }
 
-/// How many answers a piece has, where threads make as many pieces.
+/// How many parts a piece has at least, where there are to be at most as many pieces as threads.
 fn size_of_piece(count: usize, threads: u32) -> usize
     ensures { 0 < result }
 {
     count.div_ceil((threads as usize).max(1)).max(LEAST)
 }
 
-/// The lines for these answers, and their totals.
+/// Members in order, cut into pieces of about this size, where no message is cut.
+fn cuts_of<'m, 'a>(
+    alloc: Global,
+    all: &'m [&'a Answered],
+    size: usize,
+) -> Result<Vec<&'m [&'a Answered]>, NoMemory>
+    requires { 0 < size }
+    ensures all { IfOk result (λ cuts. flat_map (λ cut. cut.now) cuts.items ≡ all.now) }
+    ensures messages { IfOk result (λ cuts. flat_map (λ cut. messages_in_order (plain cut.now)) cuts.items ≡ messages_in_order (plain all.now)) }
+{
+    let mut cuts = Vec::new(alloc);
+    let mut at = 0;
+    'cuts: while at < all.len() {
+        let end = piece_end(all, at, size);
+        cuts.push(&all[at..end])?;
+        at = end;
+    }
+    Ok(cuts)
+}
+
+/// The pieces of these cuts, each made by a thread of its own.
+fn pieces_of<R: Threads + Sync>(
+    rt: &R,
+    alloc: Global,
+    topics: &Topics,
+    cuts: &[&[&Answered]],
+) -> Result<Vec<Result<Piece, NoMemory>>, NoMemory>
+    requires topics { length topics.now ≤ 16 }
+    requires known { All (λ cut. All (λ m. m.now.topic ≤ length topics.now) cut.now) cuts.now }
+    requires few { length (all_answers (map (λ cut. answers_of topics.now (plain cut.now)) cuts.now)) < 2 ^ 64 }
+    ensures { IfOk result (λ pieces. ArePiecesOf topics.now (map (λ cut. answers_of topics.now (plain cut.now)) cuts.now) pieces.items) }
+{
+    let piece = |n: usize| -> Result<Piece, NoMemory>
+        requires { (n < length cuts.now) × (length topics.now ≤ 16) × All (λ cut. All (λ m. m.now.topic ≤ length topics.now) cut.now) cuts.now }
+        ensures { (d : _) → IfOk result (λ p. IsPieceOf topics.entry.now (answers_of topics.entry.now (plain (slice_index_or cuts.entry.now n d).now)) p) }
+    { piece_of(alloc, topics, cuts[n]) };
+    let pieces = thread::map_indices(rt, alloc, cuts.len(), &piece)?;
+    Ok(pieces)
+}
+
+/// The lines for the messages of these parts, and their totals.
 fn piece_of(alloc: Global, topics: &Topics, members: &[&Answered]) -> Result<Piece, NoMemory>
     requires few { length topics.now ≤ 16 }
     requires known { All (λ m. m.now.topic ≤ length topics.now) members.now }
-    ensures { IfOk result (λ p. IsPieceOf topics.now (map (λ m. m.now) members.now) p) }
+    ensures { IfOk result (λ p. IsPieceOf topics.now (answers_of topics.now (plain members.now)) p) }
 {
-    let mut text = Vec::new(alloc);
-    let mut totals = Totals::none();
-    'members: for member in members {
-        push_line(&mut text, topics, member)?;
-        totals.count(member);
+    let mut piece = Piece {
+        text: Vec::new(alloc),
+        totals: Totals::none(),
+    };
+    let mut at = 0;
+    'messages: while at < members.len() {
+        let end = message_end(members, at);
+        piece.push_message(alloc, topics, &members[at..end])?;
+        at = end;
     }
-    Ok(Piece { text, totals })
+    Ok(piece)
+}
+
+impl Piece {
+    ghost use Rattle.std.specs.Prelude.{◌++◌, [], ◌∷◌, OnOk};
+    ghost use Rattle.scq_collect.specs.Joined.{joined as the_joined};
+
+    /// Adds the line for the message of these parts, and counts the message.
+    fn push_message(
+        &mut self,
+        alloc: Global,
+        topics: &Topics,
+        parts: &[&Answered],
+    ) -> Result<(), NoMemory>
+        requires some { 0 < length parts.now }
+        requires few { length topics.now ≤ 16 }
+        requires known { All (λ m. m.now.topic ≤ length topics.now) parts.now }
+        requires room { (answers : List Answer) × IsPieceOf topics.now answers self.old × (length answers + 1 < 2 ^ 64) }
+        ensures { (answers : List Answer) → IsPieceOf topics.now answers self.old
+            → OnOk result (IsPieceOf topics.now (answers ++ the_joined topics.now (plain parts.now) ∷ []) self.new) }
+    {
+        if parts.len() == 1 {
+            return self.push(topics, &parts[0].view());
+        }
+        let whole = whole_of(alloc, topics, parts)?;
+        self.push(topics, &whole.view())
+    }
+
+    /// Adds the line for an answer, and counts it.
+    fn push(&mut self, topics: &Topics, answer: &AnswerView<'_>) -> Result<(), NoMemory>
+        requires few { length topics.now ≤ 16 }
+        requires known { answer.now.topic ≤ length topics.now }
+        requires room { (answers : List Answer) × IsPieceOf topics.now answers self.old × (length answers + 1 < 2 ^ 64) }
+        ensures { (answers : List Answer) → IsPieceOf topics.now answers self.old
+            → OnOk result (IsPieceOf topics.now (answers ++ answer_of_view answer.now ∷ []) self.new) }
+    {
+        push_line(&mut self.text, topics, answer)?;
+        self.totals.count(answer);
+        Ok(())
+    }
 }
 
 /// The texts of the pieces of these answers, and behind them that of the totals.
@@ -108,16 +193,12 @@ fn joined(
     alloc: Global,
     topics: &Topics,
     numbers: u32,
-    all: &[&Answered],
-    size: usize,
     pieces: Vec<Result<Piece, NoMemory>>,
 ) -> Result<Vec<Vec<u8>>, NoMemory>
     requires numbers { (numbers ≡ length topics.now + 1) × (numbers ≤ 17) }
-    requires size { 0 < size }
-    requires count { length pieces.items ≡ length all.now / size + min 1 (length all.now % size) }
-    requires pieces { (n : ℕ) (d : _) → n < length pieces.items
-        → IfOk (slice_index_or pieces.items n d) (λ p. IsPieceOf topics.now (map (λ m. m.now) (take size (drop (n * size) all.now))) p) }
-    ensures { IfOk result (λ texts. bytes_of texts.items ≡ text_of_answers topics.now (map (λ m. without_way m.now) all.now)) }
+    requires pieces { (lists : List (List Answer)) × ArePiecesOf topics.now lists pieces.items }
+    ensures { (lists : List (List Answer)) → ArePiecesOf topics.now lists pieces.items
+        → IfOk result (λ texts. bytes_of texts.items ≡ text_of_answers topics.now (all_answers lists)) }
 {
     let mut texts = Vec::with_capacity(alloc, pieces.len())?;
     let mut totals = Totals::none();

@@ -1,11 +1,11 @@
 ghost use Rattle.std.specs.Prelude.{◌≡◌, ℕ, ◌+◌, ◌<◌, ◌≤◌, ◌++◌, List, length, map, slice_index, codes, decimal, IfOk, OnOk};
 ghost use Rattle.std.specs.List.{All};
-ghost use Rattle.scq_collect.specs.declared.answered.Answered.{Answered as TheAnswered};
 ghost use Rattle.scq_collect.specs.Sums.{AreTotals};
-ghost use Rattle.scq_collect.specs.Output.{Answer, answers_to, count_on, bytes_on, one_thread_output, reply_line, text_of_answers, total_line, total_lines, without_way};
+ghost use Rattle.scq_collect.specs.Output.{Answer, answers_to, count_on, bytes_on, one_thread_output, reply_line, text_of_answers, total_line, total_lines, answer_of_view, answer_of_whole};
 
-use crate::Answered;
+use crate::Whole;
 use crate::totals::{Totals, totals_of};
+use crate::whole::AnswerView;
 use itoa::{Buffer, write_digits};
 use scq_topics::Topics;
 use scq_word::{Bytes, NoMemory};
@@ -16,31 +16,27 @@ const MOST_POSITION: usize = 22;
 
 /// The text of the answers: a line for each, in their order, and then a line of totals for each
 /// declared topic and for all others together. It fails only for want of memory.
-pub fn output(alloc: Global, topics: &Topics, answered: &[Answered]) -> Result<Bytes, NoMemory>
-    requires { All (λ a. a.topic ≤ length topics.now) answered.now }
-    ensures text { IfOk result (λ bytes. bytes ≡ text_of_answers topics.now (map without_way answered.now)) }
-    ensures one_thread { (contents : List (List ℕ)) → map without_way answered.now ≡ answers_to topics.now 1 contents
+pub fn output(alloc: Global, topics: &Topics, wholes: &[Whole]) -> Result<Bytes, NoMemory>
+    requires { All (λ a. a.topic ≤ length topics.now) wholes.now }
+    ensures text { IfOk result (λ bytes. bytes ≡ text_of_answers topics.now (map answer_of_whole wholes.now)) }
+    ensures one_thread { (contents : List (List ℕ)) → map answer_of_whole wholes.now ≡ answers_to topics.now 1 contents
         → IfOk result (λ bytes. bytes ≡ one_thread_output topics.now contents) }
 {
     let mut text = Vec::new(alloc);
-    for member in answered {
-        push_line(&mut text, topics, member)?;
+    for whole in wholes {
+        push_line(&mut text, topics, &whole.view())?;
     }
-    push_totals(&mut text, topics, answered)?;
+    push_totals(&mut text, topics, wholes)?;
     Ok(Bytes::from(text))
 }
 
 /// Adds the totals of the answers: a line for each declared topic, and one for all others together.
-pub fn push_totals(
-    text: &mut Vec<u8>,
-    topics: &Topics,
-    answered: &[Answered],
-) -> Result<(), NoMemory>
-    requires { All (λ a. a.topic ≤ length topics.now) answered.now }
-    ensures { OnOk result (text.new.items ≡ text.old.items ++ total_lines topics.now (map without_way answered.now)) }
+pub fn push_totals(text: &mut Vec<u8>, topics: &Topics, wholes: &[Whole]) -> Result<(), NoMemory>
+    requires { All (λ a. a.topic ≤ length topics.now) wholes.now }
+    ensures { OnOk result (text.new.items ≡ text.old.items ++ total_lines topics.now (map answer_of_whole wholes.now)) }
 {
     let numbers = topics.len() + 1;
-    push_all_totals(text, topics, numbers, &totals_of(answered))
+    push_all_totals(text, topics, numbers, &totals_of(wholes))
 }
 
 /// Adds the lines for these totals, of so many topics with that of all others.
@@ -51,8 +47,8 @@ pub fn push_all_totals(
     totals: &Totals,
 ) -> Result<(), NoMemory>
     requires numbers { (numbers ≡ length topics.now + 1) × (numbers ≤ 17) }
-    ensures { (members : List TheAnswered) → AreTotals totals.now members
-        → OnOk result (text.new.items ≡ text.old.items ++ total_lines topics.now (map without_way members)) }
+    ensures { (answers : List Answer) → AreTotals totals.now answers
+        → OnOk result (text.new.items ≡ text.old.items ++ total_lines topics.now answers) }
 {
     for topic in 0..numbers {
         push_total(text, topics, topic, totals)?;
@@ -61,14 +57,18 @@ pub fn push_all_totals(
 }
 
 /// Adds the line for an answer: `file:line topic reply`.
-pub fn push_line(text: &mut Vec<u8>, topics: &Topics, member: &Answered) -> Result<(), NoMemory>
-    requires { member.now.topic ≤ length topics.now }
-    ensures { OnOk result (text.new.items ≡ text.old.items ++ reply_line topics.now (without_way member.now)) }
+pub fn push_line(
+    text: &mut Vec<u8>,
+    topics: &Topics,
+    answer: &AnswerView<'_>,
+) -> Result<(), NoMemory>
+    requires { answer.now.topic ≤ length topics.now }
+    ensures { OnOk result (text.new.items ≡ text.old.items ++ reply_line topics.now (answer_of_view answer.now)) }
 {
-    push_position(text, member.file, member.line)?;
-    text.extend_from_slice(topics.name(member.topic))?;
+    push_position(text, answer.file, answer.line)?;
+    text.extend_from_slice(topics.name(answer.topic))?;
     text.extend_from_slice(b" ")?;
-    text.extend_from_slice(member.reply.bytes())?;
+    text.extend_from_slice(answer.reply)?;
     text.extend_from_slice(b"\n")?;
     Ok(())
 }

@@ -1,8 +1,10 @@
-ghost use Rattle.std.specs.Prelude.{◌≡◌, ◌<◌, ◌≤◌};
+ghost use Rattle.std.specs.Prelude.{◌≡◌, ◌<◌, ◌≤◌, map};
 ghost use Rattle.std.specs.List.{All};
+ghost use Rattle.scq_collect.specs.Output.{answer_of_whole};
 ghost use Rattle.scq_collect.specs.Sums.{AreTotals};
 
-use crate::Answered;
+use crate::Whole;
+use crate::whole::AnswerView;
 
 /// The most numbers that topics have: 16 declared ones, and one for all others.
 pub const MOST_NUMBERS: usize = 17;
@@ -17,7 +19,7 @@ pub struct Totals {
 
 impl Totals {
     ghost use Rattle.std.specs.Prelude.{◌++◌, [], ◌∷◌, ◌+◌, ◌<◌, ◌^◌, List, length};
-    ghost use Rattle.scq_collect.specs.declared.answered.Answered.{Answered as TheAnswered};
+    ghost use Rattle.scq_collect.specs.Output.{Answer, answer_of_view};
 
     /// Those of no answers.
     pub fn none() -> Totals
@@ -30,20 +32,20 @@ impl Totals {
     }
 
     /// Counts one answer more.
-    pub fn count(&mut self, member: &Answered)
-        requires known { member.now.topic < 17 }
-        requires room { (members : List TheAnswered) × AreTotals self.old members × (length members + 1 < 2 ^ 64) }
-        ensures { (members : List TheAnswered) → AreTotals self.old members → AreTotals self.new (members ++ member.now ∷ []) }
+    pub fn count(&mut self, answer: &AnswerView<'_>)
+        requires known { answer.now.topic < 17 }
+        requires room { (answers : List Answer) × AreTotals self.old answers × (length answers + 1 < 2 ^ 64) }
+        ensures { (answers : List Answer) → AreTotals self.old answers → AreTotals self.new (answers ++ answer_of_view answer.now ∷ []) }
     {
-        let topic = member.topic as usize;
+        let topic = answer.topic as usize;
         self.counts[topic] += 1;
-        self.bytes[topic] += wide(member.bytes);
+        self.bytes[topic] += wide(answer.bytes);
     }
 
     /// Counts what others counted.
     pub fn add(&mut self, others: &Totals)
-        requires room { (members more : List TheAnswered) × AreTotals self.old members × AreTotals others.now more × (length members + length more < 2 ^ 64) }
-        ensures { (members more : List TheAnswered) → AreTotals self.old members → AreTotals others.now more → AreTotals self.new (members ++ more) }
+        requires room { (answers more : List Answer) × AreTotals self.old answers × AreTotals others.now more × (length answers + length more < 2 ^ 64) }
+        ensures { (answers more : List Answer) → AreTotals self.old answers → AreTotals others.now more → AreTotals self.new (answers ++ more) }
     {
         for topic in 0..MOST_NUMBERS {
             self.counts[topic] += others.counts[topic];
@@ -53,13 +55,13 @@ impl Totals {
 }
 
 /// The totals of all topics, in one pass.
-pub fn totals_of(answered: &[Answered]) -> Totals
-    requires { All (λ a. a.topic < 17) answered.now }
-    ensures { AreTotals result answered.now }
+pub fn totals_of(wholes: &[Whole]) -> Totals
+    requires { All (λ w. w.topic < 17) wholes.now }
+    ensures { AreTotals result (map answer_of_whole wholes.now) }
 {
     let mut totals = Totals::none();
-    for member in answered {
-        totals.count(member);
+    for whole in wholes {
+        totals.count(&whole.view());
     }
     totals
 }

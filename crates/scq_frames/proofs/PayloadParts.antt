@@ -1,14 +1,12 @@
 -- The parts of a payload.
-use Rattle.std.proofs.Common.{◌≡◌, ◌<◌, ◌≤◌, ℕ, ◌+◌, ◌*◌, List, length, take, drop, ◌∙◌, ap, ⊎_elim, arith}
+use Rattle.std.proofs.Common.{◌≡◌, ◌<◌, ◌≤◌, ℕ, ◌+◌, ◌*◌, List, length, ⊎_elim, arith}
 use Rattle.std.specs.Prelude.{max}
 use Rattle.std.specs.Int.{div_ceil}
 use Rattle.std.proofs.Math.Nat.{add-mul, mul-le-mul_right}
 use Rattle.std.proofs.lemmas.Bool.{cases_lt}
 use Rattle.std.proofs.lemmas.Nat.{mul-le}
 use Rattle.std.proofs.lemmas.Grind.{div_ceil_times}
-use Rattle.std.proofs.lemmas.List.{take_all}
-use Rattle.scq_frames.specs.declared.message.Message.{Message}
-use Rattle.scq_frames.specs.Parts.{Part, parts_of, part_bytes, part_of, whole_of}
+use Rattle.scq_frames.specs.Parts.{parts_of}
 
 -- a payload has no more parts than bytes, but for an empty one
 pub few-parts : (size : ℕ) (payload : List ℕ) → 0 < size → parts_of size payload ≤ max 1 (length payload)
@@ -23,26 +21,3 @@ few-parts size payload some =
     let least : len * 1 ≤ len * size = mul-le len 1 len size (omega arith) (omega (arith, some)) in
     absurd (omega (arith, up, split, least, bounds.1)))
     (λ (h : count ≤ len). omega (arith, h)) (cases_lt len count)
-
-with_parts : Message → ℕ → List ℕ → Part
-with_parts m parts payload = record { file = m.file; line = m.line; topic = m.topic; part = 1; parts = parts; payload = payload }
-
--- a payload that fits one part is one
-pub one-part : (size : ℕ) (m : Message) → 0 < size → length m.payload ≤ size → (parts_of size m.payload ≡ 1) × (part_of size m 1 ≡ whole_of m)
-unfolding with_parts
-one-part size m some fits =
-    let len = length m.payload in
-    let count : ℕ = div_ceil len size in
-    let bounds = div_ceil_times len size some in
-    let few : count < 2 =
-    ⊎_elim (λ (h : count < 2). h)
-    (λ (h : 2 ≤ count).
-    let up : 2 * size ≤ count * size = mul-le-mul_right size h in
-    absurd (omega (arith, up, bounds.1, fits))) (cases_lt count 2) in
-    let one : max 1 count ≡ 1 = omega (arith, few) in
-    let none : 0 * size ≡ 0 = omega arith in
-    let bytes : part_bytes size 1 m.payload ≡ m.payload =
-    ap (λ (k : ℕ). take size (drop k m.payload)) none ∙ take_all size m.payload fits in (
-      one,
-      ap (λ (n : ℕ). with_parts m n (part_bytes size 1 m.payload)) one ∙ ap (with_parts m 1) bytes,
-    )

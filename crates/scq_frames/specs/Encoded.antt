@@ -10,7 +10,8 @@ message_bytes p =
     big_bytes 4 p.file ++ big_bytes 4 p.line ++ big_bytes 4 p.topic ++ big_bytes 4 (length p.payload) ++ big_bytes 4 p.part ++ big_bytes 4 p.parts
     ++ p.payload
 
--- it is one of its parts, and the numbers fit 32 bits: those of every message do, where its payload is below 2 ^ 32 bytes
+-- its number is at least 1 and at most the number of parts, and all its numbers fit 32 bits. So it is of each part of a message whose payload
+-- has fewer than 2 ^ 32 bytes.
 pub record IsEncodable (p : Part) : Type 0 where
   pub file : p.file < 2 ^ 32
   pub line : p.line < 2 ^ 32

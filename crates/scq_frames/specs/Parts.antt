@@ -14,7 +14,7 @@ pub record Part : Type 0 where
   pub parts : ℕ
   pub payload : List ℕ
 
--- its number is that of one of so many parts
+-- a part's number: at least 1, and at most how many there are
 pub record IsNumbered (part parts : ℕ) : Type 0 where
   pub first : 0 < part
   pub last : part ≤ parts
@@ -41,11 +41,3 @@ part_of size m part = record {
 -- all parts of a message, in order
 abbrev pub all_parts : ℕ → Message → List Part
 all_parts size m = map (part_of size m) (range_with_len 1 (parts_of size m.payload))
-
--- a message that is one part
-abbrev pub whole_of : Message → Part
-whole_of m = record { file = m.file; line = m.line; topic = m.topic; part = 1; parts = 1; payload = m.payload }
-
--- a part as a message of its own
-abbrev pub message_of : Part → Message
-message_of p = record { file = p.file; line = p.line; topic = p.topic; payload = p.payload }

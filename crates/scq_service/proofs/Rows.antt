@@ -30,7 +30,7 @@ row-failed : fault_line (ReadFault 12) ≡ codes "file 12: read fault\n"
 unfolding digits
 row-failed = refl
 
-row-long : fault_line (TooLong 1 1 65537 65536) ≡ codes "file 1 line 1: payload of 65537 bytes, limit 65536\n"
+row-long : fault_line (TooLong 1 1 1048577 1048576) ≡ codes "file 1 line 1: payload of 1048577 bytes, limit 1048576\n"
 unfolding digits
 row-long = refl
 

@@ -6,8 +6,9 @@ use Rattle.std.specs.List.Sorted.{IsPermutation}
 use Rattle.scq_block.specs.declared.frame.Frame.{Frame}
 use Rattle.scq_queue.specs.Passes.{PassStanding}
 use Rattle.scq_frames.specs.declared.message.Message.{Message}
+use Rattle.scq_collect.specs.Collected.{messages_to}
+use Rattle.scq_collect.specs.Joined.{part_answers, without_way}
 use Rattle.scq_collect.specs.Merging.{members_in}
-use Rattle.scq_collect.specs.Output.{answers_to, without_way}
 use Rattle.scq_self.specs.Generated.{generated, self_topics}
 use Rattle.scq_topics.specs.declared.kind.Kind.{Kind}
 use Rattle.scq_words.specs.Asked.{Asked}
@@ -18,7 +19,7 @@ use Rattle.scq_work.specs.Ends.{AreGiven, all_left, messages_in}
 use Rattle.scq_work.specs.Reading as reading
 use Rattle.scq_work.specs.declared.worked.Worked.{Worked}
 use Rattle.scq_service.specs.Contents.{IfVisible, without_names}
-use Rattle.scq_service.specs.Ends.{Left, IsUnchanged, IfTold, HasMissed}
+use Rattle.scq_service.specs.Ends.{Left, IsUnchanged, IfTold, HasMissed, most_payload}
 use Rattle.scq_service.specs.declared.fault.Fault.{Fault}
 use Rattle.scq_service.specs.declared.fault.Fault.TheVariants.{WriteFault, NoMemory}
 
@@ -54,21 +55,23 @@ pub record HaveGiven {S : Type 0} (topics : List (List ℕ × Kind)) (size : ℕ
       → reading.IsWhole size faults end_count left (slice_index_or got k d) (slice_index_or r.sources k d)
   pub gave : AreGiven topics size left 1 got given
 
--- so many workers answered such messages, which are those of the contents where these were told
-abbrev pub IsWork : {S : Type 0} → List (List ℕ × Kind) → ℕ → ℕ → (S → ℕ) → (S → ℕ) → (S → Option (List ℕ)) → List S → Left S → Option Worked → Type 0
-IsWork topics size workers faults end_count left got r worked =
-    IfSome worked (λ w. (given : List (List Message)) × HaveGiven topics size faults end_count left got r given × HasWorked topics size workers given w)
+-- so many workers answered such messages, with payloads of at most `longest` bytes in parts of at most `size`, which are those of the contents where
+-- these were told
+abbrev pub IsWork : {S : Type 0} → List (List ℕ × Kind) → ℕ → ℕ → ℕ → (S → ℕ) → (S → ℕ) → (S → Option (List ℕ)) → List S → Left S → Option Worked → Type 0
+IsWork topics size longest workers faults end_count left got r worked =
+    IfSome worked (λ w. (given : List (List Message)) × HaveGiven topics longest faults end_count left got r given × HasWorked topics size workers given w)
 
--- the answers in all lists are those of one thread to the contents, where these were told
-abbrev pub IsOfOneThread : {S : Type 0} → List (List ℕ × Kind) → (S → Option (List ℕ)) → List S → Option Worked → Type 0
-IsOfOneThread topics left got worked =
-    IfSome worked (λ w. IfTold left got (λ contents. IsPermutation (map without_way (members_in w.answered.items)) (answers_to topics 1 contents)))
+-- the answers in all lists are those to all parts of the messages of the contents, each once, where these were told
+abbrev pub AreOfParts : {S : Type 0} → List (List ℕ × Kind) → ℕ → (S → Option (List ℕ)) → List S → Option Worked → Type 0
+AreOfParts topics size left got worked =
+    IfSome worked (λ w. IfTold left got (λ contents.
+    IsPermutation (map without_way (members_in w.answered.items)) (part_answers topics size (messages_to topics 1 contents))))
 
--- what workers answered in a run that is asked for this; another run has no workers. A generated file has payloads of at most 2^16 bytes.
+-- what workers answered in a run that is asked for this; another run has no workers. Parts of a generated file have at most 2^16 bytes.
 abbrev pub WorkedAs : {S : Type 0} → (S → ℕ) → (S → ℕ) → (S → Option (List ℕ)) → Result Asked WordsFault → List S → Left S → Option Fault → Option Worked
     → Type 0
 WorkedAs faults end_count left (Ok (asks.run a)) got r end worked =
-    WorkedAt end worked × IsWorkOf a.topics a.size a.workers left got worked × IsWork a.topics a.size a.workers faults end_count left got r worked
+    WorkedAt end worked × IsWorkOf a.topics a.size a.workers left got worked × IsWork a.topics a.size most_payload a.workers faults end_count left got r worked
 WorkedAs faults end_count left (Ok (asks.generated a)) got r end worked =
     WorkedAt end worked × IfSome worked (λ w. HasWorked self_topics (2 ^ 16) a.workers (messages_in self_topics 1 (generated a.seed a.lines ∷ [])) w)
 WorkedAs faults end_count left asked got r end worked = worked ≡ None

@@ -72,6 +72,10 @@ pub record HasGot {S : Type 0} (faults : S → ℕ) (left : S → Option (List �
 abbrev pub HasFault : {S : Type 0} → ℕ → (S → ℕ) → (S → Option (List ℕ)) → List S → Left S → Option Fault → Type 0
 HasFault size faults left got r fault = IfTold left got (λ contents. first_file_fault size faults left 1 contents r.sources ≡ fault)
 
+-- how many bytes a payload may have
+abbrev pub most_payload : ℕ
+most_payload = 2 ^ 20
+
 -- so many sources were read to their ends: each answered its end once since it was got, and just once
 abbrev pub AreReadOut : {S : Type 0} → (S → ℕ) → ℕ → List S → Left S → Type 0
 AreReadOut {S} end_count count got r = (k : ℕ) (d : S) → k < count → Rose (end_count (slice_index_or got k d)) (end_count (slice_index_or r.sources k d))
@@ -270,7 +274,7 @@ IsClosed r = IsUnchanged r.table × IsUnchanged r.opens × (r.sources ≡ []) ×
 abbrev pub EndsAs : {S : Type 0} → (S → ℕ) → (S → ℕ) → (S → Option (List ℕ)) → Result Asked WordsFault → List S → Left S → Wrote → Option Fault → Type 0
 EndsAs faults end_count left (Err fault) got r w end = IsClosed r × IsUnwritten w × ((end ≡ Some (Words fault)) ⊎ (end ≡ Some NoMemory))
 EndsAs faults end_count left (Ok (run a)) got r w end =
-    HasGot faults left a.files got r × EndsOver a.size (one_thread_output a.topics) faults end_count left a.files got r w end
+    HasGot faults left a.files got r × EndsOver most_payload (one_thread_output a.topics) faults end_count left a.files got r w end
 EndsAs faults end_count left (Ok (generated a)) got r w end = IsClosed r × EndsAlone (self_summary a.seed a.lines) w end
 EndsAs faults end_count left (Ok (judged a)) got r w end =
     HasGot faults left a.files got r × EndsJudged faults end_count left a.files got r w end

@@ -8,12 +8,12 @@ use Rattle.scq_work.specs.declared.worked.Worked.{Worked}
 use Rattle.scq_service.specs.Faults.{fault_line}
 use Rattle.scq_service.specs.declared.fault.Fault.{Fault}
 
--- ` sent S taken T direct D`: how many messages were sent and taken, and how many answered directly
+-- ` sent S taken T direct D`: how many parts of messages were sent and taken, and how many answered directly
 abbrev pub counts_line : ℕ → ℕ → ℕ → List ℕ
 counts_line sent taken direct =
     (codes " sent " ++ decimal sent) ++ ((codes " taken " ++ decimal taken) ++ ((codes " direct " ++ decimal direct) ++ codes "\n"))
 
--- the line of the worker with this number, which answered directly each message for which no buffer was free
+-- the line of the worker with this number, which answered directly each part for which no buffer was free
 abbrev pub worker_line : ℕ → Counts → List ℕ
 worker_line number c = (codes "worker " ++ decimal number) ++ counts_line c.sent c.taken c.full
 

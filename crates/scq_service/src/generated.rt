@@ -1,8 +1,9 @@
 ghost use Rattle.std.specs.Prelude.{◌≡◌, ℕ, ◌+◌, ◌<◌, ◌≤◌, ◌^◌, [], ◌∷◌, Some, IfOk, IfSome, IsNone, IsSome, IsSomeAnd, length, map};
 ghost use Rattle.std.specs.List.{All};
 ghost use Rattle.std.specs.List.Sorted.{IsPermutation};
+ghost use Rattle.scq_collect.specs.Collected.{messages_to};
+ghost use Rattle.scq_collect.specs.Joined.{part_answers, without_way};
 ghost use Rattle.scq_collect.specs.Merging.{members_in};
-ghost use Rattle.scq_collect.specs.Output.{answers_to, without_way};
 ghost use Rattle.scq_self.specs.Generated.{generated as the_file, self_topics as the_topics};
 ghost use Rattle.scq_self.specs.Summary.{self_summary};
 ghost use Rattle.scq_work.specs.AllWorkers.{HasWorked, NothingIsStranded};
@@ -29,7 +30,7 @@ use std::thread::Threads;
 /// There are 2^6 buffers.
 const ORDER: u32 = 6;
 
-/// The greatest number of bytes of a payload of the file.
+/// The greatest number of bytes of a part of a payload of the file.
 const SIZE: u32 = 1 << 16;
 
 /// Makes the file of the seed, answers it, and writes its summary once that is whole. No source is got.
@@ -102,7 +103,8 @@ fn answer_file<R: Threads + Sync, G: Gate>(
     requires workers { (0 < workers) × (workers ≤ 4096) }
     ensures known { IfOk result (λ a. All (λ m. m.topic ≤ length the_topics) (members_in a.worked.answered.items)) }
     ensures answers { IfOk result (λ a.
-        IsPermutation (map without_way (members_in a.worked.answered.items)) (answers_to the_topics 1 (the_file seed lines ∷ []))) }
+        IsPermutation (map without_way (members_in a.worked.answered.items))
+        (part_answers the_topics (2 ^ 16) (messages_to the_topics 1 (the_file seed lines ∷ [])))) }
     ensures told { IfOk result (λ a. HasWorked the_topics (2 ^ 16) workers (messages_in the_topics 1 (the_file seed lines ∷ [])) a.worked) }
     ensures left { IfOk result (λ a. IfSome a.left (λ left. IsSomeAnd a.passes (λ passes.
         NothingIsStranded 6 (length the_topics + 1) workers passes.value.items left.items))) }
@@ -138,9 +140,10 @@ fn summary_of(
 ) -> Result<Bytes, NoMemory>
     requires { All (λ a. a.topic ≤ length topics.now) (members_in worked.now.answered.items) }
     ensures { (seed : ℕ) → topics.now ≡ the_topics
-        → IsPermutation (map without_way (members_in worked.now.answered.items)) (answers_to the_topics 1 (the_file seed lines ∷ []))
+        → IsPermutation (map without_way (members_in worked.now.answered.items))
+        (part_answers the_topics (2 ^ 16) (messages_to the_topics 1 (the_file seed lines ∷ [])))
         → IfOk result (λ text. text ≡ self_summary seed lines) }
 {
-    let answered = merge(alloc, worked.answered.as_slice())?;
-    summary_text(alloc, topics, lines, answered.as_slice())
+    let wholes = merge(alloc, topics, worked.answered.as_slice())?;
+    summary_text(alloc, topics, lines, wholes.as_slice())
 }

@@ -1,4 +1,4 @@
-ghost use Rattle.std.specs.Prelude.{◌≡◌};
+ghost use Rattle.std.specs.Prelude.{◌≡◌, ◌^◌};
 ghost use Rattle.scq_work.specs.Jobs.{IsJob};
 
 use scq_topics::Topics;
@@ -8,7 +8,7 @@ use scq_work::Job;
 pub fn job_of(order: u32, size: u32, workers: u32, topics: Topics) -> Job
     requires { IsJob order size workers }
     ensures size { result.size ≡ size }
-    ensures longest { result.longest ≡ size }
+    ensures longest { result.longest ≡ 2 ^ 20 }
     ensures workers { result.workers ≡ workers }
     ensures order { result.order ≡ order }
     ensures topics { result.topics ≡ topics }

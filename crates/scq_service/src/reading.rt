@@ -2,7 +2,7 @@ ghost use Rattle.std.specs.Prelude.{◌≡◌, ◌+◌, ◌≤◌, [], Some, IfS
 ghost use Rattle.std.specs.List.{All};
 ghost use Rattle.scq_collect.specs.Merging.{members_in};
 ghost use Rattle.scq_work.specs.AllWorkers.{NothingIsStranded};
-ghost use Rattle.scq_service.specs.Answers.{HaveCome, HaveAllCome, IsOfOneThread, IsWork, IsWorkOf, WorkedAt};
+ghost use Rattle.scq_service.specs.Answers.{HaveCome, HaveAllCome, AreOfParts, IsWork, IsWorkOf, WorkedAt};
 ghost use Rattle.scq_service.specs.Ends.{HasGot, ReadsOver};
 ghost use Rattle.scq_service.specs.Faults.{status_of};
 
@@ -71,9 +71,9 @@ pub fn read_files<R: Threads + Sync, F: Files, G: Gate>(
     ensures status { result.status ≡ status_of result.fault }
     ensures worked { WorkedAt result.fault result.worked }
     ensures known { IfSome result.worked (λ w. All (λ a. a.topic ≤ length job.now.topics) (members_in w.answered.items)) }
-    ensures answers { IsOfOneThread job.now.topics F.Src.left result.got.value.items result.worked }
-    ensures told { IsWorkOf job.now.topics job.now.longest job.now.workers F.Src.left result.got.value.items result.worked }
-    ensures work { IsWork job.now.topics job.now.longest job.now.workers F.Src.faults F.Src.ends F.Src.left result.got.value.items (record {
+    ensures answers { AreOfParts job.now.topics job.now.size F.Src.left result.got.value.items result.worked }
+    ensures told { IsWorkOf job.now.topics job.now.size job.now.workers F.Src.left result.got.value.items result.worked }
+    ensures work { IsWork job.now.topics job.now.size job.now.longest job.now.workers F.Src.faults F.Src.ends F.Src.left result.got.value.items (record {
       table = record { old = F.table files.old; new = F.table files.new };
       opens = record { old = F.faults files.old; new = F.faults files.new };
       sources = result.sources.items;

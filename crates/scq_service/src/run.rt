@@ -1,7 +1,9 @@
 ghost use Rattle.std.specs.Prelude.{◌≡◌, ℕ, ◌+◌, ◌≤◌, List, Some, length, map, string_bytes, IfOk, IfSome, IsNone, IsSome, IsSomeAnd, OnSome, All};
 ghost use Rattle.std.specs.List.Sorted.{IsPermutation};
+ghost use Rattle.scq_collect.specs.Collected.{messages_to};
+ghost use Rattle.scq_collect.specs.Joined.{part_answers, without_way};
 ghost use Rattle.scq_collect.specs.Merging.{members_in};
-ghost use Rattle.scq_collect.specs.Output.{answers_to, one_thread_output, without_way};
+ghost use Rattle.scq_collect.specs.Output.{one_thread_output};
 ghost use Rattle.scq_work.specs.AllWorkers.{NothingIsStranded};
 ghost use Rattle.scq_service.specs.Answers.{IsWork, IsWorkOf, WorkedAt};
 ghost use Rattle.scq_service.specs.Ends.{EndsOver, HasGot};
@@ -48,8 +50,8 @@ pub fn run_files<R: Threads + Sync, F: Files, K: Sink, G: Gate>(
         }) result.fault }
     ensures status { result.status ≡ status_of result.fault }
     ensures worked { WorkedAt result.fault result.worked }
-    ensures told { IsWorkOf job.now.topics job.now.longest job.now.workers F.Src.left result.got.value.items result.worked }
-    ensures work { IsWork job.now.topics job.now.longest job.now.workers F.Src.faults F.Src.ends F.Src.left result.got.value.items (record {
+    ensures told { IsWorkOf job.now.topics job.now.size job.now.workers F.Src.left result.got.value.items result.worked }
+    ensures work { IsWork job.now.topics job.now.size job.now.longest job.now.workers F.Src.faults F.Src.ends F.Src.left result.got.value.items (record {
       table = record { old = F.table files.old; new = F.table files.new };
       opens = record { old = F.faults files.old; new = F.faults files.new };
       sources = result.sources.items;
@@ -83,7 +85,9 @@ fn text_of<R: Threads + Sync>(
     worked: &Worked,
 ) -> Result<Text, NoMemory>
     requires { All (λ a. a.topic ≤ length job.now.topics) (members_in worked.now.answered.items) }
-    ensures { (contents : List (List ℕ)) → IsPermutation (map without_way (members_in worked.now.answered.items)) (answers_to job.now.topics 1 contents)
+    ensures { (contents : List (List ℕ))
+        → IsPermutation (map without_way (members_in worked.now.answered.items))
+        (part_answers job.now.topics job.now.size (messages_to job.now.topics 1 contents))
         → IfOk result (λ text. text ≡ one_thread_output job.now.topics contents) }
 {
     let lists = worked.answered.as_slice();

@@ -3,7 +3,7 @@ ghost use Rattle.scq_outside.specs.Counts.{Rose};
 ghost use Rattle.scq_words.specs.Asked.{asked, generated, run, whole, RunAsked, SelfAsked, TextAsked};
 ghost use Rattle.scq_words.specs.Ranges.{is_taken};
 ghost use Rattle.scq_service.specs.Answers.{IsSeenAt, LeavesNothing, WorkedAs};
-ghost use Rattle.scq_service.specs.Ends.{EndsAs, IsCalm, IsCalmText, IsOfTextAlone};
+ghost use Rattle.scq_service.specs.Ends.{EndsAs, IsCalm, IsCalmText, IsOfTextAlone, most_payload};
 ghost use Rattle.scq_service.specs.Faults.{status_of};
 ghost use Rattle.scq_service.specs.Reports.{asks_report, reported};
 ghost use Rattle.scq_service.specs.declared.fault.Fault.TheVariants.{NoMemory};
@@ -73,7 +73,7 @@ pub fn serve<R: Threads + Sync, F: Files, K: Sink, G: Gate>(
 
     // Where nothing stood in the way of a run over files, it ends with the output, or for want of memory.
     ensures complete { (a : RunAsked) → asked (map string_bytes words.now) ≡ Ok (run a)
-        → IsCalm a.size F.Src.faults F.Src.left a.files result.got.value.items
+        → IsCalm most_payload F.Src.faults F.Src.left a.files result.got.value.items
         (record {
           table = record { old = F.table files.old; new = F.table files.new };
           opens = record { old = F.faults files.old; new = F.faults files.new };

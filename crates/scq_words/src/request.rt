@@ -4,7 +4,7 @@ use crate::TextRequest;
 use scq_topics::Topics;
 
 /// What is asked of files. Workers are in `1..=4096`, the order in `1..=12`, the
-/// size of a payload in `1..=65536`, and there are 1 to 64 files, each with a name. `report` asks for
+/// most bytes of a part in `1..=65536`, and there are 1 to 64 files, each with a name. `report` asks for
 /// what each worker did.
 #[derive(Debug, Drop)]
 pub struct RunRequest {

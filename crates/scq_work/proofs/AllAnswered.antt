@@ -1,4 +1,4 @@
--- Once the queue is closed: the answers of all workers are those to all messages, each once.
+-- Once the queue is closed: the answers of all workers are those to all parts of all messages, each once.
 use Rattle.std.proofs.Common.{◌≡◌, refl, sym, ◌∙◌, ap, subst, ℕ, ◌≤◌, List, [], ◌∷◌, ◌++◌, length, map, Some}
 use Rattle.std.specs.Prelude.{flat_map, unwrap_or}
 use Rattle.std.specs.List.{AllZip, Contains}
@@ -8,12 +8,10 @@ use Rattle.std.proofs.lemmas.List.Elements.{Contains-append_left, Contains-push}
 use Rattle.std.proofs.lemmas.List.Sorted.{IsPermutation-refl, IsPermutation-trans, IsPermutation-append, IsPermutation-append_left, IsPermutation-append_right, IsPermutation-append_comm}
 use Rattle.std.proofs.lemmas.Slice.Zip.{all_zipped_more}
 use Rattle.scq_topics.specs.declared.kind.Kind.{Kind}
-use Rattle.scq_frames.specs.declared.message.Message.{Message}
-use Rattle.scq_frames.specs.Parts.{Part, message_of, whole_of}
+use Rattle.scq_frames.specs.Parts.{Part}
 use Rattle.scq_frames.specs.Encoded.{part_at, IsEncodable, BeginsWith}
 use Rattle.scq_frames.proofs.EncodedLemmas.{part_at-again}
-use Rattle.scq_collect.specs.Output.{Answer, without_way}
-use Rattle.scq_collect.specs.Collected.{answer_of}
+use Rattle.scq_collect.specs.Joined.{PartAnswer, part_answer, without_way}
 use Rattle.scq_collect.specs.declared.answered.Answered.{Answered}
 use Rattle.scq_collect.proofs.Orders.{contains-first, contains-more}
 use Rattle.scq_queue.specs.Lists.{Placed}
@@ -25,15 +23,15 @@ use Rattle.scq_work.specs.Passing as passing
 abbrev pub no_part : Part
 no_part = record { file = 0; line = 0; topic = 0; part = 0; parts = 0; payload = [] }
 
--- the answer to the message that is the part that bytes begin with; where there is none, to one without bytes
-abbrev pub answer_at : List (List ℕ × Kind) → Placed → Answer
-answer_at topics m = answer_of topics (message_of (unwrap_or (part_at m.bytes) no_part))
+-- the answer to the part that bytes begin with; where there is none, to one without bytes
+abbrev pub answer_at : List (List ℕ × Kind) → Placed → PartAnswer
+answer_at topics m = part_answer topics (unwrap_or (part_at m.bytes) no_part)
 
--- the bytes of a sent message are read as the message
-sent-answer : (topics : List (List ℕ × Kind)) (m : Message) (send : Placed) → Sends m send → answer_at topics send ≡ answer_of topics m
+-- the bytes of a sent part are read as the part
+sent-answer : (topics : List (List ℕ × Kind)) (m : Part) (send : Placed) → Sends m send → answer_at topics send ≡ part_answer topics m
 sent-answer topics m send sends =
-    let is : part_at send.bytes ≡ Some (whole_of m) = ap part_at sends.bytes.1 ∙ part_at-again (whole_of m) sends.bytes.0 sends.fits in
-    ap (λ o. answer_of topics (message_of (unwrap_or o no_part))) is
+    let is : part_at send.bytes ≡ Some m = ap part_at sends.bytes.1 ∙ part_at-again m sends.bytes.0 sends.fits in
+    ap (λ o. part_answer topics (unwrap_or o no_part)) is
 
 -- a, b, c, d as a, c, b, d
 crossed : {A : Type 0} (a b c d : List A) → IsPermutation ((a ++ b) ++ (c ++ d)) ((a ++ c) ++ (b ++ d))
@@ -54,39 +52,39 @@ together f g h (w ∷ ws) each =
     (IsPermutation-append (f w) (g w ++ h w) (flat_map f ws) (flat_map g ws ++ flat_map h ws) (each w (contains-first w ws)) rest)
     (crossed (g w) (h w) (flat_map g ws) (flat_map h ws))
 
--- a worker's messages, answered, are its sends as they are read and its direct answers
-pub passed-answers : (topics : List (List ℕ × Kind)) (messages : List Message) (sends : List Placed) (directs : List Answered)
+-- a worker's parts, answered, are its sends as they are read and its direct answers
+pub passed-answers : (topics : List (List ℕ × Kind)) (messages : List Part) (sends : List Placed) (directs : List Answered)
     → ArePassedOn topics messages sends directs
-    → IsPermutation (map (answer_of topics) messages) (map (answer_at topics) sends ++ map without_way directs)
+    → IsPermutation (map (part_answer topics) messages) (map (answer_at topics) sends ++ map without_way directs)
 passed-answers topics messages sends directs passing.none = IsPermutation-refl []
-passed-answers topics messages sends directs (passing.and_sent {ms} {sends = before} {directs = ds} m send more is) =
-    let answers = map (answer_of topics) ms in
+passed-answers topics messages sends directs (passing.and_sent {ps = ms} {sends = before} {directs = ds} m send more is) =
+    let answers = map (part_answer topics) ms in
     let reads = map (answer_at topics) before in
     let plain = map without_way directs in
     let rest = passed-answers topics ms before directs more in
-    let left : map (answer_of topics) (ms ++ m ∷ []) ≡ answers ++ answer_of topics m ∷ [] = map-append (answer_of topics) ms (m ∷ []) in
-    let right : map (answer_at topics) (before ++ send ∷ []) ≡ reads ++ answer_of topics m ∷ [] =
+    let left : map (part_answer topics) (ms ++ m ∷ []) ≡ answers ++ part_answer topics m ∷ [] = map-append (part_answer topics) ms (m ∷ []) in
+    let right : map (answer_at topics) (before ++ send ∷ []) ≡ reads ++ part_answer topics m ∷ [] =
     map-append (answer_at topics) before (send ∷ []) ∙ ap (λ a. reads ++ a ∷ []) (sent-answer topics m send is) in
     subst (λ l. IsPermutation l (map (answer_at topics) (before ++ send ∷ []) ++ plain)) (sym left)
-    (subst (λ l. IsPermutation (answers ++ answer_of topics m ∷ []) (l ++ plain)) (sym right)
-    (IsPermutation-trans (answers ++ answer_of topics m ∷ []) ((reads ++ plain) ++ answer_of topics m ∷ []) ((reads ++ answer_of topics m ∷ []) ++ plain)
-    (IsPermutation-append_left (answer_of topics m ∷ []) answers (reads ++ plain) rest)
-    (subst (λ l. IsPermutation l ((reads ++ answer_of topics m ∷ []) ++ plain)) (sym (append_assoc reads plain (answer_of topics m ∷ [])))
-    (subst (IsPermutation (reads ++ (plain ++ answer_of topics m ∷ []))) (sym (append_assoc reads (answer_of topics m ∷ []) plain))
-    (IsPermutation-append_right reads (plain ++ answer_of topics m ∷ []) (answer_of topics m ∷ plain)
-    (IsPermutation-append_comm plain (answer_of topics m ∷ [])))))))
-passed-answers topics messages sends directs (passing.and_answered {ms} {sends = before} {directs = ds} m a more is) =
-    let answers = map (answer_of topics) ms in
+    (subst (λ l. IsPermutation (answers ++ part_answer topics m ∷ []) (l ++ plain)) (sym right)
+    (IsPermutation-trans (answers ++ part_answer topics m ∷ []) ((reads ++ plain) ++ part_answer topics m ∷ []) ((reads ++ part_answer topics m ∷ []) ++ plain)
+    (IsPermutation-append_left (part_answer topics m ∷ []) answers (reads ++ plain) rest)
+    (subst (λ l. IsPermutation l ((reads ++ part_answer topics m ∷ []) ++ plain)) (sym (append_assoc reads plain (part_answer topics m ∷ [])))
+    (subst (IsPermutation (reads ++ (plain ++ part_answer topics m ∷ []))) (sym (append_assoc reads (part_answer topics m ∷ []) plain))
+    (IsPermutation-append_right reads (plain ++ part_answer topics m ∷ []) (part_answer topics m ∷ plain)
+    (IsPermutation-append_comm plain (part_answer topics m ∷ [])))))))
+passed-answers topics messages sends directs (passing.and_answered {ps = ms} {sends = before} {directs = ds} m a more is) =
+    let answers = map (part_answer topics) ms in
     let reads = map (answer_at topics) sends in
     let plain = map without_way ds in
     let rest = passed-answers topics ms sends ds more in
-    let left : map (answer_of topics) (ms ++ m ∷ []) ≡ answers ++ answer_of topics m ∷ [] = map-append (answer_of topics) ms (m ∷ []) in
-    let right : map without_way (ds ++ a ∷ []) ≡ plain ++ answer_of topics m ∷ [] =
+    let left : map (part_answer topics) (ms ++ m ∷ []) ≡ answers ++ part_answer topics m ∷ [] = map-append (part_answer topics) ms (m ∷ []) in
+    let right : map without_way (ds ++ a ∷ []) ≡ plain ++ part_answer topics m ∷ [] =
     map-append without_way ds (a ∷ []) ∙ ap (λ b. plain ++ without_way b ∷ []) is.answer in
     subst (λ l. IsPermutation l (reads ++ map without_way (ds ++ a ∷ []))) (sym left)
-    (subst (λ l. IsPermutation (answers ++ answer_of topics m ∷ []) (reads ++ l)) (sym right)
-    (subst (IsPermutation (answers ++ answer_of topics m ∷ [])) (append_assoc reads plain (answer_of topics m ∷ []))
-    (IsPermutation-append_left (answer_of topics m ∷ []) answers (reads ++ plain) rest)))
+    (subst (λ l. IsPermutation (answers ++ part_answer topics m ∷ []) (reads ++ l)) (sym right)
+    (subst (IsPermutation (answers ++ part_answer topics m ∷ [])) (append_assoc reads plain (part_answer topics m ∷ []))
+    (IsPermutation-append_left (part_answer topics m ∷ []) answers (reads ++ plain) rest)))
 
 -- a take is that of a part on a known topic
 pub record IsPart (known : ℕ) (take : Placed) : Type 0 where
@@ -106,8 +104,8 @@ taken-answers topics takes members (and_answered {takes = before} {members = ms}
     let same : is.part ≡ its.part = is.decodes.only its.part its.fits its.begins in
     let read : part_at take.bytes ≡ Some its.part = ap part_at its.begins.1 ∙ part_at-again its.part its.begins.0 its.fits in
     let plain : without_way a ≡ answer_at topics take =
-    ap without_way is.answer ∙ ap (λ p. answer_of topics (message_of p)) same
-    ∙ sym (ap (λ o. answer_of topics (message_of (unwrap_or o no_part))) read) in (
+    ap without_way is.answer ∙ ap (part_answer topics) same
+    ∙ sym (ap (λ o. part_answer topics (unwrap_or o no_part)) read) in (
       all_zipped_more (AnswersTake topics) before ms take a rest.0 is,
       map-append without_way ms (a ∷ []) ∙ ap (λ l. l ++ without_way a ∷ []) rest.1 ∙ ap (λ b. map (answer_at topics) before ++ b ∷ []) plain
           ∙ sym (map-append (answer_at topics) before (take ∷ [])),

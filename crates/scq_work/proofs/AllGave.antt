@@ -1,37 +1,40 @@
 -- The files of all desks once their workers have left: they are those of the sources, each once. So what the workers passed on is what the
 -- sources gave, and that is little, however the reading of each ended.
-use Rattle.std.proofs.Common.{◌≡◌, refl, sym, ◌∙◌, ap, subst, inl, inr, arith, false, zero, suc, ℕ, ◌+◌, ◌*◌, ◌^◌, ◌<◌, ◌≤◌, List, [], ◌∷◌, ◌++◌, length, map, reverse, get_or, Option, Some, None}
+use Rattle.std.proofs.Common.{◌≡◌, refl, sym, ◌∙◌, ap, subst, inl, inr, arith, zero, suc, ℕ, ◌+◌, ◌*◌, ◌^◌, ◌<◌, ◌≤◌, List, [], ◌∷◌, ◌++◌, length, map, reverse, get_or, Option, Some, None}
 use Rattle.std.specs.Prelude.{slice_index_or, slice_get, flat_map, sum_by}
 use Rattle.std.specs.List.{All, AllZip}
 use Rattle.std.specs.List.Sorted.{IsPermutation}
 use Rattle.std.proofs.lemmas.List.{length-append, reverse-reverse}
-use Rattle.std.proofs.lemmas.List.Concat.{length-flat_map}
-use Rattle.std.proofs.lemmas.List.Sorted.{All-permutation, IsPermutation-reverse, length_permutation}
+use Rattle.std.proofs.lemmas.List.FromFn.{length-map-range_with_len}
+use Rattle.std.proofs.lemmas.List.Sums.{sum_by-append, sum_by-cons}
+use Rattle.std.proofs.lemmas.List.Sorted.{All-permutation, IsPermutation-reverse, sum_by-IsPermutation}
 use Rattle.std.proofs.lemmas.Option.{slice_get-get_or, slice_get_within, slice_get_cases}
 use Rattle.scq_topics.specs.declared.kind.Kind.{Kind}
 use Rattle.scq_frames.specs.declared.message.Message.{Message}
+use Rattle.scq_frames.specs.Parts.{Part, all_parts, part_of, parts_of}
+use Rattle.scq_frames.proofs.PayloadParts.{few-parts}
 use Rattle.scq_word.specs.declared.setup.Setup.{Setup}
-use Rattle.scq_word.specs.Sizes.{n_of}
 use Rattle.scq_band.specs.Standing.{Identity}
 use Rattle.scq_work.specs.Dealings.{AreDealt}
 use Rattle.scq_work.specs.Desks.{HasRun, all_given, ids_of}
 use Rattle.scq_work.specs.Ends.{AreGiven, FileGave}
 use Rattle.scq_work.specs.Files.{files_of, own_of, OfEachFile}
 use Rattle.scq_work.specs.Given.{given_in}
-use Rattle.scq_work.specs.Reading.{IsRead, GaveAll}
+use Rattle.scq_work.specs.Passing.{parts_in}
+use Rattle.scq_work.specs.Reading.{IsRead, GaveAll, most_parts}
 use Rattle.scq_work.specs.declared.desk.Desk.{Desk}
 use Rattle.scq_work.specs.declared.own_file.OwnFile.{OwnFile}
-use Rattle.scq_work.specs.declared.own_file.FileEnd.TheVariants.{Whole}
 use Rattle.scq_work.proofs.Cleared.{IsWholeFile, AllWhole}
 use Rattle.scq_work.proofs.Conclusion.{flat-of}
 use Rattle.scq_work.proofs.Dealt.{upto, seconds, all-dealt, collected}
 use Rattle.scq_work.proofs.Lists.{map-reverse}
+use Rattle.scq_work.proofs.MessageParts.{all-parts-in, flat-parts, own-parts}
 
 -- what a file gave, and that it is not much: all of its messages where W holds, which says that all files were read to their ends
 pub record Gave {S : Type 0} (topics : List (List ℕ × Kind)) (size : ℕ) (left : S → Option (List ℕ)) (W : Type 0) (f : ℕ × S) (own : List Message) : Type 0
   where
     pub whole : W → FileGave topics size left f.0 f.1 own
-    pub few : length own ≤ 2 ^ 29
+    pub few : sum_by most_parts own ≤ 2 ^ 30
 
 abbrev pub given_of : {S : Type 0} → OwnFile S → List Message
 given_of f = given_in f.given.value
@@ -72,16 +75,31 @@ by-number f m (x ∷ xs) from each =
     next : (k : ℕ) → from + suc k ≡ from + 1 + k
     next k = omega arith
 
--- few messages of each of few files are few
+-- few parts of each of few files are few
 few-given : {S : Type 0} (topics : List (List ℕ × Kind)) (size : ℕ) (left : S → Option (List ℕ)) (W : Type 0) (file : ℕ) (sources : List S)
     (given : List (List Message))
-    → OfEachFile (Gave topics size left W) file sources given → length (flat_map (λ own. own) given) ≤ length sources * 2 ^ 29
+    → OfEachFile (Gave topics size left W) file sources given → sum_by most_parts (flat_map (λ own. own) given) ≤ length sources * 2 ^ 30
 few-given topics size left W file [] [] gave = omega arith
 few-given topics size left W file [] (own ∷ more) gave = absurd gave
 few-given topics size left W file (x ∷ xs) [] gave = absurd gave
 few-given topics size left W file (x ∷ xs) (own ∷ more) gave =
     let rest = few-given topics size left W (file + 1) xs more gave.1 in
-    omega (arith, gave.0.few, length-append own (flat_map (λ own. own) more))
+    omega (arith, rest, gave.0.few, sum_by-append most_parts own (flat_map (λ own. own) more))
+
+-- messages have at most so many parts
+parts-spread : (size : ℕ) (ms : List Message) → 0 < size → length (parts_in size ms) ≤ sum_by most_parts ms
+parts-spread size [] some = omega arith
+parts-spread size (m ∷ ms) some =
+    let rest = parts-spread size ms some in
+    let here : length (all_parts size m) ≡ parts_of size m.payload = length-map-range_with_len (part_of size m) 1 (parts_of size m.payload) in
+    omega (
+      arith,
+      rest,
+      here,
+      few-parts size m.payload some,
+      length-append (all_parts size m) (parts_in size ms),
+      sum_by-cons most_parts m ms,
+    )
 
 all-gave : {S : Type 0} (topics : List (List ℕ × Kind)) (size : ℕ) (left : S → Option (List ℕ)) (W : Type 0) (file : ℕ) (sources : List S)
     (given : List (List Message))
@@ -97,22 +115,24 @@ module _ {B S : Type 0} where
   worker_messages d = all_given d.files.items
 
   -- the workers of a queue have left: each had its own of the files, and did what `HasRun` says, however the reading of these ended
-  pub record AllRan (c : Setup) (shared : Identity B) (topics : List (List ℕ × Kind)) (size : ℕ) (faults end_count : S → ℕ) (left : S → Option (List ℕ))
+  pub record AllRan (c : Setup) (shared : Identity B) (topics : List (List ℕ × Kind)) (size longest : ℕ) (faults end_count : S → ℕ) (left : S → Option (List ℕ))
       (sources : List S) (desks : List (Desk B S)) : Type 0 where
     pub some : 0 < length desks
     pub few : length sources ≤ 64
     pub dealt : AreDealt 1 sources desks
-    pub run : All (λ d. HasRun shared topics size faults end_count left d.files.items d.worker.pass d.worker.members.items d.worker.starved d.kept) desks
+    pub run : All (λ d. HasRun shared topics size longest faults end_count left d.files.items d.worker.pass d.worker.members.items
+        d.worker.starved d.kept) desks
     pub setup : shared.setup ≡ c
     pub numbers : (w : ℕ) (d : Desk B S) → w < length desks → (slice_index_or desks w d).worker.pass.number ≡ w
     pub order : c.order ≤ 12
     pub rings : c.rings ≡ length topics + 2
     pub seats : c.seats ≡ length desks
     pub limit : c.limit ≡ 2 ^ 60
+    pub some_size : 0 < size
 
-  module _ (c : Setup) (shared : Identity B) (topics : List (List ℕ × Kind)) (size : ℕ) (faults end_count : S → ℕ) (left : S → Option (List ℕ))
+  module _ (c : Setup) (shared : Identity B) (topics : List (List ℕ × Kind)) (size longest : ℕ) (faults end_count : S → ℕ) (left : S → Option (List ℕ))
       (sources : List S)
-      (desks : List (Desk B S)) (ran : AllRan c shared topics size faults end_count left sources desks) where
+      (desks : List (Desk B S)) (ran : AllRan c shared topics size longest faults end_count left sources desks) where
     -- of a desk: its files in their order, and what they gave
     abbrev files_in : Option (Desk B S) → List (OwnFile S)
     files_in None = []
@@ -124,11 +144,12 @@ module _ {B S : Type 0} where
     abbrev given_at : ℕ → List (List Message)
     given_at w = map given_of (files_at w)
 
-    desk-gave : (w : ℕ) → w < length desks → AllZip (Gave topics size left (AllWhole desks)) (files_of (length desks) w 1 sources) (given_at w)
+    desk-gave : (w : ℕ) → w < length desks → AllZip (Gave topics longest left (AllWhole desks)) (files_of (length desks) w 1 sources) (given_at w)
     desk-gave w less = elim (slice_get_cases desks w).1 [
       | inl (d, within, is, here) ↦
           let its = subst (λ (e : Desk B S).
-          HasRun shared topics size faults end_count left e.files.items e.worker.pass e.worker.members.items e.worker.starved e.kept) here (ran.run w d less) in
+          HasRun shared topics size longest faults end_count left e.files.items e.worker.pass e.worker.members.items e.worker.starved e.kept)
+          here (ran.run w d less) in
           let whole : (all : AllWhole desks) → All IsWholeFile d.files.items = λ all.
           subst (λ (e : Desk B S). All IsWholeFile e.files.items) here (all w d less) in
           let dealt = ap (λ (e : Desk B S). ids_of e.files.items) (sym here) ∙ ran.dealt w d less in
@@ -136,26 +157,26 @@ module _ {B S : Type 0} where
           let turned = IsPermutation-reverse files in
           let ids : ids_of (reverse files) ≡ files_of (length desks) w 1 sources =
           map-reverse (λ (f : OwnFile S). (f.number, f.was.value)) files ∙ ap reverse dealt ∙ reverse-reverse (files_of (length desks) w 1 sources) in
-          let gave = files-gave topics size faults end_count left (AllWhole desks) (reverse files)
-          (All-permutation (λ (f : OwnFile S). IsRead topics size faults end_count left f.number f.was.value f.source (given_of f) f.end)
+          let gave = files-gave topics longest faults end_count left (AllWhole desks) (reverse files)
+          (All-permutation (λ (f : OwnFile S). IsRead topics longest faults end_count left f.number f.was.value f.source (given_of f) f.end)
           files (reverse files) turned its.read)
           (λ all. All-permutation IsWholeFile files (reverse files) turned (whole all)) in
           let mine : given_at w ≡ map given_of (reverse files) = ap (λ o. map given_of (files_in o)) is in
-          subst (λ l. AllZip (Gave topics size left (AllWhole desks)) (files_of (length desks) w 1 sources) l) (sym mine)
-          (subst (λ l. AllZip (Gave topics size left (AllWhole desks)) l (map given_of (reverse files))) ids gave)
+          subst (λ l. AllZip (Gave topics longest left (AllWhole desks)) (files_of (length desks) w 1 sources) l) (sym mine)
+          (subst (λ l. AllZip (Gave topics longest left (AllWhole desks)) l (map given_of (reverse files))) ids gave)
       | inr (past, none) ↦ absurd (omega arith)
     ]
 
     -- what the files gave, file by file
-    pub gathered : (given : List (List Message)) × OfEachFile (Gave topics size left (AllWhole desks)) 1 sources given
+    pub gathered : (given : List (List Message)) × OfEachFile (Gave topics longest left (AllWhole desks)) 1 sources given
         × ((w : ℕ) → w < length desks → seconds (files_of (length desks) w 1 given) ≡ given_at w)
-    gathered = collected (Gave topics size left (AllWhole desks)) (length desks) 1 sources given_at ran.some desk-gave
+    gathered = collected (Gave topics longest left (AllWhole desks)) (length desks) 1 sources given_at ran.some desk-gave
 
     abbrev pub given : List (List Message)
     given = gathered.0
 
-    pub is-given : AllWhole desks → AreGiven topics size left 1 sources given
-    is-given whole = all-gave topics size left (AllWhole desks) 1 sources given gathered.1 whole
+    pub is-given : AllWhole desks → AreGiven topics longest left 1 sources given
+    is-given whole = all-gave topics longest left (AllWhole desks) 1 sources given gathered.1 whole
 
     -- a worker passed on what its files gave
     pub own-given : (w : ℕ) (d : Desk B S) → slice_get desks w ≡ Some d → worker_messages d ≡ own_of (length desks) w 1 given
@@ -176,11 +197,39 @@ module _ {B S : Type 0} where
         plain : (k : ℕ) → k ≡ 0 + k
         plain k = omega arith
 
-    -- and they are few
-    pub few-in-all : sum_by (λ (d : Desk B S). length (worker_messages d)) desks ≤ 2 ^ 35
+    -- and so it is of their parts
+    pub all-parts-passed : IsPermutation (parts_in size (flat_map (λ own. own) given)) (parts_in size (flat_map worker_messages desks))
+    all-parts-passed =
+        let parts = map (parts_in size) given in
+        let each = by-number (λ (d : Desk B S). parts_in size (worker_messages d)) (λ w. own_of (length desks) w 1 parts) desks 0 (λ k d less.
+        ap (parts_in size) (own-given k (get_or desks k d) (slice_get-get_or desks k d less)) ∙ sym (own-parts size (length desks) k 1 given)
+        ∙ ap (λ j. own_of (length desks) j 1 parts) (plain k)) in
+        subst (λ l. IsPermutation l (parts_in size (flat_map worker_messages desks))) (all-parts-in size given)
+        (subst (IsPermutation (flat_map (λ (own : List Part). own) parts)) (sym each ∙ flat-parts size worker_messages desks)
+        (all-dealt (length desks) 1 parts ran.some))
+      where
+        plain : (k : ℕ) → k ≡ 0 + k
+        plain k = omega arith
+
+    -- and their parts are few
+    pub few-in-all : sum_by (λ (d : Desk B S). length (parts_in size (worker_messages d))) desks ≤ 2 ^ 36
     few-in-all =
-        let few = few-given topics size left (AllWhole desks) 1 sources given gathered.1 in
-        let long = length_permutation (flat_map (λ own. own) given) (flat_map worker_messages desks) all-messages in
-        let sum = length-flat_map worker_messages desks in
+        let few = few-given topics longest left (AllWhole desks) 1 sources given gathered.1 in
+        let same = sum_by-IsPermutation most_parts (flat_map (λ own. own) given) (flat_map worker_messages desks) all-messages in
+        let spread = spread-in desks in
         let files = ran.few in
-        omega arith
+        omega (arith, few, same, spread, files)
+      where
+        spread-in : (ds : List (Desk B S))
+            → sum_by (λ (d : Desk B S). length (parts_in size (worker_messages d))) ds ≤ sum_by most_parts (flat_map worker_messages ds)
+        spread-in [] = omega arith
+        spread-in (d ∷ ds) =
+            let rest = spread-in ds in
+            let here = parts-spread size (worker_messages d) ran.some_size in
+            omega (
+              arith,
+              rest,
+              here,
+              sum_by-cons (λ (e : Desk B S). length (parts_in size (worker_messages e))) d ds,
+              sum_by-append most_parts (worker_messages d) (flat_map worker_messages ds),
+            )

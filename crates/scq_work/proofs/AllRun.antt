@@ -1,4 +1,4 @@
--- All desks once their workers have left and the queue is closed. Plan: the messages are few (`AllGave`), so no pass met a
+-- All desks once their workers have left and the queue is closed. Plan: the parts are few (`AllGave`), so no pass met a
 -- ticket past the limit; so each worker has swept, and nothing is left behind. Where no file has a fault and no worker wanted memory, each list
 -- answers for its pass, and together they answer for all messages.
 use Rattle.std.proofs.Common.{◌≡◌, refl, sym, ◌∙◌, ap, subst, inl, inr, arith, false, zero, suc, ℕ, ◌+◌, ◌^◌, ◌<◌, ◌≤◌, List, [], ◌∷◌, length, map, reverse, get_or, Option, Some, None}
@@ -14,12 +14,12 @@ use Rattle.std.proofs.lemmas.List.Sorted.{All-permutation, IsPermutation-sym, Is
 use Rattle.std.proofs.lemmas.Option.{slice_get-map, slice_get_within, slice_get_cases, get_or_from_slice_get}
 use Rattle.scq_topics.specs.declared.kind.Kind.{Kind}
 use Rattle.scq_frames.specs.declared.message.Message.{Message}
+use Rattle.scq_frames.specs.Parts.{Part}
 use Rattle.scq_word.specs.declared.setup.Setup.{Setup}
 use Rattle.scq_word.specs.Sizes.{n_of}
 use Rattle.scq_collect.specs.declared.answered.Answered.{Answered}
-use Rattle.scq_collect.specs.Collected.{answer_of}
+use Rattle.scq_collect.specs.Joined.{part_answer, part_answers, without_way}
 use Rattle.scq_collect.specs.Merging.{members_in}
-use Rattle.scq_collect.specs.Output.{Answer, without_way}
 use Rattle.scq_band.specs.Closing.{IsOneRun}
 use Rattle.scq_band.specs.Standing.{Identity}
 use Rattle.scq_band.proofs.ClosedCounts.{sum_by-map}
@@ -30,7 +30,7 @@ use Rattle.scq_work.specs.AllWorkers.{OfEachWorker, HaveAnswered, HaveShared}
 use Rattle.scq_work.specs.Ends.{AreGiven}
 use Rattle.scq_work.specs.Files.{own_of}
 use Rattle.scq_work.specs.Members.{AnswersItsTakes, AnswersItsFulls}
-use Rattle.scq_work.specs.Passing.{HasPassedOn, FollowsCalls}
+use Rattle.scq_work.specs.Passing.{parts_in, HasPassedOn, FollowsCalls}
 use Rattle.scq_work.specs.Reading.{IsRead}
 use Rattle.scq_work.specs.Records.{HoldsNothingAtEachFull, HelpsAfterEachFull, MeetsNoSpent}
 use Rattle.scq_work.specs.Together.{SendsAreTakes, NothingIsLeft, NoneSpent, IsBounded, HasRetired, HasSwept}
@@ -38,11 +38,13 @@ use Rattle.scq_work.specs.Working.{IsThrifty, HasListed, index_of}
 use Rattle.scq_work.specs.declared.desk.Desk.{Desk}
 use Rattle.scq_work.specs.declared.own_file.OwnFile.{OwnFile}
 use Rattle.scq_work.proofs.Cleared.{AllWhole}
-use Rattle.scq_work.proofs.AllGave.{given_of, worker_messages, AllRan, given, is-given, own-given, all-messages, few-in-all}
+use Rattle.scq_work.proofs.AllGave.{given_of, worker_messages, AllRan, given, is-given, own-given, all-parts-passed, few-in-all}
 use Rattle.scq_work.proofs.Conclusion.{Work, IsWork, passes_in, messages_in, members_of, flat-of, all-taken, all-answered}
 use Rattle.scq_work.proofs.Lists.{map-map}
+use Rattle.scq_work.proofs.MessageParts.{known-parts, flat-parts}
 use Rattle.scq_work.proofs.NoneSpent.{passes_of, messages_of, none-spent, all-bounded}
-use Rattle.scq_work.proofs.Orders.{of-known, members-apart, members-known, members-short}
+use Rattle.scq_work.proofs.Orders.{of-known, given-known, members-whole}
+use Rattle.scq_work.proofs.PartMembers.{members-known, members-short}
 use Rattle.scq_work.proofs.SendsAndTakes.{stands-at, sends-are-takes, no-place-twice, nothing-is-left}
 
 -- what `close` says of the passes
@@ -78,11 +80,11 @@ sum-alone : {H : Type 0} (left : List ℕ) (n : ℕ) (held : List H) → held �
 sum-alone left n held none all = omega (arith, ap length none, all)
 
 module _ {B S : Type 0} where
-  abbrev work_of : Desk B S → Work B
-  work_of d = record { pass = d.worker.pass; members = d.worker.members.items; messages = worker_messages d }
+  abbrev work_of : ℕ → Desk B S → Work B
+  work_of size d = record { pass = d.worker.pass; members = d.worker.members.items; messages = parts_in size (worker_messages d) }
 
-  abbrev counted : Desk B S → ℕ × PassStanding B
-  counted d = (length (worker_messages d), d.worker.pass)
+  abbrev counted : ℕ → Desk B S → ℕ × PassStanding B
+  counted size d = (length (parts_in size (worker_messages d)), d.worker.pass)
 
   abbrev pub passes_at : List (Desk B S) → List (PassStanding B)
   passes_at desks = map (λ (d : Desk B S). d.worker.pass) desks
@@ -113,46 +115,46 @@ module _ {B S : Type 0} where
         let its_list : d.worker.members ≡ list = cc in
         subst (λ q. P w q list.items) its_pass (subst (λ (l : Vec Answered Global). P w d.worker.pass l.items) its_list (each w d is))
 
-  module _ (c : Setup) (shared : Identity B) (topics : List (List ℕ × Kind)) (size : ℕ) (faults end_count : S → ℕ) (left : S → Option (List ℕ))
+  module _ (c : Setup) (shared : Identity B) (topics : List (List ℕ × Kind)) (size longest : ℕ) (faults end_count : S → ℕ) (left : S → Option (List ℕ))
       (sources : List S)
-      (desks : List (Desk B S)) (ran : AllRan c shared topics size faults end_count left sources desks) where
+      (desks : List (Desk B S)) (ran : AllRan c shared topics size longest faults end_count left sources desks) where
     -- what `AllGave` says of these desks, by short names
     abbrev messages_given : List (List Message)
-    messages_given = given c shared topics size faults end_count left sources desks ran
+    messages_given = given c shared topics size longest faults end_count left sources desks ran
 
     own-gave : (w : ℕ) (d : Desk B S) → slice_get desks w ≡ Some d → worker_messages d ≡ own_of (length desks) w 1 messages_given
-    own-gave = own-given c shared topics size faults end_count left sources desks ran
+    own-gave = own-given c shared topics size longest faults end_count left sources desks ran
 
     abbrev works : List (ℕ × PassStanding B)
-    works = map counted desks
+    works = map (counted size) desks
 
     passes-same : passes_of works ≡ passes_at desks
-    passes-same = map-map (λ (w : ℕ × PassStanding B). w.1) counted desks
+    passes-same = map-map (λ (w : ℕ × PassStanding B). w.1) (counted size) desks
 
-    few-messages : messages_of works ≤ 2 ^ 35
+    few-messages : messages_of works ≤ 2 ^ 36
     few-messages =
-        let counts = sum_by-map (λ (w : ℕ × PassStanding B). w.0) counted desks in
-        let few = few-in-all c shared topics size faults end_count left sources desks ran in
+        let counts = sum_by-map (λ (w : ℕ × PassStanding B). w.0) (counted size) desks in
+        let few = few-in-all c shared topics size longest faults end_count left sources desks ran in
         omega arith
 
     all-thrifty : All (λ (w : ℕ × PassStanding B). IsThrifty 1 w.0 w.1) works
-    all-thrifty = All-map (λ (w : ℕ × PassStanding B). IsThrifty 1 w.0 w.1) counted desks (λ k d less. (ran.run k d less).thrifty)
+    all-thrifty = All-map (λ (w : ℕ × PassStanding B). IsThrifty 1 w.0 w.1) (counted size) desks (λ k d less. (ran.run k d less).thrifty)
 
     module _ (left_in : List ℕ) (closed : HasClosed c (passes_at desks) (held_at desks) left_in) where
       pub unspent : NoneSpent (passes_at desks)
       unspent =
           subst (λ (ps : List (PassStanding B)). NoneSpent ps) passes-same
-          (none-spent c works ran.limit (omega (arith, ran.seats, length-map desks counted)) few-messages all-thrifty
+          (none-spent c works ran.limit (omega (arith, ran.seats, length-map desks (counted size))) few-messages all-thrifty
           (subst (λ (ps : List (PassStanding B)). EachTakeIsASend ps) (sym passes-same) closed.takes)
           (subst (λ (ps : List (PassStanding B)). NoPlaceIsTakenTwice ps) (sym passes-same) closed.taken_once)
           (subst (λ (ps : List (PassStanding B)). NoneIsKeptWithinTheLimit c ps) (sym passes-same) closed.limits))
 
       bounded : All IsBounded (passes_at desks)
       bounded = All-map IsBounded (λ (d : Desk B S). d.worker.pass) desks (λ k d less.
-          let long : k < length works = subst (λ n. k < n) (sym (length-map desks counted)) less in
+          let long : k < length works = subst (λ n. k < n) (sym (length-map desks (counted size))) less in
           let its = all-bounded works few-messages all-thrifty (subst (λ (ps : List (PassStanding B)). EachTakeIsASend ps) (sym passes-same) closed.takes)
-          (subst (λ (ps : List (PassStanding B)). NoPlaceIsTakenTwice ps) (sym passes-same) closed.taken_once) k (counted d) long in
-          subst (λ (w : ℕ × PassStanding B). IsBounded w.1) (get_or-map counted desks k d (counted d) less) its)
+          (subst (λ (ps : List (PassStanding B)). NoPlaceIsTakenTwice ps) (sym passes-same) closed.taken_once) k (counted size d) long in
+          subst (λ (w : ℕ × PassStanding B). IsBounded w.1) (get_or-map (counted size) desks k d (counted size d) less) its)
 
       spent-none : (k : ℕ) (d : Desk B S) → k < length desks → (get_or desks k d).worker.pass.spent ≡ None
       spent-none k d less =
@@ -168,12 +170,12 @@ module _ {B S : Type 0} where
       messages-known : (k : ℕ) (d : Desk B S) → k < length desks → All (λ m. m.topic ≤ length topics) (worker_messages (get_or desks k d))
       messages-known k d less =
           let files = (get_or desks k d).files.items in
-          flat-known (reverse files) (All-permutation (λ (f : OwnFile S). IsRead topics size faults end_count left f.number f.was.value f.source (given_of f)
+          flat-known (reverse files) (All-permutation (λ (f : OwnFile S). IsRead topics longest faults end_count left f.number f.was.value f.source (given_of f)
           f.end)
           files (reverse files)
           (IsPermutation-reverse files) (ran.run k d less).read)
         where
-          flat-known : (fs : List (OwnFile S)) → All (λ f. IsRead topics size faults end_count left f.number f.was.value f.source (given_of f) f.end) fs
+          flat-known : (fs : List (OwnFile S)) → All (λ f. IsRead topics longest faults end_count left f.number f.was.value f.source (given_of f) f.end) fs
               → All (λ m. m.topic ≤ length topics) (flat_map given_of fs)
           flat-known [] read = All-nil (λ (m : Message). m.topic ≤ length topics)
           flat-known (f ∷ fs) read =
@@ -241,57 +243,65 @@ module _ {B S : Type 0} where
 
       -- where each file was read to its end and no worker wanted memory
       module _ (whole : AllWhole desks) (fed : All (λ d. d.worker.starved ≡ false) desks) where
-        gave : AreGiven topics size left 1 sources messages_given
-        gave = is-given c shared topics size faults end_count left sources desks ran whole
+        gave : AreGiven topics longest left 1 sources messages_given
+        gave = is-given c shared topics size longest faults end_count left sources desks ran whole
 
         listed : (k : ℕ) (d : Desk B S) → k < length desks
-            → HasListed topics (worker_messages (get_or desks k d)) (get_or desks k d).worker.pass (get_or desks k d).worker.members.items
+            → HasListed topics (parts_in size (worker_messages (get_or desks k d))) (get_or desks k d).worker.pass (get_or desks k d).worker.members.items
         listed k d less = (ran.run k d less).listed (spent-none k d less) (fed k d less)
 
-        listed-at : (w : ℕ) (d : Desk B S) → slice_get desks w ≡ Some d → HasListed topics (worker_messages d) d.worker.pass d.worker.members.items
+        listed-at : (w : ℕ) (d : Desk B S) → slice_get desks w ≡ Some d
+            → HasListed topics (parts_in size (worker_messages d)) d.worker.pass d.worker.members.items
         listed-at w d is =
-            subst (λ (e : Desk B S). HasListed topics (worker_messages e) e.worker.pass e.worker.members.items) (get_or_from_slice_get desks w d d is)
+            subst (λ (e : Desk B S). HasListed topics (parts_in size (worker_messages e)) e.worker.pass e.worker.members.items)
+            (get_or_from_slice_get desks w d d is)
             (listed w d (slice_get_within desks w d is))
 
-        all-works : All (IsWork topics) (map work_of desks)
-        all-works = All-map (IsWork topics) work_of desks (λ k d less. record { listed = listed k d less; known = messages-known k d less })
+        all-works : All (IsWork topics) (map (work_of size) desks)
+        all-works = All-map (IsWork topics) (work_of size) desks (λ k d less. record {
+          listed = listed k d less;
+          known = known-parts size (length topics) (worker_messages (get_or desks k d)) (messages-known k d less);
+        })
 
-        work-passes : passes_in (map work_of desks) ≡ passes_at desks
-        work-passes = map-map (λ (w : Work B). w.pass) work_of desks
+        work-passes : passes_in (map (work_of size) desks) ≡ passes_at desks
+        work-passes = map-map (λ (w : Work B). w.pass) (work_of size) desks
 
-        once : IsPermutation (map without_way (members_in (lists_at desks))) (map (answer_of topics) (flat_map (λ own. own) messages_given))
+        once : IsPermutation (map without_way (members_in (lists_at desks))) (part_answers topics size (flat_map (λ own. own) messages_given))
         once =
-            let all = all-answered topics (map work_of desks) all-works
+            let all = all-answered topics (map (work_of size) desks) all-works
             (subst (λ (ps : List (PassStanding B)). EachTakeIsASend ps) (sym work-passes) closed.takes)
             (subst (λ (ps : List (PassStanding B)). SendsAreTakes ps) (sym work-passes) same) in
-            let members : members_of (map work_of desks) ≡ members_in (lists_at desks) =
-            flat-of (λ (w : Work B). w.members) work_of desks ∙ sym
+            let members : members_of (map (work_of size) desks) ≡ members_in (lists_at desks) =
+            flat-of (λ (w : Work B). w.members) (work_of size) desks ∙ sym
             (flat-of (λ (l : Vec Answered Global). l.items) (λ (d : Desk B S). d.worker.members) desks) in
-            let messages : messages_in (map work_of desks) ≡ flat_map worker_messages desks = flat-of (λ (w : Work B). w.messages) work_of desks in
-            let answers : List Answer = map (answer_of topics) (flat_map (λ own. own) messages_given) in
-            let back : IsPermutation (map (answer_of topics) (flat_map worker_messages desks)) answers =
-            IsPermutation-map (answer_of topics) (flat_map worker_messages desks) (flat_map (λ own. own) messages_given)
-            (IsPermutation-sym (flat_map (λ own. own) messages_given) (flat_map worker_messages desks)
-            (all-messages c shared topics size faults end_count left sources desks ran)) in
-            IsPermutation-trans (map without_way (members_in (lists_at desks))) (map (answer_of topics) (flat_map worker_messages desks)) answers
-            (subst (λ l. IsPermutation (map without_way (members_in (lists_at desks))) (map (answer_of topics) l)) messages
-            (subst (λ l. IsPermutation (map without_way l) (map (answer_of topics) (messages_in (map work_of desks)))) members all)) back
+            let parts : messages_in (map (work_of size) desks) ≡ parts_in size (flat_map worker_messages desks) =
+            flat-of (λ (w : Work B). w.messages) (work_of size) desks ∙ flat-parts size worker_messages desks in
+            let passed : List Part = parts_in size (flat_map worker_messages desks) in
+            let given_parts : List Part = parts_in size (flat_map (λ own. own) messages_given) in
+            let back : IsPermutation (map (part_answer topics) passed) (map (part_answer topics) given_parts) =
+            IsPermutation-map (part_answer topics) passed given_parts
+            (IsPermutation-sym given_parts passed (all-parts-passed c shared topics size longest faults end_count left sources desks ran)) in
+            IsPermutation-trans (map without_way (members_in (lists_at desks))) (map (part_answer topics) passed) (map (part_answer topics) given_parts)
+            (subst (IsPermutation (map without_way (members_in (lists_at desks)))) (ap (map (part_answer topics)) parts)
+            (subst (λ l. IsPermutation (map without_way l) (map (part_answer topics) (messages_in (map (work_of size) desks)))) members all)) back
 
         pub have-answered : HaveAnswered topics size (length desks) messages_given (passes_at desks) (lists_at desks)
         have-answered = record {
           each_pass = length-map desks (λ (d : Desk B S). d.worker.pass);
           each_list = length-map desks (λ (d : Desk B S). d.worker.members);
           once = once;
-          apart = members-apart topics size left sources messages_given (members_in (lists_at desks)) gave once;
-          short = members-short topics size left sources messages_given (members_in (lists_at desks)) gave once;
-          known = members-known topics size left sources messages_given (members_in (lists_at desks)) gave once;
+          whole = members-whole topics size longest left sources messages_given (members_in (lists_at desks)) gave once;
+          known = members-known topics size (flat_map (λ own. own) messages_given) (members_in (lists_at desks)) once
+              (given-known topics longest left 1 sources messages_given gave);
+          short = members-short topics size (flat_map (λ own. own) messages_given) (members_in (lists_at desks)) once;
           takes = of-each (λ w p list. AnswersItsTakes topics (takes_of p.calls) list) desks (λ w d is.
-              (all-taken topics (map work_of desks) all-works (subst (λ (ps : List (PassStanding B)). EachTakeIsASend ps) (sym work-passes) closed.takes)
-              (work_of d)
-              (stands-at (map work_of desks) (work_of d) w (slice_get-map work_of desks w ∙ ap (option_map work_of) is))).0);
+              (all-taken topics (map (work_of size) desks) all-works (subst (λ (ps : List (PassStanding B)). EachTakeIsASend ps) (sym work-passes) closed.takes)
+              (work_of size d)
+              (stands-at (map (work_of size) desks) (work_of size d) w (slice_get-map (work_of size) desks w ∙ ap (option_map (work_of size)) is))).0);
           fulls = of-each (λ w p list. AnswersItsFulls p.fulls list) desks (λ w d is. (listed-at w d is).fulls);
-          passed = of-each (λ w p list. HasPassedOn topics (own_of (length desks) w 1 messages_given) (sends_of p.calls) list) desks (λ w d is.
-              subst (λ ms. HasPassedOn topics ms (sends_of d.worker.pass.calls) d.worker.members.items) (own-gave w d is) (listed-at w d is).passed);
-          follows = of-each (λ w p list. FollowsCalls (own_of (length desks) w 1 messages_given) p.calls) desks (λ w d is.
-              subst (λ ms. FollowsCalls ms d.worker.pass.calls) (own-gave w d is) (listed-at w d is).follows);
+          passed = of-each (λ w p list. HasPassedOn topics (parts_in size (own_of (length desks) w 1 messages_given)) (sends_of p.calls) list) desks (λ w d is.
+              subst (λ ms. HasPassedOn topics ms (sends_of d.worker.pass.calls) d.worker.members.items) (ap (parts_in size) (own-gave w d is))
+              (listed-at w d is).passed);
+          follows = of-each (λ w p list. FollowsCalls (parts_in size (own_of (length desks) w 1 messages_given)) p.calls) desks (λ w d is.
+              subst (λ ms. FollowsCalls ms d.worker.pass.calls) (ap (parts_in size) (own-gave w d is)) (listed-at w d is).follows);
         }

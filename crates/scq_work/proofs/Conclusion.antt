@@ -1,5 +1,5 @@
--- All workers together, once the queue is closed. Plan: each take is a send of some worker, so its bytes are those of a message; so each
--- worker's list is its takes as they are read and its direct answers, and its messages, answered, are its sends as they are read and its
+-- All workers together, once the queue is closed. Plan: each take is a send of some worker, so its bytes are those of a part; so each
+-- worker's list is its takes as they are read and its direct answers, and its parts, answered, are its sends as they are read and its
 -- direct answers. Over all workers the takes are the sends.
 use Rattle.std.proofs.Common.{◌≡◌, refl, sym, ◌∙◌, ap, subst, arith, ℕ, ◌≤◌, List, [], ◌∷◌, ◌++◌, length, map, ⊎_elim}
 use Rattle.std.specs.Prelude.{filter, flat_map}
@@ -9,10 +9,8 @@ use Rattle.std.proofs.lemmas.List.{map-append}
 use Rattle.std.proofs.lemmas.List.Elements.{All-contains, Contains-push_cases}
 use Rattle.std.proofs.lemmas.List.Sorted.{IsPermutation-sym, IsPermutation-trans, IsPermutation-append_left, IsPermutation-map, IsPermutation-filter_both}
 use Rattle.scq_topics.specs.declared.kind.Kind.{Kind}
-use Rattle.scq_frames.specs.declared.message.Message.{Message}
-use Rattle.scq_frames.specs.Parts.{whole_of}
-use Rattle.scq_collect.specs.Output.{Answer, without_way}
-use Rattle.scq_collect.specs.Collected.{answer_of}
+use Rattle.scq_frames.specs.Parts.{Part}
+use Rattle.scq_collect.specs.Joined.{PartAnswer, part_answer, without_way}
 use Rattle.scq_collect.specs.declared.answered.Answered.{Answered}
 use Rattle.scq_queue.specs.Lists.{Placed, sends_of, takes_of}
 use Rattle.scq_queue.specs.Passes.{PassStanding}
@@ -35,27 +33,27 @@ pub flat-of : {V W A : Type 0} (f : W → List A) (g : V → W) (vs : List V) �
 flat-of f g [] = refl
 flat-of f g (v ∷ vs) = ap (λ l. f (g v) ++ l) (flat-of f g vs)
 
--- a send of messages on known topics is that of one of them
-send-message : (topics : List (List ℕ × Kind)) (messages : List Message) (sends : List Placed) (directs : List Answered)
+-- a send of parts on known topics is that of one of them
+send-message : (topics : List (List ℕ × Kind)) (messages : List Part) (sends : List Placed) (directs : List Answered)
     → ArePassedOn topics messages sends directs
     → All (λ m. m.topic ≤ length topics) messages → (s : Placed) → Contains sends s → IsPart (length topics) s
 send-message topics messages sends directs passing.none known s has = absurd (omega (arith, has.1))
-send-message topics messages sends directs (passing.and_sent {ms} {sends = before} {directs = ds} m send more is) known s has =
+send-message topics messages sends directs (passing.and_sent {ps = ms} {sends = before} {directs = ds} m send more is) known s has =
     ⊎_elim (λ (h : Contains before s). send-message topics ms before directs more (all-front (λ m. m.topic ≤ length topics) ms m known) s h)
     (λ (e : send ≡ s). subst (IsPart (length topics)) e
-    (record { part = whole_of m; fits = is.fits; begins = is.bytes; low = all-last (λ m. m.topic ≤ length topics) ms m known }))
+    (record { part = m; fits = is.fits; begins = is.bytes; low = all-last (λ m. m.topic ≤ length topics) ms m known }))
     (Contains-push_cases before send s has)
-send-message topics messages sends directs (passing.and_answered {ms} {sends = before} {directs = ds} m a more is) known s has =
+send-message topics messages sends directs (passing.and_answered {ps = ms} {sends = before} {directs = ds} m a more is) known s has =
     send-message topics ms sends ds more (all-front (λ m. m.topic ≤ length topics) ms m known) s has
 
--- what a worker did: its pass, its list, and the messages of its files
+-- what a worker did: its pass, its list, and the parts of the messages of its files
 pub record Work (B : Type 0) : Type 0 where
   pub pass : PassStanding B
   pub members : List Answered
-  pub messages : List Message
+  pub messages : List Part
 
 module _ {B : Type 0} where
-  -- the pass and the list answer for the messages
+  -- the pass and the list answer for the parts
   pub record IsWork (topics : List (List ℕ × Kind)) (w : Work B) : Type 0 where
     pub listed : HasListed topics w.messages w.pass w.members
     pub known : All (λ m. m.topic ≤ length topics) w.messages
@@ -63,13 +61,13 @@ module _ {B : Type 0} where
   abbrev pub passes_in : List (Work B) → List (PassStanding B)
   passes_in works = map (λ (w : Work B). w.pass) works
 
-  abbrev pub messages_in : List (Work B) → List Message
+  abbrev pub messages_in : List (Work B) → List Part
   messages_in works = flat_map (λ (w : Work B). w.messages) works
 
   abbrev pub members_of : List (Work B) → List Answered
   members_of works = flat_map (λ (w : Work B). w.members) works
 
-  -- each take is that of a message on a known topic
+  -- each take is that of a part on a known topic
   take-message : (topics : List (List ℕ × Kind)) (works : List (Work B)) → All (IsWork topics) works → EachTakeIsASend (passes_in works)
       → (t : Placed) → Contains (all_takes (passes_in works)) t → IsPart (length topics) t
   take-message topics works each sent t has =
@@ -101,19 +99,19 @@ module _ {B : Type 0} where
       (IsPermutation-filter_both is_taken is_direct (λ a. refl) w.members) in
       let split = map-append without_way (filter is_taken w.members) (filter is_direct w.members) in
       let reads = (all-taken topics works each sent w has).1 in
-      subst (λ (l : List Answer). IsPermutation (map without_way w.members) (l ++ map without_way (filter is_direct w.members))) reads
+      subst (λ (l : List PartAnswer). IsPermutation (map without_way w.members) (l ++ map without_way (filter is_direct w.members))) reads
       (subst (IsPermutation (map without_way w.members)) split both)
 
-  -- the answers of all workers are those to the messages of all, each once
+  -- the answers of all workers are those to the parts of all, each once
   pub all-answered : (topics : List (List ℕ × Kind)) (works : List (Work B)) → All (IsWork topics) works → EachTakeIsASend (passes_in works)
       → SendsAreTakes (passes_in works)
-      → IsPermutation (map without_way (members_of works)) (map (answer_of topics) (messages_in works))
+      → IsPermutation (map without_way (members_of works)) (map (part_answer topics) (messages_in works))
   all-answered topics works each sent same =
-      let reads : Work B → List Answer = λ w. map (answer_at topics) (takes_of w.pass.calls) in
-      let sent_reads : Work B → List Answer = λ w. map (answer_at topics) (sends_of w.pass.calls) in
-      let plain : Work B → List Answer = λ w. map without_way (filter is_direct w.members) in
+      let reads : Work B → List PartAnswer = λ w. map (answer_at topics) (takes_of w.pass.calls) in
+      let sent_reads : Work B → List PartAnswer = λ w. map (answer_at topics) (sends_of w.pass.calls) in
+      let plain : Work B → List PartAnswer = λ w. map without_way (filter is_direct w.members) in
       let lists = together (λ (w : Work B). map without_way w.members) reads plain works (λ w has. list-answers topics works each sent w has) in
-      let messages = together (λ (w : Work B). map (answer_of topics) w.messages) sent_reads plain works (λ w has.
+      let messages = together (λ (w : Work B). map (part_answer topics) w.messages) sent_reads plain works (λ w has.
       passed-answers topics w.messages (sends_of w.pass.calls) (filter is_direct w.members) (All-contains (IsWork topics) works w each has).listed.passed) in
       let takes_are : flat_map reads works ≡ map (answer_at topics) (all_takes (passes_in works)) =
       flat-map (answer_at topics) (λ (w : Work B). takes_of w.pass.calls) works
@@ -122,18 +120,19 @@ module _ {B : Type 0} where
       flat-map (answer_at topics) (λ (w : Work B). sends_of w.pass.calls) works
       ∙ ap (map (answer_at topics)) (sym (flat-of (λ (p : PassStanding B). sends_of p.calls) (λ (w : Work B). w.pass) works)) in
       let back : IsPermutation (flat_map reads works) (flat_map sent_reads works) =
-      subst (λ (l : List Answer). IsPermutation l (flat_map sent_reads works)) (sym takes_are)
+      subst (λ (l : List PartAnswer). IsPermutation l (flat_map sent_reads works)) (sym takes_are)
       (subst (IsPermutation (map (answer_at topics) (all_takes (passes_in works)))) (sym sends_are)
       (IsPermutation-sym (map (answer_at topics) (all_sends (passes_in works))) (map (answer_at topics) (all_takes (passes_in works)))
       (IsPermutation-map (answer_at topics) (all_sends (passes_in works)) (all_takes (passes_in works)) same))) in
       let joined : IsPermutation (flat_map (λ (w : Work B). map without_way w.members) works)
-      (flat_map (λ (w : Work B). map (answer_of topics) w.messages) works) =
+      (flat_map (λ (w : Work B). map (part_answer topics) w.messages) works) =
       IsPermutation-trans (flat_map (λ (w : Work B). map without_way w.members) works) (flat_map reads works ++ flat_map plain works)
-      (flat_map (λ (w : Work B). map (answer_of topics) w.messages) works) lists
+      (flat_map (λ (w : Work B). map (part_answer topics) w.messages) works) lists
       (IsPermutation-trans (flat_map reads works ++ flat_map plain works) (flat_map sent_reads works ++ flat_map plain works)
-      (flat_map (λ (w : Work B). map (answer_of topics) w.messages) works)
+      (flat_map (λ (w : Work B). map (part_answer topics) w.messages) works)
       (IsPermutation-append_left (flat_map plain works) (flat_map reads works) (flat_map sent_reads works) back)
-      (IsPermutation-sym (flat_map (λ (w : Work B). map (answer_of topics) w.messages) works) (flat_map sent_reads works ++ flat_map plain works) messages)) in
-      subst (λ (l : List Answer). IsPermutation l (map (answer_of topics) (messages_in works))) (flat-map without_way (λ (w : Work B). w.members) works)
+      (IsPermutation-sym (flat_map (λ (w : Work B). map (part_answer topics) w.messages) works)
+      (flat_map sent_reads works ++ flat_map plain works) messages)) in
+      subst (λ (l : List PartAnswer). IsPermutation l (map (part_answer topics) (messages_in works))) (flat-map without_way (λ (w : Work B). w.members) works)
       (subst (IsPermutation (flat_map (λ (w : Work B). map without_way w.members) works))
-      (flat-map (answer_of topics) (λ (w : Work B). w.messages) works) joined)
+      (flat-map (part_answer topics) (λ (w : Work B). w.messages) works) joined)

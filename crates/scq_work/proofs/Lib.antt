@@ -9,6 +9,7 @@ mod Sweeps
 mod Vain
 mod LeftLemmas
 mod MemberLemmas
+mod MessageParts
 mod PassedOn
 mod FileLists
 mod ReadLemmas
@@ -26,5 +27,6 @@ pub mod Orders
 mod AllGave
 mod AllRun
 mod FirstPasses
+mod PartMembers
 mod Parting
 mod Settled

@@ -17,5 +17,10 @@ pub so-far-answered : (topics : List (List ℕ × Kind)) (takes : List Placed) (
 so-far-answered topics takes was is take p known numbered few begins only grown before =
     let a = answered topics (Taken take.place) p in
     let list : filter is_taken is ≡ filter is_taken was ++ a ∷ [] = ap (filter is_taken) grown ∙ filter-append is_taken was (a ∷ []) in
-    let answers : AnswersTake topics take a = record { part = p; decodes = record { numbered = numbered; few = few; begins = begins; only = only }; known = known; answer = refl } in
+    let answers : AnswersTake topics take a = record {
+      part = p;
+      decodes = record { numbered = numbered; few = few; begins = begins; only = only };
+      known = known;
+      answer = refl;
+    } in
     subst (AnswersSoFar topics (takes ++ take ∷ [])) (sym list) (and_answered take a before answers)

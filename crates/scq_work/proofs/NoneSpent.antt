@@ -1,5 +1,5 @@
 -- No pass kept a ticket: what the workers began is too little for the limit of any ring.
-use Rattle.std.proofs.Common.{◌≡◌, refl, ◌∙◌, sym, arith, zero, suc, ℕ, ◌+◌, ◌*◌, ◌^◌, ◌<◌, ◌≤◌, List, [], ◌∷◌, length, map, get_or, pow_mono, None}
+use Rattle.std.proofs.Common.{◌≡◌, ◌∙◌, sym, arith, zero, suc, ℕ, ◌+◌, ◌*◌, ◌^◌, ◌<◌, ◌≤◌, List, [], ◌∷◌, length, map, get_or, pow_mono}
 use Rattle.std.specs.Prelude.{sum_by}
 use Rattle.std.specs.List.{All}
 use Rattle.std.proofs.Math.Nat.{mul-le-mul}
@@ -9,7 +9,6 @@ use Rattle.std.proofs.lemmas.List.Sums.{sum_by-cons, get_or-le-sum_by}
 use Rattle.scq_word.specs.declared.setup.Setup.{Setup}
 use Rattle.scq_word.specs.Sizes.{n_of}
 use Rattle.scq_word.specs.Bounds.{reset_value, limit_for}
-use Rattle.scq_word.proofs.BoundLemmas.{reset_small}
 use Rattle.scq_core.proofs.Entries.{few_seats}
 use Rattle.scq_law.specs.Bounds.{tally, was_put}
 use Rattle.scq_band.proofs.ClosedCounts.{sum_by-map}
@@ -20,15 +19,19 @@ use Rattle.scq_work.specs.Together.{all_sends, all_takes, NoneSpent, IsBounded}
 use Rattle.scq_work.specs.Working.{IsThrifty}
 use Rattle.scq_work.proofs.SendsAndTakes.{few-takes}
 
--- the limit for so few puts is at most the greatest
-few-tickets : (c : Setup) (puts : ℕ) → puts ≤ 2 ^ 35 + 4096 → limit_for c.order c.seats puts ≤ 2 ^ 60
+-- what a get may cost is low
+low-factor : (order seats : ℕ) → n_of order ≤ 2 ^ 12 → seats ≤ 4096 → reset_value order seats + 1 + seats ≤ 2 ^ 14
+unfolding reset_value
+low-factor order seats n_small few = omega arith
+
+-- the limit for so few puts is below 2 ^ 51
+few-tickets : (c : Setup) (puts : ℕ) → puts ≤ 2 ^ 36 + 4096 → limit_for c.order c.seats puts < 2 ^ 51
 few-tickets c puts low =
     let n_small : n_of c.order ≤ 2 ^ 12 = pow_mono c.order_in_range.1 in
     let few = few_seats c in
-    let reset : reset_value c.order c.seats < 2 ^ 16 = reset_small c.order c.seats c.order_in_range.1 few in
-    let factor : reset_value c.order c.seats + 1 + c.seats ≤ 2 ^ 17 = omega arith in
-    let more : puts + n_of c.order + 1 ≤ 2 ^ 36 + 1 = omega arith in
-    let times : (puts + n_of c.order + 1) * (reset_value c.order c.seats + 1 + c.seats) ≤ (2 ^ 36 + 1) * 2 ^ 17 = mul-le-mul more factor in
+    let factor = low-factor c.order c.seats n_small few in
+    let more : puts + n_of c.order + 1 ≤ 2 ^ 36 + 8193 = omega arith in
+    let times : (puts + n_of c.order + 1) * (reset_value c.order c.seats + 1 + c.seats) ≤ (2 ^ 36 + 8193) * 2 ^ 14 = mul-le-mul more factor in
     omega arith
 
 -- a sum of numbers, each at most one more than another
@@ -48,7 +51,7 @@ sums-le f g (x ∷ xs) each =
     omega (arith, sum_by-cons f x xs, sum_by-cons g x xs)
 
 module _ {B : Type 0} where
-  -- the passes of workers, each with how many messages its worker has passed on
+  -- the passes of workers, each with how many parts its worker has passed on
   abbrev pub passes_of : List (ℕ × PassStanding B) → List (PassStanding B)
   passes_of works = map (λ (w : ℕ × PassStanding B). w.1) works
 
@@ -91,7 +94,7 @@ module _ {B : Type 0} where
 
   -- no pass met Spent
   pub none-spent : (c : Setup) (works : List (ℕ × PassStanding B)) → c.limit ≡ 2 ^ 60 → length works ≤ c.seats
-      → messages_of works ≤ 2 ^ 35 → AllThrifty works → EachTakeIsASend (passes_of works) → NoPlaceIsTakenTwice (passes_of works)
+      → messages_of works ≤ 2 ^ 36 → AllThrifty works → EachTakeIsASend (passes_of works) → NoPlaceIsTakenTwice (passes_of works)
       → NoneIsKeptWithinTheLimit c (passes_of works) → NoneSpent (passes_of works)
   none-spent c works limit workers messages each sent once limits =
       let few = few-takes (passes_of works) sent once in
@@ -105,7 +108,7 @@ module _ {B : Type 0} where
       sym (get_or-map (λ (p : PassStanding B). p.spent) (passes_of works) k d d.spent less) ∙ all k d.spent (omega arith)
 
   -- each pass has few sends, takes and Full replies
-  pub all-bounded : (works : List (ℕ × PassStanding B)) → messages_of works ≤ 2 ^ 35 → AllThrifty works → EachTakeIsASend (passes_of works)
+  pub all-bounded : (works : List (ℕ × PassStanding B)) → messages_of works ≤ 2 ^ 36 → AllThrifty works → EachTakeIsASend (passes_of works)
       → NoPlaceIsTakenTwice (passes_of works)
       → (k : ℕ) (d : ℕ × PassStanding B) → k < length works → IsBounded (get_or works k d).1
   all-bounded works messages each sent once k d less =

@@ -1,90 +1,127 @@
--- The messages of files, one file behind the other: on known topics, in order of file and line, and answered as one thread would. So the
--- answers of workers, which are those to the messages in some order, are apart and on known topics.
-use Rattle.std.proofs.Common.{◌≡◌, ◌∙◌, refl, sym, ap, subst, inl, inr, arith, zero, suc, true, false, Bool, ℕ, ◌+◌, ◌<◌, ◌≤◌, List, [], ◌∷◌, ◌++◌, length, map, get_or, Option, Some, None}
+-- The messages of files, one file behind the other: on known topics, with parts in order of file, line and number. So the answers of workers, which are
+-- those to the parts in some order, are whole messages, on known topics.
+use Rattle.std.proofs.Common.{◌≡◌, ◌∙◌, refl, sym, ap, subst, inl, inr, arith, zero, suc, true, false, Bool, ℕ, ◌+◌, ◌-◌, ◌<◌, ◌≤◌, List, [], ◌∷◌, ◌++◌, length, map, get_or, Option, Some, None}
 use Rattle.std.specs.Prelude.{slice_index_or, IfSome, option_and_then, flat_map}
-use Rattle.std.specs.List.{All, IsDistinct}
+use Rattle.std.specs.List.{All, Contains, IsDistinct, range_with_len}
 use Rattle.std.specs.List.Sorted.{IsPermutation}
 use Rattle.std.specs.Option.{option_map}
 use Rattle.std.proofs.lemmas.Bool.Decides.{nat_tests}
-use Rattle.std.proofs.lemmas.List.{map-append, get_or-map, length-map}
-use Rattle.std.proofs.lemmas.List.Elements.{All-nil, All-append, All-map}
-use Rattle.std.proofs.lemmas.List.Sorted.{All-permutation, IsPermutation-sym}
+use Rattle.std.proofs.lemmas.Grind.{flat_map-append}
+use Rattle.std.proofs.lemmas.List.{append_assoc, get_or-map, length-map}
+use Rattle.std.proofs.lemmas.List.Elements.{All-nil, All-append, Contains-get_or}
+use Rattle.std.proofs.lemmas.List.Sorted.{IsPermutation-sym}
 use Rattle.std.proofs.lemmas.Map.Keys.{IsDistinct-IsPermutation, apart_from_distinct}
 use Rattle.scq_topics.specs.declared.kind.Kind.{Kind}
 use Rattle.scq_topics.specs.Topics.{topic_of}
 use Rattle.scq_frames.specs.declared.message.Message.{Message}
 use Rattle.scq_frames.specs.Numbered.{numbered}
-use Rattle.scq_frames.specs.Text.{Framed, messages_of}
+use Rattle.scq_frames.specs.Parts.{Part, IsNumbered, all_parts, part_of, parts_of}
+use Rattle.scq_frames.specs.Text.{messages_of}
 use Rattle.scq_collect.specs.declared.answered.Answered.{Answered}
-use Rattle.scq_collect.specs.Collected.{answer_of}
-use Rattle.scq_collect.specs.Merging.{AreApart, IsBefore, IsInOrder, place_of, place_of_answer, place_of_answered}
-use Rattle.scq_collect.specs.Output.{Answer, answer_to, answers_to, without_way}
+use Rattle.scq_collect.specs.Collected.{messages_to}
+use Rattle.scq_collect.specs.Joined.{AreWhole, PartAnswer, part_answer, part_answers, without_way}
+use Rattle.scq_collect.specs.Merging.{AreApart, IsBefore, IsInOrder, place_of_part}
 use Rattle.scq_collect.proofs.Orders.{is_place, is_place-flip, ascends, ascends-distinct}
 use Rattle.scq_work.specs.Reading.{AreOf}
 use Rattle.scq_work.specs.Ends.{AreGiven, all_left, messages_in}
+use Rattle.scq_work.specs.Passing.{parts_in}
+use Rattle.scq_work.proofs.PartMembers.{IsPartOf, has-part, same-place, part-of-member, member-of-part}
+use Rattle.scq_work.proofs.SendsAndTakes.{found-at, in-all}
 
 -- a place is itself
-is_place-itself : (p : ℕ × ℕ) → is_place p p ≡ true
+is_place-itself : (p : ℕ × ℕ × ℕ) → is_place p p ≡ true
 is_place-itself p = grind (arith, nat_tests)
 
--- messages rise from behind a place
-unfoldable Rises : ℕ × ℕ → List Message → Type 0
-Rises place [] = Unit {0}
-Rises place (m ∷ ms) = IsBefore place (place_of m) × Rises (place_of m) ms
+-- where a part stands, and its answer
+abbrev place_at : Part → ℕ × ℕ × ℕ
+place_at p = (p.file, p.line, p.part)
 
--- messages rise from behind each place of this file and of those in front of it
-unfoldable RisesPast : ℕ → List Message → Type 0
-RisesPast file ms = (place : ℕ × ℕ) → place.0 ≤ file → Rises place ms
+abbrev place_of_text : PartAnswer → ℕ × ℕ × ℕ
+place_of_text a = (a.file, a.line, a.part)
+
+-- parts rise from behind a place
+unfoldable Rises : ℕ × ℕ × ℕ → List Part → Type 0
+Rises place [] = Unit {0}
+Rises place (p ∷ ps) = IsBefore place (place_at p) × Rises (place_at p) ps
+
+-- parts rise from behind each place of this file and of those in front of it
+unfoldable RisesPast : ℕ → List Part → Type 0
+RisesPast file ps = (place : ℕ × ℕ × ℕ) → place.0 ≤ file → Rises place ps
 
 -- all messages of files
 abbrev all_of : List (List Message) → List Message
 all_of given = flat_map (λ own. own) given
 
--- messages of a file, and behind them others
-own-rises : (known file line : ℕ) (ms others : List Message) → AreOf known file line ms → RisesPast file others → Rises (file, line) (ms ++ others)
-unfolding Rises RisesPast
-own-rises known file line [] others of past = past (file, line) (omega arith)
-own-rises known file line (m ∷ ms) others of past =
-    let here : IsBefore (file, line) (place_of m) = inr (sym of.0, of.1) in
-    let place : (file, m.line) ≡ place_of m = ap (λ n. (n, m.line)) (sym of.0) in
-    (here, subst (λ p. Rises p (ms ++ others)) place (own-rises known file m.line ms others of.3 past))
+-- the parts of a message from one of them on, and behind them others
+rest-rise : (size part count : ℕ) (m : Message) (others : List Part) → ((last : ℕ) → Rises (m.file, m.line, last) others)
+    → Rises (m.file, m.line, part) (map (part_of size m) (range_with_len (part + 1) count) ++ others)
+unfolding Rises
+rest-rise size part zero m others past = past part
+rest-rise size part (suc count) m others past =
+    let here : IsBefore (m.file, m.line, part) (m.file, m.line, part + 1) = inr (refl, inr (refl, omega arith)) in
+    (here, rest-rise size (part + 1) count m others past)
 
-own-past : (known file : ℕ) (ms others : List Message) → AreOf known (file + 1) 0 ms → RisesPast (file + 1) others → RisesPast file (ms ++ others)
-unfolding Rises RisesPast
-own-past known file [] others of past place within = past place (omega arith)
-own-past known file (m ∷ ms) others of past place within =
-    let same : m.file ≡ file + 1 = of.0 in
-    let here : IsBefore place (place_of m) = inl (omega arith) in
-    let at : (file + 1, m.line) ≡ place_of m = ap (λ n. (n, m.line)) (sym of.0) in
-    (here, subst (λ p. Rises p (ms ++ others)) at (own-rises known (file + 1) m.line ms others of.3 past))
+-- all parts of a message, and behind them others
+parts-rise : (size : ℕ) (place : ℕ × ℕ × ℕ) (m : Message) (others : List Part) → IsBefore place (m.file, m.line, 1)
+    → ((last : ℕ) → Rises (m.file, m.line, last) others) → Rises place (all_parts size m ++ others)
+unfolding Rises
+parts-rise size place m others before past =
+    let count = parts_of size m.payload in
+    let some_ : suc (count - 1) ≡ count = omega arith in
+    subst (λ (n : ℕ). Rises place (map (part_of size m) (range_with_len 1 n) ++ others)) some_ (before, rest-rise size 1 (count - 1) m others past)
 
-given-past : {S : Type 0} (topics : List (List ℕ × Kind)) (size : ℕ) (left : S → Option (List ℕ)) (file : ℕ) (was : List S) (given : List (List Message))
-    → AreGiven topics size left (file + 1) was given
-    → RisesPast file (all_of given)
-unfolding Rises RisesPast
-given-past topics size left file [] [] none place within = tt
-given-past topics size left file [] (own ∷ more) none place within = absurd none
-given-past topics size left file (x ∷ xs) [] none place within = absurd none
-given-past topics size left file (x ∷ xs) (own ∷ more) gave place within =
-    own-past (length topics) file own (all_of more) gave.0.of (given-past topics size left (file + 1) xs more gave.1) place within
+-- the parts of messages of a file, and behind them others
+own-rises : (size known file line part : ℕ) (ms : List Message) (others : List Part) → AreOf known file line ms → RisesPast file others
+    → Rises (file, line, part) (parts_in size ms ++ others)
+unfolding RisesPast
+own-rises size known file line part [] others of past = past (file, line, part) (omega arith)
+own-rises size known file line part (m ∷ ms) others of past =
+    let before : IsBefore (file, line, part) (m.file, m.line, 1) = inr (sym of.0, inl of.1) in
+    subst (Rises (file, line, part)) (sym (append_assoc (all_parts size m) (parts_in size ms) others))
+    (parts-rise size (file, line, part) m (parts_in size ms ++ others) before
+    (λ last. subst (λ (f : ℕ). Rises (f, m.line, last) (parts_in size ms ++ others)) (sym of.0) (own-rises size known file m.line last ms others of.3 past)))
 
--- messages that rise are in order
-in-order : (place : ℕ × ℕ) (ms : List Message) → Rises place ms → (k : ℕ) (d : Message) → k + 1 < length ms
-    → IsBefore (place_of (slice_index_or ms k d)) (place_of (slice_index_or ms (k + 1) d))
+own-past : (size known file : ℕ) (ms : List Message) (others : List Part) → AreOf known (file + 1) 0 ms → RisesPast (file + 1) others
+    → RisesPast file (parts_in size ms ++ others)
+unfolding RisesPast
+own-past size known file [] others of past place within = past place (omega arith)
+own-past size known file (m ∷ ms) others of past place within =
+    let before : IsBefore place (m.file, m.line, 1) = inl (omega (arith, of.0, within)) in
+    subst (Rises place) (sym (append_assoc (all_parts size m) (parts_in size ms) others))
+    (parts-rise size place m (parts_in size ms ++ others) before
+    (λ last. subst (λ (f : ℕ). Rises (f, m.line, last) (parts_in size ms ++ others)) (sym of.0)
+    (own-rises size known (file + 1) m.line last ms others of.3 past)))
+
+given-past : {S : Type 0} (topics : List (List ℕ × Kind)) (size longest : ℕ) (left : S → Option (List ℕ)) (file : ℕ) (was : List S)
+    (given : List (List Message)) → AreGiven topics longest left (file + 1) was given
+    → RisesPast file (parts_in size (all_of given))
+unfolding Rises RisesPast
+given-past topics size longest left file [] [] none place within = tt
+given-past topics size longest left file [] (own ∷ more) none place within = absurd none
+given-past topics size longest left file (x ∷ xs) [] none place within = absurd none
+given-past topics size longest left file (x ∷ xs) (own ∷ more) gave place within =
+    subst (Rises place) (sym (flat_map-append (all_parts size) own (all_of more)))
+    (own-past size (length topics) file own (parts_in size (all_of more)) gave.0.of
+    (given-past topics size longest left (file + 1) xs more gave.1) place within)
+
+-- parts that rise are in order
+in-order : (place : ℕ × ℕ × ℕ) (ps : List Part) → Rises place ps → (k : ℕ) (d : Part) → k + 1 < length ps
+    → IsBefore (place_at (slice_index_or ps k d)) (place_at (slice_index_or ps (k + 1) d))
 unfolding Rises
 in-order place [] rises k d less = absurd (omega arith)
-in-order place (m ∷ []) rises k d less = absurd (omega arith)
-in-order place (m ∷ n ∷ ms) rises zero d less = rises.1.0
-in-order place (m ∷ n ∷ ms) rises (suc k) d less =
+in-order place (p ∷ []) rises k d less = absurd (omega arith)
+in-order place (p ∷ q ∷ ps) rises zero d less = rises.1.0
+in-order place (p ∷ q ∷ ps) rises (suc k) d less =
     let next : suc (k + 1) ≡ suc k + 1 = omega arith in
-    subst (λ j. IsBefore (place_of (slice_index_or (n ∷ ms) k d)) (place_of (slice_index_or (m ∷ n ∷ ms) j d))) next
-    (in-order (place_of m) (n ∷ ms) rises.1 k d (omega arith))
+    subst (λ j. IsBefore (place_at (slice_index_or (q ∷ ps) k d)) (place_at (slice_index_or (p ∷ q ∷ ps) j d))) next
+    (in-order (place_at p) (q ∷ ps) rises.1 k d (omega arith))
 
-given-in-order : {S : Type 0} (topics : List (List ℕ × Kind)) (size : ℕ) (left : S → Option (List ℕ)) (was : List S) (given : List (List Message))
-    → AreGiven topics size left 1 was given
-    → IsInOrder place_of (all_of given)
+given-in-order : {S : Type 0} (topics : List (List ℕ × Kind)) (size longest : ℕ) (left : S → Option (List ℕ)) (was : List S)
+    (given : List (List Message)) → AreGiven topics longest left 1 was given
+    → IsInOrder place_at (parts_in size (all_of given))
 unfolding RisesPast
-given-in-order topics size left was given gave = in-order (0, 0) (all_of given) (given-past topics size left 0 was given gave (0, 0) (omega arith))
+given-in-order topics size longest left was given gave =
+    in-order (0, 0, 0) (parts_in size (all_of given)) (given-past topics size longest left 0 was given gave (0, 0, 0) (omega arith))
 
 -- they are on known topics
 pub of-known : (known file line : ℕ) (ms : List Message) → AreOf known file line ms → All (λ m. m.topic ≤ known) ms
@@ -102,16 +139,6 @@ given-known topics size left file (x ∷ xs) (own ∷ more) gave =
     All-append (λ m. m.topic ≤ length topics) own (all_of more) (of-known (length topics) file 0 own gave.0.of)
     (given-known topics size left (file + 1) xs more gave.1)
 
--- their payloads are short
-given-short : {S : Type 0} (topics : List (List ℕ × Kind)) (size : ℕ) (left : S → Option (List ℕ)) (file : ℕ) (was : List S) (given : List (List Message))
-    → AreGiven topics size left file was given
-    → All (λ m. length m.payload ≤ size) (all_of given)
-given-short topics size left file [] [] none = All-nil (λ (m : Message). length m.payload ≤ size)
-given-short topics size left file [] (own ∷ more) none = absurd none
-given-short topics size left file (x ∷ xs) [] none = absurd none
-given-short topics size left file (x ∷ xs) (own ∷ more) gave =
-    All-append (λ (m : Message). length m.payload ≤ size) own (all_of more) gave.0.short (given-short topics size left (file + 1) xs more gave.1)
-
 -- where the bytes of all files are visible, they are those of the contents
 pub given-told : {S : Type 0} (topics : List (List ℕ × Kind)) (size : ℕ) (left : S → Option (List ℕ)) (file : ℕ) (was : List S)
     (given : List (List Message)) → AreGiven topics size left file was given
@@ -128,91 +155,95 @@ given-told topics size left file (x ∷ xs) (own ∷ more) gave =
       both (Some bytes) None is others = tt
       both (Some bytes) (Some contents) is others = ap (λ l. l ∷ more) is ∙ ap (λ l. map (numbered file (topic_of topics)) (messages_of bytes) ∷ l) others
 
--- and their answers are those of one thread
-numbered-answers : (topics : List (List ℕ × Kind)) (file : ℕ) (ms : List Framed)
-    → map (answer_of topics) (map (numbered file (topic_of topics)) ms) ≡ map (answer_to topics file) ms
-numbered-answers topics file [] = refl
-numbered-answers topics file (m ∷ ms) = ap (λ (rest : List Answer). answer_to topics file m ∷ rest) (numbered-answers topics file ms)
+-- one file behind the other
+told-messages : (topics : List (List ℕ × Kind)) (file : ℕ) (contents : List (List ℕ))
+    → all_of (messages_in topics file contents) ≡ messages_to topics file contents
+told-messages topics file [] = refl
+told-messages topics file (content ∷ more) =
+    ap (λ (l : List Message). map (numbered file (topic_of topics)) (messages_of content) ++ l) (told-messages topics (file + 1) more)
 
-pub told-answers : (topics : List (List ℕ × Kind)) (file : ℕ) (contents : List (List ℕ))
-    → map (answer_of topics) (all_of (messages_in topics file contents)) ≡ answers_to topics file contents
-told-answers topics file [] = refl
-told-answers topics file (content ∷ more) =
-    map-append (answer_of topics) (map (numbered file (topic_of topics)) (messages_of content)) (all_of (messages_in topics (file + 1) more))
-    ∙ ap (λ (front : List Answer). front ++ map (answer_of topics) (all_of (messages_in topics (file + 1) more)))
-    (numbered-answers topics file (messages_of content))
-    ∙ ap (λ (last : List Answer). map (answer_to topics file) (messages_of content) ++ last) (told-answers topics (file + 1) more)
+-- some part, to read past a list
+no_part : Part
+no_part = record { file = 0; line = 0; topic = 0; part = 0; parts = 0; payload = [] }
 
--- some message, to read past a list
-no_message : Message
-no_message = record { file = 0; line = 0; topic = 0; payload = [] }
+-- answers stand as their parts do
+answers-in-order : (topics : List (List ℕ × Kind)) (ps : List Part) → IsInOrder place_at ps → IsInOrder place_of_text (map (part_answer topics) ps)
+answers-in-order topics ps order k d less =
+    let long : k + 1 < length ps = omega (arith, length-map ps (part_answer topics)) in
+    rw (get_or-map (part_answer topics) ps k no_part d (omega arith), get_or-map (part_answer topics) ps (k + 1) no_part d long)
+    (order k no_part long)
 
--- answers stand as their messages do, and are on their topics
-answers-in-order : (topics : List (List ℕ × Kind)) (given : List Message) → IsInOrder place_of given → IsInOrder place_of_answer (map (answer_of topics) given)
-answers-in-order topics given order k d less =
-    let long : k + 1 < length given = omega (arith, length-map given (answer_of topics)) in
-    rw (get_or-map (answer_of topics) given k no_message d (omega arith), get_or-map (answer_of topics) given (k + 1) no_message d long)
-    (order k no_message long)
+module _ {S : Type 0} (topics : List (List ℕ × Kind)) (size longest : ℕ) (left : S → Option (List ℕ)) (was : List S) (given : List (List Message))
+    (members : List Answered) (gave : AreGiven topics longest left 1 was given)
+    (same : IsPermutation (map without_way members) (part_answers topics size (all_of given))) where
+  -- members whose answers are those to the parts, in some order, are apart
+  members-apart : AreApart place_of_part members
+  members-apart i j d less within alike =
+      let test : PartAnswer → PartAnswer → Bool = λ x y. is_place (place_of_text x) (place_of_text y) in
+      let answers = part_answers topics size (all_of given) in
+      let up = ascends place_of_text answers
+      (answers-in-order topics (parts_in size (all_of given)) (given-in-order topics size longest left was given gave)) in
+      let distinct : IsDistinct test (map without_way members) =
+      IsDistinct-IsPermutation test (λ x y. is_place-flip (place_of_text x) (place_of_text y)) answers (map without_way members)
+      (IsPermutation-sym (map without_way members) answers same) (ascends-distinct place_of_text answers up) in
+      let plain : PartAnswer = without_way d in
+      let long = length-map members without_way in
+      let apart = apart_from_distinct test (map without_way members) i j plain distinct less (omega arith) in
+      let first = get_or-map without_way members i d plain (omega arith) in
+      let second = get_or-map without_way members j d plain within in
+      let there : test (without_way (get_or members i d)) (without_way (get_or members j d)) ≡ false =
+      ap (λ a. test a (without_way (get_or members j d))) (sym first) ∙ ap (test (get_or (map without_way members) i plain)) (sym second) ∙ apart in
+      let itself : test (without_way (get_or members i d)) (without_way (get_or members j d)) ≡ true =
+      ap (λ p. is_place (place_of_part (get_or members i d)) p) (sym alike) ∙ is_place-itself (place_of_part (get_or members i d)) in
+      absurd (cc)
 
-answers-known : (topics : List (List ℕ × Kind)) (given : List Message) → All (λ m. m.topic ≤ length topics) given
-    → All (λ a. a.topic ≤ length topics) (map (answer_of topics) given)
-answers-known topics given known k d less =
-    let long : k < length given = omega (arith, length-map given (answer_of topics)) in
-    rw (get_or-map (answer_of topics) given k no_message d long) (known k no_message long)
+  -- those of one file and line are of one message
+  one-message : (a b : Answered) → IsPartOf topics size (all_of given) a → IsPartOf topics size (all_of given) b → a.file ≡ b.file → a.line ≡ b.line
+      → (a.topic ≡ b.topic) × (a.parts ≡ b.parts)
+  one-message a b first second file line =
+      let p = part_of size first.message 1 in
+      let q = part_of size second.message 1 in
+      let up = ascends place_at (parts_in size (all_of given)) (given-in-order topics size longest left was given gave) in
+      let file_is : p.file ≡ q.file = ap (λ (x : PartAnswer). x.file) first.is ∙ file ∙ sym (ap (λ (x : PartAnswer). x.file) second.is) in
+      let line_is : p.line ≡ q.line = ap (λ (x : PartAnswer). x.line) first.is ∙ line ∙ sym (ap (λ (x : PartAnswer). x.line) second.is) in
+      let place_is : place_at p ≡ place_at q = λ i. (file_is i, line_is i, 1) in
+      let is : p ≡ q = same-place place_at (parts_in size (all_of given)) p q up (stands a first) (stands b second) place_is in (
+        sym (ap (λ (x : PartAnswer). x.topic) first.is) ∙ ap (λ (x : Part). x.topic) is ∙ ap (λ (x : PartAnswer). x.topic) second.is,
+        sym (ap (λ (x : PartAnswer). x.parts) first.is) ∙ ap (λ (x : Part). x.parts) is ∙ ap (λ (x : PartAnswer). x.parts) second.is,
+      )
+    where
+      stands : (c : Answered) (its : IsPartOf topics size (all_of given) c) → Contains (parts_in size (all_of given)) (part_of size its.message 1)
+      stands c its =
+          let at = found-at (all_of given) its.message its.stands in
+          in-all (all_parts size) (all_of given) at.0 its.message (part_of size its.message 1) at.1
+          (has-part size its.message 1 (record { first = omega arith; last = omega arith }))
 
--- members whose answers are those to the messages, in some order, are apart
-pub members-apart : {S : Type 0} (topics : List (List ℕ × Kind)) (size : ℕ) (left : S → Option (List ℕ)) (was : List S) (given : List (List Message))
-    (members : List Answered) → AreGiven topics size left 1 was given → IsPermutation (map without_way members) (map (answer_of topics) (all_of given))
-    → AreApart place_of_answered members
-members-apart topics size left was given members gave same i j d less within alike =
-    let test : Answer → Answer → Bool = λ x y. is_place (place_of_answer x) (place_of_answer y) in
-    let answers = map (answer_of topics) (all_of given) in
-    let up = ascends place_of_answer answers (answers-in-order topics (all_of given) (given-in-order topics size left was given gave)) in
-    let distinct : IsDistinct test (map without_way members) =
-    IsDistinct-IsPermutation test (λ x y. is_place-flip (place_of_answer x) (place_of_answer y)) answers (map without_way members)
-    (IsPermutation-sym (map without_way members) answers same) (ascends-distinct place_of_answer answers up) in
-    let plain : Answer = without_way d in
-    let long = length-map members without_way in
-    let apart = apart_from_distinct test (map without_way members) i j plain distinct less (omega arith) in
-    let first = get_or-map without_way members i d plain (omega arith) in
-    let second = get_or-map without_way members j d plain within in
-    let there : test (without_way (get_or members i d)) (without_way (get_or members j d)) ≡ false =
-    ap (λ a. test a (without_way (get_or members j d))) (sym first) ∙ ap (test (get_or (map without_way members) i plain)) (sym second) ∙ apart in
-    let itself : test (without_way (get_or members i d)) (without_way (get_or members j d)) ≡ true =
-    ap (λ p. is_place (place_of_answered (get_or members i d)) p) (sym alike) ∙ is_place-itself (place_of_answered (get_or members i d)) in
-    absurd (cc)
+  -- so they are whole messages
+  pub members-whole : AreWhole members
+  members-whole = record {
+    apart = members-apart;
+    numbered = λ k d less.
+        let its = part-of-member topics size (all_of given) members same (get_or members k d) (Contains-get_or members k d less) in
+        subst (λ (a : PartAnswer). IsNumbered a.part a.parts) its.is its.numbered;
+    alike = λ a b has other file line.
+        one-message a b (part-of-member topics size (all_of given) members same a has)
+        (part-of-member topics size (all_of given) members same b other) file line;
+    each = λ a part has numbered.
+        let its = part-of-member topics size (all_of given) members same a has in
+        let within : IsNumbered part (parts_of size its.message.payload) =
+        subst (IsNumbered part) (sym (ap (λ (x : PartAnswer). x.parts) its.is)) numbered in
+        let other = member-of-part topics size (all_of given) members same its.message part its.stands within in
+        let file : other.0.file ≡ a.file = ap (λ (x : PartAnswer). x.file) other.2 ∙ ap (λ (x : PartAnswer). x.file) its.is in
+        let line : other.0.line ≡ a.line = ap (λ (x : PartAnswer). x.line) other.2 ∙ ap (λ (x : PartAnswer). x.line) its.is in
+        let at : other.0.part ≡ part = ap (λ (x : PartAnswer). x.part) other.2 in
+        (other.0, other.1, λ i. (file i, line i, at i));
+  }
 
--- and on known topics
-pub members-known : {S : Type 0} (topics : List (List ℕ × Kind)) (size : ℕ) (left : S → Option (List ℕ)) (was : List S) (given : List (List Message))
-    (members : List Answered) → AreGiven topics size left 1 was given → IsPermutation (map without_way members) (map (answer_of topics) (all_of given))
-    → All (λ a. a.topic ≤ length topics) members
-members-known topics size left was given members gave same k d less =
-    let answers = map (answer_of topics) (all_of given) in
-    let known = All-permutation (λ (a : Answer). a.topic ≤ length topics) answers (map without_way members)
-    (IsPermutation-sym (map without_way members) answers same)
-    (answers-known topics (all_of given) (given-known topics size left 1 was given gave)) in
-    subst (λ (a : Answer). a.topic ≤ length topics) (get_or-map without_way members k d (without_way d) less)
-    (known k (without_way d) (omega (arith, length-map members without_way)))
-
--- and they answer to short payloads
-pub members-short : {S : Type 0} (topics : List (List ℕ × Kind)) (size : ℕ) (left : S → Option (List ℕ)) (was : List S) (given : List (List Message))
-    (members : List Answered) → AreGiven topics size left 1 was given → IsPermutation (map without_way members) (map (answer_of topics) (all_of given))
-    → All (λ a. a.bytes ≤ size) members
-members-short topics size left was given members gave same k d less =
-    let answers = map (answer_of topics) (all_of given) in
-    let short = All-map (λ (a : Answer). a.bytes ≤ size) (answer_of topics) (all_of given) (given-short topics size left 1 was given gave) in
-    let all = All-permutation (λ (a : Answer). a.bytes ≤ size) answers (map without_way members)
-    (IsPermutation-sym (map without_way members) answers same) short in
-    subst (λ (a : Answer). a.bytes ≤ size) (get_or-map without_way members k d (without_way d) less)
-    (all k (without_way d) (omega (arith, length-map members without_way)))
-
--- and where the bytes of all files are visible, they are those of one thread
-pub members-told : {S : Type 0} (topics : List (List ℕ × Kind)) (size : ℕ) (left : S → Option (List ℕ)) (was : List S) (given : List (List Message))
-    (members : List Answered) → AreGiven topics size left 1 was given → IsPermutation (map without_way members) (map (answer_of topics) (all_of given))
-    → IfSome (all_left left was) (λ contents. IsPermutation (map without_way members) (answers_to topics 1 contents))
-members-told topics size left was given members gave same = at (all_left left was) (given-told topics size left 1 was given gave) where
-  at : (o : Option (List (List ℕ))) → IfSome o (λ contents. given ≡ messages_in topics 1 contents)
-      → IfSome o (λ contents. IsPermutation (map without_way members) (answers_to topics 1 contents))
-  at None is = tt
-  at (Some contents) is =
-      subst (IsPermutation (map without_way members)) (ap (λ g. map (answer_of topics) (all_of g)) is ∙ told-answers topics 1 contents) same
+  -- and where the bytes of all files are visible, they answer for the contents
+  pub members-told : IfSome (all_left left was) (λ contents. IsPermutation (map without_way members) (part_answers topics size (messages_to topics 1 contents)))
+  members-told = at (all_left left was) (given-told topics longest left 1 was given gave) where
+    at : (o : Option (List (List ℕ))) → IfSome o (λ contents. given ≡ messages_in topics 1 contents)
+        → IfSome o (λ contents. IsPermutation (map without_way members) (part_answers topics size (messages_to topics 1 contents)))
+    at None is = tt
+    at (Some contents) is =
+        subst (IsPermutation (map without_way members)) (ap (part_answers topics size) (ap all_of is ∙ told-messages topics 1 contents)) same

@@ -10,7 +10,7 @@ use Rattle.scq_band.specs.declared.numbers.Numbers.{Numbers}
 use Rattle.scq_band.specs.Numbers.{known_of, changed, finishes, sees, passes, drew, empties}
 use Rattle.scq_band.specs.Standing.{Identity}
 use Rattle.scq_band.proofs.Learning.{changed_length}
-use Rattle.scq_frames.specs.declared.message.Message.{Message}
+use Rattle.scq_frames.specs.Parts.{Part}
 use Rattle.scq_collect.proofs.Orders.{contains-first, contains-more}
 use Rattle.scq_band.specs.RunSeen.{Seen}
 use Rattle.scq_queue.specs.Passes.{PassStanding, HeldStanding, HasGot, WasLent, WasGivenBack, FoundEmpty, FoundFull, having_seen, after_put, without, known_on, after_look}
@@ -187,7 +187,7 @@ module _ {B : Type 0} where
       }
 
   -- a buffer was lent, and sent with the bytes of a message
-  pub lent-and-sent : (contents : B → List ℕ) (m : Message) (place : ℕ) (bytes : List ℕ) (p q r : PassStanding B) (h : HeldStanding B)
+  pub lent-and-sent : (contents : B → List ℕ) (m : Part) (place : ℕ) (bytes : List ℕ) (p q r : PassStanding B) (h : HeldStanding B)
       → suc m.topic < length p.numbers
       → WasLent contents p q h → r ≡ having_seen r.seen (after_put (suc m.topic) h.index place bytes q)
       → Sends m (record { topic = m.topic; place = place; bytes = bytes })

@@ -1,11 +1,10 @@
--- A worker that goes on after one message more, or stops at a ticket past the limit.
-use Rattle.std.proofs.Common.{◌≡◌, sym, ◌∙◌, ap, subst, suc, ℕ, ◌+◌, ◌<◌, List, [], ◌∷◌, ◌++◌, length, Option, Some, None, Bool, false, inl, inr, rules}
+-- A worker that goes on after one part more, or stops at a ticket past the limit.
+use Rattle.std.proofs.Common.{◌≡◌, sym, ◌∙◌, ap, subst, arith, suc, ℕ, ◌+◌, ◌<◌, ◌≤◌, List, [], ◌∷◌, ◌++◌, length, Option, Some, None, Bool, false, inl, inr, rules}
 use Rattle.std.specs.Prelude.{count_by, IfSome, IsSome, All, slice_get}
 use Rattle.std.proofs.lemmas.Option.{slice_get_cases}
 use Rattle.std.proofs.lemmas.List.{length-append}
 use Rattle.scq_topics.specs.declared.kind.Kind.{Kind}
-use Rattle.scq_frames.specs.declared.message.Message.{Message}
-use Rattle.scq_frames.specs.Parts.{whole_of}
+use Rattle.scq_frames.specs.Parts.{Part}
 use Rattle.scq_collect.specs.declared.answered.Answered.{Answered}
 use Rattle.scq_collect.specs.declared.answered.Way.TheVariants.{Direct}
 use Rattle.scq_band.specs.Standing.{Identity}
@@ -37,8 +36,8 @@ module _ {B : Type 0} where
         spent = ap (λ (x : PassStanding B). x.spent) h.pass ∙ suits.spent;
       }
 
-  -- it has sent a message more
-  pub work-sent : (topics : List (List ℕ × Kind)) (messages : List Message) (m : Message) (p q : PassStanding B) (members : List Answered) (starved : Bool)
+  -- it has sent a part more
+  pub work-sent : (topics : List (List ℕ × Kind)) (messages : List Part) (m : Part) (p q : PassStanding B) (members : List Answered) (starved : Bool)
       → IsAtWork topics messages p members starved → suc m.topic < length p.numbers → HasSent m p q → IsAtWork topics (messages ++ m ∷ []) q members starved
   work-sent topics messages m p q members starved was within h =
       record {
@@ -47,12 +46,12 @@ module _ {B : Type 0} where
         listed = λ fed. listed-sent topics messages m p q members (was.listed fed) h;
       }
 
-  -- it found no buffer free, has answered a message more itself, and has helped
-  pub work-helped : (topics : List (List ℕ × Kind)) (messages : List Message) (m : Message) (head : ℕ) (p q r : PassStanding B) (was mid is : List Answered)
+  -- it found no buffer free, has answered a part more itself, and has helped
+  pub work-helped : (topics : List (List ℕ × Kind)) (messages : List Part) (m : Part) (head : ℕ) (p q r : PassStanding B) (was mid is : List Answered)
       (before after : Bool)
       → IsAtWork topics messages p was before → HasFoundFull head p q → HasTaken q r
       → ((topic : ℕ) → topic < length topics + 1 → count_by (is_take topic) r.calls ≡ count_by (is_take topic) q.calls + 1)
-      → (after ≡ false → before ≡ false) → (after ≡ false → mid ≡ was ++ answered topics (Direct head) (whole_of m) ∷ []) → (after ≡ false → HasAnswered topics q r mid is)
+      → (after ≡ false → before ≡ false) → (after ≡ false → mid ≡ was ++ answered topics (Direct head) m ∷ []) → (after ≡ false → HasAnswered topics q r mid is)
       → IsAtWork topics (messages ++ m ∷ []) r is after
   work-helped topics messages m head p q r was mid is before after work full taken each fed_before grown more =
       record {
@@ -73,8 +72,25 @@ module _ {B : Type 0} where
   left-sent contents messages topic ticket p q r h None lent is some_ back = absurd (search rules)
   left-sent contents messages topic ticket p q r h (Some k) lent is some_ back = left-at-send contents messages topic ticket p q r h k lent is back.0 back.1
 
-  -- it met Spent at this message
-  pub work-stopped : (shared : Identity B) (topics : List (List ℕ × Kind)) (messages : List Message) (m : Message) (p q : PassStanding B)
+  -- the same of more messages
+  pub stopped-more : (shared : Identity B) (few many : ℕ) (p : PassStanding B) (kept : Option (HeldStanding B)) → few ≤ many
+      → HasStopped shared few p kept → HasStopped shared many p kept
+  stopped-more shared few many p kept low was = record {
+    spent = was.spent;
+    thrifty = record {
+      sends = let its = was.thrifty.sends in omega arith;
+      fulls = let its = was.thrifty.fulls in omega arith;
+      puts = λ topic. let its = was.thrifty.puts topic in omega arith;
+      returns = was.thrifty.returns;
+    };
+    queue = was.queue;
+    stays = was.stays;
+    held = was.held;
+    its = was.its;
+  }
+
+  -- it met Spent at this part
+  pub work-stopped : (shared : Identity B) (topics : List (List ℕ × Kind)) (messages : List Part) (m : Part) (p q : PassStanding B)
       (members : List Answered) (starved : Bool)
       (kept : Option (HeldStanding B)) → IsAtWork topics messages p members starved → p.queue ≡ shared → p.retired ≡ None
       → HasLeft (length messages) (length messages + 1) p q kept → HasStopped shared (length (messages ++ m ∷ [])) q kept

@@ -1,14 +1,17 @@
 -- How the answers of a framer add up to what is known of its file: the messages that it gave, and how its reading ended.
-use Rattle.std.proofs.Common.{◌≡◌, ◌≢◌, ◌∙◌, refl, sym, ap, subst, arith, Bool, true, false, ℕ, ◌+◌, ◌*◌, ◌<◌, ◌≤◌, ◌^◌, List, [], ◌∷◌, ◌++◌, Option, Some, None, Result, Ok, Err, length, map, append_assoc}
-use Rattle.std.specs.Prelude.{IfSome, IsTrue, All}
+use Rattle.std.proofs.Common.{◌≡◌, ◌≢◌, ◌∙◌, refl, sym, ap, subst, arith, Bool, true, false, ℕ, ◌+◌, ◌<◌, ◌≤◌, ◌^◌, List, [], ◌∷◌, ◌++◌, Option, Some, None, Result, Ok, Err, length, map, append_assoc}
+use Rattle.std.specs.Prelude.{IfSome, IsTrue, All, sum_by}
 use Rattle.std.proofs.lemmas.List.Elements.{All-nil, All-push}
 use Rattle.std.specs.Option.{option_map}
 use Rattle.std.proofs.lemmas.Bool.{true≢false}
+use Rattle.std.proofs.lemmas.Grind.{flat_map-append}
 use Rattle.std.proofs.lemmas.List.{append-nil, length-append}
+use Rattle.std.proofs.lemmas.List.Sums.{sum_by-append}
 use Rattle.scq_outside.specs.Counts.{Rose}
 use Rattle.scq_topics.specs.declared.kind.Kind.{Kind}
 use Rattle.scq_topics.specs.Topics.{topic_of}
 use Rattle.scq_frames.specs.declared.message.Message.{Message}
+use Rattle.scq_frames.specs.Parts.{Part, all_parts}
 use Rattle.scq_frames.specs.Text.{messages_of}
 use Rattle.scq_frames.specs.Numbered.{numbered}
 use Rattle.scq_frames.specs.declared.fault.FrameFault.{FrameFault}
@@ -17,7 +20,8 @@ use Rattle.scq_frames.specs.Framing.{EndsOnce, Framing, IsNext, NothingLeft, fre
 use Rattle.scq_frames.specs.Coming.{Found}
 use Rattle.scq_frames.proofs.FindingLemmas.{Gave, Gave-found, Found-gave}
 use Rattle.scq_collect.proofs.Judging.{if-visible, judged-end, judged-fault, judged-long, sized}
-use Rattle.scq_work.specs.Reading.{AreOf, IsRead}
+use Rattle.scq_work.specs.Passing.{parts_in}
+use Rattle.scq_work.specs.Reading.{AreOf, IsRead, most_parts}
 use Rattle.scq_work.specs.Desks.{IsNew}
 use Rattle.scq_work.specs.Given.{given_in}
 use Rattle.scq_work.specs.declared.own_file.OwnFile.{OwnFile}
@@ -102,7 +106,7 @@ pub record IsReading {S : Type 0} (topics : List (List ℕ × Kind)) (size : ℕ
   pub payload : framer.size ≡ size
   pub most : framer.most ≡ 2 ^ 30
   pub bounded : framer.weight ≤ 2 ^ 30 + 1
-  pub few : 2 * length given ≤ framer.weight
+  pub few : sum_by most_parts given + length given ≤ framer.weight
   pub end : IsTrue framer.ended → NothingLeft (left now)
   pub size_same : visible_size framer (left now) ≡ visible_size (fresh file size (2 ^ 30)) (left start)
   pub once : EndsOnce false framer.ended (end_count start) (end_count now)
@@ -133,6 +137,9 @@ reading-next topics size faults end_count left file start before now old new giv
     let O : List Message → Type 0 = λ ms. AreOfUpTo (length topics) file 0 new.line ms in
     let of = of-more (length topics) file 0 old.line given m r.all (next.file ∙ r.number) next.above known in
     let long : length given' ≡ length given + 1 = ap length grown ∙ length-append given (m ∷ []) in
+    let alone : sum_by most_parts (m ∷ []) ≡ most_parts m = omega arith in
+    let spread : sum_by most_parts given' ≡ sum_by most_parts given + most_parts m =
+    ap (sum_by most_parts) grown ∙ sum_by-append most_parts given (m ∷ []) ∙ ap (λ (n : ℕ). sum_by most_parts given + n) alone in
     record {
       ahead = given-next _ _ (visible_ahead (topic_of topics) new (left now)) _ _ m r.ahead gives grown;
       all = subst O (sym grown) (subst (λ n. AreOfUpTo (length topics) file 0 n (given ++ m ∷ [])) (sym next.line) of);
@@ -144,16 +151,18 @@ reading-next topics size faults end_count left file start before now old new giv
       payload = said.payload ∙ r.payload;
       most = said.most ∙ r.most;
       bounded = omega (arith, said.bounded, said.most, r.most);
-      few = omega (arith, r.few, next.weight, long);
+      few = omega (arith, r.few, next.weight, long, spread);
       end = said.end r.end;
       size_same = said.size_same ∙ r.size_same;
       once = once-along old.ended new.ended _ _ _ said.stays r.once said.once;
       kept = kept ∙ r.kept;
     }
 
--- so few messages were given
-few-given : (count weight : ℕ) → 2 * count ≤ weight → weight ≤ 2 ^ 30 + 1 → count ≤ 2 ^ 29
-few-given count weight few bounded = omega arith
+-- the messages that were given have so few parts
+few-given : (given : List Message) (weight : ℕ) → sum_by most_parts given + length given ≤ weight → weight ≤ 2 ^ 30 + 1
+    → sum_by most_parts given ≤ 2 ^ 30
+few-given [] weight few bounded = omega arith
+few-given (m ∷ ms) weight few bounded = omega arith
 
 -- it was read to its end
 pub reading-whole : {S : Type 0} (topics : List (List ℕ × Kind)) (size : ℕ) (faults end_count : S → ℕ) (left : S → Option (List ℕ)) (file : ℕ)
@@ -174,7 +183,7 @@ reading-whole topics size faults end_count left file start before now old new gi
   gave = given-all topics size file (left start) (left before) _ given r.ahead none;
   all = of-up_to (length topics) file 0 old.line given r.all;
   short = r.short;
-  few = few-given (length given) old.weight r.few r.bounded;
+  few = few-given given old.weight r.few r.bounded;
 }
 
 -- it was read up to a fault
@@ -207,7 +216,7 @@ reading-fault {S} topics size faults end_count left file start before now old ne
       gave = tt;
       all = of-up_to (length topics) file 0 old.line given r.all;
       short = r.short;
-      few = few-given (length given) old.weight r.few r.bounded;
+      few = few-given given old.weight r.few r.bounded;
     } where
       fault-is : (x : FrameFault) (r : Result (Option Message) FrameFault) → r ≡ Err x → r ≡ Err ReadFault → x ≡ ReadFault
       fault-is x r is e = cc
@@ -227,12 +236,17 @@ reading-left topics size faults end_count left file start now framer given r = r
   gave = tt;
   all = of-up_to (length topics) file 0 framer.line given r.all;
   short = r.short;
-  few = few-given (length given) framer.weight r.few r.bounded;
+  few = few-given given framer.weight r.few r.bounded;
 }
 
 -- one message more behind those that were given, and behind all
-pub behind-all : (messages old new : List Message) (m : Message) → new ≡ old ++ m ∷ [] → (messages ++ old) ++ m ∷ [] ≡ messages ++ new
-behind-all messages old new m grown = append_assoc messages old (m ∷ []) ∙ ap (λ l. messages ++ l) (sym grown)
+pub parts-behind : (size : ℕ) (parts : List Part) (old new : List Message) (m : Message) → new ≡ old ++ m ∷ []
+    → (parts ++ parts_in size old) ++ all_parts size m ≡ parts ++ parts_in size new
+parts-behind size parts old new m grown =
+    let last : parts_in size (m ∷ []) ≡ all_parts size m = append-nil (all_parts size m) in
+    append_assoc parts (parts_in size old) (all_parts size m)
+    ∙ ap (λ (l : List Part). parts ++ l)
+    (ap (λ (l : List Part). parts_in size old ++ l) (sym last) ∙ sym (flat_map-append (all_parts size) old (m ∷ [])) ∙ ap (parts_in size) (sym grown))
 
 -- a file that isn't read yet
 pub reading-unread : {S : Type 0} (topics : List (List ℕ × Kind)) (size : ℕ) (faults end_count : S → ℕ) (left : S → Option (List ℕ)) (f : OwnFile S) → IsNew f

@@ -13,7 +13,7 @@ use Rattle.scq_law.specs.Bounds.{tally}
 use Rattle.scq_law.proofs.Base.SeatSums.{tally-append}
 use Rattle.scq_queue.specs.Lists.{was_full}
 use Rattle.scq_work.specs.Records.{is_got, is_put, is_lend, is_take, HoldsNothingAtEachFull, HelpsAfterEachFull, HelpsOnceAfterEachFull, AreTakes, none, and_got, and_found_none, MeetsNoSpent}
-use Rattle.scq_frames.specs.declared.message.Message.{Message}
+use Rattle.scq_frames.specs.Parts.{Part}
 use Rattle.scq_work.specs.Passing.{Sends, FollowsCalls, by_send, by_other}
 use Rattle.scq_work.proofs.Splits.{split-append, before-led, before-none, before-some, before-all}
 use Rattle.scq_work.proofs.Blocks.{takes-no_lend, takes-even}
@@ -192,12 +192,12 @@ unspent-taken xs block are was = unspent-more xs block was (all block are) where
   all calls (and_found_none {calls = before} topic more) = unspent-more before (Nothing (suc topic) ∷ []) (all before more) (unspent-nothing (suc topic))
 
 -- messages go on following a record that grows
-pub follows-sent : (ms : List Message) (m : Message) (xs : List Ended) (from place : ℕ) (over bytes : List ℕ) → FollowsCalls ms xs
+pub follows-sent : (ms : List Part) (m : Part) (xs : List Ended) (from place : ℕ) (over bytes : List ℕ) → FollowsCalls ms xs
     → Sends m (record { topic = m.topic; place = place; bytes = bytes })
     → FollowsCalls (ms ++ m ∷ []) ((xs ++ Got 0 from over ∷ []) ++ Done (suc m.topic) place bytes ∷ [])
 follows-sent ms m xs from place over bytes was sends = by_send m place bytes (by_other (Got 0 from over) was refl refl) sends
 
-pub follows-taken : (ms : List Message) (xs block : List Ended) → AreTakes block → FollowsCalls ms xs → FollowsCalls ms (xs ++ block)
+pub follows-taken : (ms : List Part) (xs block : List Ended) → AreTakes block → FollowsCalls ms xs → FollowsCalls ms (xs ++ block)
 follows-taken ms xs block none was = subst (FollowsCalls ms) (sym (append-nil xs)) was
 follows-taken ms xs block (and_got {calls} topic place back bytes more) was =
     let got : List Ended = Got (suc topic) place bytes ∷ [] in

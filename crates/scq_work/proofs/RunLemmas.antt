@@ -15,7 +15,7 @@ use Rattle.scq_work.specs.Desks.{all_given, HasRun}
 use Rattle.scq_work.specs.Given.{given_in}
 use Rattle.scq_work.specs.Members.{none}
 use Rattle.scq_work.specs.Passing as passing
-use Rattle.scq_work.specs.Passing.{no_call}
+use Rattle.scq_work.specs.Passing.{no_call, parts_in}
 use Rattle.scq_work.specs.Records.{is_lend, HelpsOnceAfterEachFull}
 use Rattle.scq_work.specs.Together.{HasRetired}
 use Rattle.scq_queue.specs.Lists.{sends_of}
@@ -107,21 +107,22 @@ module _ {B : Type 0} where
       }
 
   -- it has read its files, swept and left
-  pub run-left : {S : Type 0} (shared : Identity B) (topics : List (List ℕ × Kind)) (size : ℕ) (faults end_count : S → ℕ) (left : S → Option (List ℕ))
+  pub run-left : {S : Type 0} (shared : Identity B) (topics : List (List ℕ × Kind)) (size longest : ℕ) (faults end_count : S → ℕ) (left : S → Option (List ℕ))
       (files : List (OwnFile S))
       (p q : PassStanding B) (was is : List Answered) (before after : Bool) (kept : Option (HeldStanding B))
-      → AllRead topics size faults end_count left files → Suits shared (length topics) p → IsAtWork topics (all_given files) p was before
+      → AllRead topics longest faults end_count left files → Suits shared (length topics) p → IsAtWork topics (parts_in size (all_given files)) p was before
       → HasTaken (after_retire p) q → ((t : ℕ) → t < length topics + 1 → (known_on t q).finished < (known_on t q).head)
       → (after ≡ false → before ≡ false) → (after ≡ false → HasAnswered topics p q was is) → kept ≡ None
-      → HasRun shared topics size faults end_count left files q is after kept
-  run-left shared topics size faults end_count left files p q was is before after kept read suits work taken empty fed_before more nothing =
+      → HasRun shared topics size longest faults end_count left files q is after kept
+  run-left shared topics size longest faults end_count left files p q was is before after kept read suits work taken empty fed_before more nothing =
       let sweeping = sweeping-taken (length topics + 1) (after_retire p) q
       (sweeping-retired (length topics + 1) p (sweeping-first (length topics + 1) p work.producing)) taken in
       let long : length q.numbers ≡ length topics + 2 = taken.knows.rings ∙ suits.numbers in
       record {
         read = read;
-        thrifty = thrifty-on_time (length (all_given files)) q
-            (thrifty-taken (length (all_given files)) (after_retire p) q (thrifty-retired 0 (length (all_given files)) p work.thrifty) taken);
+        thrifty = thrifty-on_time (length (parts_in size (all_given files))) q
+            (thrifty-taken (length (parts_in size (all_given files))) (after_retire p) q
+            (thrifty-retired 0 (length (parts_in size (all_given files))) p work.thrifty) taken);
         queue = ap (λ (x : PassStanding B). x.queue) taken.pass ∙ suits.queue;
         retired = (length p.calls, ap (λ (x : PassStanding B). x.retired) taken.pass);
         held = sweeping.between.none ∙ ap index_of (sym nothing);
@@ -132,7 +133,7 @@ module _ {B : Type 0} where
         listed = λ awake fed.
             let old = work.listed (fed_before fed) in
             let answered = more fed in
-            listed-taken topics (all_given files) (after_retire p) q was is
+            listed-taken topics (parts_in size (all_given files)) (after_retire p) q was is
             (record { passed = old.passed; follows = old.follows; takes = old.takes; fulls = old.fulls }) taken
             (record { takes = answered.takes; directs = answered.directs });
       }
@@ -142,17 +143,17 @@ module _ {B : Type 0} where
   some-none p ticket is none_ = absurd (cc)
 
   -- it met Spent in a sweep
-  pub run-late : {S : Type 0} (shared : Identity B) (topics : List (List ℕ × Kind)) (size : ℕ) (faults end_count : S → ℕ) (left : S → Option (List ℕ))
+  pub run-late : {S : Type 0} (shared : Identity B) (topics : List (List ℕ × Kind)) (size longest : ℕ) (faults end_count : S → ℕ) (left : S → Option (List ℕ))
       (files : List (OwnFile S))
       (p q : PassStanding B) (was is : List Answered) (before after : Bool) (kept held : Option (HeldStanding B))
-      → AllRead topics size faults end_count left files → Suits shared (length topics) p → IsAtWork topics (all_given files) p was before
-      → HasLeft (length (all_given files)) (length (all_given files)) (after_retire p) q held → kept ≡ held
-      → HasRun shared topics size faults end_count left files q is after kept
-  run-late shared topics size faults end_count left files p q was is before after kept held read suits work end same =
-      subst (λ k. HasRun shared topics size faults end_count left files q is after k) (sym same)
+      → AllRead topics longest faults end_count left files → Suits shared (length topics) p → IsAtWork topics (parts_in size (all_given files)) p was before
+      → HasLeft (length (parts_in size (all_given files))) (length (parts_in size (all_given files))) (after_retire p) q held → kept ≡ held
+      → HasRun shared topics size longest faults end_count left files q is after kept
+  run-late shared topics size longest faults end_count left files p q was is before after kept held read suits work end same =
+      subst (λ k. HasRun shared topics size longest faults end_count left files q is after k) (sym same)
       (record {
         read = read;
-        thrifty = end.thrifty (thrifty-retired 0 (length (all_given files)) p work.thrifty);
+        thrifty = end.thrifty (thrifty-retired 0 (length (parts_in size (all_given files))) p work.thrifty);
         queue = end.own.0 ∙ suits.queue;
         retired = (length p.calls, end.own.2);
         held = end.held ∙ ap (λ l. l ++ index_of held) work.producing.between.none;
@@ -164,17 +165,19 @@ module _ {B : Type 0} where
       })
 
   -- it met Spent while it read its files, and then retired
-  pub run-stopped : {S : Type 0} (shared : Identity B) (topics : List (List ℕ × Kind)) (size : ℕ) (faults end_count : S → ℕ) (left : S → Option (List ℕ))
+  pub run-stopped : {S : Type 0} (shared : Identity B) (topics : List (List ℕ × Kind)) (size longest : ℕ) (faults end_count : S → ℕ)
+      (left : S → Option (List ℕ))
       (files : List (OwnFile S))
       (p q : PassStanding B) (is : List Answered) (after : Bool) (kept held : Option (HeldStanding B))
-      → AllRead topics size faults end_count left files → HasStopped shared (length (all_given files)) p held → q ≡ after_retire p → kept ≡ held
-      → HasRun shared topics size faults end_count left files q is after kept
-  run-stopped shared topics size faults end_count left files p q is after kept held read end retired same =
-      subst (λ k. HasRun shared topics size faults end_count left files q is after k) (sym same)
-      (subst (λ (x : PassStanding B). HasRun shared topics size faults end_count left files x is after held) (sym retired)
+      → AllRead topics longest faults end_count left files → HasStopped shared (length (parts_in size (all_given files))) p held
+      → q ≡ after_retire p → kept ≡ held
+      → HasRun shared topics size longest faults end_count left files q is after kept
+  run-stopped shared topics size longest faults end_count left files p q is after kept held read end retired same =
+      subst (λ k. HasRun shared topics size longest faults end_count left files q is after k) (sym same)
+      (subst (λ (x : PassStanding B). HasRun shared topics size longest faults end_count left files x is after held) (sym retired)
       (record {
         read = read;
-        thrifty = thrifty-retired 1 (length (all_given files)) p end.thrifty;
+        thrifty = thrifty-retired 1 (length (parts_in size (all_given files))) p end.thrifty;
         queue = end.queue;
         retired = (length p.calls, refl);
         held = end.held;

@@ -1,5 +1,5 @@
 -- Sweeps, from the takes that they are made of.
-use Rattle.std.proofs.Common.{◌≡◌, refl, sym, ◌∙◌, ap, subst, suc, ℕ, ◌+◌, ◌<◌, List, [], ◌∷◌, ◌++◌, append_assoc}
+use Rattle.std.proofs.Common.{◌≡◌, sym, ◌∙◌, ap, suc, ℕ, ◌+◌, ◌<◌, List, [], ◌∷◌, ◌++◌, append_assoc}
 use Rattle.std.proofs.lemmas.List.{append-nil}
 use Rattle.scq_core.specs.declared.ended.Ended.{Ended}
 use Rattle.scq_core.specs.declared.ended.Ended.TheVariants.{Nothing}

@@ -12,8 +12,7 @@ use Rattle.scq_core.specs.declared.ended.Ended.TheVariants.{Done, Got, Nothing}
 use Rattle.scq_law.specs.Bounds.{tally, was_put}
 use Rattle.scq_law.proofs.Base.SeatSums.{tally-append}
 use Rattle.scq_topics.specs.declared.kind.Kind.{Kind}
-use Rattle.scq_frames.specs.declared.message.Message.{Message}
-use Rattle.scq_frames.specs.Parts.{whole_of}
+use Rattle.scq_frames.specs.Parts.{Part}
 use Rattle.scq_collect.specs.declared.answered.Answered.{Answered}
 use Rattle.scq_collect.specs.declared.answered.Way.TheVariants.{Direct}
 use Rattle.scq_queue.specs.Lists.{Placed, sends_of, takes_of}
@@ -46,21 +45,21 @@ module _ {B : Type 0} where
   taken-takes p q h = ap takes_of (taken-calls p q h) ∙ takes-append p.calls h.block
 
   -- those of one that has sent a message
-  sent-calls : (m : Message) (p q : PassStanding B) (h : HasSent m p q)
+  sent-calls : (m : Part) (p q : PassStanding B) (h : HasSent m p q)
       → q.calls ≡ (p.calls ++ Got 0 h.from h.over ∷ []) ++ Done (suc m.topic) h.place h.bytes ∷ []
   sent-calls m p q h = ap (λ (x : PassStanding B). x.calls) h.pass
 
-  abbrev placed : (m : Message) (p q : PassStanding B) → HasSent m p q → Placed
+  abbrev placed : (m : Part) (p q : PassStanding B) → HasSent m p q → Placed
   placed m p q h = record { topic = m.topic; place = h.place; bytes = h.bytes }
 
-  sent-sends : (m : Message) (p q : PassStanding B) (h : HasSent m p q) → sends_of q.calls ≡ sends_of p.calls ++ placed m p q h ∷ []
+  sent-sends : (m : Part) (p q : PassStanding B) (h : HasSent m p q) → sends_of q.calls ≡ sends_of p.calls ++ placed m p q h ∷ []
   sent-sends m p q h =
       let got : List Ended = Got 0 h.from h.over ∷ [] in
       let put : List Ended = Done (suc m.topic) h.place h.bytes ∷ [] in
       ap sends_of (sent-calls m p q h) ∙ sends-append (p.calls ++ got) put
       ∙ ap (λ l. l ++ placed m p q h ∷ []) (sends-append p.calls got ∙ append-nil (sends_of p.calls))
 
-  sent-takes : (m : Message) (p q : PassStanding B) → HasSent m p q → takes_of q.calls ≡ takes_of p.calls
+  sent-takes : (m : Part) (p q : PassStanding B) → HasSent m p q → takes_of q.calls ≡ takes_of p.calls
   sent-takes m p q h =
       let got : List Ended = Got 0 h.from h.over ∷ [] in
       let put : List Ended = Done (suc m.topic) h.place h.bytes ∷ [] in
@@ -91,7 +90,7 @@ module _ {B : Type 0} where
       }
 
   -- a message was sent
-  pub producing-sent : (topics : ℕ) (m : Message) (p q : PassStanding B) → IsProducing topics p → suc m.topic < length p.numbers → HasSent m p q
+  pub producing-sent : (topics : ℕ) (m : Part) (p q : PassStanding B) → IsProducing topics p → suc m.topic < length p.numbers → HasSent m p q
       → IsProducing topics q
   producing-sent topics m p q was within h =
       let calls = sent-calls m p q h in
@@ -171,7 +170,7 @@ module _ {B : Type 0} where
       omega arith
 
   -- how much was begun
-  pub thrifty-sent : (messages : ℕ) (m : Message) (p q : PassStanding B) → IsThrifty 0 messages p → HasSent m p q → IsThrifty 0 (messages + 1) q
+  pub thrifty-sent : (messages : ℕ) (m : Part) (p q : PassStanding B) → IsThrifty 0 messages p → HasSent m p q → IsThrifty 0 (messages + 1) q
   thrifty-sent messages m p q was h =
       let got : List Ended = Got 0 h.from h.over ∷ [] in
       let put : List Ended = Done (suc m.topic) h.place h.bytes ∷ [] in
@@ -216,7 +215,7 @@ module _ {B : Type 0} where
       }
 
   -- the list
-  pub listed-sent : (topics : List (List ℕ × Kind)) (messages : List Message) (m : Message) (p q : PassStanding B) (members : List Answered)
+  pub listed-sent : (topics : List (List ℕ × Kind)) (messages : List Part) (m : Part) (p q : PassStanding B) (members : List Answered)
       → HasListed topics messages p members → HasSent m p q → HasListed topics (messages ++ m ∷ []) q members
   listed-sent topics messages m p q members was h =
       record {
@@ -228,10 +227,10 @@ module _ {B : Type 0} where
         fulls = subst (λ fulls. AnswersItsFulls fulls members) (sym (ap (λ (x : PassStanding B). x.fulls) h.pass)) was.fulls;
       }
 
-  pub listed-full : (topics : List (List ℕ × Kind)) (messages : List Message) (m : Message) (head : ℕ) (p q : PassStanding B) (members : List Answered)
-      → HasListed topics messages p members → HasFoundFull head p q → HasListed topics (messages ++ m ∷ []) q (members ++ answered topics (Direct head) (whole_of m) ∷ [])
+  pub listed-full : (topics : List (List ℕ × Kind)) (messages : List Part) (m : Part) (head : ℕ) (p q : PassStanding B) (members : List Answered)
+      → HasListed topics messages p members → HasFoundFull head p q → HasListed topics (messages ++ m ∷ []) q (members ++ answered topics (Direct head) m ∷ [])
   listed-full topics messages m head p q members was h =
-      let a = answered topics (Direct head) (whole_of m) in
+      let a = answered topics (Direct head) m in
       let directs : filter is_direct (members ++ a ∷ []) ≡ filter is_direct members ++ a ∷ [] = filter-append is_direct members (a ∷ []) in
       let takens : filter is_taken (members ++ a ∷ []) ≡ filter is_taken members =
       filter-append is_taken members (a ∷ []) ∙ append-nil (filter is_taken members) in
@@ -249,7 +248,7 @@ module _ {B : Type 0} where
             (subst (λ l. AllZip AnswersFull (p.fulls ++ head ∷ []) l) (sym directs) fulls);
       }
 
-  pub listed-taken : (topics : List (List ℕ × Kind)) (messages : List Message) (p q : PassStanding B) (was is : List Answered)
+  pub listed-taken : (topics : List (List ℕ × Kind)) (messages : List Part) (p q : PassStanding B) (was is : List Answered)
       → HasListed topics messages p was → HasTaken p q → HasAnswered topics p q was is → HasListed topics messages q is
   listed-taken topics messages p q was is listed h more =
       record {

@@ -5,9 +5,8 @@ use Rattle.std.specs.Global.{Global}
 use Rattle.std.specs.List.Sorted.{IsPermutation}
 use Rattle.scq_topics.specs.declared.kind.Kind.{Kind}
 use Rattle.scq_frames.specs.declared.message.Message.{Message}
-use Rattle.scq_collect.specs.Collected.{answer_of}
-use Rattle.scq_collect.specs.Merging.{AreApart, members_in, place_of_answered}
-use Rattle.scq_collect.specs.Output.{without_way}
+use Rattle.scq_collect.specs.Joined.{AreWhole, part_answers, without_way}
+use Rattle.scq_collect.specs.Merging.{members_in}
 use Rattle.scq_collect.specs.declared.answered.Answered.{Answered}
 use Rattle.scq_word.specs.declared.setup.Setup.{Setup}
 use Rattle.scq_word.specs.Sizes.{n_of}
@@ -20,7 +19,7 @@ use Rattle.scq_queue.specs.declared.counts.Counts.{Counts}
 use Rattle.scq_work.specs.Files.{own_of}
 use Rattle.scq_work.specs.declared.worked.Worked.{Worked}
 use Rattle.scq_work.specs.Members.{AnswersItsTakes, AnswersItsFulls}
-use Rattle.scq_work.specs.Passing.{HasPassedOn, FollowsCalls}
+use Rattle.scq_work.specs.Passing.{parts_in, HasPassedOn, FollowsCalls}
 use Rattle.scq_work.specs.Records.{HoldsNothingAtEachFull, HelpsAfterEachFull, MeetsNoSpent}
 use Rattle.scq_work.specs.Together.{SendsAreTakes, NoPlaceStandsTwice, NothingIsLeft, HasRetired, NoneSpent, IsBounded}
 
@@ -37,24 +36,26 @@ module _ {B : Type 0} where
   OfEachWorker P passes lists =
       (w : ℕ) (p : PassStanding B) (list : Vec Answered Global) → slice_get passes w ≡ Some p → slice_get lists w ≡ Some list → P w p list.items
 
-  -- the workers' lists, against the messages of files and the workers' passes
+  -- the workers' lists, against the messages of files and the workers' passes, where a part has at most `size` bytes
   pub record HaveAnswered (topics : List (List ℕ × Kind)) (size workers : ℕ) (given : List (List Message)) (passes : List (PassStanding B))
       (lists : List (Vec Answered Global)) : Type 0 where
     pub each_pass : length passes ≡ workers
     pub each_list : length lists ≡ workers
-    -- the answers in all lists are those to all messages, each once
-    pub once : IsPermutation (map without_way (members_in lists)) (map (answer_of topics) (flat_map (λ own. own) given))
-    -- no two have one file and line; each is on a known topic, with a payload of at most `size` bytes
-    pub apart : AreApart place_of_answered (members_in lists)
+    -- the answers in all lists are those to all parts of all messages, each once
+    pub once : IsPermutation (map without_way (members_in lists)) (part_answers topics size (flat_map (λ own. own) given))
+    -- so they are whole messages: of each file and line that stands in the lists the members are its parts 1 to `parts`, each once and on one
+    -- topic. That is a known one, and no part has more than `size` bytes.
+    pub whole : AreWhole (members_in lists)
     pub known : All (λ a. a.topic ≤ length topics) (members_in lists)
     pub short : All (λ a. a.bytes ≤ size) (members_in lists)
     -- one by one and in order, the Taken members of a worker's list are its takes, and the Direct ones its Full replies
     pub takes : OfEachWorker (λ w p list. AnswersItsTakes topics (takes_of p.calls) list) passes lists
     pub fulls : OfEachWorker (λ w p list. AnswersItsFulls p.fulls list) passes lists
-    -- the messages of a worker's files, in order, are each its next send or its next Direct member, and there are no others
-    pub passed : OfEachWorker (λ w p list. HasPassedOn topics (own_of workers w 1 given) (sends_of p.calls) list) passes lists
+    -- the parts of the messages of a worker's files, in order of file, line and part, are each its next send or its next Direct member, and there
+    -- are no others
+    pub passed : OfEachWorker (λ w p list. HasPassedOn topics (parts_in size (own_of workers w 1 given)) (sends_of p.calls) list) passes lists
     -- and they stand so in its record: each is its next send or its next Full
-    pub follows : OfEachWorker (λ w p list. FollowsCalls (own_of workers w 1 given) p.calls) passes lists
+    pub follows : OfEachWorker (λ w p list. FollowsCalls (parts_in size (own_of workers w 1 given)) p.calls) passes lists
 
   -- what the passes of a queue of this setup did, each and together, and what was left in its rings. It has so many topics.
   pub record HaveShared (topics : ℕ) (c : Setup) (passes : List (PassStanding B)) (left : List ℕ) : Type 0 where

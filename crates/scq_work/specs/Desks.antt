@@ -7,6 +7,7 @@ use Rattle.scq_collect.specs.declared.answered.Answered.{Answered}
 use Rattle.scq_band.specs.Standing.{Identity}
 use Rattle.scq_queue.specs.Passes.{PassStanding, HeldStanding}
 use Rattle.scq_work.specs.Given.{given_in}
+use Rattle.scq_work.specs.Passing.{parts_in}
 use Rattle.scq_work.specs.Reading.{IsRead}
 use Rattle.scq_work.specs.Together.{HasRetired, HasSwept}
 use Rattle.scq_work.specs.Working.{IsSweeping, IsThrifty, HasListed, index_of}
@@ -33,12 +34,13 @@ StopsAtAFault {S} files =
 abbrev pub all_given : {S : Type 0} → List (OwnFile S) → List Message
 all_given files = flat_map (λ f. given_in f.given.value) (reverse files)
 
--- a worker has done its work: what its files gave it has passed on, it has retired, and it has left after a sweep, unless it met a ticket
--- past the limit. `kept` is the value that it then kept. `faults`, `end_count` and `left` are what sources tell.
-pub record HasRun {B S : Type 0} (shared : Identity B) (topics : List (List ℕ × Kind)) (size : ℕ) (faults end_count : S → ℕ) (left : S → Option (List ℕ))
-    (files : List (OwnFile S)) (pass : PassStanding B) (members : List Answered) (starved : Bool) (kept : Option (HeldStanding B)) : Type 0 where
-  pub read : All (λ f. IsRead topics size faults end_count left f.number f.was.value f.source (given_in f.given.value) f.end) files
-  pub thrifty : IsThrifty 1 (length (all_given files)) pass
+-- a worker has done its work: what its files gave it has passed on, in parts of at most `size` bytes, it has retired, and it has left after a
+-- sweep, unless it met a ticket past the limit. `kept` is the value that it then kept. `faults`, `end_count` and `left` are what sources tell.
+pub record HasRun {B S : Type 0} (shared : Identity B) (topics : List (List ℕ × Kind)) (size longest : ℕ) (faults end_count : S → ℕ)
+    (left : S → Option (List ℕ)) (files : List (OwnFile S)) (pass : PassStanding B) (members : List Answered) (starved : Bool)
+    (kept : Option (HeldStanding B)) : Type 0 where
+  pub read : All (λ f. IsRead topics longest faults end_count left f.number f.was.value f.source (given_in f.given.value) f.end) files
+  pub thrifty : IsThrifty 1 (length (parts_in size (all_given files))) pass
   pub queue : pass.queue ≡ shared
   pub retired : (calls : ℕ) × (pass.retired ≡ Some calls)
   pub held : pass.held ≡ index_of kept
@@ -47,4 +49,4 @@ pub record HasRun {B S : Type 0} (shared : Identity B) (topics : List (List ℕ 
   pub sweeping : pass.spent ≡ None → IsSweeping (length topics + 1) pass
   pub ended : pass.spent ≡ None → HasRetired (length topics + 1) pass
   pub swept : pass.spent ≡ None → HasSwept pass
-  pub listed : pass.spent ≡ None → starved ≡ false → HasListed topics (all_given files) pass members
+  pub listed : pass.spent ≡ None → starved ≡ false → HasListed topics (parts_in size (all_given files)) pass members

@@ -1,7 +1,7 @@
 -- What a job may ask for.
 use Rattle.std.specs.Prelude.{ℕ, ◌<◌, ◌≤◌}
 
--- so many buffers, payload bytes and workers are within the limits, which are none of one for another
+-- an order, a size of a part and a number of workers, each within its own limits
 pub record IsJob (order size workers : ℕ) : Type 0 where
   pub some_order : 0 < order
   pub order_fits : order ≤ 12

@@ -2,23 +2,24 @@
 use Rattle.std.specs.Prelude.{◌≡◌, ℕ, ◌^◌, ◌<◌, ◌≤◌, Bool, true, false, not, List, [], ◌∷◌, ◌++◌, length, filter}
 use Rattle.std.specs.List.{AllZip}
 use Rattle.scq_topics.specs.declared.kind.Kind.{Kind}
-use Rattle.scq_topics.specs.Reply.{reply_of}
-use Rattle.scq_topics.specs.Topics.{kind_of}
 use Rattle.scq_frames.specs.Parts.{Part, IsNumbered}
 use Rattle.scq_frames.specs.Encoded.{IsEncodable, BeginsWith}
+use Rattle.scq_collect.specs.Joined.{text_of_part}
 use Rattle.scq_collect.specs.declared.answered.Answered.{Answered}
 use Rattle.scq_collect.specs.declared.answered.Way.{Way}
 use Rattle.scq_collect.specs.declared.answered.Way.TheVariants.{Taken, Direct}
 use Rattle.scq_queue.specs.Lists.{Placed}
 
--- the answer to a message that is this part, come by in this way
+-- the answer to this part, come by in this way
 abbrev pub answered : List (List ℕ × Kind) → Way → Part → Answered
 answered topics way p = record {
   file = p.file;
   line = p.line;
   topic = p.topic;
+  part = p.part;
+  parts = p.parts;
   bytes = length p.payload;
-  reply = reply_of (kind_of topics p.topic) p.payload;
+  text = text_of_part topics p;
   way = way;
 }
 
@@ -47,7 +48,7 @@ pub record AnswersTake (topics : List (List ℕ × Kind)) (take : Placed) (a : A
   pub known : part.topic ≤ length topics
   pub answer : a ≡ answered topics (Taken take.place) part
 
--- a member answers a message directly, where no buffer was free: with this head of the ring of free buffers
+-- a member answers a part directly, where no buffer was free: with this head of the ring of free buffers
 abbrev pub AnswersFull : ℕ → Answered → Type 0
 AnswersFull head a = a.way ≡ Direct head
 

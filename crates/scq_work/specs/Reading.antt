@@ -1,6 +1,6 @@
 -- How the reading of a file ended, by its source before and after. Sources have a count of faults and one of the ends that they answered, and
 -- what they have left may be visible. A payload may have `size` bytes.
-use Rattle.std.specs.Prelude.{◌≡◌, ◌≢◌, ℕ, ◌+◌, ◌^◌, ◌<◌, ◌≤◌, List, [], ◌∷◌, Option, Some, None, IfSome, length, map, All}
+use Rattle.std.specs.Prelude.{◌≡◌, ◌≢◌, ℕ, ◌+◌, ◌^◌, ◌<◌, ◌≤◌, List, [], ◌∷◌, Option, Some, None, IfSome, length, map, max, sum_by, All}
 use Rattle.std.specs.Option.{option_map}
 use Rattle.scq_outside.specs.Counts.{Rose}
 use Rattle.scq_topics.specs.declared.kind.Kind.{Kind}
@@ -49,12 +49,16 @@ abbrev pub AreOf : ℕ → ℕ → ℕ → List Message → Type 0
 AreOf known file line [] = Unit {0}
 AreOf known file line (m ∷ ms) = (m.file ≡ file) × (line < m.line) × (m.topic ≤ known) × AreOf known file m.line ms
 
--- what is known of a file by how it ended: its source before and after, and the messages that it gave. They are few: each adds at least
--- two to the sum that its framer keeps below 2 ^ 30 + 2.
+-- how many parts a message may have at most
+abbrev pub most_parts : Message → ℕ
+most_parts m = max 1 (length m.payload)
+
+-- what is known of a file by how it ended: its source before and after, and the messages that it gave. Together they have at most 2 ^ 30
+-- parts: each message adds one more than the parts that it may have to its framer's sum, which is at most 2 ^ 30 + 1.
 pub record IsRead {S : Type 0} (topics : List (List ℕ × Kind)) (size : ℕ) (faults end_count : S → ℕ) (left : S → Option (List ℕ)) (file : ℕ) (old new : S)
     (given : List Message) (end : FileEnd) : Type 0 where
   pub ends : EndsSo size faults end_count left old new end
   pub gave : GaveAll topics file (left old) end given
   pub all : AreOf (length topics) file 0 given
   pub short : All (λ m. length m.payload ≤ size) given
-  pub few : length given ≤ 2 ^ 29
+  pub few : sum_by most_parts given ≤ 2 ^ 30

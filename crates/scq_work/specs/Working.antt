@@ -5,7 +5,7 @@ use Rattle.scq_core.specs.declared.ended.Ended.{Ended}
 use Rattle.scq_core.specs.declared.ended.Ended.TheVariants.{Done, Got, Nothing}
 use Rattle.scq_law.specs.Bounds.{tally, was_put}
 use Rattle.scq_topics.specs.declared.kind.Kind.{Kind}
-use Rattle.scq_frames.specs.declared.message.Message.{Message}
+use Rattle.scq_frames.specs.Parts.{Part}
 use Rattle.scq_collect.specs.declared.answered.Answered.{Answered}
 use Rattle.scq_queue.specs.Lists.{Placed, sends_of, takes_of}
 use Rattle.scq_band.specs.Standing.{Identity}
@@ -41,16 +41,20 @@ module _ {B : Type 0} where
     pub knows : KnowsMore old new
     pub same : (topic : ℕ) → (known_on topic new).finished ≡ (known_on topic old).finished
 
-  -- a pass that was lent a buffer and sent a message in it
-  pub record HasSent (m : Message) (old new : PassStanding B) : Type 0 where
+  -- a pass that was lent a buffer and sent a part in it
+  pub record HasSent (part : Part) (old new : PassStanding B) : Type 0 where
     pub from : ℕ
     pub over : List ℕ
     pub place : ℕ
     pub bytes : List ℕ
-    pub pass : new ≡ record old { calls = (old.calls ++ Got 0 from over ∷ []) ++ Done (suc m.topic) place bytes ∷ []; numbers = new.numbers; seen = new.seen }
-    pub sends : Sends m (record { topic = m.topic; place = place; bytes = bytes })
+    pub pass : new ≡ record old {
+      calls = (old.calls ++ Got 0 from over ∷ []) ++ Done (suc part.topic) place bytes ∷ [];
+      numbers = new.numbers;
+      seen = new.seen;
+    }
+    pub sends : Sends part (record { topic = part.topic; place = place; bytes = bytes })
     pub knows : KnowsMore old new
-    pub finished : place ≤ (known_on m.topic new).finished
+    pub finished : place ≤ (known_on part.topic new).finished
 
   -- a pass that found no buffer free
   pub record HasFoundFull (head : ℕ) (old new : PassStanding B) : Type 0 where
@@ -61,9 +65,9 @@ module _ {B : Type 0} where
   pub record KnowsItsSends (p : PassStanding B) : Type 0 where
     pub sends : (m : Placed) → Contains (sends_of p.calls) m → (suc m.topic < length p.numbers) × (m.place ≤ (known_on m.topic p).finished)
 
-  -- a pass between two messages: it holds nothing, now and at each Full, and has put as often as it got; it has met no Spent, and knows
+  -- a pass between two parts: it holds nothing, now and at each Full, and has put as often as it got; it has met no Spent, and knows
   -- each of its sends as finished
-  pub record IsBetweenMessages (p : PassStanding B) : Type 0 where
+  pub record IsBetweenParts (p : PassStanding B) : Type 0 where
     pub alone : HoldsNothingAtEachFull p.calls
     pub even : count_by is_got p.calls ≡ count_by is_put p.calls
     pub none : p.held ≡ []
@@ -73,24 +77,24 @@ module _ {B : Type 0} where
   -- the pass of a worker that reads its files, so far: it took just once from each topic after each Full
   pub record IsProducing (topics : ℕ) (p : PassStanding B) : Type 0 where
     pub helps : HelpsOnceAfterEachFull topics p.calls
-    pub between : IsBetweenMessages p
+    pub between : IsBetweenParts p
 
   -- that of a worker that sweeps: the same, but that it may have taken more since the last Full
   pub record IsSweeping (topics : ℕ) (p : PassStanding B) : Type 0 where
     pub helps : HelpsAfterEachFull topics p.calls
-    pub between : IsBetweenMessages p
+    pub between : IsBetweenParts p
 
-  -- how much it has begun: `late` is 1 for a pass that met Spent
-  pub record IsThrifty (late messages : ℕ) (p : PassStanding B) : Type 0 where
-    pub sends : length (sends_of p.calls) ≤ messages
-    pub fulls : length p.fulls ≤ messages
-    pub puts : (topic : ℕ) → tally (was_put (suc topic)) p.calls ≤ messages + late
+  -- how much it has begun for so many parts: `late` is 1 for a pass that met Spent
+  pub record IsThrifty (late parts : ℕ) (p : PassStanding B) : Type 0 where
+    pub sends : length (sends_of p.calls) ≤ parts
+    pub fulls : length p.fulls ≤ parts
+    pub puts : (topic : ℕ) → tally (was_put (suc topic)) p.calls ≤ parts + late
     pub returns : tally (was_put 0) p.calls ≤ length (takes_of p.calls) + late
 
-  -- its list, so far, against its pass and the messages that it has passed on
-  pub record HasListed (topics : List (List ℕ × Kind)) (messages : List Message) (p : PassStanding B) (members : List Answered) : Type 0 where
-    pub passed : HasPassedOn topics messages (sends_of p.calls) members
-    pub follows : FollowsCalls messages p.calls
+  -- its list, so far, against its pass and the parts that it has passed on
+  pub record HasListed (topics : List (List ℕ × Kind)) (parts : List Part) (p : PassStanding B) (members : List Answered) : Type 0 where
+    pub passed : HasPassedOn topics parts (sends_of p.calls) members
+    pub follows : FollowsCalls parts p.calls
     pub takes : AnswersSoFar topics (takes_of p.calls) (filter is_taken members)
     pub fulls : AnswersItsFulls p.fulls members
 
@@ -99,7 +103,7 @@ module _ {B : Type 0} where
     pub takes : AnswersSoFar topics (takes_of old.calls) (filter is_taken was) → AnswersSoFar topics (takes_of new.calls) (filter is_taken is)
     pub directs : filter is_direct is ≡ filter is_direct was
 
-  -- a pass that met Spent, with the value that it keeps: before it had passed on so many messages, and now so many
+  -- a pass that met Spent, with the value that it keeps: before it had passed on at most so many parts, and now at most so many
   pub record HasLeft (before after : ℕ) (old new : PassStanding B) (kept : Option (HeldStanding B)) : Type 0 where
     pub spent : (ticket : ℕ) × (new.spent ≡ Some ticket)
     pub thrifty : IsThrifty 0 before old → IsThrifty 1 after new
@@ -116,16 +120,16 @@ module _ {B : Type 0} where
   abbrev pub after_retire : PassStanding B → PassStanding B
   after_retire p = record p { retired = Some (length p.calls) }
 
-  -- a worker that has passed on these messages and goes on: its pass, and unless it wanted memory its list
-  pub record IsAtWork (topics : List (List ℕ × Kind)) (messages : List Message) (p : PassStanding B) (members : List Answered) (starved : Bool) : Type 0 where
+  -- a worker that has passed on these parts and goes on: its pass, and unless it wanted memory its list
+  pub record IsAtWork (topics : List (List ℕ × Kind)) (parts : List Part) (p : PassStanding B) (members : List Answered) (starved : Bool) : Type 0 where
     pub producing : IsProducing (length topics + 1) p
-    pub thrifty : IsThrifty 0 (length messages) p
-    pub listed : starved ≡ false → HasListed topics messages p members
+    pub thrifty : IsThrifty 0 (length parts) p
+    pub listed : starved ≡ false → HasListed topics parts p members
 
-  -- a worker that met Spent while it read its files, after so many messages, the last one included: its pass, and the value that it keeps
-  pub record HasStopped (shared : Identity B) (messages : ℕ) (p : PassStanding B) (kept : Option (HeldStanding B)) : Type 0 where
+  -- a worker that met Spent while it read its files, after at most so many parts, the last one included: its pass, and the value that it keeps
+  pub record HasStopped (shared : Identity B) (parts : ℕ) (p : PassStanding B) (kept : Option (HeldStanding B)) : Type 0 where
     pub spent : (ticket : ℕ) × (p.spent ≡ Some ticket)
-    pub thrifty : IsThrifty 1 messages p
+    pub thrifty : IsThrifty 1 parts p
     pub queue : p.queue ≡ shared
     pub stays : p.retired ≡ None
     pub held : p.held ≡ index_of kept

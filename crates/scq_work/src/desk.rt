@@ -50,7 +50,7 @@ impl<B: Buffer, S: Source> Desk<B, S> {
         requires kept { self.old.kept ≡ None }
         requires unread { All IsNew self.old.files.items }
         ensures same { ids_of self.new.files.items ≡ ids_of self.old.files.items }
-        ensures run { HasRun queue.now job.now.topics job.now.longest S.faults S.ends S.left self.new.files.items self.new.worker.pass
+        ensures run { HasRun queue.now job.now.topics job.now.size job.now.longest S.faults S.ends S.left self.new.files.items self.new.worker.pass
             self.new.worker.members.items self.new.worker.starved self.new.kept }
         ensures number { (self.new.worker.number ≡ self.old.worker.number) × (self.new.worker.pass.number ≡ self.old.worker.number) }
     {

@@ -1,7 +1,7 @@
 /// Where a worker stands when it calls the gate.
 #[derive(Clone, Copy, Debug, PartialEq, Eq)]
 pub enum Point {
-    /// It has sent a message.
+    /// It has sent a part of a message.
     AfterSend,
     /// It is about to take one.
     BeforeTake,

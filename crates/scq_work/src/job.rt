@@ -1,10 +1,13 @@
-ghost use Rattle.std.specs.Prelude.{◌≤◌};
+ghost use Rattle.std.specs.Prelude.{◌≡◌, ◌^◌};
 ghost use Rattle.scq_work.specs.Jobs.{IsJob};
 
 use scq_topics::Topics;
 
-/// What workers are to do: messages are answered by `workers` workers through 2^order buffers. A buffer has
-/// room for a payload of `size` bytes, and a payload may have `longest`.
+/// How many bytes a payload may have.
+const LONGEST: u32 = 1 << 20;
+
+/// What workers are to do: messages are answered by `workers` workers through 2^order buffers. A payload may
+/// have `longest` bytes, and goes through the buffers in parts of at most `size`.
 #[derive(Drop)]
 pub struct Job {
     pub order: u32,
@@ -13,11 +16,11 @@ pub struct Job {
     pub workers: u32,
     pub topics: Topics,
     pub ghost valid: { IsJob order size workers },
-    pub ghost fits: { longest ≤ size },
+    pub ghost limit: { longest ≡ 2 ^ 20 },
 }
 
 impl Job {
-    ghost use Rattle.std.specs.Prelude.{◌≡◌, ◌↔◌, IsNone, IfSome};
+    ghost use Rattle.std.specs.Prelude.{◌≡◌, ◌^◌, ◌↔◌, IsNone, IfSome};
 
     /// None exactly where the order isn't in 1 to 12, the size isn't in 1 to 65,536, or the workers
     /// aren't in 1 to 4,096.
@@ -25,7 +28,7 @@ impl Job {
         ensures refused { IsNone result ↔ ¬ IsJob order size workers }
         ensures order { IfSome result (λ job. job.order ≡ order) }
         ensures size { IfSome result (λ job. job.size ≡ size) }
-        ensures longest { IfSome result (λ job. job.longest ≡ size) }
+        ensures longest { IfSome result (λ job. job.longest ≡ 2 ^ 20) }
         ensures workers { IfSome result (λ job. job.workers ≡ workers) }
         ensures topics { IfSome result (λ job. job.topics ≡ topics) }
     {
@@ -38,7 +41,7 @@ impl Job {
         Some(Job {
             order,
             size,
-            longest: size,
+            longest: LONGEST,
             workers,
             topics,
         })

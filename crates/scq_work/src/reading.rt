@@ -1,8 +1,9 @@
 //! How a worker reads its files.
 ghost use Rattle.std.specs.Prelude.{◌≡◌, ◌≤◌, ◌+◌, ◌++◌, List, false, [], length, None, IfErr, OnOk, All};
-ghost use Rattle.scq_frames.specs.declared.message.Message.{Message as TheMessage};
+ghost use Rattle.scq_frames.specs.Parts.{Part as ThePart};
 ghost use Rattle.scq_work.specs.Desks.{IsNew, StopsAtAFault, ids_of, all_given};
 ghost use Rattle.scq_work.specs.Given.{given_in};
+ghost use Rattle.scq_work.specs.Passing.{parts_in};
 ghost use Rattle.scq_work.specs.Reading.{IsRead};
 ghost use Rattle.scq_work.specs.Working.{Suits, IsAtWork, HasStopped};
 
@@ -40,12 +41,12 @@ impl<B: Buffer> Worker<B> {
         ensures read { IsRead job.now.topics job.now.longest S.faults S.ends S.left file source.old source.new (given_in given.new.value) end.new }
         ensures suits { OnOk result (Suits queue.now (length job.now.topics) self.new.pass) }
         ensures stays { OnOk result (self.new.pass.retired ≡ None) }
-        ensures work { OnOk result ((messages : List TheMessage)
-            → IsAtWork job.now.topics messages self.old.pass self.old.members.items self.old.starved
-            → IsAtWork job.now.topics (messages ++ given_in given.new.value) self.new.pass self.new.members.items self.new.starved) }
-        ensures left { IfErr result (λ l. (messages : List TheMessage)
-            → IsAtWork job.now.topics messages self.old.pass self.old.members.items self.old.starved
-            → HasStopped queue.now (length (messages ++ given_in given.new.value)) self.new.pass l.held) }
+        ensures work { OnOk result ((parts : List ThePart)
+            → IsAtWork job.now.topics parts self.old.pass self.old.members.items self.old.starved
+            → IsAtWork job.now.topics (parts ++ parts_in job.now.size (given_in given.new.value)) self.new.pass self.new.members.items self.new.starved) }
+        ensures left { IfErr result (λ l. (parts : List ThePart)
+            → IsAtWork job.now.topics parts self.old.pass self.old.members.items self.old.starved
+            → HasStopped queue.now (length (parts ++ parts_in job.now.size (given_in given.new.value))) self.new.pass l.held) }
         ensures starved { self.new.starved ≡ false → self.old.starved ≡ false }
         ensures number { (self.new.number ≡ self.old.number) × (self.new.pass.number ≡ self.old.pass.number) }
     {
@@ -93,12 +94,12 @@ impl<B: Buffer> Worker<B> {
             (given_in file.new.given.value) file.new.end }
         ensures suits { OnOk result (Suits queue.now (length job.now.topics) self.new.pass) }
         ensures stays { OnOk result (self.new.pass.retired ≡ None) }
-        ensures work { OnOk result ((messages : List TheMessage)
-            → IsAtWork job.now.topics messages self.old.pass self.old.members.items self.old.starved
-            → IsAtWork job.now.topics (messages ++ given_in file.new.given.value) self.new.pass self.new.members.items self.new.starved) }
-        ensures left { IfErr result (λ l. (messages : List TheMessage)
-            → IsAtWork job.now.topics messages self.old.pass self.old.members.items self.old.starved
-            → HasStopped queue.now (length (messages ++ given_in file.new.given.value)) self.new.pass l.held) }
+        ensures work { OnOk result ((parts : List ThePart)
+            → IsAtWork job.now.topics parts self.old.pass self.old.members.items self.old.starved
+            → IsAtWork job.now.topics (parts ++ parts_in job.now.size (given_in file.new.given.value)) self.new.pass self.new.members.items self.new.starved) }
+        ensures left { IfErr result (λ l. (parts : List ThePart)
+            → IsAtWork job.now.topics parts self.old.pass self.old.members.items self.old.starved
+            → HasStopped queue.now (length (parts ++ parts_in job.now.size (given_in file.new.given.value))) self.new.pass l.held) }
         ensures starved { self.new.starved ≡ false → self.old.starved ≡ false }
         ensures number { (self.new.number ≡ self.old.number) × (self.new.pass.number ≡ self.old.pass.number) }
     {
@@ -135,9 +136,9 @@ impl<B: Buffer> Worker<B> {
         ensures suits { OnOk result (Suits queue.now (length job.now.topics) self.new.pass) }
         ensures stays { OnOk result (self.new.pass.retired ≡ None) }
         ensures work { OnOk result (IsAtWork job.now.topics [] self.old.pass self.old.members.items self.old.starved
-            → IsAtWork job.now.topics (all_given files.new) self.new.pass self.new.members.items self.new.starved) }
+            → IsAtWork job.now.topics (parts_in job.now.size (all_given files.new)) self.new.pass self.new.members.items self.new.starved) }
         ensures left { IfErr result (λ l. IsAtWork job.now.topics [] self.old.pass self.old.members.items self.old.starved
-            → HasStopped queue.now (length (all_given files.new)) self.new.pass l.held) }
+            → HasStopped queue.now (length (parts_in job.now.size (all_given files.new))) self.new.pass l.held) }
         ensures starved { self.new.starved ≡ false → self.old.starved ≡ false }
         ensures number { (self.new.number ≡ self.old.number) × (self.new.pass.number ≡ self.old.pass.number) }
     {

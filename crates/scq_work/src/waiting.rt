@@ -36,7 +36,7 @@ impl<B: Buffer> Worker<B> {
             → SweepsInVain (length job.now.topics + 1) 1 stand.new.rests self.new.pass) }
         ensures answered { OnOk result (self.new.starved ≡ false
             → HasAnswered job.now.topics self.old.pass self.new.pass self.old.members.items self.new.members.items) }
-        ensures left { IfErr result (λ l. (messages : ℕ) → HasLeft messages messages self.old.pass self.new.pass l.held) }
+        ensures left { IfErr result (λ l. (parts : ℕ) → HasLeft parts parts self.old.pass self.new.pass l.held) }
         ensures starved { self.new.starved ≡ false → self.old.starved ≡ false }
         ensures number { self.new.number ≡ self.old.number }
         ensures stand { (stand.new.crew ≡ stand.old.crew) × (stand.new.worker ≡ stand.old.worker) }

@@ -4,7 +4,8 @@ use scq_collect::Answered;
 use scq_queue::{Counts, Pass};
 use std::snapshot::Snapshot;
 
-/// What workers answered, each the list of one worker in the order of their numbers, and how much each sent, took and answered directly.
+/// What workers answered, part by part: each list is that of one worker, in the order of their numbers. And how many parts each sent, took and
+/// answered directly.
 ///
 /// For contracts alone it has the workers' passes as they were when the queue was closed: they have no bytes when the program runs.
 #[derive(Drop)]
@@ -19,7 +20,7 @@ pub struct Worked {
 pub enum WorkFault {
     /// A read of this file failed.
     Read { file: u32 },
-    /// This line of this file has a payload of so many bytes, more than the size.
+    /// This line of this file has a payload of so many bytes, more than a payload may have.
     TooLong { file: u32, line: u32, len: u64 },
     /// So many bytes of this file were read, one more than a file may have.
     TooLarge { file: u32, bytes: u64 },

@@ -1,6 +1,7 @@
 ghost use Rattle.std.specs.Prelude.{◌≡◌, ◌≤◌, ◌<◌, ◌+◌, ◌^◌, ◌++◌, ◌∷◌, ◌==◌, ℕ, suc, List, true, false, [], length, filter, count_by, slice_get, Some, None, Ok, if◌then◌else◌, IfOk, IfErr, IfSome, IsSome, OnOk};
 ghost use Rattle.scq_core.specs.declared.ended.Ended.{Ended as TheEnded};
-ghost use Rattle.scq_frames.specs.Parts.{whole_of};
+ghost use Rattle.scq_collect.specs.Joined.{text_of_part};
+ghost use Rattle.scq_frames.specs.Parts.{IsNumbered, parts_of, part_of};
 ghost use Rattle.scq_frames.specs.Views.{part_of_view};
 ghost use Rattle.scq_queue.specs.Lists.{Placed};
 ghost use Rattle.scq_queue.specs.Passes.{known_on, IsHeldBy, after_put, after_spent_put, having_seen};
@@ -13,10 +14,10 @@ ghost use Rattle.scq_work.specs.Working.{Suits, HasTaken, HasAnswered, HasLeft, 
 
 use crate::{Gate, Job, Point};
 use scq_collect::{Answered, Way};
-use scq_frames::{Message, View, decode, encode};
+use scq_frames::{Message, View, decode, encode, view_of};
 use scq_queue::{Held, Pass, Queue, TakeRefusal};
-use scq_topics::reply;
-use scq_word::Buffer;
+use scq_topics::{ReplyBytes, reply};
+use scq_word::{Buffer, NoMemory};
 use std::alloc::Global;
 
 /// How many sweeps in a row that take nothing let a worker leave.
@@ -35,8 +36,20 @@ pub struct AtLimit<B: Buffer> {
     pub held: Option<Held<B>>,
 }
 
+/// The text of a part: the reply to it where it is its whole message, else its bytes.
+fn text_of(alloc: Global, job: &Job, part: View<'_>) -> Result<ReplyBytes, NoMemory>
+    requires { part.topic ≤ length job.now.topics }
+    ensures { IfOk result (λ text. text ≡ text_of_part job.now.topics (part_of_view part.entry)) }
+{
+    if part.parts == 1 {
+        let kind = job.topics.kind(part.topic);
+        return reply(alloc, kind, part.payload);
+    }
+    ReplyBytes::copy_of(alloc, part.payload)
+}
+
 impl<B: Buffer> Worker<B> {
-    /// Puts the answer to a message that is this part behind the list.
+    /// Puts the answer to this part behind the list.
     fn answer(&mut self, alloc: Global, job: &Job, part: View<'_>, way: Way)
         requires { part.topic ≤ length job.now.topics }
         ensures listed { self.new.starved ≡ false
@@ -44,15 +57,16 @@ impl<B: Buffer> Worker<B> {
         ensures starved { self.new.starved ≡ false → self.old.starved ≡ false }
         ensures same { (self.new.pass ≡ self.old.pass) × (self.new.number ≡ self.old.number) }
     {
-        let kind = job.topics.kind(part.topic);
-        match reply(alloc, kind, part.payload) {
-            Ok(reply) => {
+        match text_of(alloc, job, part) {
+            Ok(text) => {
                 let member = Answered {
                     file: part.file,
                     line: part.line,
                     topic: part.topic,
+                    part: part.part,
+                    parts: part.parts,
                     bytes: part.payload.len() as u64,
-                    reply,
+                    text,
                     way,
                 };
                 if self.members.push(member).is_err() {
@@ -106,7 +120,7 @@ impl<B: Buffer> Worker<B> {
         ensures vain { OnOk result (TookInVain 1 self.old.pass self.new.pass) }
         ensures more { result ≡ Ok true → TookInVain 0 self.old.pass self.new.pass × TookMore self.old.pass self.new.pass }
         ensures gate { OnOk result (self.new.pass.gate ≡ self.old.pass.gate) }
-        ensures left { IfErr result (λ l. (messages : ℕ) → HasLeft messages messages self.old.pass self.new.pass l.held) }
+        ensures left { IfErr result (λ l. (parts : ℕ) → HasLeft parts parts self.old.pass self.new.pass l.held) }
         ensures starved { self.new.starved ≡ false → self.old.starved ≡ false }
         ensures number { self.new.number ≡ self.old.number }
     {
@@ -139,7 +153,7 @@ impl<B: Buffer> Worker<B> {
         ensures answered { OnOk result (self.new.starved ≡ false
             → HasAnswered job.now.topics self.old.pass self.new.pass self.old.members.items self.new.members.items) }
         ensures vain { OnOk result (TookInVain (length job.now.topics + 1) self.old.pass self.new.pass) }
-        ensures left { IfErr result (λ l. (messages : ℕ) → HasLeft messages messages self.old.pass self.new.pass l.held) }
+        ensures left { IfErr result (λ l. (parts : ℕ) → HasLeft parts parts self.old.pass self.new.pass l.held) }
         ensures starved { self.new.starved ≡ false → self.old.starved ≡ false }
         ensures number { self.new.number ≡ self.old.number }
     {
@@ -149,41 +163,45 @@ impl<B: Buffer> Worker<B> {
         Ok(())
     }
 
-    /// Answers a message directly, where no buffer was free: with this head of the ring of free buffers.
-    pub fn answer_directly(&mut self, alloc: Global, job: &Job, message: &Message, head: u64)
-        requires { message.now.topic ≤ length job.now.topics }
+    /// Answers a part of a message directly, where no buffer was free: with this head of the ring of free buffers.
+    pub fn answer_directly(
+        &mut self,
+        alloc: Global,
+        job: &Job,
+        message: &Message,
+        part: u32,
+        head: u64,
+    )
+        requires known { message.now.topic ≤ length job.now.topics }
+        requires short { length message.now.payload ≤ job.now.longest }
+        requires numbered { IsNumbered part (parts_of job.now.size message.now.payload) }
         ensures listed { self.new.starved ≡ false
-            → self.new.members.items ≡ self.old.members.items ++ answered job.now.topics (Way.Direct head) (whole_of message.now) ∷ [] }
+            → self.new.members.items ≡ self.old.members.items ++ answered job.now.topics (Way.Direct head) (part_of job.now.size message.now part) ∷ [] }
         ensures starved { self.new.starved ≡ false → self.old.starved ≡ false }
         ensures same { (self.new.pass ≡ self.old.pass) × (self.new.number ≡ self.old.number) }
     {
-        let view = View {
-            file: message.file,
-            line: message.line,
-            topic: message.topic,
-            part: 1,
-            parts: 1,
-            payload: message.payload.bytes(),
-        };
+        let view = view_of(message, job.size, part);
         self.answer(alloc, job, view, Way::Direct { head });
     }
 
-    /// Sends a message in a value that it holds, as one part.
+    /// Sends a part of a message in a value that it holds.
     pub fn send_in(
         &mut self,
         job: &Job,
         queue: &Queue<B>,
         message: &Message,
+        part: u32,
         held: Held<B>,
     ) -> Result<(), AtLimit<B>>
         requires pass { (self.old.pass.queue ≡ queue.now) × (self.old.pass.spent ≡ None) × (self.old.pass.retired ≡ None) }
         requires topic { message.now.topic + 1 < queue.now.setup.rings }
         requires held { IsHeldBy self.old.pass held }
         requires room { job.now.size + 24 ≤ length (B.contents held.buffer) }
-        requires short { length message.now.payload ≤ job.now.size }
+        requires short { length message.now.payload ≤ job.now.longest }
+        requires numbered { IsNumbered part (parts_of job.now.size message.now.payload) }
         ensures sent { OnOk result ((place : ℕ) × (bytes : List ℕ) × (self.new.pass ≡ having_seen self.new.pass.seen (after_put
             (suc message.now.topic) held.index place bytes self.old.pass))
-            × Sends message.now (record { topic = message.now.topic; place = place; bytes = bytes })) }
+            × Sends (part_of job.now.size message.now part) (record { topic = message.now.topic; place = place; bytes = bytes })) }
         ensures spent { IfErr result (λ l. (ticket : ℕ) × (self.new.pass ≡ having_seen self.new.pass.seen (after_spent_put
             (suc message.now.topic) ticket self.old.pass))) }
         ensures back { IfErr result (λ l. IfSome l.held (λ h. (h.index ≡ held.index) × (h.queue ≡ held.queue))) }
@@ -195,7 +213,7 @@ impl<B: Buffer> Worker<B> {
         let _line = message.line;
         let topic = message.topic;
         let mut held = held;
-        encode(message, job.size, 1, held.bytes_mut());
+        encode(message, job.size, part, held.bytes_mut());
         match queue.send(&mut self.pass, topic, held) {
             Ok(_) => Ok(()),
             Err((held, _)) => Err(AtLimit { held: Some(held) }),
@@ -224,7 +242,7 @@ impl<B: Buffer> Worker<B> {
             → HasAnswered job.now.topics self.old.pass self.new.pass self.old.members.items self.new.members.items) }
         ensures some { result ≡ Ok true → ((known_on topic self.old.pass).head < (known_on topic self.new.pass).head)
             × ((known_on topic self.old.pass).head < queue.now.setup.limit) }
-        ensures left { IfErr result (λ l. (messages : ℕ) → HasLeft messages messages self.old.pass self.new.pass l.held) }
+        ensures left { IfErr result (λ l. (parts : ℕ) → HasLeft parts parts self.old.pass self.new.pass l.held) }
         ensures starved { self.new.starved ≡ false → self.old.starved ≡ false }
         ensures number { self.new.number ≡ self.old.number }
     {
@@ -260,7 +278,7 @@ impl<B: Buffer> Worker<B> {
             → HasAnswered job.now.topics self.old.pass self.new.pass self.old.members.items self.new.members.items) }
         ensures some { result ≡ Ok true → takes_left queue.now.setup.limit (length job.now.topics + 1) self.new.pass
             < takes_left queue.now.setup.limit (length job.now.topics + 1) self.old.pass }
-        ensures left { IfErr result (λ l. (messages : ℕ) → HasLeft messages messages self.old.pass self.new.pass l.held) }
+        ensures left { IfErr result (λ l. (parts : ℕ) → HasLeft parts parts self.old.pass self.new.pass l.held) }
         ensures starved { self.new.starved ≡ false → self.old.starved ≡ false }
         ensures number { self.new.number ≡ self.old.number }
     {
@@ -288,7 +306,7 @@ impl<B: Buffer> Worker<B> {
         ensures swept { OnOk result (HasSweptLast (length job.now.topics + 1) 64 (after_retire self.old.pass) self.new.pass) }
         ensures answered { OnOk result (self.new.starved ≡ false
             → HasAnswered job.now.topics self.old.pass self.new.pass self.old.members.items self.new.members.items) }
-        ensures left { IfErr result (λ l. (messages : ℕ) → HasLeft messages messages (after_retire self.old.pass) self.new.pass l.held) }
+        ensures left { IfErr result (λ l. (parts : ℕ) → HasLeft parts parts (after_retire self.old.pass) self.new.pass l.held) }
         ensures starved { self.new.starved ≡ false → self.old.starved ≡ false }
         ensures number { self.new.number ≡ self.old.number }
     {
@@ -311,7 +329,7 @@ impl<B: Buffer> Worker<B> {
         ensures swept { OnOk result (HasSweptLast (length job.now.topics + 1) 64 self.old.pass self.new.pass) }
         ensures answered { OnOk result (self.new.starved ≡ false
             → HasAnswered job.now.topics self.old.pass self.new.pass self.old.members.items self.new.members.items) }
-        ensures left { IfErr result (λ l. (messages : ℕ) → HasLeft messages messages self.old.pass self.new.pass l.held) }
+        ensures left { IfErr result (λ l. (parts : ℕ) → HasLeft parts parts self.old.pass self.new.pass l.held) }
         ensures starved { self.new.starved ≡ false → self.old.starved ≡ false }
         ensures number { self.new.number ≡ self.old.number }
     {

@@ -4,8 +4,9 @@ ghost use Rattle.std.specs.List.{All};
 ghost use Rattle.std.specs.List.Sorted.{IsPermutation};
 ghost use Rattle.scq_block.specs.Blocks.{AreAllOf};
 ghost use Rattle.scq_frames.specs.declared.message.Message.{Message as TheMessage};
+ghost use Rattle.scq_collect.specs.Collected.{messages_to};
+ghost use Rattle.scq_collect.specs.Joined.{part_answers, without_way};
 ghost use Rattle.scq_collect.specs.Merging.{members_in};
-ghost use Rattle.scq_collect.specs.Output.{answers_to, without_way};
 ghost use Rattle.scq_queue.specs.Passes.{first_passes};
 ghost use Rattle.scq_work.specs.AllWorkers.{HasWorked, NothingIsStranded};
 ghost use Rattle.scq_work.specs.Dealings.{IsFresh};
@@ -107,7 +108,7 @@ fn make_room<S: Source>(alloc: Global, job: &Job, files: usize) -> Result<Room<S
     Ok(Room { files, desks, left })
 }
 
-/// The frames of a queue for a job, with the block that they are carved from: each has room for a message.
+/// The frames of a queue for a job, with the block that they are carved from: each has room for a part.
 fn make_frames(alloc: Global, job: &Job) -> Result<(Block, Vec<Frame>), NoMemory>
     ensures count { IfOk result (λ made. vec_len made.1 ≡ 2 ^ job.now.order) }
     ensures room { IfOk result (λ made. All (λ f. job.now.size + 24 ≤ length f.bytes.items) made.1.items) }
@@ -166,7 +167,8 @@ fn run_all<R: Threads + Sync, S: Source, G: Gate>(
     ensures numbers { (w : ℕ) (d : _) → w < length desks.old
         → (slice_index_or desks.new w d).worker.pass.number ≡ (slice_index_or desks.old w d).worker.pass.number }
     ensures run { All (λ d.
-        HasRun queue.now job.now.topics job.now.longest S.faults S.ends S.left d.files.items d.worker.pass d.worker.members.items d.worker.starved d.kept)
+        HasRun queue.now job.now.topics job.now.size job.now.longest S.faults S.ends S.left d.files.items d.worker.pass
+        d.worker.members.items d.worker.starved d.kept)
         desks.new }
 {
     let threads = desks.len();
@@ -175,7 +177,8 @@ fn run_all<R: Threads + Sync, S: Source, G: Gate>(
             × IsFresh queue.now desk.now × All IsNew desk.now.files.items }
         ensures { (ids_of desk.exit.now.files.items ≡ ids_of desk.entry.now.files.items)
             × (desk.exit.now.worker.pass.number ≡ desk.entry.now.worker.pass.number)
-            × HasRun queue.entry.now job.entry.now.topics job.entry.now.longest S.faults S.ends S.left desk.exit.now.files.items desk.exit.now.worker.pass
+            × HasRun queue.entry.now job.entry.now.topics job.entry.now.size job.entry.now.longest S.faults S.ends S.left
+            desk.exit.now.files.items desk.exit.now.worker.pass
             desk.exit.now.worker.members.items desk.exit.now.worker.starved desk.exit.now.kept }
     { desk.run(alloc, job, queue, gate) };
     thread::for_each_mut(rt, desks, threads, &run);
@@ -211,18 +214,18 @@ pub fn work<R: Threads + Sync, S: Source, G: Gate>(
     ensures moved { (k : ℕ) (d : S) → k < length sources.items
         → HasMoved S.faults S.left (slice_index_or sources.items k d) (slice_index_or result.sources.items k d) }
 
-    // Each source was read to its end, and where the bytes of all are visible the answers are those of one thread.
+    // Each source was read to its end, and where the bytes of all are visible the answers are those to all parts of their messages.
     ensures whole { OnOk result.result ((k : ℕ) (d : S) → k < length sources.items
         → IsWhole job.now.longest S.faults S.ends S.left (slice_index_or sources.items k d) (slice_index_or result.sources.items k d)) }
     ensures answers { IfOk result.result (λ w. IfSome (all_left S.left sources.items) (λ contents.
-        IsPermutation (map without_way (members_in w.answered.items)) (answers_to job.now.topics 1 contents))) }
+        IsPermutation (map without_way (members_in w.answered.items)) (part_answers job.now.topics job.now.size (messages_to job.now.topics 1 contents)))) }
 
     // The lists answer for the messages that the files gave, and the passes for what was sent and taken: of contents that are visible, and of
     // every source.
     ensures told { IfOk result.result (λ w. IfSome (all_left S.left sources.items) (λ contents.
-        HasWorked job.now.topics job.now.longest job.now.workers (messages_in job.now.topics 1 contents) w)) }
+        HasWorked job.now.topics job.now.size job.now.workers (messages_in job.now.topics 1 contents) w)) }
     ensures worked { IfOk result.result (λ w. (given : List (List TheMessage)) × AreGiven job.now.topics job.now.longest S.left 1 sources.items given
-        × HasWorked job.now.topics job.now.longest job.now.workers given w) }
+        × HasWorked job.now.topics job.now.size job.now.workers given w) }
 
     // Whatever the answer is, the queue was closed with each buffer free: each pass has retired, what was sent was taken, and the block was
     // merged. Only where there was no memory for a queue there was none.
@@ -280,11 +283,11 @@ fn work_in<R: Threads + Sync, S: Source, G: Gate>(
     ensures whole { OnOk result.result ((k : ℕ) (d : S) → k < length sources.items
         → IsWhole job.now.longest S.faults S.ends S.left (slice_index_or sources.items k d) (slice_index_or result.sources.items k d)) }
     ensures answers { IfOk result.result (λ w. IfSome (all_left S.left sources.items) (λ contents.
-        IsPermutation (map without_way (members_in w.answered.items)) (answers_to job.now.topics 1 contents))) }
+        IsPermutation (map without_way (members_in w.answered.items)) (part_answers job.now.topics job.now.size (messages_to job.now.topics 1 contents)))) }
     ensures told { IfOk result.result (λ w. IfSome (all_left S.left sources.items) (λ contents.
-        HasWorked job.now.topics job.now.longest job.now.workers (messages_in job.now.topics 1 contents) w)) }
+        HasWorked job.now.topics job.now.size job.now.workers (messages_in job.now.topics 1 contents) w)) }
     ensures worked { IfOk result.result (λ w. (given : List (List TheMessage)) × AreGiven job.now.topics job.now.longest S.left 1 sources.items given
-        × HasWorked job.now.topics job.now.longest job.now.workers given w) }
+        × HasWorked job.now.topics job.now.size job.now.workers given w) }
     ensures left { IfSome result.left (λ left. IsSomeAnd result.passes (λ passes.
         NothingIsStranded job.now.order (length job.now.topics + 1) job.now.workers passes.value.items left.items)) }
     ensures none { result.left ≡ None → IsErrOf result.result WorkFault.NoMemory }

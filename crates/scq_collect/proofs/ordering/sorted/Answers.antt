@@ -11,5 +11,5 @@ returns c =
     let whole = take_all c.members.member-index c.deref-member-items.result.now (omega (arith, c.members-test.false)) in
     merged-by (members_in c.args.lists.now) (map (λ m. m.now) c.members.all.items) c.in_ok-members.members.items sorted
     c.in_ok-members.ensures.members c.in_ok-members.ensures.placed c.in_ok-sort_by_key.ensures.permutation
-    (c.in_ok-sort_by_key.ensures.sorted (λ m. (m.0, m.1)) (answers_always _ _ _ (λ f a r f' k. search rules)))
-    (c.members.invariant.all ∙ ap (map (λ m. m.2.now)) (whole ∙ c.deref-member-items.ensures.value))
+    (c.in_ok-sort_by_key.ensures.sorted (λ m. (m.0, m.1, m.2)) (answers_always _ _ _ (λ f a r f' k. search rules)))
+    (c.members.invariant.all ∙ ap (map (λ m. m.3.now)) (whole ∙ c.deref-member-items.ensures.value))

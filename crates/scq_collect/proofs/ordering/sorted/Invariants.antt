@@ -5,7 +5,7 @@ use Rattle.scq_collect.proofs.ordering.sorted.Given as goal
 -- the members so far, without their places
 abbrev pub invariant-members : goal.invariant-members
 invariant-members l = record {
-  all : map (λ m. m.now) l.all.items ≡ map (λ m. m.2.now) (take l.member-index l.member-items);
+  all : map (λ m. m.now) l.all.items ≡ map (λ m. m.3.now) (take l.member-index l.member-items);
   count : vec_len l.all ≡ l.member-index;
   room : length l.member-items ≤ vec_capacity l.all;
 }

@@ -1,48 +1,50 @@
-use Rattle.std.proofs.Common.{◌≡◌, ◌∙◌, ap, sym, subst, arith, ◌+◌, ◌<◌, ◌≤◌, List, length, map, Bor}
-use Rattle.std.specs.Prelude.{slice_index_or}
+use Rattle.std.proofs.Common.{rules, ◌∙◌, ap, sym, subst, arith, ◌<◌, ◌≤◌, ◌^◌, List, length, map, Bor}
 use Rattle.std.specs.List.{All}
-use Rattle.std.proofs.lemmas.List.{get_or-map, length-map}
 use Rattle.std.proofs.lemmas.List.Sorted.{All-permutation}
-use Rattle.std.proofs.lemmas.Result.{IfOk-weaker}
 use Rattle.scq_collect.specs.declared.answered.Answered.{Answered}
-use Rattle.scq_collect.specs.Merging.{IsMerged, members_in, place_of_answered}
-use Rattle.scq_collect.specs.Output.{one_thread_output, text_of_answers, without_way}
-use Rattle.scq_collect.specs.Pieces.{bytes_of}
-use Rattle.scq_collect.proofs.InChunks.{maps}
+use Rattle.scq_collect.specs.Joined.{answers_of, plain, without_way}
+use Rattle.scq_collect.specs.Merging.{members_in}
+use Rattle.scq_collect.specs.Output.{text_of_answers}
+use Rattle.scq_collect.specs.Pieces.{all_answers}
+use Rattle.scq_collect.proofs.Cuts.{all-cut-answers, cut_answers, few-answers, in-each}
+use Rattle.scq_collect.proofs.InChunks.{in-place, maps}
 use Rattle.scq_collect.proofs.Merged.{merged-one-thread}
 use Rattle.scq_collect.proofs.pieces.output_in_pieces.Goals as goal
 
-pub map_chunks-requires-clause-accepts : goal.map_chunks-requires-clause-accepts
-map_chunks-requires-clause-accepts g c κs within = λ start p chunk.
-    let now : Bor Answered → Answered = λ m. m.now in
-    let topics = length c.args.topics.now in
+pub pieces_of-requires-clause-known : goal.pieces_of-requires-clause-known
+pieces_of-requires-clause-known g c κs within =
+    let P : Answered → Type 0 = λ a. a.topic ≤ length c.args.topics.now in
+    let Q : Bor Answered → Type 0 = λ m. P m.now in
     let all = c.in_ok-all.all.items in
-    let P : Answered → Type 0 = λ a. a.topic ≤ topics in
-    let known : All P (map now all) = All-permutation P (members_in c.args.lists.now) (map now all) c.in_ok-all.ensures.same c.requires in (
-      omega (arith, c.len-numbers.ensures.value, c.len-numbers.ensures.fits),
-      λ k d less.
-          let inside : start + k < length c.as_slice.result.now = omega (arith, less, chunk.in_bounds) in
-          let same : slice_index_or c.as_slice.result.now (start + k) d ≡ slice_index_or all (start + k) d =
-          ap (λ (ms : List (Bor Answered)). slice_index_or ms (start + k) d) c.as_slice.ensures.value in
-          let long : length c.as_slice.result.now ≡ length all = ap length c.as_slice.ensures.value in
-          let at : P (slice_index_or (map now all) (start + k) (now d)) = known (start + k) (now d) (omega (arith, inside, long, length-map all now)) in
-          let read : slice_index_or (map now all) (start + k) (now d) ≡ now (slice_index_or p.now k d) =
-          get_or-map now all (start + k) d (now d) (omega (arith, inside, long)) ∙ ap now (sym (chunk.elements k d less ∙ same)) in
-          subst P read at,
-    )
+    let known : All Q all = in-place P all (All-permutation P (members_in c.args.lists.now) (map (λ m. m.now) all) c.in_ok-all.ensures.same c.requires) in
+    subst (λ (cuts : List (Bor (List (Bor Answered)))). All (λ cut. All Q cut.now) cuts) (sym c.as_slice-2.ensures.value)
+    (in-each Q c.in_ok-cuts.cuts.items (subst (All Q) (sym (c.in_ok-cuts.ensures.all ∙ c.as_slice.ensures.value)) known))
+
+pub pieces_of-requires-clause-few : goal.pieces_of-requires-clause-few
+pieces_of-requires-clause-few g c κs within =
+    let topics = c.args.topics.now in
+    let small : length c.as_slice.result.now < 2 ^ 64 = search rules in
+    let same = ap (λ (cuts : List (Bor (List (Bor Answered)))). all_answers (map (cut_answers topics) cuts)) c.as_slice-2.ensures.value
+    ∙ all-cut-answers topics c.in_ok-cuts.cuts.items c.as_slice.result.now c.in_ok-cuts.ensures.messages in
+    omega (arith, small, ap length same, few-answers topics c.as_slice.result.now)
 
 pub returns-clause-text : goal.returns-clause-text
 returns-clause-text g c =
-    let now : Bor Answered → Answered = λ m. m.now in
-    let all = c.in_ok-all.all.items in (
-      map now all,
-      c.in_ok-all.ensures,
-      c.in_ok-pieces-2.ensures
-          ∙ ap (text_of_answers c.args.topics.now) (ap (map (λ (m : Bor Answered). without_way m.now)) c.as_slice-2.ensures.value ∙ sym (maps without_way now all)),
+    let topics = c.args.topics.now in
+    let all = c.in_ok-all.all.items in
+    let same = ap (λ (cuts : List (Bor (List (Bor Answered)))). all_answers (map (cut_answers topics) cuts)) c.as_slice-2.ensures.value
+    ∙ all-cut-answers topics c.in_ok-cuts.cuts.items c.as_slice.result.now c.in_ok-cuts.ensures.messages in (
+      answers_of topics (plain c.as_slice.result.now),
+      record {
+        all = map (λ m. m.now) all;
+        merged = c.in_ok-all.ensures;
+        wholes_are = ap (λ ms. answers_of topics (plain ms)) c.as_slice.ensures.value ∙ ap (answers_of topics) (sym (maps without_way (λ m. m.now) all));
+      },
+      c.in_ok-pieces-2.ensures (map (cut_answers topics) c.as_slice-2.result.now) c.in_ok-pieces.ensures ∙ ap (text_of_answers topics) same,
     )
 
 pub returns-clause-one_thread : goal.returns-clause-one_thread
-returns-clause-one_thread g c = λ contents same.
+returns-clause-one_thread g c = λ size contents some same.
     let topics = c.args.topics.now in
     let text = returns-clause-text g c in
-    text.2 ∙ ap (text_of_answers topics) (merged-one-thread topics contents (members_in c.args.lists.now) text.0 text.1 same)
+    text.2 ∙ ap (text_of_answers topics) (merged-one-thread topics size contents (members_in c.args.lists.now) text.0 text.1 some same)

@@ -1,12 +1,16 @@
-use Rattle.std.proofs.Common.{◌≡◌, map, take}
-use Rattle.std.specs.Prelude.{flat_map}
-use Rattle.scq_collect.specs.Output.{reply_line, without_way}
-use Rattle.scq_collect.specs.Sums.{AreTotals}
+use Rattle.std.proofs.Common.{◌≡◌, ◌≤◌, ◌++◌, ◌-◌, List, drop, length}
+use Rattle.scq_collect.specs.Joined.{answers_of, plain}
+use Rattle.scq_collect.specs.Output.{Answer}
+use Rattle.scq_collect.specs.Pieces.{IsPieceOf}
 use Rattle.scq_collect.proofs.pieces.piece_of.Given as goal
 
--- the lines of the members so far, and their totals
-abbrev pub invariant-members : goal.invariant-members
-invariant-members l = record {
-  text : l.text.items ≡ flat_map (λ m. reply_line l.topics (without_way m.now)) (take l.member-index l.members);
-  totals : AreTotals l.totals (map (λ m. m.now) (take l.member-index l.members));
+-- the piece of the answers so far, and those to the messages behind them
+abbrev pub invariant-messages : goal.invariant-messages
+invariant-messages l = record {
+  within : l.at ≤ length l.members;
+  piece : (answers : List Answer) × IsPieceOf l.topics answers l.piece
+      × (answers ++ answers_of l.topics (plain (drop l.at l.members)) ≡ answers_of l.topics (plain l.members));
 }
+
+abbrev pub decreases-messages : goal.decreases-messages
+decreases-messages l = length l.members - l.at

@@ -1,7 +1,8 @@
-use Rattle.std.proofs.Common.{take}
+use Rattle.std.proofs.Common.{map, take}
+use Rattle.scq_collect.specs.Output.{answer_of_whole}
 use Rattle.scq_collect.specs.Sums.{AreTotals}
 use Rattle.scq_collect.proofs.totals.totals_of.Given as goal
 
 -- the totals of the answers so far
-abbrev pub invariant-loop-member : goal.invariant-loop-member
-invariant-loop-member l = AreTotals l.totals (take l.member-index l.answered)
+abbrev pub invariant-loop-whole : goal.invariant-loop-whole
+invariant-loop-whole l = AreTotals l.totals (map answer_of_whole (take l.whole-index l.wholes))

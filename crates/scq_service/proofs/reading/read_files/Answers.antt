@@ -77,7 +77,7 @@ returns-then-all-clause-work g c =
     let whole = subst W c.in-Ok-result.is did.whole in
     let G : Result Worked WorkFault → Type 0 =
     λ r. IfOk r (λ w. (given : List (List Message)) × AreGiven job.topics job.longest left 1 olds given
-    × HasWorked job.topics job.longest job.workers given w) in
+    × HasWorked job.topics job.size job.workers given w) in
     let gave = subst G c.in-Ok-result.is did.worked in
     rw (after.worked ∙ end.worked, come, ap (λ v. v.items) (after.sources ∙ end.sources))
     (gave.0, record { count = did.count; whole = whole; gave = gave.1 }, gave.2)

@@ -3,7 +3,7 @@ use Rattle.scq_collect.specs.Output.{one_thread_output}
 use Rattle.scq_self.specs.Summary.{self_summary}
 use Rattle.scq_words.specs.Asked.{Asked}
 use Rattle.scq_words.specs.declared.fault.WordsFault.{WordsFault}
-use Rattle.scq_service.specs.Ends.{EndsAs, Left, Wrote}
+use Rattle.scq_service.specs.Ends.{EndsAs, Left, Wrote, most_payload}
 use Rattle.scq_service.proofs.Completeness.{complete, complete-alone, complete-text}
 use Rattle.scq_service.proofs.serving.serve.Goals as goal
 
@@ -24,7 +24,7 @@ returns-clause-complete g c = λ a is calm.
       faults = record { old = g.K.Sink.faults c.args.out.now; new = g.K.Sink.faults c.run-outcome.new.out };
     } in
     let E : Result Asked WordsFault → Type 0 = λ asked. EndsAs faults end_count left asked outcome.got.value.items r w outcome.fault in
-    complete a.size (one_thread_output a.topics) faults end_count left a.files outcome.got.value.items r w outcome.fault
+    complete most_payload (one_thread_output a.topics) faults end_count left a.files outcome.got.value.items r w outcome.fault
     (subst E is c.run-outcome.ensures.end).1 calm
 
 pub returns-clause-complete_self : goal.returns-clause-complete_self

@@ -1,5 +1,5 @@
 -- The work of all workers, once there are room and a queue. A slice of the desks is lent three times, and written back whole each time.
-use Rattle.std.proofs.Common.{◌≡◌, ◌∙◌, refl, sym, ap, subst, arith, false, ℕ, ◌+◌, ◌^◌, ◌<◌, ◌≤◌, List, Option, None, length, map}
+use Rattle.std.proofs.Common.{◌≡◌, ◌∙◌, refl, sym, ap, subst, arith, false, ℕ, ◌+◌, ◌<◌, List, Option, None, length, map}
 use Rattle.std.specs.Prelude.{slice_index_or, flat_map, Vec, ◌||◌}
 use Rattle.std.specs.Global.{Global}
 use Rattle.std.specs.List.{All}
@@ -148,17 +148,18 @@ merge-requires g c =
     (slice_get-get_or back k d (omega (arith, less, same.0))))
 
 -- what the workers did, and how the queue was closed
-record Facts {S : Type 0} (topics : List (List ℕ × Kind)) (order size workers : ℕ) (faults end_count : S → ℕ) (left : S → Option (List ℕ)) (sources : List S)
-    (queue : Identity Frame) (ran : List (Desk Frame S)) (their_passes : List (PassStanding Frame)) (their_lists : List (Vec Answered Global))
+record Facts {S : Type 0} (topics : List (List ℕ × Kind)) (order size longest workers : ℕ) (faults end_count : S → ℕ) (left : S → Option (List ℕ))
+    (sources : List S) (queue : Identity Frame) (ran : List (Desk Frame S)) (their_passes : List (PassStanding Frame))
+    (their_lists : List (Vec Answered Global))
     (left_in : List ℕ) : Type 0 where
   of_job : IsSetup order (length topics + 1) workers queue.setup
   count : length ran ≡ workers
   passes : their_passes ≡ passes_at ran
   lists : their_lists ≡ lists_at ran
-  all : AllRan queue.setup queue topics size faults end_count left sources ran
+  all : AllRan queue.setup queue topics size longest faults end_count left sources ran
   closed : HasClosed queue.setup (passes_at ran) (held_at ran) left_in
 
-facts : (g : _) (c : After-conclude g) → Facts c.args.job.now.topics c.args.job.now.order c.args.job.now.longest c.args.job.now.workers
+facts : (g : _) (c : After-conclude g) → Facts c.args.job.now.topics c.args.job.now.order c.args.job.now.size c.args.job.now.longest c.args.job.now.workers
     g.S.Source.faults g.S.Source.ends g.S.Source.left c.args.sources.items c.args.queue c.run_all.new.desks c.clear.new.left.passes.items
     c.clear.new.left.lists.items c.close-buffers.result.left.items
 facts g c =
@@ -253,6 +254,7 @@ facts g c =
         rings = setup.1;
         seats = sym count;
         limit = setup.3;
+        some_size = valid.some_size;
       };
       closed = subst (λ (hs : List (HeldStanding Frame)). HasClosed queue.setup (passes_at ran) hs c.close-buffers.result.left.items) held
           (subst (λ (ps : List (PassStanding Frame)). HasClosed queue.setup ps c.clear.new.left.held.items c.close-buffers.result.left.items) passes (record {
@@ -304,7 +306,8 @@ returns-clause-left g c =
     record {
       setup = c.args.queue.setup;
       of_job = f.of_job;
-      shared = rw gave (have-shared c.args.queue.setup c.args.queue c.args.job.now.topics c.args.job.now.longest g.S.Source.faults g.S.Source.ends g.S.Source.left
+      shared = rw gave (have-shared c.args.queue.setup c.args.queue c.args.job.now.topics c.args.job.now.size c.args.job.now.longest
+          g.S.Source.faults g.S.Source.ends g.S.Source.left
           c.args.sources.items c.run_all.new.desks f.all c.close-buffers.result.left.items f.closed);
     }
 
@@ -316,7 +319,8 @@ returns-clause-same g c =
 pub returns-clause-worked : goal.returns-clause-worked
 returns-clause-worked g c =
     let topics = c.args.job.now.topics in
-    let size = c.args.job.now.longest in
+    let size = c.args.job.now.size in
+    let longest = c.args.job.now.longest in
     let faults = g.S.Source.faults in
     let end_count = g.S.Source.ends in
     let left = g.S.Source.left in
@@ -326,19 +330,19 @@ returns-clause-worked g c =
     let left_in = c.close-buffers.result.left.items in
     let at = (goal.at.returns-clause-worked g c).After-conclude in
     let f = facts g at in
-    let Of : Worked → Type 0 = λ w. (given : List (List Message)) × AreGiven topics size left 1 sources given
+    let Of : Worked → Type 0 = λ w. (given : List (List Message)) × AreGiven topics longest left 1 sources given
     × HasWorked topics size c.args.job.now.workers given w in
     ok-more c.conclude.result _ Of c.conclude.ensures.ok (λ w is.
     let whole = all-whole g at is.3 in
     let fed = all-fed g at is.1 in
-    let answered = have-answered queue.setup queue topics size faults end_count left sources ran f.all left_in f.closed whole fed in
-    let shared = have-shared queue.setup queue topics size faults end_count left sources ran f.all left_in f.closed in
+    let answered = have-answered queue.setup queue topics size longest faults end_count left sources ran f.all left_in f.closed whole fed in
+    let shared = have-shared queue.setup queue topics size longest faults end_count left sources ran f.all left_in f.closed in
     let its_passes : c.close-buffers.result.passes.value.items ≡ passes_at ran = c.close-buffers.ensures.passes ∙ f.passes in
     let Are : List (PassStanding Frame) → List (Vec Answered Global) → ℕ → Type 0 = λ ps ls n.
-    HaveAnswered topics size n (given queue.setup queue topics size faults end_count left sources ran f.all) ps ls in
+    HaveAnswered topics size n (given queue.setup queue topics size longest faults end_count left sources ran f.all) ps ls in
     subst Of (sym is.0) (
-      given queue.setup queue topics size faults end_count left sources ran f.all,
-      is-given queue.setup queue topics size faults end_count left sources ran f.all whole,
+      given queue.setup queue topics size longest faults end_count left sources ran f.all,
+      is-given queue.setup queue topics size longest faults end_count left sources ran f.all whole,
       record {
         answered = subst (λ (ps : List (PassStanding Frame)). Are ps c.clear.new.left.lists.items c.args.job.now.workers) (sym its_passes)
             (subst (λ (ls : List (Vec Answered Global)). Are (passes_at ran) ls c.args.job.now.workers) (sym f.lists)
@@ -351,19 +355,21 @@ returns-clause-worked g c =
 pub returns-clause-answers : goal.returns-clause-answers
 returns-clause-answers g c =
     let topics = c.args.job.now.topics in
-    let size = c.args.job.now.longest in
+    let size = c.args.job.now.size in
+    let longest = c.args.job.now.longest in
     let left = g.S.Source.left in
     ok-more c.conclude.result _ _ (returns-clause-worked g c)
-    (λ w has. members-told topics size left c.args.sources.items has.0 (members_in w.answered.items) has.1 has.2.answered.once)
+    (λ w has. members-told topics size longest left c.args.sources.items has.0 (members_in w.answered.items) has.1 has.2.answered.once)
 
 pub returns-clause-told : goal.returns-clause-told
 returns-clause-told g c =
     let topics = c.args.job.now.topics in
-    let size = c.args.job.now.longest in
+    let size = c.args.job.now.size in
+    let longest = c.args.job.now.longest in
     let left = g.S.Source.left in
     ok-more c.conclude.result _ _ (returns-clause-worked g c) (λ w has.
     told-worked topics size c.args.job.now.workers has.0 w (all_left left c.args.sources.items)
-    (given-told topics size left 1 c.args.sources.items has.0 has.1) has.2)
+    (given-told topics longest left 1 c.args.sources.items has.0 has.1) has.2)
 
 pub returns-clause-moved : goal.returns-clause-moved
 returns-clause-moved g c =

@@ -1,6 +1,7 @@
 use Rattle.std.proofs.Common.{◌≡◌, ◌∙◌, ap, sym, subst, arith, [], ◌++◌, List, length, take, drop}
 use Rattle.scq_queue.specs.Passes.{PassStanding}
 use Rattle.scq_work.specs.Desks.{all_given, HasRun}
+use Rattle.scq_work.specs.Passing.{parts_in}
 use Rattle.scq_work.specs.Working.{IsAtWork}
 use Rattle.scq_work.specs.declared.own_file.OwnFile.{OwnFile}
 use Rattle.scq_work.specs.declared.worker.Worker.{Worker}
@@ -51,15 +52,18 @@ returns-in-Err-leave-clause-run g c =
     let its = c.in-Ok.ensures in
     let same = c.keep.ensures.same in
     let files-are = ap (λ (v : _). v.items) same.1 ∙ whole g (goal.at.returns-in-Err-leave-clause-run g c).After-read_files in
-    subst (λ (w : Worker _). HasRun c.args.queue.now job.topics job.longest faults end_count left c.keep.new.self.files.items w.pass w.members.items w.starved
+    subst (λ (w : Worker _). HasRun c.args.queue.now job.topics job.size job.longest faults end_count left c.keep.new.self.files.items
+    w.pass w.members.items w.starved
     kept)
     (sym same.0)
-    (subst (λ (fs : List (OwnFile _)). HasRun c.args.queue.now job.topics job.longest faults end_count left fs now.pass now.members.items now.starved kept)
+    (subst (λ (fs : List (OwnFile _)). HasRun c.args.queue.now job.topics job.size job.longest faults end_count left fs now.pass now.members.items
+    now.starved kept)
     (sym files-are)
-    (run-late c.args.queue.now job.topics job.longest faults end_count left files was.pass now.pass was.members.items now.members.items was.starved now.starved
+    (run-late c.args.queue.now job.topics job.size job.longest faults end_count left files was.pass now.pass was.members.items now.members.items
+    was.starved now.starved
     kept
     c.in-Err-leave.at_limit.held
-    its.read its.suits (its.work start) (c.in-Err-leave.ensures.left (length (all_given files))) c.keep.ensures.kept))
+    its.read its.suits (its.work start) (c.in-Err-leave.ensures.left (length (parts_in job.size (all_given files)))) c.keep.ensures.kept))
 
 pub returns-in-Err-leave-clause-number : goal.returns-in-Err-leave-clause-number
 returns-in-Err-leave-clause-number g c =
@@ -83,9 +87,11 @@ returns-in_default-clause-run g c =
     let its = c.in-Ok.ensures in
     let end = c.in_default.ensures in
     let files-are = whole g (goal.at.returns-in_default-clause-run g c).After-read_files in
-    subst (λ (fs : List (OwnFile _)). HasRun c.args.queue.now job.topics job.longest faults end_count left fs now.pass now.members.items now.starved kept)
+    subst (λ (fs : List (OwnFile _)). HasRun c.args.queue.now job.topics job.size job.longest faults end_count left fs now.pass now.members.items
+    now.starved kept)
     (sym files-are)
-    (run-left c.args.queue.now job.topics job.longest faults end_count left files was.pass now.pass was.members.items now.members.items was.starved now.starved
+    (run-left c.args.queue.now job.topics job.size job.longest faults end_count left files was.pass now.pass was.members.items now.members.items
+    was.starved now.starved
     kept
     its.read its.suits (its.work start) end.taken end.empty c.leave.ensures.starved end.answered c.requires.kept)
 
@@ -102,9 +108,10 @@ returns-in-Err-clause-run g c =
     let its = c.in-Err.ensures in
     let same = c.keep-in-Err.ensures.same in
     let files-are = ap (λ (v : _). v.items) same.1 ∙ whole g (goal.at.returns-in-Err-clause-run g c).After-read_files in
-    subst (λ (fs : List (OwnFile _)). HasRun c.args.queue.now job.topics job.longest faults end_count left fs now.worker.pass now.worker.members.items
+    subst (λ (fs : List (OwnFile _)). HasRun c.args.queue.now job.topics job.size job.longest faults end_count left fs now.worker.pass now.worker.members.items
     now.worker.starved
     now.kept) (sym files-are)
-    (run-stopped c.args.queue.now job.topics job.longest faults end_count left files was.pass now.worker.pass now.worker.members.items now.worker.starved now.kept
+    (run-stopped c.args.queue.now job.topics job.size job.longest faults end_count left files was.pass now.worker.pass now.worker.members.items
+    now.worker.starved now.kept
     c.in-Err.at_limit.held
     its.read (its.left start) (ap (λ (w : Worker _). w.pass) same.0 ∙ c.retire.ensures) c.keep-in-Err.ensures.kept)

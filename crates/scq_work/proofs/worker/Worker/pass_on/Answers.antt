@@ -1,139 +1,81 @@
-use Rattle.std.proofs.Common.{rules, ◌≡◌, ◌≤◌, ◌<◌, ◌+◌, ◌++◌, ◌∷◌, ◌∙◌, ap, sym, subst, arith, suc, List, [], length, None, Err, Result}
-use Rattle.std.specs.Prelude.{IfErr, count_by, Bool}
-use Rattle.scq_collect.specs.declared.answered.Answered.{Answered}
-use Rattle.scq_work.specs.Records.{is_take}
+-- Each part goes behind those that were passed on before it.
+use Rattle.std.proofs.Common.{rules, ◌≡◌, ◌∙◌, ◌≤◌, ◌+◌, ap, sym, subst, arith, refl, ℕ, ◌++◌, ◌∷◌, [], List, map, length, Err, Result}
+use Rattle.std.specs.Prelude.{IfErr}
+use Rattle.std.specs.List.{range_with_len}
+use Rattle.std.proofs.lemmas.List.{append-nil, append_assoc, length-append}
+use Rattle.std.proofs.lemmas.List.FromFn.{length-map-range_with_len, map-range_with_len_more}
 use Rattle.scq_frames.specs.declared.message.Message.{Message}
-use Rattle.scq_queue.specs.Passes.{PassStanding}
-use Rattle.scq_work.specs.Working.{Suits, HasTaken, HasSent, HasFoundFull, HasLeft, HasAnswered, IsAtWork, HasStopped}
-use Rattle.scq_work.proofs.PassLemmas.{found-full, lent-and-sent, suits-taken}
-use Rattle.scq_work.proofs.LeftLemmas.{left-at-get, left-full, left-more}
-use Rattle.scq_work.proofs.PassedOn.{one-of-all, left-sent, suits-full, work-sent, work-helped, work-stopped}
+use Rattle.scq_frames.specs.Parts.{Part, part_of, parts_of, all_parts}
+use Rattle.scq_work.specs.Working.{IsAtWork, HasStopped}
+use Rattle.scq_work.proofs.PassedOn.{stopped-more}
 use Rattle.scq_work.proofs.worker.Worker.pass_on.Goals as goal
-use Rattle.scq_work.proofs.worker.Worker.pass_on.Goals.{After-answer_directly}
 
--- each buffer that the queue was given has room for a message, and so has the same buffer once it is lent
-pub send_in-requires-clause-room : goal.send_in-requires-clause-room
-send_in-requires-clause-room g c κs within =
-    let laws = g.met.B.Buffer g.world.𝓛 g.world.𝓜 g.world.𝓡 ((λ s x. x), (λ x. x), (λ x. x), (λ x. x)) in
-    let given = c.in-Ok.ensures.given in
-    let room = one-of-all (λ b. c.args.job.now.size + 24 ≤ length (g.B.Buffer.contents b)) c.args.queue.now.given c.in-Ok.held.index given.first
-    c.requires.room given.was in
-    let same = laws.same_length given.first c.in-Ok.held.buffer given.same in
-    omega (arith, room, same)
+-- one part more
+grown : (size before : ℕ) (m : Message) (parts : List Part)
+    → (parts ++ map (part_of size m) (range_with_len 1 before)) ++ part_of size m (before + 1) ∷ []
+    ≡ parts ++ map (part_of size m) (range_with_len 1 (before + 1))
+grown size before m parts =
+    let front = map (part_of size m) (range_with_len 1 before) in
+    append_assoc parts front (part_of size m (before + 1) ∷ [])
+    ∙ ap (λ (l : List Part). parts ++ l) (sym (map-range_with_len_more (part_of size m) 1 before (before + 1) (omega arith)))
 
-pub send_in-requires-clause-short : goal.send_in-requires-clause-short
-send_in-requires-clause-short g c κs within = omega (arith, c.requires.short, c.args.job.now.fits)
-
--- the send met Spent
-pub returns-in_err-send_in-in-Ok-clause-left : goal.returns-in_err-send_in-in-Ok-clause-left
-returns-in_err-send_in-in-Ok-clause-left g c =
-    let m = c.args.message.now in
-    let p = c.args.self.now.pass in
-    let said = c.in_err-send_in-in-Ok.ensures in
-    let is : c.from_residual.result ≡ Err c.in_err-send_in-in-Ok.field-0.0 = search rules in
-    subst (λ (r : Result _ _). IfErr r (λ l. (messages : List Message)
-    → IsAtWork c.args.job.now.topics messages p c.args.self.now.members.items c.args.self.now.starved
-    → HasStopped c.args.queue.now (length (messages ++ m ∷ [])) c.send_in.new.self.pass l.held)) (sym is)
-    (λ messages was.
-    let kept = c.in_err-send_in-in-Ok.field-0.0.held in
-    let left : HasLeft (length messages) (length messages + 1) p c.send_in.new.self.pass kept =
-    left-sent g.B.Buffer.contents (length messages) m.topic said.spent.0 p c.lend.new.pass c.send_in.new.self.pass c.in-Ok.held kept c.in-Ok.ensures.lent
-    said.spent.1 said.kept said.back in
-    work-stopped c.args.queue.now c.args.job.now.topics messages m p c.send_in.new.self.pass c.args.self.now.members.items c.args.self.now.starved kept was
-    c.requires.suits.queue c.requires.stays left)
-
--- it sent the message
-pub returns-in_ok-send_in-in-Ok-clause-work : goal.returns-in_ok-send_in-in-Ok-clause-work
-returns-in_ok-send_in-in-Ok-clause-work g c messages was =
-    let m = c.args.message.now in
-    let p = c.args.self.now.pass in
-    let said = c.in_ok-send_in-in-Ok.ensures.sent in
-    let within : suc m.topic < length p.numbers = let n = c.requires.suits.numbers in let low = c.requires.topic in omega arith in
-    let sent : HasSent m p c.send_in.new.self.pass =
-    lent-and-sent g.B.Buffer.contents m said.0 said.1 p c.lend.new.pass c.send_in.new.self.pass c.in-Ok.held within c.in-Ok.ensures.lent said.2 said.3 in
-    let same = c.in_ok-send_in-in-Ok.ensures.same in
-    let now = c.send_in.new.self in
-    subst (λ (starved : Bool). IsAtWork c.args.job.now.topics (messages ++ m ∷ []) now.pass now.members.items starved) (sym same.1)
-    (subst (λ (members : List Answered). IsAtWork c.args.job.now.topics (messages ++ m ∷ []) now.pass members c.args.self.now.starved) (sym same.0)
-    (work-sent c.args.job.now.topics messages m p now.pass c.args.self.now.members.items c.args.self.now.starved was within sent))
-
--- the lend met Spent
-pub returns-in-Err-Spent-clause-left : goal.returns-in-Err-Spent-clause-left
-returns-in-Err-Spent-clause-left g c messages was =
-    let p = c.args.self.now.pass in
-    let spent = (c.in-Err-Spent.ensures.spent c.in-Err-Spent.field-0-0 (cc) c.requires.suits.spent).0 in
-    work-stopped c.args.queue.now c.args.job.now.topics messages c.args.message.now p c.lend.new.pass c.args.self.now.members.items
-    c.args.self.now.starved None was
-    c.requires.suits.queue c.requires.stays
-    (left-more (length messages) p c.lend.new.pass None (left-at-get (length messages) 0 c.in-Err-Spent.field-0-0 p c.lend.new.pass spent))
-
--- no buffer was free: the pass suits still
-full-at : (g : _) (c : After-answer_directly g) → HasFoundFull c.in-Err-Full.head c.args.self.now.pass c.lend.new.pass
-full-at g c =
-    let some_ : 0 < length c.args.self.now.pass.numbers = let n = c.requires.suits.numbers in omega arith in
-    found-full c.in-Err-Full.head c.args.self.now.pass c.lend.new.pass some_ (c.in-Err-Full.ensures.full c.in-Err-Full.head (cc))
-
-pub help-requires-after_bounds : goal.help-requires-after_bounds
-help-requires-after_bounds g c κs within =
-    let full = full-at g (goal.at.help-requires-after_bounds g c).After-answer_directly in
-    subst (λ (q : PassStanding _). Suits c.args.queue.now (length c.args.job.now.topics) q) (sym c.answer_directly.ensures.same.0)
-    (suits-full c.args.queue.now (length c.args.job.now.topics) c.in-Err-Full.head c.args.self.now.pass c.lend.new.pass c.requires.suits full)
-
--- the help met Spent
-pub returns-in_err-help-in-Err-Full-clause-left : goal.returns-in_err-help-in-Err-Full-clause-left
-returns-in_err-help-in-Err-Full-clause-left g c =
-    let m = c.args.message.now in
-    let p = c.args.self.now.pass in
-    let r = c.help.new.self.pass in
-    let full = full-at g (goal.at.returns-in_err-help-in-Err-Full-clause-left g c).After-answer_directly in
-    let kept = c.in_err-help-in-Err-Full.field-0.0.held in
-    let is : c.from_residual-in_err-help-in-Err-Full.result ≡ Err c.in_err-help-in-Err-Full.field-0.0 = search rules in
-    subst (λ (x : Result _ _). IfErr x (λ l. (messages : List Message)
-    → IsAtWork c.args.job.now.topics messages p c.args.self.now.members.items c.args.self.now.starved
-    → HasStopped c.args.queue.now (length (messages ++ m ∷ [])) r l.held)) (sym is)
-    (λ messages was.
-    let left : HasLeft (length messages + 1) (length messages + 1) c.lend.new.pass r kept =
-    subst (λ (q : PassStanding _). HasLeft (length messages + 1) (length messages + 1) q r kept) c.answer_directly.ensures.same.0
-    (c.in_err-help-in-Err-Full.ensures.left (length messages + 1)) in
-    work-stopped c.args.queue.now c.args.job.now.topics messages m p r c.args.self.now.members.items c.args.self.now.starved kept was c.requires.suits.queue
-    c.requires.stays
-    (left-full (length messages) c.in-Err-Full.head p c.lend.new.pass r kept full left))
-
--- it helped
-helped : (g : _) (c : goal.In_ok-help-in-Err-Full g) → HasTaken c.lend.new.pass c.help.new.self.pass
-helped g c = subst (λ (q : PassStanding _). HasTaken q c.help.new.self.pass) c.answer_directly.ensures.same.0 c.in_ok-help-in-Err-Full.ensures.taken
-
-pub returns-in_err-help-in-Err-Full-clause-number : goal.returns-in_err-help-in-Err-Full-clause-number
-returns-in_err-help-in-Err-Full-clause-number g c =
-    let left = c.in_err-help-in-Err-Full.ensures.left 0 in (
-      c.help.ensures.number ∙ c.answer_directly.ensures.same.1,
-      left.own.1 ∙ ap (λ (x : PassStanding _). x.number) c.answer_directly.ensures.same.0 ∙ c.lend.ensures.own.1,
+-- so many are no more than all
+within : (size before : ℕ) (m : Message) (parts : List Part) → before + 1 ≤ parts_of size m.payload
+    → length ((parts ++ map (part_of size m) (range_with_len 1 before)) ++ part_of size m (before + 1) ∷ []) ≤ length (parts ++ all_parts size m)
+within size before m parts low =
+    let front = map (part_of size m) (range_with_len 1 before) in
+    let short : length front ≡ before = length-map-range_with_len (part_of size m) 1 before in
+    let long : length (all_parts size m) ≡ parts_of size m.payload = length-map-range_with_len (part_of size m) 1 (parts_of size m.payload) in
+    omega (
+      arith,
+      low,
+      short,
+      long,
+      length-append (parts ++ front) (part_of size m (before + 1) ∷ []),
+      length-append parts front,
+      length-append parts (all_parts size m),
     )
 
-pub returns-in_ok-help-in-Err-Full-clause-suits : goal.returns-in_ok-help-in-Err-Full-clause-suits
-returns-in_ok-help-in-Err-Full-clause-suits g c =
-    let full = full-at g (goal.at.returns-in_ok-help-in-Err-Full-clause-suits g c).After-answer_directly in
-    let topics = length c.args.job.now.topics in
-    suits-taken c.args.queue.now topics c.lend.new.pass c.help.new.self.pass
-    (suits-full c.args.queue.now topics c.in-Err-Full.head c.args.self.now.pass c.lend.new.pass c.requires.suits full) (helped g c)
+pub parts-init : goal.parts-init
+parts-init g c = record {
+  suits = c.requires.suits;
+  stays = c.requires.stays;
+  work = λ parts was.
+      subst (λ (l : List Part). IsAtWork c.args.job.now.topics l c.args.self.now.pass c.args.self.now.members.items c.args.self.now.starved)
+      (sym (append-nil parts)) was;
+  starved = λ fed. fed;
+  number = refl;
+  pass = refl;
+}
 
-pub returns-in_ok-help-in-Err-Full-clause-stays : goal.returns-in_ok-help-in-Err-Full-clause-stays
-returns-in_ok-help-in-Err-Full-clause-stays g c =
-    let full = full-at g (goal.at.returns-in_ok-help-in-Err-Full-clause-stays g c).After-answer_directly in
-    ap (λ (x : PassStanding _). x.retired) (helped g c).pass ∙ ap (λ (x : PassStanding _). x.retired) full.pass ∙ c.requires.stays
+pub parts-preserved : goal.parts-preserved
+parts-preserved g c =
+    let inv = c.parts.invariant in
+    let its = c.in_ok-pass_part.ensures in
+    let now = c.pass_part.new.self in
+    record {
+      suits = its.suits;
+      stays = its.stays;
+      work = λ parts was.
+          subst (λ (l : List Part). IsAtWork c.args.job.now.topics l now.pass now.members.items now.starved)
+          (grown c.args.job.now.size c.parts.before c.args.message.now parts)
+          (its.work (parts ++ map (part_of c.args.job.now.size c.args.message.now) (range_with_len 1 c.parts.before)) (inv.work parts was));
+      starved = λ fed. inv.starved (c.pass_part.ensures.starved fed);
+      number = c.pass_part.ensures.number.0 ∙ inv.number;
+      pass = c.pass_part.ensures.number.1 ∙ inv.pass;
+    }
 
-pub returns-in_ok-help-in-Err-Full-clause-work : goal.returns-in_ok-help-in-Err-Full-clause-work
-returns-in_ok-help-in-Err-Full-clause-work g c messages was =
-    let topics = c.args.job.now.topics in
-    let full = full-at g (goal.at.returns-in_ok-help-in-Err-Full-clause-work g c).After-answer_directly in
-    let said = c.in_ok-help-in-Err-Full.ensures in
-    let now = c.help.new.self in
-    let mid = c.answer_directly.new.self in
-    let same = c.answer_directly.ensures.same.0 in
-    work-helped topics messages c.args.message.now c.in-Err-Full.head c.args.self.now.pass c.lend.new.pass now.pass c.args.self.now.members.items
-    mid.members.items now.members.items
-    c.args.self.now.starved now.starved was full (helped g c)
-    (λ t low. said.each t low ∙ ap (λ (x : PassStanding _). count_by (is_take t) x.calls + 1) same)
-    (λ fed. c.answer_directly.ensures.starved (c.help.ensures.starved fed))
-    (λ fed. c.answer_directly.ensures.listed (c.help.ensures.starved fed))
-    (λ fed. subst (λ (x : PassStanding _). HasAnswered topics x now.pass mid.members.items now.members.items) same (said.answered fed))
+-- a part met Spent
+pub returns-in_err-pass_part-clause-left : goal.returns-in_err-pass_part-clause-left
+returns-in_err-pass_part-clause-left g c =
+    let start = c.args.self.now in
+    let size = c.args.job.now.size in
+    let m = c.args.message.now in
+    let is : c.from_residual.result ≡ Err c.in_err-pass_part.field-0.0 = search rules in
+    subst (λ (r : Result _ _). IfErr r (λ l. (parts : List Part) → IsAtWork c.args.job.now.topics parts start.pass start.members.items start.starved
+    → HasStopped c.args.queue.now (length (parts ++ all_parts size m)) c.pass_part.new.self.pass l.held)) (sym is)
+    (λ parts was.
+    let front = map (part_of size m) (range_with_len 1 c.parts.before) in
+    let few : c.parts.before + 1 ≤ parts_of size m.payload = omega arith in
+    stopped-more c.args.queue.now _ _ c.pass_part.new.self.pass c.in_err-pass_part.field-0.0.held (within size c.parts.before m parts few)
+    (c.in_err-pass_part.ensures.left (parts ++ front) (c.parts.invariant.work parts was)))

@@ -1,9 +1,12 @@
 use Rattle.std.proofs.Common.{rules, ◌≡◌, ◌<◌, ◌-◌, ◌∙◌, sym, ap, subst, arith, refl, inl, inr, ◌++◌, ℕ, [], List, length, set, get_or-set_same, get_or-set_other, Err, Result}
 use Rattle.std.specs.Prelude.{IfErr, All, slice_index_or}
 use Rattle.std.proofs.lemmas.Bool.{cases_lt}
+use Rattle.std.proofs.lemmas.Grind.{flat_map-append}
 use Rattle.std.proofs.lemmas.List.{length-set}
+use Rattle.scq_frames.specs.Parts.{all_parts}
 use Rattle.scq_work.specs.Desks.{IsNew, StopsAtAFault, ids_of, all_given}
 use Rattle.scq_work.specs.Given.{given_in}
+use Rattle.scq_work.specs.Passing.{parts_in}
 use Rattle.scq_work.specs.Reading.{IsRead}
 use Rattle.scq_work.specs.Working.{IsAtWork, HasStopped}
 use Rattle.scq_work.specs.declared.own_file.FileEnd.TheVariants.{Stopped}
@@ -35,16 +38,19 @@ read-after g c k d less =
     c.read_file.new.file d within c.read_file.ensures.read (λ j below apart. inv.read j d below) k
     (omega (arith, less, length-set c.files.files at c.read_file.new.file))
 
--- what all gave, with what this one gave
+-- the parts of what all gave, with those of what this one gave
 given-after : (g : _) (c : After-read_file g)
-    → all_given (set c.files.files (c.files.at - 1) c.read_file.new.file) ≡ all_given c.files.files ++ given_in c.read_file.new.file.given.value
+    → parts_in c.args.job.now.size (all_given (set c.files.files (c.files.at - 1) c.read_file.new.file))
+    ≡ parts_in c.args.job.now.size (all_given c.files.files) ++ parts_in c.args.job.now.size (given_in c.read_file.new.file.given.value)
 given-after g c =
     let at = c.files.at - 1 in
     let inv = c.files.invariant in
     let within : at < length c.files.files = omega (arith, c.files-test.true, inv.within) in
     let low : at < c.files.at = omega (arith, c.files-test.true) in
-    given-set c.files.files at c.read_file.new.file c.index-files-at.result within
-    (λ k below. (inv.unread k c.index-files-at.result (omega (arith, below, low))).given)
+    let size = c.args.job.now.size in
+    let all = given-set c.files.files at c.read_file.new.file c.index-files-at.result within
+    (λ k below. (inv.unread k c.index-files-at.result (omega (arith, below, low))).given) in
+    ap (parts_in size) all ∙ flat_map-append (all_parts size) (all_given c.files.files) (given_in c.read_file.new.file.given.value)
 
 -- none behind the file that was read has a fault, and none in front of it was read
 stops-after : (g : _) (c : After-read_file g) → StopsAtAFault (set c.files.files (c.files.at - 1) c.read_file.new.file)
@@ -76,7 +82,7 @@ files-init g c = record {
   stays = c.requires.stays;
   work = λ was.
       subst (λ (ms : List _). IsAtWork c.args.job.now.topics ms c.args.self.now.pass c.args.self.now.members.items c.args.self.now.starved)
-      (sym (given-none c.args.files.now (λ k d less. (c.requires.unread k d less).given))) was;
+      (sym (ap (parts_in c.args.job.now.size) (given-none c.args.files.now (λ k d less. (c.requires.unread k d less).given)))) was;
   starved = λ fed. fed;
   number = refl;
   pass = refl;
@@ -98,11 +104,11 @@ returns-in_err-read_file-clause-left g c =
     let files = set c.files.files (c.files.at - 1) c.read_file.new.file in
     let is : c.from_residual.result ≡ Err c.in_err-read_file.field-0.0 = search rules in
     subst (λ (r : Result _ _). IfErr r (λ l. IsAtWork c.args.job.now.topics [] start.pass start.members.items start.starved
-    → HasStopped c.args.queue.now (length (all_given files)) now.pass l.held)) (sym is)
+    → HasStopped c.args.queue.now (length (parts_in c.args.job.now.size (all_given files))) now.pass l.held)) (sym is)
     (λ was.
     let all = given-after g (goal.at.returns-in_err-read_file-clause-left g c).After-read_file in
     subst (λ (ms : List _). HasStopped c.args.queue.now (length ms) now.pass c.in_err-read_file.field-0.0.held) (sym all)
-    (c.in_err-read_file.ensures.left (all_given c.files.files) (c.files.invariant.work was)))
+    (c.in_err-read_file.ensures.left (parts_in c.args.job.now.size (all_given c.files.files)) (c.files.invariant.work was)))
 
 pub returns-in-Stopped-clause-same : goal.returns-in-Stopped-clause-same
 returns-in-Stopped-clause-same g c = same-after g (goal.at.returns-in-Stopped-clause-same g c).After-read_file
@@ -118,7 +124,7 @@ returns-in-Stopped-clause-work g c was =
     let now = c.read_file.new.self in
     let all = given-after g (goal.at.returns-in-Stopped-clause-work g c).After-read_file in
     subst (λ (ms : List _). IsAtWork c.args.job.now.topics ms now.pass now.members.items now.starved) (sym all)
-    (c.in_ok-read_file.ensures.work (all_given c.files.files) (c.files.invariant.work was))
+    (c.in_ok-read_file.ensures.work (parts_in c.args.job.now.size (all_given c.files.files)) (c.files.invariant.work was))
 
 pub returns-clause-stops : goal.returns-clause-stops
 returns-clause-stops g c at before d fault less is low =
@@ -158,7 +164,7 @@ files-preserved g c =
       work = λ was.
           let all = given-after g (goal.at.files-preserved g c).After-read_file in
           subst (λ (ms : List _). IsAtWork c.args.job.now.topics ms now.pass now.members.items now.starved) (sym all)
-          (its.work (all_given c.files.files) (inv.work was));
+          (its.work (parts_in c.args.job.now.size (all_given c.files.files)) (inv.work was));
       starved = λ fed. inv.starved (c.read_file.ensures.starved fed);
       number = c.read_file.ensures.number.0 ∙ inv.number;
       pass = c.read_file.ensures.number.1 ∙ inv.pass;

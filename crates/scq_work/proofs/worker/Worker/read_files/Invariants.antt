@@ -2,6 +2,7 @@ use Rattle.std.proofs.Common.{◌≡◌, ◌<◌, ◌≤◌, ℕ, [], false, len
 use Rattle.std.specs.Prelude.{All, slice_index_or}
 use Rattle.scq_work.specs.Desks.{IsNew, ids_of, all_given}
 use Rattle.scq_work.specs.Given.{given_in}
+use Rattle.scq_work.specs.Passing.{parts_in}
 use Rattle.scq_work.specs.Reading.{IsRead}
 use Rattle.scq_work.specs.Working.{Suits, IsAtWork}
 use Rattle.scq_work.specs.declared.own_file.FileEnd.TheVariants.{Stopped}
@@ -19,7 +20,7 @@ invariant-files g l = record {
   suits : Suits l.queue (length l.job.topics) l.self.pass;
   stays : l.self.pass.retired ≡ None;
   work : IsAtWork l.job.topics [] l.fn.self.pass l.fn.self.members.items l.fn.self.starved
-      → IsAtWork l.job.topics (all_given l.files) l.self.pass l.self.members.items l.self.starved;
+      → IsAtWork l.job.topics (parts_in l.job.size (all_given l.files)) l.self.pass l.self.members.items l.self.starved;
   starved : l.self.starved ≡ false → l.fn.self.starved ≡ false;
   number : l.self.number ≡ l.fn.self.number;
   pass : l.self.pass.number ≡ l.fn.self.pass.number;

@@ -5,11 +5,13 @@ use Rattle.scq_topics.specs.Topics.{topic_of}
 use Rattle.scq_frames.specs.Coming.{Found}
 use Rattle.scq_frames.specs.Framing.{IsNext, visible_ahead}
 use Rattle.scq_frames.specs.declared.message.Message.{Message}
+use Rattle.scq_frames.specs.Parts.{Part}
 use Rattle.scq_work.specs.Given.{given_in}
+use Rattle.scq_work.specs.Passing.{parts_in}
 use Rattle.scq_work.specs.Reading.{IsRead}
 use Rattle.scq_work.specs.Working.{IsAtWork, HasStopped}
 use Rattle.scq_work.specs.declared.own_file.FileEnd.{FileEnd}
-use Rattle.scq_work.proofs.ReadLemmas.{IsReading, Answers, reading-next, reading-whole, reading-fault, reading-left, behind-all}
+use Rattle.scq_work.proofs.ReadLemmas.{IsReading, Answers, reading-next, reading-whole, reading-fault, reading-left, parts-behind}
 use Rattle.scq_work.proofs.worker.Worker.read_messages.Goals as goal
 use Rattle.scq_work.proofs.worker.Worker.read_messages.Goals.{After-next, After-pass_on}
 
@@ -66,22 +68,23 @@ returns-in_err-pass_on-in-Ok-Some-clause-read g c =
     let P : FileEnd → Type 0 =
     λ end. IsRead c.args.job.now.topics c.args.job.now.longest g.S.Source.faults g.S.Source.ends g.S.Source.left c.args.file c.args.source.now c.next.new.source
     (given_in c.give.new.given.value) end in
-    subst P (sym c.messages.invariant.end) (reading-left c.args.job.now.topics c.args.job.now.longest g.S.Source.faults g.S.Source.ends g.S.Source.left c.args.file
-    c.args.source.now c.next.new.source
+    subst P (sym c.messages.invariant.end) (reading-left c.args.job.now.topics c.args.job.now.longest g.S.Source.faults g.S.Source.ends g.S.Source.left
+    c.args.file c.args.source.now c.next.new.source
     c.next.new.self (given_in c.give.new.given.value) now)
 
 pub returns-in_err-pass_on-in-Ok-Some-clause-left : goal.returns-in_err-pass_on-in-Ok-Some-clause-left
 returns-in_err-pass_on-in-Ok-Some-clause-left g c =
     let start = c.args.self.now in
     let is : c.from_residual.result ≡ Err c.in_err-pass_on-in-Ok-Some.field-0.0 = search rules in
-    subst (λ (r : Result _ _). IfErr r (λ l. (messages : List Message) → IsAtWork c.args.job.now.topics messages start.pass start.members.items start.starved
-    → HasStopped c.args.queue.now (length (messages ++ given_in c.give.new.given.value)) c.pass_on.new.self.pass l.held)) (sym is)
+    subst (λ (r : Result _ _). IfErr r (λ l. (messages : List Part) → IsAtWork c.args.job.now.topics messages start.pass start.members.items start.starved
+    → HasStopped c.args.queue.now (length (messages ++ parts_in c.args.job.now.size (given_in c.give.new.given.value)))
+    c.pass_on.new.self.pass l.held)) (sym is)
     (λ messages was.
     let old = given_in c.messages.given.value in
     let at = c.messages.self in
-    let left = c.in_err-pass_on-in-Ok-Some.ensures.left (messages ++ old) (c.messages.invariant.work messages was) in
-    subst (λ (ms : List Message). HasStopped c.args.queue.now (length ms) c.pass_on.new.self.pass c.in_err-pass_on-in-Ok-Some.field-0.0.held)
-    (behind-all messages old (given_in c.give.new.given.value) c.in-Ok-Some.message c.give.ensures) left)
+    let left = c.in_err-pass_on-in-Ok-Some.ensures.left (messages ++ parts_in c.args.job.now.size old) (c.messages.invariant.work messages was) in
+    subst (λ (ms : List Part). HasStopped c.args.queue.now (length ms) c.pass_on.new.self.pass c.in_err-pass_on-in-Ok-Some.field-0.0.held)
+    (parts-behind c.args.job.now.size messages old (given_in c.give.new.given.value) c.in-Ok-Some.message c.give.ensures) left)
 
 pub returns-then-self-clause-read : goal.returns-then-self-clause-read
 returns-then-self-clause-read g c =
@@ -89,17 +92,17 @@ returns-then-self-clause-read g c =
     let P : FileEnd → Type 0 =
     λ end. IsRead c.args.job.now.topics c.args.job.now.longest g.S.Source.faults g.S.Source.ends g.S.Source.left c.args.file c.args.source.now c.next.new.source
     (given_in c.give.new.given.value) end in
-    subst P (sym c.messages.invariant.end) (reading-left c.args.job.now.topics c.args.job.now.longest g.S.Source.faults g.S.Source.ends g.S.Source.left c.args.file
-    c.args.source.now c.next.new.source
+    subst P (sym c.messages.invariant.end) (reading-left c.args.job.now.topics c.args.job.now.longest g.S.Source.faults g.S.Source.ends g.S.Source.left
+    c.args.file c.args.source.now c.next.new.source
     c.next.new.self (given_in c.give.new.given.value) now)
 
 pub returns-then-self-clause-work : goal.returns-then-self-clause-work
 returns-then-self-clause-work g c messages was =
     let old = given_in c.messages.given.value in
     let now = c.pass_on.new.self in
-    subst (λ (ms : List Message). IsAtWork c.args.job.now.topics ms now.pass now.members.items now.starved)
-    (behind-all messages old (given_in c.give.new.given.value) c.in-Ok-Some.message c.give.ensures)
-    (c.in_ok-pass_on-in-Ok-Some.ensures.work (messages ++ old) (c.messages.invariant.work messages was))
+    subst (λ (ms : List Part). IsAtWork c.args.job.now.topics ms now.pass now.members.items now.starved)
+    (parts-behind c.args.job.now.size messages old (given_in c.give.new.given.value) c.in-Ok-Some.message c.give.ensures)
+    (c.in_ok-pass_on-in-Ok-Some.ensures.work (messages ++ parts_in c.args.job.now.size old) (c.messages.invariant.work messages was))
 
 pub messages-preserved : goal.messages-preserved
 messages-preserved g c =
@@ -113,9 +116,9 @@ messages-preserved g c =
       suits = its.suits;
       stays = its.stays;
       work = λ messages was.
-          subst (λ (ms : List Message). IsAtWork c.args.job.now.topics ms now.pass now.members.items now.starved)
-          (behind-all messages old (given_in c.give.new.given.value) c.in-Ok-Some.message c.give.ensures)
-          (its.work (messages ++ old) (inv.work messages was));
+          subst (λ (ms : List Part). IsAtWork c.args.job.now.topics ms now.pass now.members.items now.starved)
+          (parts-behind c.args.job.now.size messages old (given_in c.give.new.given.value) c.in-Ok-Some.message c.give.ensures)
+          (its.work (messages ++ parts_in c.args.job.now.size old) (inv.work messages was));
       starved = λ fed. inv.starved (c.pass_on.ensures.starved fed);
       number = c.pass_on.ensures.number.0 ∙ inv.number;
       pass = c.pass_on.ensures.number.1 ∙ inv.pass;

@@ -1,7 +1,8 @@
 use Rattle.std.proofs.Common.{◌≡◌, ◌+◌, ◌-◌, ◌^◌, ◌++◌, List, false, length, None}
 use Rattle.scq_frames.specs.declared.fault.FrameFault.TheVariants.{NoMemory}
-use Rattle.scq_frames.specs.declared.message.Message.{Message}
+use Rattle.scq_frames.specs.Parts.{Part}
 use Rattle.scq_work.specs.Given.{given_in}
+use Rattle.scq_work.specs.Passing.{parts_in}
 use Rattle.scq_work.specs.Working.{Suits, IsAtWork}
 use Rattle.scq_work.specs.declared.own_file.FileEnd.TheVariants.{Stopped}
 use Rattle.scq_work.proofs.ReadLemmas.{IsReading}
@@ -15,8 +16,8 @@ invariant-messages g l = record {
   end : l.end ≡ Stopped NoMemory;
   suits : Suits l.queue (length l.job.topics) l.self.pass;
   stays : l.self.pass.retired ≡ None;
-  work : (messages : List Message) → IsAtWork l.job.topics messages l.fn.self.pass l.fn.self.members.items l.fn.self.starved
-      → IsAtWork l.job.topics (messages ++ given_in l.given.value) l.self.pass l.self.members.items l.self.starved;
+  work : (messages : List Part) → IsAtWork l.job.topics messages l.fn.self.pass l.fn.self.members.items l.fn.self.starved
+      → IsAtWork l.job.topics (messages ++ parts_in l.job.size (given_in l.given.value)) l.self.pass l.self.members.items l.self.starved;
   starved : l.self.starved ≡ false → l.fn.self.starved ≡ false;
   number : l.self.number ≡ l.fn.self.number;
   pass : l.self.pass.number ≡ l.fn.self.pass.number;

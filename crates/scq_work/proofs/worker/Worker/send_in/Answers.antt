@@ -1,20 +1,23 @@
-use Rattle.std.proofs.Common.{rules, ◌≡◌, ◌+◌, ◌<◌, ◌^◌, ◌++◌, ◌∙◌, ap, arith, refl, suc, length, drop}
+use Rattle.std.proofs.Common.{rules, ◌≡◌, ◌-◌, ◌*◌, ◌+◌, ◌<◌, ◌^◌, ◌++◌, ◌∙◌, ap, arith, refl, suc, length, length-drop, drop}
+use Rattle.std.proofs.lemmas.List.{length-take}
 use Rattle.scq_frames.specs.Encoded.{message_bytes}
-use Rattle.scq_frames.specs.Parts.{Part, part_of, whole_of}
-use Rattle.scq_frames.proofs.PayloadParts.{one-part}
+use Rattle.scq_frames.specs.Parts.{part_of}
+use Rattle.scq_frames.proofs.PayloadParts.{few-parts}
 use Rattle.scq_queue.specs.Passes.{having_seen, after_put}
 use Rattle.scq_work.proofs.worker.Worker.send_in.Goals as goal
 
--- what was sent are the bytes of the message, and behind them what stood in the buffer
+-- what was sent are the bytes of the part, and behind them what stood in the buffer
 pub returns-in-Ok-clause-sent : goal.returns-in-Ok-clause-sent
 returns-in-Ok-clause-sent g c =
     let m = c.args.message.now in
+    let size = c.args.job.now.size in
+    let valid = c.args.job.now.valid in
+    let p = part_of size m c.args.part in
     let laws = g.met.B.Buffer g.world.𝓛 g.world.𝓜 g.world.𝓡 ((λ s x. x), (λ x. x), (λ x. x), (λ x. x)) in
     let bytes = c.encode.new.into in
-    let small : length m.payload < 2 ^ 32 = omega (arith, c.requires.short, c.args.job.now.valid.size_fits) in
-    let whole = (one-part c.args.job.now.size m c.args.job.now.valid.some_size c.requires.short).1 in
-    let begins : bytes ≡ message_bytes (whole_of m) ++ drop (24 + length m.payload) c.bytes_mut.result.now =
-    c.encode.ensures ∙ ap (λ (p : Part). message_bytes p ++ drop (24 + length p.payload) c.bytes_mut.result.now) whole in
+    let small : length m.payload < 2 ^ 32 = omega (arith, c.requires.short, c.args.job.now.limit) in
+    let start = (c.args.part - 1) * size in
+    let begins : bytes ≡ message_bytes p ++ drop (24 + length p.payload) c.bytes_mut.result.now = c.encode.ensures in
     let long : length bytes ≡ length (g.B.Buffer.contents c.args.held.buffer) = c.encode.auto.into ∙ ap length c.bytes_mut.ensures.bytes in
     let is : g.B.Buffer.contents (g.B.Buffer.written c.args.held.buffer bytes) ≡ bytes = laws.written_bytes c.args.held.buffer bytes long in
     let sent = c.in-Ok.ensures.sent in (
@@ -27,10 +30,10 @@ returns-in-Ok-clause-sent g c =
           file = search rules;
           line = search rules;
           topic = search rules;
-          payload = small;
-          parts = omega arith;
-          numbered = record { first = omega arith; last = omega arith };
+          payload = omega (arith, small, length-take size (drop start m.payload), length-drop start m.payload);
+          parts = omega (arith, small, few-parts size m.payload valid.some_size);
+          numbered = c.requires.numbered;
         };
-        bytes = (drop (24 + length m.payload) c.bytes_mut.result.now, begins);
+        bytes = (drop (24 + length p.payload) c.bytes_mut.result.now, begins);
       },
     )
