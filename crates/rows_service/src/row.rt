@@ -6,6 +6,7 @@
 //!   which has to add up;
 //! - `reads`, `writes`, `errors`: the greatest piece that a read or a write moves, and which call of each object fails, 0 for none;
 //! - `room`: how many bytes fit the output;
+//! - `waits`: workers that find nothing to take wait in place of leaving early;
 //! - `left`: how many buffers are left in each ring of the workers' queue; without this line that isn't compared;
 //! - `=` the status, which ends the row.
 //!
@@ -31,6 +32,8 @@ pub struct Row {
     pub errors: Vec<u8>,
     /// The errors are a report of workers.
     pub reports: bool,
+    /// Its workers wait in place of leaving early.
+    pub waits: bool,
     /// What is left in each ring, where it is compared.
     pub left: Vec<u64>,
 }
@@ -48,6 +51,7 @@ impl Row {
             output: Vec::new(alloc),
             errors: Vec::new(alloc),
             reports: false,
+            waits: false,
             left: Vec::new(alloc),
         }
     }
@@ -73,6 +77,7 @@ impl Row {
             ">" => add_line(&mut self.output, text)?,
             "!" => add_line(&mut self.errors, text)?,
             "?" => self.reports = true,
+            "waits" => self.waits = true,
             "cut" => {
                 let file = self.files.last_mut().context("a cut of no file")?;
                 file.reads = Some(Cut::of(text)?);

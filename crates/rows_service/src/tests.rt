@@ -5,7 +5,7 @@ use crate::ending::ending_of;
 use crate::files::{Cut, RowFiles};
 use crate::row::Row;
 use scq_outside::{Failed, Files, MemSink, Source};
-use scq_service::{Outcome, serve};
+use scq_service::{Outcome, serve, serve_waiting};
 use scq_work::{FreeGate, Gate, Point};
 use std::alloc::Global;
 use std::sync::atomic::{AtomicU64, Ordering};
@@ -166,10 +166,9 @@ impl Gate for Meeting {
     }
 }
 
-#[test]
-fn two_workers_meet_at_each_point(rt: HostRuntime) -> Result<(), Fail> {
-    let alloc = rt.alloc();
-    let gate = Meeting {
+/// A gate where nobody came yet.
+fn meeting() -> Meeting {
+    Meeting {
         came: [
             AtomicU64::new(0),
             AtomicU64::new(0),
@@ -179,12 +178,38 @@ fn two_workers_meet_at_each_point(rt: HostRuntime) -> Result<(), Fail> {
             AtomicU64::new(0),
         ],
         saw: AtomicU64::new(0),
-    };
-    let row = row_of(alloc, "$ run --workers 2 f g\n< f\n| a 1\n< g\n| a 2").ok_or("a row")?;
+    }
+}
+
+/// Two files of one line each, for two workers.
+const TWO_LINES: &str = "$ run --workers 2 f g\n< f\n| a 1\n< g\n| a 2";
+
+#[test]
+fn two_workers_meet_at_each_point(rt: HostRuntime) -> Result<(), Fail> {
+    let alloc = rt.alloc();
+    let gate = meeting();
+    let row = row_of(alloc, TWO_LINES).ok_or("a row")?;
     let mut files = RowFiles::new(alloc, row.files.as_slice(), row.reads)?;
     let (outcome, out, _) = run_over(&rt, alloc, &row, &mut files, &gate)?;
     assert_eq!(rt; outcome.status, 0);
     assert!(rt; outcome.worked.is_some());
+    assert_eq!(rt; out.bytes(), b"1:1 - 1\n2:1 - 1\ntotal - 2 2\n".as_slice());
+    assert_eq!(rt; gate.saw.load(Ordering::SeqCst), 6);
+    Ok(())
+}
+
+#[test]
+fn two_workers_that_wait_meet_at_each_point(rt: HostRuntime) -> Result<(), Fail> {
+    let alloc = rt.alloc();
+    let gate = meeting();
+    let row = row_of(alloc, TWO_LINES).ok_or("a row")?;
+    let mut files = RowFiles::new(alloc, row.files.as_slice(), row.reads)?;
+    let mut out = Cut::WHOLE.sink(alloc, 1000)?;
+    let mut err = Cut::WHOLE.sink(alloc, 1000)?;
+    let words = row.words.as_slice();
+    let outcome = serve_waiting(&rt, alloc, words, &mut files, &mut out, &mut err, &gate);
+    assert_eq!(rt; outcome.status, 0);
+    assert!(rt; outcome.waited.is_some());
     assert_eq!(rt; out.bytes(), b"1:1 - 1\n2:1 - 1\ntotal - 2 2\n".as_slice());
     assert_eq!(rt; gate.saw.load(Ordering::SeqCst), 6);
     Ok(())

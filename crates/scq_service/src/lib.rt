@@ -14,11 +14,14 @@ mod recordings;
 mod reporting;
 mod run;
 mod serving;
+mod serving_waiting;
 mod whole;
 mod worker_report;
+mod works;
 mod writing;
 
 pub use fault::Fault;
 pub use outcome::Outcome;
 pub use reporting::report;
 pub use serving::serve;
+pub use serving_waiting::serve_waiting;

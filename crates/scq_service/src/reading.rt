@@ -1,4 +1,4 @@
-ghost use Rattle.std.specs.Prelude.{◌≡◌, ◌+◌, ◌≤◌, [], Some, IfSome, IsNone, IsSome, IsSomeAnd, OnSome, length, map, string_bytes, vec_len, vec_capacity};
+ghost use Rattle.std.specs.Prelude.{◌≡◌, ◌+◌, ◌≤◌, true, false, [], Some, IfSome, IsNone, IsSome, IsSomeAnd, OnSome, length, map, string_bytes, vec_len, vec_capacity};
 ghost use Rattle.std.specs.List.{All};
 ghost use Rattle.scq_collect.specs.Merging.{members_in};
 ghost use Rattle.scq_work.specs.AllWorkers.{NothingIsStranded};
@@ -6,12 +6,12 @@ ghost use Rattle.scq_service.specs.Answers.{HaveCome, HaveAllCome, AreOfParts, I
 ghost use Rattle.scq_service.specs.Ends.{HasGot, ReadsOver};
 ghost use Rattle.scq_service.specs.Faults.{status_of};
 
+use crate::works::Works;
 use crate::{Fault, Outcome};
 use scq_outside::{Failed, Files};
-use scq_work::{Gate, Job, WorkEnd, work};
+use scq_work::{Gate, Job, WaitEnd, WorkEnd};
 use std::alloc::Global;
 use std::snapshot::Snapshot;
-use std::thread::Threads;
 
 /// Gets the sources of the files in order, up to the first that isn't got, and says whether all were got.
 /// Each is asked for once, and none is read.
@@ -47,7 +47,8 @@ pub(crate) fn get_sources<F: Files>(
 
 /// Gets the sources of the files, up to the first that isn't got, and answers the messages of those that
 /// it got. Each source is asked for once and read at most once.
-pub fn read_files<R: Threads + Sync, F: Files, G: Gate>(
+pub fn read_files<R, F: Files, G: Gate, W: Works<R>>(
+    works: &W,
     rt: &R,
     alloc: Global,
     job: &Job,
@@ -84,6 +85,11 @@ pub fn read_files<R: Threads + Sync, F: Files, G: Gate>(
     ensures there { OnSome result.worked (IsSome result.left) }
     ensures seen { IsNone result.left → result.fault ≡ Some Fault.NoMemory }
     ensures same { IfSome result.worked (λ w. IsSomeAnd result.passes (λ passes. passes.value.items ≡ w.passes.value.items)) }
+    ensures waited { IfSome result.waited (λ waited. IsSomeAnd result.passes (λ passes.
+        HaveWaited (length job.now.topics + 1) job.now.workers passes.value.items waited.saw.items waited.rested.items)) }
+    ensures waits { W.waits works.now ≡ true → IsNone result.waited → result.fault ≡ Some Fault.NoMemory }
+    ensures attended { W.waits works.now ≡ true → OnSome result.worked (IsSome result.waited) }
+    ensures leaves { W.waits works.now ≡ false → IsNone result.waited }
 {
     let Ok(mut sources) = Vec::with_capacity(alloc, names.len()) else {
         return Outcome::at(Vec::new(alloc), Fault::NoMemory);
@@ -91,21 +97,24 @@ pub fn read_files<R: Threads + Sync, F: Files, G: Gate>(
     let all = get_sources(names, files, &mut sources);
     let count = sources.len();
     let got = Snapshot::of(&sources);
+    let WaitEnd { end, waited } = works.work(rt, alloc, job, sources, gate);
     let WorkEnd {
         sources,
         result,
         left,
         passes,
-    } = work(rt, alloc, job, sources, gate);
+    } = end;
     match result {
         Ok(worked) => {
             if all {
-                Outcome::answered(sources, worked).behind(got, left, passes)
+                Outcome::answered(sources, worked).behind(got, left, passes, waited)
             } else {
                 let file = count as u32 + 1;
-                Outcome::at(sources, Fault::OpenFault { file }).behind(got, left, passes)
+                Outcome::at(sources, Fault::OpenFault { file }).behind(got, left, passes, waited)
             }
         }
-        Err(fault) => Outcome::of_work(sources, job.longest, fault).behind(got, left, passes),
+        Err(fault) => Outcome::of_work(sources, job.longest, fault).behind(
+            got, left, passes, waited,
+        ),
     }
 }

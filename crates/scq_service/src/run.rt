@@ -1,15 +1,17 @@
-ghost use Rattle.std.specs.Prelude.{◌≡◌, ℕ, ◌+◌, ◌≤◌, List, Some, length, map, string_bytes, IfOk, IfSome, IsNone, IsSome, IsSomeAnd, OnSome, All};
+ghost use Rattle.std.specs.Prelude.{◌≡◌, ℕ, ◌+◌, ◌≤◌, true, false, List, Some, length, map, string_bytes, IfOk, IfSome, IsNone, IsSome, IsSomeAnd, OnSome, All};
 ghost use Rattle.std.specs.List.Sorted.{IsPermutation};
 ghost use Rattle.scq_collect.specs.Collected.{messages_to};
 ghost use Rattle.scq_collect.specs.Joined.{part_answers, without_way};
 ghost use Rattle.scq_collect.specs.Merging.{members_in};
 ghost use Rattle.scq_collect.specs.Output.{one_thread_output};
 ghost use Rattle.scq_work.specs.AllWorkers.{NothingIsStranded};
+ghost use Rattle.scq_work.specs.Waiting.{HaveWaited};
 ghost use Rattle.scq_service.specs.Answers.{IsWork, IsWorkOf, WorkedAt};
 ghost use Rattle.scq_service.specs.Ends.{EndsOver, HasGot};
 ghost use Rattle.scq_service.specs.Faults.{status_of};
 
 use crate::reading::read_files;
+use crate::works::Works;
 use crate::writing::write_text;
 use crate::{Fault, Outcome};
 use scq_collect::{Text, output_in_pieces};
@@ -20,7 +22,8 @@ use std::alloc::Global;
 use std::thread::Threads;
 
 /// Reads the files, answers their messages, and writes the output once it is whole.
-pub fn run_files<R: Threads + Sync, F: Files, K: Sink, G: Gate>(
+pub fn run_files<R: Threads + Sync, F: Files, K: Sink, G: Gate, W: Works<R>>(
+    works: &W,
     rt: &R,
     alloc: Global,
     job: &Job,
@@ -62,8 +65,12 @@ pub fn run_files<R: Threads + Sync, F: Files, K: Sink, G: Gate>(
     ensures there { OnSome result.worked (IsSome result.left) }
     ensures seen { IsNone result.left → result.fault ≡ Some Fault.NoMemory }
     ensures same { IfSome result.worked (λ w. IsSomeAnd result.passes (λ passes. passes.value.items ≡ w.passes.value.items)) }
+    ensures waited { IfSome result.waited (λ waited. IsSomeAnd result.passes (λ passes.
+        HaveWaited (length job.now.topics + 1) job.now.workers passes.value.items waited.saw.items waited.rested.items)) }
+    ensures waits { W.waits works.now ≡ true → IsNone result.waited → result.fault ≡ Some Fault.NoMemory }
+    ensures leaves { W.waits works.now ≡ false → IsNone result.waited }
 {
-    let outcome = read_files(rt, alloc, job, names, files, gate);
+    let outcome = read_files(works, rt, alloc, job, names, files, gate);
     let text = match &outcome.worked {
         Some(worked) => text_of(rt, alloc, job, worked),
         None => return outcome,

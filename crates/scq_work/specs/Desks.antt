@@ -10,7 +10,8 @@ use Rattle.scq_work.specs.Given.{given_in}
 use Rattle.scq_work.specs.Passing.{parts_in}
 use Rattle.scq_work.specs.Reading.{IsRead}
 use Rattle.scq_work.specs.Together.{HasRetired, HasSwept}
-use Rattle.scq_work.specs.Working.{IsSweeping, IsThrifty, HasListed, index_of}
+use Rattle.scq_work.specs.Waiting.{HelpsInVain}
+use Rattle.scq_work.specs.Working.{Suits, IsAtWork, IsSweeping, IsThrifty, HasListed, index_of, after_retire}
 use Rattle.scq_work.specs.declared.own_file.OwnFile.{OwnFile}
 use Rattle.scq_work.specs.declared.own_file.FileEnd.TheVariants.{Unread, Stopped}
 

@@ -1,14 +1,18 @@
 //! Workers: the messages of files, answered part by part by several threads that share a queue over the frames of one block.
 #![tactic(auto)]
 
+mod apart;
+mod bell;
 mod dealing;
 mod desk;
 mod gate;
 mod gathering;
 mod given;
+mod hands;
 mod job;
 mod own_file;
 mod passing;
+mod places;
 mod reading;
 mod waiting;
 mod worked;
@@ -17,5 +21,6 @@ mod working;
 
 pub use gate::{FreeGate, Gate, Point};
 pub use job::Job;
+pub use waited::{WaitEnd, Waited, work_waiting};
 pub use worked::{WorkEnd, WorkFault, Worked};
 pub use working::work;

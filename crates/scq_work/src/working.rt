@@ -1,5 +1,5 @@
 //! The work of all workers together.
-ghost use Rattle.std.specs.Prelude.{◌≡◌, ℕ, ◌+◌, ◌^◌, ◌<◌, ◌≤◌, ◌||◌, List, [], None, Some, false, length, map, slice_index_or, vec_len, vec_capacity, IfOk, IfErr, IfSome, IsErrOf, IsSomeAnd, OnOk};
+ghost use Rattle.std.specs.Prelude.{◌≡◌, ℕ, ◌+◌, ◌^◌, ◌<◌, ◌≤◌, ◌||◌, List, [], None, Some, false, length, map, slice_index_or, vec_len, vec_capacity, IfOk, IfErr, IfSome, IsErrOf, IsSome, IsSomeAnd, OnOk};
 ghost use Rattle.std.specs.List.{All};
 ghost use Rattle.std.specs.List.Sorted.{IsPermutation};
 ghost use Rattle.scq_block.specs.Blocks.{AreAllOf};
@@ -9,14 +9,14 @@ ghost use Rattle.scq_collect.specs.Joined.{part_answers, without_way};
 ghost use Rattle.scq_collect.specs.Merging.{members_in};
 ghost use Rattle.scq_queue.specs.Passes.{first_passes};
 ghost use Rattle.scq_work.specs.AllWorkers.{HasWorked, NothingIsStranded};
-ghost use Rattle.scq_work.specs.Dealings.{IsFresh};
-ghost use Rattle.scq_work.specs.Desks.{IsNew, HasRun, ids_of};
 ghost use Rattle.scq_work.specs.Ends.{AreGiven, HasCause, HasMoved, MemoryIsFirst, all_left, fault_of_workers, messages_in};
 ghost use Rattle.scq_work.specs.Reading.{IsWhole};
 
+use crate::apart::Apart;
 use crate::dealing::{deal, make_desks};
 use crate::desk::Desk;
 use crate::gathering::{Gathered, Left, clear, gather};
+use crate::hands::Hands;
 use crate::own_file::OwnFile;
 use crate::{Gate, Job, WorkEnd, WorkFault, Worked};
 use scq_block::{Block, Frame};
@@ -26,7 +26,6 @@ use scq_queue::{Closed, Pass, Queue};
 use scq_word::{NoMemory, Setup};
 use std::alloc::Global;
 use std::snapshot::Snapshot;
-use std::thread;
 use std::thread::Threads;
 
 /// The limit of the queue's tickets, which no work comes near.
@@ -36,7 +35,7 @@ const LIMIT: u64 = 1 << 60;
 const HEADER: u32 = 24;
 
 /// What the work needs room for, beside its queue: the lists of each worker's files, the desks, and what the workers leave behind.
-struct Room<S: Source> {
+pub(crate) struct Room<S: Source> {
     files: Vec<Vec<OwnFile<S>>>,
     desks: Vec<Desk<Frame, S>>,
     left: Left<Frame>,
@@ -46,7 +45,7 @@ impl<S: Source> Room<S> {
     ghost use Rattle.std.specs.Prelude.{◌≡◌, []};
 
     /// Ends it where nothing was put into it.
-    fn destroy_empty(self)
+    pub(crate) fn destroy_empty(self)
         requires { (self.desks.items ≡ []) × (self.left.held.items ≡ []) }
     {
         let Room {
@@ -90,7 +89,11 @@ fn make_left(alloc: Global, workers: usize) -> Result<Left<Frame>, NoMemory>
     })
 }
 
-fn make_room<S: Source>(alloc: Global, job: &Job, files: usize) -> Result<Room<S>, NoMemory>
+pub(crate) fn make_room<S: Source>(
+    alloc: Global,
+    job: &Job,
+    files: usize,
+) -> Result<Room<S>, NoMemory>
     ensures files { IfOk result (λ room. (vec_len room.files ≡ job.now.workers)
         × All (λ list. (list.items ≡ []) × (vec_len list ≡ 0) × (files ≤ vec_capacity list)) room.files.items) }
     ensures desks { IfOk result (λ room. (room.desks.items ≡ []) × (job.now.workers ≤ vec_capacity room.desks)) }
@@ -118,7 +121,10 @@ fn make_frames(alloc: Global, job: &Job) -> Result<(Block, Vec<Frame>), NoMemory
 }
 
 /// The queue of a job, over the frames of one block, with a pass for each worker: a topic for each declared one, and one for all others.
-fn make_queue(alloc: Global, job: &Job) -> Result<(Block, Queue<Frame>, Vec<Pass<Frame>>), NoMemory>
+pub(crate) fn make_queue(
+    alloc: Global,
+    job: &Job,
+) -> Result<(Block, Queue<Frame>, Vec<Pass<Frame>>), NoMemory>
     ensures setup { IfOk result (λ made. (made.1.setup.order ≡ job.now.order) × (made.1.setup.rings ≡ length job.now.topics + 2)
         × (made.1.setup.seats ≡ job.now.workers) × (made.1.setup.limit ≡ 2 ^ 60)) }
     ensures passes { IfOk result (λ made. made.2.items ≡ first_passes made.1 made.1.setup.seats) }
@@ -244,7 +250,10 @@ pub fn work<R: Threads + Sync, S: Source, G: Gate>(
     };
     match make_queue(alloc, job) {
         Ok((block, queue, passes)) => {
-            work_in(rt, alloc, job, sources, gate, room, block, queue, passes)
+            let (end, _saw, _apart) = work_in(
+                rt, alloc, job, sources, gate, room, block, queue, passes, Apart,
+            );
+            end
         }
         Err(NoMemory) => {
             room.destroy_empty();
@@ -253,8 +262,9 @@ pub fn work<R: Threads + Sync, S: Source, G: Gate>(
     }
 }
 
-/// The same, once there are room and a queue over all frames of a block. They are merged in every answer.
-fn work_in<R: Threads + Sync, S: Source, G: Gate>(
+/// The same, once there are room and a queue over all frames of a block. They are merged in every answer. How the workers work is told by `hands`.
+/// With the end comes, of each worker, whether it saw that all had retired.
+pub(crate) fn work_in<R, S: Source, G: Gate, H: Hands<R, S>>(
     rt: &R,
     alloc: Global,
     job: &Job,
@@ -264,7 +274,8 @@ fn work_in<R: Threads + Sync, S: Source, G: Gate>(
     block: Block,
     queue: Queue<Frame>,
     passes: Vec<Pass<Frame>>,
-) -> WorkEnd<S>
+    hands: H,
+) -> (WorkEnd<S>, Vec<bool>, H)
     requires few { vec_len sources ≤ 64 }
     requires setup { (queue.setup.order ≡ job.now.order) × (queue.setup.rings ≡ length job.now.topics + 2) × (queue.setup.seats ≡ job.now.workers)
         × (queue.setup.limit ≡ 2 ^ 60) }
@@ -277,7 +288,8 @@ fn work_in<R: Threads + Sync, S: Source, G: Gate>(
     requires left { (room.left.passes.items ≡ []) × (room.left.held.items ≡ []) × (room.left.lists.items ≡ []) }
     requires room { (job.now.workers ≤ vec_capacity room.left.passes) × (job.now.workers ≤ vec_capacity room.left.held)
         × (job.now.workers ≤ vec_capacity room.left.lists) }
-    ensures count { length result.sources.items ≡ length sources.items }
+    requires hands { H.ready hands job.now.workers }
+    ensures count { length result.0.sources.items ≡ length sources.items }
     ensures moved { (k : ℕ) (d : S) → k < length sources.items
         → HasMoved S.faults S.left (slice_index_or sources.items k d) (slice_index_or result.sources.items k d) }
     ensures whole { OnOk result.result ((k : ℕ) (d : S) → k < length sources.items
@@ -290,10 +302,15 @@ fn work_in<R: Threads + Sync, S: Source, G: Gate>(
         × HasWorked job.now.topics job.now.size job.now.workers given w) }
     ensures left { IfSome result.left (λ left. IsSomeAnd result.passes (λ passes.
         NothingIsStranded job.now.order (length job.now.topics + 1) job.now.workers passes.value.items left.items)) }
-    ensures none { result.left ≡ None → IsErrOf result.result WorkFault.NoMemory }
-    ensures same { IfOk result.result (λ w. IsSomeAnd result.passes (λ passes. passes.value.items ≡ w.passes.value.items)) }
-    ensures cause { IfErr result.result (λ fault. HasCause job.now.longest S.faults S.ends S.left sources.items result.sources.items fault) }
-    ensures memory_first { IfErr result.result (λ fault. MemoryIsFirst job.now.longest S.faults S.ends S.left sources.items result.sources.items fault) }
+    ensures none { result.0.left ≡ None → IsErrOf result.0.result WorkFault.NoMemory }
+    ensures same { IfOk result.0.result (λ w. IsSomeAnd result.0.passes (λ passes. passes.value.items ≡ w.passes.value.items)) }
+    ensures cause { IfErr result.0.result (λ fault. HasCause job.now.longest S.faults S.ends S.left sources.items result.0.sources.items fault) }
+    ensures memory_first { IfErr result.0.result (λ fault. MemoryIsFirst job.now.longest S.faults S.ends S.left sources.items result.0.sources.items fault) }
+    ensures seats { IfSome result.0.passes (λ passes. length passes.value.items ≡ job.now.workers) }
+    ensures saw { IfSome result.0.passes (λ passes. result.1.items ≡ map (λ p. was_told p.gate) passes.value.items) }
+    ensures rested { IfSome result.0.passes (λ passes. H.tells result.2 (length job.now.topics + 1) passes.value.items) }
+    ensures there { IsSome result.0.passes }
+    ensures closed { IsSome result.0.left }
 {
     let Room {
         files,
@@ -305,7 +322,7 @@ fn work_in<R: Threads + Sync, S: Source, G: Gate>(
     let mut sources = sources;
     make_desks(alloc, &queue, passes, files, count, &mut desks);
     deal(&was, &mut sources, desks.as_mut_slice());
-    run_all(rt, alloc, job, &queue, gate, desks.as_mut_slice());
+    let (mut desks, hands) = hands.run_all(rt, alloc, job, &queue, gate, desks);
     let mut gathered = Gathered {
         sources,
         fault: None,
@@ -338,12 +355,13 @@ fn work_in<R: Threads + Sync, S: Source, G: Gate>(
         answered: lists,
         passes,
     };
-    WorkEnd {
+    let end = WorkEnd {
         sources,
         result: conclude(worked, starved, wants, fault),
         left: Some(left),
         passes: Some(closing),
-    }
+    };
+    (end, saw, hands)
 }
 
 /// What was answered, where no worker wanted memory and no file has a fault.

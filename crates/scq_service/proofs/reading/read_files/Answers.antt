@@ -22,12 +22,12 @@ returns-then-all-clause-got g c =
     let after = c.behind.ensures in
     let come : c.behind.result.got.value.items ≡ c.get_sources-all.new.sources.items = ap (λ v. v.value.items) after.got ∙ ap (λ v. v.items) c.of-got.ensures in
     let came = c.get_sources-all.ensures in
-    let did = c.work-sources.ensures in
+    let did = c.work-end.ensures in
     let names = map string_bytes c.args.names.now in
     let table : Change (Option Table) = record { old = g.F.Files.table c.args.files.now; new = g.F.Files.table c.get_sources-all.new.files } in
     let opens : Change ℕ = record { old = g.F.Files.faults c.args.files.now; new = g.F.Files.faults c.get_sources-all.new.files } in
     let olds = c.get_sources-all.new.sources.items in
-    let news = c.work-sources.result.sources.items in
+    let news = c.work-end.result.end.sources.items in
     let faults = g.F.Src.Source.faults in
     let end_count = g.F.Src.Source.ends in
     let left = g.F.Src.Source.left in
@@ -41,13 +41,13 @@ returns-then-all-clause-ends g c =
     let after = c.behind.ensures in
     let come : c.behind.result.got.value.items ≡ c.get_sources-all.new.sources.items = ap (λ v. v.value.items) after.got ∙ ap (λ v. v.items) c.of-got.ensures in
     let came = c.get_sources-all.ensures in
-    let did = c.work-sources.ensures in
+    let did = c.work-end.ensures in
     let size = c.args.job.now.longest in
     let names = map string_bytes c.args.names.now in
     let table : Change (Option Table) = record { old = g.F.Files.table c.args.files.now; new = g.F.Files.table c.get_sources-all.new.files } in
     let opens : Change ℕ = record { old = g.F.Files.faults c.args.files.now; new = g.F.Files.faults c.get_sources-all.new.files } in
     let olds = c.get_sources-all.new.sources.items in
-    let news = c.work-sources.result.sources.items in
+    let news = c.work-end.result.end.sources.items in
     let faults = g.F.Src.Source.faults in
     let end_count = g.F.Src.Source.ends in
     let left = g.F.Src.Source.left in
@@ -65,10 +65,10 @@ returns-then-all-clause-work g c =
     let after = c.behind.ensures in
     let come : c.behind.result.got.value.items ≡ c.get_sources-all.new.sources.items = ap (λ v. v.value.items) after.got ∙ ap (λ v. v.items) c.of-got.ensures in
     let came = c.get_sources-all.ensures in
-    let did = c.work-sources.ensures in
+    let did = c.work-end.ensures in
     let job = c.args.job.now in
     let olds = c.get_sources-all.new.sources.items in
-    let news = c.work-sources.result.sources.items in
+    let news = c.work-end.result.end.sources.items in
     let faults = g.F.Src.Source.faults in
     let end_count = g.F.Src.Source.ends in
     let left = g.F.Src.Source.left in
@@ -89,12 +89,12 @@ returns-else-all-clause-got g c =
     let come : c.behind-else-all.result.got.value.items ≡ c.get_sources-all.new.sources.items = ap (λ v. v.value.items) after.got ∙ ap (λ v. v.items)
     c.of-got.ensures in
     let came = c.get_sources-all.ensures in
-    let did = c.work-sources.ensures in
+    let did = c.work-end.ensures in
     let names = map string_bytes c.args.names.now in
     let table : Change (Option Table) = record { old = g.F.Files.table c.args.files.now; new = g.F.Files.table c.get_sources-all.new.files } in
     let opens : Change ℕ = record { old = g.F.Files.faults c.args.files.now; new = g.F.Files.faults c.get_sources-all.new.files } in
     let olds = c.get_sources-all.new.sources.items in
-    let news = c.work-sources.result.sources.items in
+    let news = c.work-end.result.end.sources.items in
     let faults = g.F.Src.Source.faults in
     let end_count = g.F.Src.Source.ends in
     let left = g.F.Src.Source.left in
@@ -109,13 +109,13 @@ returns-else-all-clause-ends g c =
     let come : c.behind-else-all.result.got.value.items ≡ c.get_sources-all.new.sources.items = ap (λ v. v.value.items) after.got ∙ ap (λ v. v.items)
     c.of-got.ensures in
     let came = c.get_sources-all.ensures in
-    let did = c.work-sources.ensures in
+    let did = c.work-end.ensures in
     let size = c.args.job.now.longest in
     let names = map string_bytes c.args.names.now in
     let table : Change (Option Table) = record { old = g.F.Files.table c.args.files.now; new = g.F.Files.table c.get_sources-all.new.files } in
     let opens : Change ℕ = record { old = g.F.Files.faults c.args.files.now; new = g.F.Files.faults c.get_sources-all.new.files } in
     let olds = c.get_sources-all.new.sources.items in
-    let news = c.work-sources.result.sources.items in
+    let news = c.work-end.result.end.sources.items in
     let faults = g.F.Src.Source.faults in
     let end_count = g.F.Src.Source.ends in
     let left = g.F.Src.Source.left in
@@ -135,12 +135,12 @@ returns-in-Err-clause-got g c =
     let come : c.behind-in-Err.result.got.value.items ≡ c.get_sources-all.new.sources.items = ap (λ v. v.value.items) after.got ∙ ap (λ v. v.items)
     c.of-got.ensures in
     let came = c.get_sources-all.ensures in
-    let did = c.work-sources.ensures in
+    let did = c.work-end.ensures in
     let names = map string_bytes c.args.names.now in
     let table : Change (Option Table) = record { old = g.F.Files.table c.args.files.now; new = g.F.Files.table c.get_sources-all.new.files } in
     let opens : Change ℕ = record { old = g.F.Files.faults c.args.files.now; new = g.F.Files.faults c.get_sources-all.new.files } in
     let olds = c.get_sources-all.new.sources.items in
-    let news = c.work-sources.result.sources.items in
+    let news = c.work-end.result.end.sources.items in
     let faults = g.F.Src.Source.faults in
     let end_count = g.F.Src.Source.ends in
     let left = g.F.Src.Source.left in
@@ -155,13 +155,13 @@ returns-in-Err-clause-ends g c =
     let come : c.behind-in-Err.result.got.value.items ≡ c.get_sources-all.new.sources.items = ap (λ v. v.value.items) after.got ∙ ap (λ v. v.items)
     c.of-got.ensures in
     let came = c.get_sources-all.ensures in
-    let did = c.work-sources.ensures in
+    let did = c.work-end.ensures in
     let size = c.args.job.now.longest in
     let names = map string_bytes c.args.names.now in
     let table : Change (Option Table) = record { old = g.F.Files.table c.args.files.now; new = g.F.Files.table c.get_sources-all.new.files } in
     let opens : Change ℕ = record { old = g.F.Files.faults c.args.files.now; new = g.F.Files.faults c.get_sources-all.new.files } in
     let olds = c.get_sources-all.new.sources.items in
-    let news = c.work-sources.result.sources.items in
+    let news = c.work-end.result.end.sources.items in
     let faults = g.F.Src.Source.faults in
     let end_count = g.F.Src.Source.ends in
     let left = g.F.Src.Source.left in
@@ -173,27 +173,27 @@ returns-in-Err-clause-ends g c =
 
 -- what is seen of the workers' queue is handed on
 pub returns-then-all-clause-left : goal.returns-then-all-clause-left
-returns-then-all-clause-left g c = rw (c.behind.ensures.left.0, c.behind.ensures.left.1) c.work-sources.ensures.left
+returns-then-all-clause-left g c = rw (c.behind.ensures.left.0, c.behind.ensures.left.1) c.work-end.ensures.left
 
 pub returns-else-all-clause-left : goal.returns-else-all-clause-left
-returns-else-all-clause-left g c = rw (c.behind-else-all.ensures.left.0, c.behind-else-all.ensures.left.1) c.work-sources.ensures.left
+returns-else-all-clause-left g c = rw (c.behind-else-all.ensures.left.0, c.behind-else-all.ensures.left.1) c.work-end.ensures.left
 
 pub returns-in-Err-clause-left : goal.returns-in-Err-clause-left
-returns-in-Err-clause-left g c = rw (c.behind-in-Err.ensures.left.0, c.behind-in-Err.ensures.left.1) c.work-sources.ensures.left
+returns-in-Err-clause-left g c = rw (c.behind-in-Err.ensures.left.0, c.behind-in-Err.ensures.left.1) c.work-end.ensures.left
 
 pub returns-then-all-clause-seen : goal.returns-then-all-clause-seen
 returns-then-all-clause-seen g c none =
-    let err : c.work-sources.result.result ≡ Err NoMemory = c.work-sources.ensures.none (sym c.behind.ensures.left.0 ∙ none-seen _ none) in
+    let err : c.work-end.result.end.result ≡ Err NoMemory = c.work-end.ensures.none (sym c.behind.ensures.left.0 ∙ none-seen _ none) in
     absurd (cc (c.in-Ok-result.is, err))
 
 pub returns-else-all-clause-seen : goal.returns-else-all-clause-seen
 returns-else-all-clause-seen g c none =
-    let err : c.work-sources.result.result ≡ Err NoMemory = c.work-sources.ensures.none (sym c.behind-else-all.ensures.left.0 ∙ none-seen _ none) in
+    let err : c.work-end.result.end.result ≡ Err NoMemory = c.work-end.ensures.none (sym c.behind-else-all.ensures.left.0 ∙ none-seen _ none) in
     absurd (cc (c.in-Ok-result.is, err))
 
 pub returns-in-Err-clause-seen : goal.returns-in-Err-clause-seen
 returns-in-Err-clause-seen g c none =
-    let err : c.work-sources.result.result ≡ Err NoMemory = c.work-sources.ensures.none (sym c.behind-in-Err.ensures.left.0 ∙ none-seen _ none) in
+    let err : c.work-end.result.end.result ≡ Err NoMemory = c.work-end.ensures.none (sym c.behind-in-Err.ensures.left.0 ∙ none-seen _ none) in
     let is : c.in-Err.fault ≡ NoMemory = cc (c.in-Err.is, err) in
     c.behind-in-Err.ensures.fault ∙ c.of_work.ensures.fault ∙ ap (λ f. Some (fault_of_work c.args.job.now.longest f)) is
 
@@ -201,8 +201,8 @@ returns-in-Err-clause-seen g c none =
 pub returns-then-all-clause-same : goal.returns-then-all-clause-same
 returns-then-all-clause-same g c =
     let M : Result Worked WorkFault → Type 0 =
-    λ r. IfOk r (λ w. IsSomeAnd c.work-sources.result.passes (λ passes. passes.value.items ≡ w.passes.value.items)) in
-    rw (c.behind.ensures.worked ∙ c.answered.ensures.worked, c.behind.ensures.left.1) (subst M c.in-Ok-result.is c.work-sources.ensures.same)
+    λ r. IfOk r (λ w. IsSomeAnd c.work-end.result.end.passes (λ passes. passes.value.items ≡ w.passes.value.items)) in
+    rw (c.behind.ensures.worked ∙ c.answered.ensures.worked, c.behind.ensures.left.1) (subst M c.in-Ok-result.is c.work-end.ensures.same)
 
 pub returns-else-all-clause-same : goal.returns-else-all-clause-same
 returns-else-all-clause-same g c = rw (c.behind-else-all.ensures.worked ∙ c.at-else-all.ensures.worked) tt
@@ -214,7 +214,7 @@ returns-in-Err-clause-same g c = rw (c.behind-in-Err.ensures.worked ∙ c.of_wor
 pub returns-then-all-clause-there : goal.returns-then-all-clause-there
 returns-then-all-clause-there g c =
     rw (c.behind.ensures.worked ∙ c.answered.ensures.worked, c.behind.ensures.left.0)
-    (some-seen c.work-sources.result.left (λ none. let err : c.work-sources.result.result ≡ Err NoMemory = c.work-sources.ensures.none none in
+    (some-seen c.work-end.result.end.left (λ none. let err : c.work-end.result.end.result ≡ Err NoMemory = c.work-end.ensures.none none in
     cc (c.in-Ok-result.is, err)))
 
 pub returns-else-all-clause-there : goal.returns-else-all-clause-there
@@ -222,3 +222,45 @@ returns-else-all-clause-there g c = rw (c.behind-else-all.ensures.worked ∙ c.a
 
 pub returns-in-Err-clause-there : goal.returns-in-Err-clause-there
 returns-in-Err-clause-there g c = rw (c.behind-in-Err.ensures.worked ∙ c.of_work.ensures.none) tt
+
+-- how the workers waited is handed on
+pub returns-then-all-clause-waited : goal.returns-then-all-clause-waited
+returns-then-all-clause-waited g c = rw (c.behind.ensures.waited, c.behind.ensures.left.1) c.work-end.ensures.waited
+
+pub returns-else-all-clause-waited : goal.returns-else-all-clause-waited
+returns-else-all-clause-waited g c = rw (c.behind-else-all.ensures.waited, c.behind-else-all.ensures.left.1) c.work-end.ensures.waited
+
+pub returns-in-Err-clause-waited : goal.returns-in-Err-clause-waited
+returns-in-Err-clause-waited g c = rw (c.behind-in-Err.ensures.waited, c.behind-in-Err.ensures.left.1) c.work-end.ensures.waited
+
+pub returns-then-all-clause-waits : goal.returns-then-all-clause-waits
+returns-then-all-clause-waits g c rests none =
+    let err : c.work-end.result.end.result ≡ Err NoMemory =
+    c.work-end.ensures.waits rests (sym c.behind.ensures.waited ∙ none-seen _ none) in
+    absurd (cc (c.in-Ok-result.is, err))
+
+pub returns-else-all-clause-waits : goal.returns-else-all-clause-waits
+returns-else-all-clause-waits g c rests none =
+    let err : c.work-end.result.end.result ≡ Err NoMemory =
+    c.work-end.ensures.waits rests (sym c.behind-else-all.ensures.waited ∙ none-seen _ none) in
+    absurd (cc (c.in-Ok-result.is, err))
+
+pub returns-in-Err-clause-waits : goal.returns-in-Err-clause-waits
+returns-in-Err-clause-waits g c rests none =
+    let err : c.work-end.result.end.result ≡ Err NoMemory =
+    c.work-end.ensures.waits rests (sym c.behind-in-Err.ensures.waited ∙ none-seen _ none) in
+    let is : c.in-Err.fault ≡ NoMemory = cc (c.in-Err.is, err) in
+    c.behind-in-Err.ensures.fault ∙ c.of_work.ensures.fault ∙ ap (λ f. Some (fault_of_work c.args.job.now.longest f)) is
+
+-- where there are answers the workers waited
+pub returns-then-all-clause-attended : goal.returns-then-all-clause-attended
+returns-then-all-clause-attended g c rests =
+    rw (c.behind.ensures.worked ∙ c.answered.ensures.worked, c.behind.ensures.waited)
+    (some-seen c.work-end.result.waited (λ none. let err : c.work-end.result.end.result ≡ Err NoMemory = c.work-end.ensures.waits rests none in
+    cc (c.in-Ok-result.is, err)))
+
+pub returns-else-all-clause-attended : goal.returns-else-all-clause-attended
+returns-else-all-clause-attended g c rests = rw (c.behind-else-all.ensures.worked ∙ c.at-else-all.ensures.worked) tt
+
+pub returns-in-Err-clause-attended : goal.returns-in-Err-clause-attended
+returns-in-Err-clause-attended g c rests = rw (c.behind-in-Err.ensures.worked ∙ c.of_work.ensures.none) tt

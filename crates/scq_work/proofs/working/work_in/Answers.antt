@@ -5,6 +5,7 @@ use Rattle.std.specs.Global.{Global}
 use Rattle.std.specs.List.{All}
 use Rattle.std.specs.Option.{option_to_list}
 use Rattle.std.proofs.lemmas.Bool.{or_parts}
+use Rattle.std.proofs.lemmas.List.{length-map}
 use Rattle.std.proofs.lemmas.List.Elements.{All-map}
 use Rattle.std.proofs.lemmas.Option.{slice_get-get_or}
 use Rattle.scq_block.specs.declared.frame.Frame.{Frame}
@@ -15,7 +16,7 @@ use Rattle.scq_collect.specs.declared.answered.Answered.{Answered}
 use Rattle.scq_band.specs.Standing.{Identity}
 use Rattle.scq_queue.specs.Closing.{AreTheHeld}
 use Rattle.scq_queue.specs.Lists.{counts_of}
-use Rattle.scq_queue.specs.Passes.{PassStanding, HeldStanding, lists_of}
+use Rattle.scq_queue.specs.Passes.{PassStanding, HeldStanding, lists_of, was_told}
 use Rattle.scq_collect.specs.Merging.{members_in}
 use Rattle.scq_work.specs.AllWorkers.{HaveAnswered, HasWorked, IsSetup, lengths_of}
 use Rattle.scq_work.specs.Dealings.{AreDealt, IsFresh, without_files}
@@ -31,18 +32,38 @@ use Rattle.scq_work.proofs.AllRun.{HasClosed, have-answered, have-shared, passes
 use Rattle.scq_work.proofs.Cleared.{AllWhole}
 use Rattle.scq_work.proofs.DeskLemmas.{still-dealt}
 use Rattle.scq_work.proofs.Faults.{caused, memory-first, err-then}
-use Rattle.scq_work.proofs.Lists.{written-back, right-of}
+use Rattle.scq_work.proofs.Lists.{written-back}
 use Rattle.scq_work.proofs.Orders.{members-told, given-told}
 use Rattle.scq_work.proofs.Settled.{told-worked, ok-more, ok-on, same-passes, same-lists, same-held, same-fed, still-fresh, place-numbers, are-held, counts-exact}
 use Rattle.scq_work.proofs.working.work_in.Goals as goal
 use Rattle.scq_work.proofs.working.work_in.Goals.{After-conclude}
 
+pub run_all-requires-clause-workers : goal.run_all-requires-clause-workers
+run_all-requires-clause-workers g c lifetimes lives =
+    let first : c.as_mut_slice.result.now ≡ c.make_desks.new.desks.items = c.as_mut_slice.ensures.value in
+    let made = c.make_desks.new.desks in
+    let laid = take made.len (c.deal.new.desks ++ drop (length c.deal.new.desks) made.items) in
+    let second : laid ≡ c.deal.new.desks =
+    written-back made.len c.deal.new.desks made.items (c.deal.auto.desks ∙ c.as_mut_slice.ensures.len) in
+    omega (arith, ap length second, c.deal.auto.desks, ap length first, c.make_desks.ensures.count, c.requires.setup.2)
+
+pub run_all-requires-clause-some : goal.run_all-requires-clause-some
+run_all-requires-clause-some g c lifetimes lives =
+    let first : c.as_mut_slice.result.now ≡ c.make_desks.new.desks.items = c.as_mut_slice.ensures.value in
+    let made = c.make_desks.new.desks in
+    let laid = take made.len (c.deal.new.desks ++ drop (length c.deal.new.desks) made.items) in
+    let second : laid ≡ c.deal.new.desks =
+    written-back made.len c.deal.new.desks made.items (c.deal.auto.desks ∙ c.as_mut_slice.ensures.len) in
+    omega (arith, ap length second, c.deal.auto.desks, ap length first, c.make_desks.ensures.count, c.requires.setup.2, c.args.job.now.valid.some_workers)
+
 pub run_all-requires-clause-fresh : goal.run_all-requires-clause-fresh
 run_all-requires-clause-fresh g c lifetimes lives =
     let S = g.row.S.Denot in
     let first : c.as_mut_slice.result.now ≡ c.make_desks.new.desks.items = c.as_mut_slice.ensures.value in
-    let second : c.as_mut_slice-2.result.now ≡ c.deal.new.desks =
-    c.as_mut_slice-2.ensures.value ∙ written-back _ _ _ (omega (arith, c.deal.auto.desks, c.as_mut_slice.ensures.len)) in
+    let made = c.make_desks.new.desks in
+    let laid = take made.len (c.deal.new.desks ++ drop (length c.deal.new.desks) made.items) in
+    let second : laid ≡ c.deal.new.desks =
+    written-back made.len c.deal.new.desks made.items (c.deal.auto.desks ∙ c.as_mut_slice.ensures.len) in
     let P : List (Desk Frame S) → Type 0 = λ ds. All (IsFresh c.args.queue) ds in
     subst P (sym second) (still-fresh c.args.queue c.deal.new.desks c.make_desks.new.desks.items (c.deal.ensures.same ∙ ap (map without_files) first)
     c.make_desks.ensures.fresh)
@@ -50,8 +71,10 @@ run_all-requires-clause-fresh g c lifetimes lives =
 pub run_all-requires-clause-unread : goal.run_all-requires-clause-unread
 run_all-requires-clause-unread g c lifetimes lives =
     let S = g.row.S.Denot in
-    let second : c.as_mut_slice-2.result.now ≡ c.deal.new.desks =
-    c.as_mut_slice-2.ensures.value ∙ written-back _ _ _ (omega (arith, c.deal.auto.desks, c.as_mut_slice.ensures.len)) in
+    let made = c.make_desks.new.desks in
+    let laid = take made.len (c.deal.new.desks ++ drop (length c.deal.new.desks) made.items) in
+    let second : laid ≡ c.deal.new.desks =
+    written-back made.len c.deal.new.desks made.items (c.deal.auto.desks ∙ c.as_mut_slice.ensures.len) in
     let P : List (Desk Frame S) → Type 0 = λ ds. All (λ d. All IsNew d.files.items) ds in
     subst P (sym second) c.deal.ensures.unread
 
@@ -59,23 +82,21 @@ pub gather-requires-clause-dealt : goal.gather-requires-clause-dealt
 gather-requires-clause-dealt g c lifetimes lives =
     let S = g.row.S.Denot in
     let src = c.of-was.result.value.items in
-    let second : c.as_mut_slice-2.result.now ≡ c.deal.new.desks =
-    c.as_mut_slice-2.ensures.value ∙ written-back _ _ _ (omega (arith, c.deal.auto.desks, c.as_mut_slice.ensures.len)) in
-    let third : c.as_mut_slice-3.result.now ≡ c.run_all.new.desks =
-    c.as_mut_slice-3.ensures.value ∙ written-back _ _ _
-    (omega (arith, c.run_all.auto.desks, c.as_mut_slice-2.ensures.len, c.deal.auto.desks, c.as_mut_slice.ensures.len)) in
+    let made = c.make_desks.new.desks in
+    let laid = take made.len (c.deal.new.desks ++ drop (length c.deal.new.desks) made.items) in
+    let second : laid ≡ c.deal.new.desks =
+    written-back made.len c.deal.new.desks made.items (c.deal.auto.desks ∙ c.as_mut_slice.ensures.len) in
+    let third : c.as_mut_slice-2.result.now ≡ c.run_all.result.0.items = c.as_mut_slice-2.ensures.value in
     let P : List (Desk Frame S) → Type 0 = λ ds. AreDealt 1 src ds in
-    let before : AreDealt 1 src c.as_mut_slice-2.result.now = subst P (sym second) c.deal.ensures.dealt in
-    let after : AreDealt 1 src c.run_all.new.desks =
-    still-dealt 1 src c.as_mut_slice-2.result.now c.run_all.new.desks c.run_all.auto.desks c.run_all.ensures.same before in
+    let before : AreDealt 1 src laid = subst P (sym second) c.deal.ensures.dealt in
+    let after : AreDealt 1 src c.run_all.result.0.items =
+    still-dealt 1 src laid c.run_all.result.0.items c.run_all.ensures.count c.run_all.ensures.same before in
     subst P (sym third) after
 
 pub gather-requires-clause-read : goal.gather-requires-clause-read
 gather-requires-clause-read g c lifetimes lives =
     let S = g.row.S.Denot in
-    let third : c.as_mut_slice-3.result.now ≡ c.run_all.new.desks =
-    c.as_mut_slice-3.ensures.value ∙ written-back _ _ _
-    (omega (arith, c.run_all.auto.desks, c.as_mut_slice-2.ensures.len, c.deal.auto.desks, c.as_mut_slice.ensures.len)) in
+    let third : c.as_mut_slice-2.result.now ≡ c.run_all.result.0.items = c.as_mut_slice-2.ensures.value in
     let P : List (Desk Frame S) → Type 0 =
     λ ds. All (λ d. All (λ f. IsRead c.args.job.now.topics c.args.job.now.longest g.S.Source.faults g.S.Source.ends g.S.Source.left
     f.number f.was.value f.source (given_in f.given.value) f.end) d.files.items) ds in
@@ -84,23 +105,13 @@ gather-requires-clause-read g c lifetimes lives =
 pub close-buffers-requires-clause-passes : goal.close-buffers-requires-clause-passes
 close-buffers-requires-clause-passes g c lifetimes =
     let S = g.row.S.Denot in
-    let ran = c.run_all.new.desks in
-    let third : c.as_mut_slice-3.result.now ≡ ran =
-    c.as_mut_slice-3.ensures.value ∙ written-back _ _ _
-    (omega (arith, c.run_all.auto.desks, c.as_mut_slice-2.ensures.len, c.deal.auto.desks, c.as_mut_slice.ensures.len)) in
+    let ran = c.run_all.result.0.items in
+    let third : c.as_mut_slice-2.result.now ≡ ran = c.as_mut_slice-2.ensures.value in
     let same : map without_files c.gather.new.desks ≡ map without_files ran = c.gather.ensures.same ∙ ap (map without_files) third in
     let passes : c.clear.new.left.passes.items ≡ passes_at ran =
     c.clear.ensures.passes
     ∙ ap (map (λ (d : Desk Frame S). d.worker.pass))
-    (written-back _ _ _ (omega (
-      arith,
-      c.gather.auto.desks,
-      c.as_mut_slice-3.ensures.len,
-      c.run_all.auto.desks,
-      c.as_mut_slice-2.ensures.len,
-      c.deal.auto.desks,
-      c.as_mut_slice.ensures.len,
-    )))
+    (written-back c.run_all.result.0.len c.gather.new.desks c.run_all.result.0.items (c.gather.auto.desks ∙ c.as_mut_slice-2.ensures.len))
     ∙ same-passes c.gather.new.desks ran same in
     let P : List (PassStanding Frame) → Type 0 = λ ps. All (λ p. p.queue ≡ c.args.queue) ps in
     subst P (sym passes) (All-map (λ (p : PassStanding Frame). p.queue ≡ c.args.queue) (λ (d : Desk Frame S). d.worker.pass) ran
@@ -109,28 +120,18 @@ close-buffers-requires-clause-passes g c lifetimes =
 pub close-buffers-requires-clause-held : goal.close-buffers-requires-clause-held
 close-buffers-requires-clause-held g c lifetimes =
     let S = g.row.S.Denot in
-    let ran = c.run_all.new.desks in
-    let third : c.as_mut_slice-3.result.now ≡ ran =
-    c.as_mut_slice-3.ensures.value ∙ written-back _ _ _
-    (omega (arith, c.run_all.auto.desks, c.as_mut_slice-2.ensures.len, c.deal.auto.desks, c.as_mut_slice.ensures.len)) in
+    let ran = c.run_all.result.0.items in
+    let third : c.as_mut_slice-2.result.now ≡ ran = c.as_mut_slice-2.ensures.value in
     let same : map without_files c.gather.new.desks ≡ map without_files ran = c.gather.ensures.same ∙ ap (map without_files) third in
     let passes : c.clear.new.left.passes.items ≡ passes_at ran =
     c.clear.ensures.passes
     ∙ ap (map (λ (d : Desk Frame S). d.worker.pass))
-    (written-back _ _ _ (omega (
-      arith,
-      c.gather.auto.desks,
-      c.as_mut_slice-3.ensures.len,
-      c.run_all.auto.desks,
-      c.as_mut_slice-2.ensures.len,
-      c.deal.auto.desks,
-      c.as_mut_slice.ensures.len,
-    )))
+    (written-back c.run_all.result.0.len c.gather.new.desks c.run_all.result.0.items (c.gather.auto.desks ∙ c.as_mut_slice-2.ensures.len))
     ∙ same-passes c.gather.new.desks ran same in
     let held : c.clear.new.left.held.items ≡ held_at ran =
     c.clear.ensures.held
     ∙ ap (flat_map (λ (d : Desk Frame S). option_to_list d.kept))
-    (written-back _ c.gather.new.desks (right-of c.as_mut_slice-3.ensures.value) (c.gather.auto.desks ∙ c.as_mut_slice-3.ensures.len))
+    (written-back c.run_all.result.0.len c.gather.new.desks c.run_all.result.0.items (c.gather.auto.desks ∙ c.as_mut_slice-2.ensures.len))
     ∙ same-held c.gather.new.desks ran same in
     let P : List (PassStanding Frame) → Type 0 = λ ps. AreTheHeld c.args.queue ps c.clear.new.left.held.items in
     let Q : List (HeldStanding Frame) → Type 0 = λ hs. AreTheHeld c.args.queue (passes_at ran) hs in
@@ -170,59 +171,42 @@ facts g c =
     let end_count = g.S.Source.ends in
     let left = g.S.Source.left in
     let queue = c.args.queue in
-    let ran = c.run_all.new.desks in
+    let ran = c.run_all.result.0.items in
     let sources = c.args.sources.items in
     let src = c.of-was.result.value.items in
     let is_src : src ≡ sources = ap (λ v. v.items) c.of-was.ensures in
     let first : c.as_mut_slice.result.now ≡ c.make_desks.new.desks.items = c.as_mut_slice.ensures.value in
-    let second : c.as_mut_slice-2.result.now ≡ c.deal.new.desks =
-    c.as_mut_slice-2.ensures.value ∙ written-back _ _ _ (omega (arith, c.deal.auto.desks, c.as_mut_slice.ensures.len)) in
-    let third : c.as_mut_slice-3.result.now ≡ ran =
-    c.as_mut_slice-3.ensures.value ∙ written-back _ _ _
-    (omega (arith, c.run_all.auto.desks, c.as_mut_slice-2.ensures.len, c.deal.auto.desks, c.as_mut_slice.ensures.len)) in
+    let made = c.make_desks.new.desks in
+    let laid = take made.len (c.deal.new.desks ++ drop (length c.deal.new.desks) made.items) in
+    let second : laid ≡ c.deal.new.desks =
+    written-back made.len c.deal.new.desks made.items (c.deal.auto.desks ∙ c.as_mut_slice.ensures.len) in
+    let third : c.as_mut_slice-2.result.now ≡ ran = c.as_mut_slice-2.ensures.value in
     let same : map without_files c.gather.new.desks ≡ map without_files ran = c.gather.ensures.same ∙ ap (map without_files) third in
     let passes : c.clear.new.left.passes.items ≡ passes_at ran =
     c.clear.ensures.passes
     ∙ ap (map (λ (d : Desk Frame S). d.worker.pass))
-    (written-back _ _ _ (omega (
-      arith,
-      c.gather.auto.desks,
-      c.as_mut_slice-3.ensures.len,
-      c.run_all.auto.desks,
-      c.as_mut_slice-2.ensures.len,
-      c.deal.auto.desks,
-      c.as_mut_slice.ensures.len,
-    )))
+    (written-back c.run_all.result.0.len c.gather.new.desks c.run_all.result.0.items (c.gather.auto.desks ∙ c.as_mut_slice-2.ensures.len))
     ∙ same-passes c.gather.new.desks ran same in
     let lists : c.clear.new.left.lists.items ≡ lists_at ran =
     c.clear.ensures.lists
     ∙ ap (map (λ (d : Desk Frame S). d.worker.members))
-    (written-back _ _ _ (omega (
-      arith,
-      c.gather.auto.desks,
-      c.as_mut_slice-3.ensures.len,
-      c.run_all.auto.desks,
-      c.as_mut_slice-2.ensures.len,
-      c.deal.auto.desks,
-      c.as_mut_slice.ensures.len,
-    )))
+    (written-back c.run_all.result.0.len c.gather.new.desks c.run_all.result.0.items (c.gather.auto.desks ∙ c.as_mut_slice-2.ensures.len))
     ∙ same-lists c.gather.new.desks ran same in
     let held : c.clear.new.left.held.items ≡ held_at ran =
     c.clear.ensures.held
     ∙ ap (flat_map (λ (d : Desk Frame S). option_to_list d.kept))
-    (written-back _ c.gather.new.desks (right-of c.as_mut_slice-3.ensures.value) (c.gather.auto.desks ∙ c.as_mut_slice-3.ensures.len))
+    (written-back c.run_all.result.0.len c.gather.new.desks c.run_all.result.0.items (c.gather.auto.desks ∙ c.as_mut_slice-2.ensures.len))
     ∙ same-held c.gather.new.desks ran same in
     let Dealt : List (Desk Frame S) → Type 0 = λ ds. AreDealt 1 src ds in
-    let before : AreDealt 1 src c.as_mut_slice-2.result.now = subst Dealt (sym second) c.deal.ensures.dealt in
-    let dealt : AreDealt 1 src ran = still-dealt 1 src c.as_mut_slice-2.result.now ran c.run_all.auto.desks c.run_all.ensures.same before in
-    let placed : passes_at c.as_mut_slice-2.result.now ≡ passes_at c.make_desks.new.desks.items =
+    let before : AreDealt 1 src laid = subst Dealt (sym second) c.deal.ensures.dealt in
+    let dealt : AreDealt 1 src ran = still-dealt 1 src laid ran c.run_all.ensures.count c.run_all.ensures.same before in
+    let placed : passes_at laid ≡ passes_at c.make_desks.new.desks.items =
     ap (map (λ (d : Desk Frame S). d.worker.pass)) second
     ∙ same-passes c.deal.new.desks c.make_desks.new.desks.items (c.deal.ensures.same ∙ ap (map without_files) first) in
     let count : length ran ≡ queue.setup.seats =
     omega (
       arith,
-      c.run_all.auto.desks,
-      c.as_mut_slice-2.ensures.len,
+      c.run_all.ensures.count,
       c.deal.auto.desks,
       c.as_mut_slice.ensures.len,
       c.make_desks.ensures.count,
@@ -232,8 +216,8 @@ facts g c =
     ) in
     let numbers : (w : ℕ) (d : Desk Frame S) → w < length ran → (slice_index_or ran w d).worker.pass.number ≡ w =
     λ w d less.
-    let within : w < length c.as_mut_slice-2.result.now = omega (arith, less, c.run_all.auto.desks) in
-    c.run_all.ensures.numbers w d within ∙ place-numbers queue queue.setup.seats c.as_mut_slice-2.result.now (placed ∙ c.make_desks.ensures.passes) w
+    let within : w < length laid = omega (arith, less, c.run_all.ensures.count) in
+    c.run_all.ensures.numbers w d within ∙ place-numbers queue queue.setup.seats laid (placed ∙ c.make_desks.ensures.passes) w
     d within in
     let valid = c.args.job.now.valid in
     let setup = c.requires.setup in
@@ -271,30 +255,18 @@ facts g c =
     }
 
 -- each file was read to its end, where no file has a fault
-all-whole : (g : _) (c : After-conclude g) → c.gather.new.gathered.fault ≡ None → AllWhole c.run_all.new.desks
+all-whole : (g : _) (c : After-conclude g) → c.gather.new.gathered.fault ≡ None → AllWhole c.run_all.result.0.items
 all-whole g c none =
-    let third : c.as_mut_slice-3.result.now ≡ c.run_all.new.desks =
-    c.as_mut_slice-3.ensures.value ∙ written-back _ _ _
-    (omega (arith, c.run_all.auto.desks, c.as_mut_slice-2.ensures.len, c.deal.auto.desks, c.as_mut_slice.ensures.len)) in
+    let third : c.as_mut_slice-2.result.now ≡ c.run_all.result.0.items = c.as_mut_slice-2.ensures.value in
     subst (λ (ds : List (Desk Frame _)). AllWhole ds) third (c.gather.ensures.whole none)
 
 -- no worker wanted memory
-all-fed : (g : _) (c : After-conclude g) → c.clear.new.left.starved ≡ false → All (λ d. d.worker.starved ≡ false) c.run_all.new.desks
+all-fed : (g : _) (c : After-conclude g) → c.clear.new.left.starved ≡ false → All (λ d. d.worker.starved ≡ false) c.run_all.result.0.items
 all-fed g c fed =
-    let third : c.as_mut_slice-3.result.now ≡ c.run_all.new.desks =
-    c.as_mut_slice-3.ensures.value ∙ written-back _ _ _
-    (omega (arith, c.run_all.auto.desks, c.as_mut_slice-2.ensures.len, c.deal.auto.desks, c.as_mut_slice.ensures.len)) in
-    same-fed c.gather.new.desks c.run_all.new.desks (c.gather.ensures.same ∙ ap (map without_files) third)
+    let third : c.as_mut_slice-2.result.now ≡ c.run_all.result.0.items = c.as_mut_slice-2.ensures.value in
+    same-fed c.gather.new.desks c.run_all.result.0.items (c.gather.ensures.same ∙ ap (map without_files) third)
     (subst (λ (ds : List (Desk Frame _)). All (λ d. d.worker.starved ≡ false) ds)
-    (written-back _ _ _ (omega (
-      arith,
-      c.gather.auto.desks,
-      c.as_mut_slice-3.ensures.len,
-      c.run_all.auto.desks,
-      c.as_mut_slice-2.ensures.len,
-      c.deal.auto.desks,
-      c.as_mut_slice.ensures.len,
-    )))
+    (written-back c.run_all.result.0.len c.gather.new.desks c.run_all.result.0.items (c.gather.auto.desks ∙ c.as_mut_slice-2.ensures.len))
     (c.clear.ensures.starved fed))
 
 -- whatever the workers met
@@ -302,7 +274,7 @@ pub returns-clause-left : goal.returns-clause-left
 returns-clause-left g c =
     let at = (goal.at.returns-clause-left g c).After-conclude in
     let f = facts g at in
-    let gave : c.of-closing.result.value.items ≡ passes_at c.run_all.new.desks = ap (λ v. v.items) c.of-closing.ensures ∙ f.passes in
+    let gave : c.of-closing.result.value.items ≡ passes_at c.run_all.result.0.items = ap (λ v. v.items) c.of-closing.ensures ∙ f.passes in
     record {
       setup = c.args.queue.setup;
       of_job = f.of_job;
@@ -310,6 +282,26 @@ returns-clause-left g c =
           g.S.Source.faults g.S.Source.ends g.S.Source.left
           c.args.sources.items c.run_all.new.desks f.all c.close-buffers.result.left.items f.closed);
     }
+
+-- each pass says whether it was told that all had retired
+pub returns-clause-saw : goal.returns-clause-saw
+returns-clause-saw g c =
+    c.close-buffers.ensures.saw ∙ ap (λ v. map (λ (p : PassStanding Frame). was_told p.gate) v.items) (sym c.of-closing.ensures)
+
+pub returns-clause-seats : goal.returns-clause-seats
+returns-clause-seats g c =
+    let at = (goal.at.returns-clause-seats g c).After-conclude in
+    let f = facts g at in
+    let gave : c.of-closing.result.value.items ≡ passes_at c.run_all.result.0.items = ap (λ v. v.items) c.of-closing.ensures ∙ f.passes in
+    ap length gave ∙ length-map c.run_all.result.0.items (λ (d : Desk Frame _). d.worker.pass) ∙ f.count
+
+-- what those who let them work tell of their passes
+pub returns-clause-rested : goal.returns-clause-rested
+returns-clause-rested g c =
+    let at = (goal.at.returns-clause-rested g c).After-conclude in
+    let f = facts g at in
+    let gave : c.of-closing.result.value.items ≡ passes_at c.run_all.result.0.items = ap (λ v. v.items) c.of-closing.ensures ∙ f.passes in
+    subst (λ (ps : List (PassStanding Frame)). g.H.Hands.tells c.run_all.result.1 (length c.args.job.now.topics + 1) ps) (sym gave) c.run_all.ensures.told
 
 pub returns-clause-same : goal.returns-clause-same
 returns-clause-same g c =
@@ -325,7 +317,7 @@ returns-clause-worked g c =
     let end_count = g.S.Source.ends in
     let left = g.S.Source.left in
     let queue = c.args.queue in
-    let ran = c.run_all.new.desks in
+    let ran = c.run_all.result.0.items in
     let sources = c.args.sources.items in
     let left_in = c.close-buffers.result.left.items in
     let at = (goal.at.returns-clause-worked g c).After-conclude in

@@ -8,18 +8,12 @@ use Rattle.scq_work.specs.declared.worker.Worker.{Worker}
 use Rattle.scq_work.proofs.Lists.{written-back}
 use Rattle.scq_work.proofs.RunLemmas.{suits-first, work-first, run-left, run-late, run-stopped}
 use Rattle.scq_work.proofs.desk.Desk.run.Goals as goal
-use Rattle.scq_work.proofs.desk.Desk.run.Goals.{After-read_files}
 
-pub read_files-requires-clause-suits : goal.read_files-requires-clause-suits
-read_files-requires-clause-suits g c κs within =
-    suits-first c.args.queue.now (length c.args.job.now.topics) c.args.self.now.worker.number c.args.self.now.worker.pass c.requires.rings c.requires.pass
+pub returns-in-Some-clause-run : goal.returns-in-Some-clause-run
+returns-in-Some-clause-run g c = c.produce.ensures.produced.done c.in-Some.field-0 (sym c.in-Some.ensures)
 
--- nothing was passed on before
-begun : (g : _) (c : After-read_files g)
-    → IsAtWork c.args.job.now.topics [] c.args.self.now.worker.pass c.args.self.now.worker.members.items c.args.self.now.worker.starved
-begun g c =
-    let worker = c.args.self.now.worker in
-    work-first c.args.job.now.topics c.args.queue.now worker.number worker.pass worker.members.items worker.starved c.requires.pass c.requires.members
+pub sweep_out-requires-clause-sweep : goal.sweep_out-requires-clause-sweep
+sweep_out-requires-clause-sweep g c κs within = c.produce.ensures.produced.awake (sym c.in-None.ensures)
 
 -- the files on the desk are those that were read
 whole : (g : _) (c : After-read_files g)

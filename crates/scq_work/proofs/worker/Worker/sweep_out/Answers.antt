@@ -1,134 +1,37 @@
-use Rattle.std.proofs.Common.{rules, ◌≡◌, ◌+◌, ◌∙◌, ap, sym, subst, arith, refl, inl, inr, ℕ, true, length, Ok}
-use Rattle.std.specs.Prelude.{IfErr, Result, Err}
-use Rattle.std.proofs.lemmas.Bool.{eqb-true}
+use Rattle.std.proofs.Common.{◌≡◌, ◌+◌, ℕ, subst, length, false}
+use Rattle.std.specs.Prelude.{IfErr, OnOk}
+use Rattle.std.proofs.lemmas.Result.{on_ok_weaker}
 use Rattle.scq_queue.specs.Passes.{PassStanding}
-use Rattle.scq_work.specs.Leaving.{HasIdled, HasSweptLast}
-use Rattle.scq_work.specs.Working.{HasTaken, HasAnswered, HasLeft}
-use Rattle.scq_work.proofs.PassLemmas.{taken-nothing, taken-along, left-falls, looked}
-use Rattle.scq_work.proofs.LeftLemmas.{left-taken}
-use Rattle.scq_work.proofs.Sweeps.{sweep-of, idle-more, idle-none}
-use Rattle.scq_work.proofs.WorkerSteps.{answered-along, answered-nothing}
-use Rattle.scq_work.proofs.worker.Worker.sweep_out.Goals as goal
-use Rattle.scq_work.proofs.worker.Worker.sweep_out.Goals.{then-some, else-some}
-
--- it asked whether all had retired, and then swept
-pub sweeps-init : goal.sweeps-init
-sweeps-init g c =
-    let p = c.args.self.now.pass in
-    record {
-      taken = taken-nothing p;
-      answered = λ fed. answered-nothing c.args.job.now.topics p c.args.self.now.members.items;
-      starved = λ fed. fed;
-      number = refl;
-      idle = omega arith;
-      idling = idle-none (length c.args.job.now.topics + 1) p p (taken-nothing p);
-    }
-
-pub returns-in_err-some-clause-left : goal.returns-in_err-some-clause-left
-returns-in_err-some-clause-left g c =
-    let p = c.args.self.now.pass in
-    let at = c.sweeps.self.pass in
-    let said = c.closed-over.ensures.looked in
-    let look : HasTaken at c.closed-over.new.pass = subst (λ (q : PassStanding _). HasTaken at q) (sym said.1) (looked at said.0 c.closed-over.new.pass.seen) in
-    let is : c.from_residual.result ≡ Err c.in_err-some.field-0.0 = search rules in
-    subst (λ (r : Result _ _). IfErr r (λ l. (messages : ℕ) → HasLeft messages messages p c.sweep.new.self.pass l.held)) (sym is)
-    (λ messages. left-taken messages messages p c.closed-over.new.pass c.sweep.new.self.pass _
-    (taken-along p at c.closed-over.new.pass c.sweeps.invariant.taken look) (c.in_err-some.ensures.left messages))
-
-pub sweeps-smaller : goal.sweeps-smaller
-sweeps-smaller g c =
-    let at = c.sweeps.self.pass in
-    let limit = c.args.queue.now.setup.limit in
-    let all = length c.args.job.now.topics + 1 in
-    let said = c.closed-over.ensures.looked in
-    let look : HasTaken at c.closed-over.new.pass = subst (λ (q : PassStanding _). HasTaken at q) (sym said.1) (looked at said.0 c.closed-over.new.pass.seen) in
-    let first = left-falls limit all at c.closed-over.new.pass look.knows in
-    let rest = left-falls limit all c.closed-over.new.pass c.sweep.new.self.pass c.in_ok-some.ensures.taken.knows in
-    elim c.if-some.branch [
-      | then-some w ↦
-          let full : c.in_ok-some.some ≡ true = w.if-some.true in
-          let falls = c.in_ok-some.ensures.some (ap Ok full) in
-          omega arith
-      | else-some w ↦ omega arith
-    ]
-
-pub sweeps-preserved : goal.sweeps-preserved
-sweeps-preserved g c =
-    let p = c.args.self.now.pass in
-    let at = c.sweeps.self.pass in
-    let inv = c.sweeps.invariant in
-    let topics = c.args.job.now.topics in
-    let xs = c.sweeps.self.members.items in
-    let said = c.closed-over.ensures.looked in
-    let look : HasTaken at c.closed-over.new.pass = subst (λ (q : PassStanding _). HasTaken at q) (sym said.1) (looked at said.0 c.closed-over.new.pass.seen) in
-    let same : HasAnswered topics at c.closed-over.new.pass xs xs =
-    subst (λ (q : PassStanding _). HasAnswered topics at q xs xs) (sym said.1) (record { takes = λ h. h; directs = refl }) in
-    let now = c.sweep.new.self.pass in
-    let all = length topics + 1 in
-    let taken = taken-along p c.closed-over.new.pass now (taken-along p at c.closed-over.new.pass inv.taken look)
-    c.in_ok-some.ensures.taken in
-    let sweep = sweep-of all said.0 at c.closed-over.new.pass now said.1 c.in_ok-some.ensures.taken c.in_ok-some.ensures.found in
-    record {
-      taken = taken-along p c.closed-over.new.pass c.sweep.new.self.pass (taken-along p at c.closed-over.new.pass inv.taken look)
-          c.in_ok-some.ensures.taken;
-      answered = λ fed. answered-along topics p c.closed-over.new.pass c.sweep.new.self.pass c.args.self.now.members.items xs c.sweep.new.self.members.items
-          (answered-along topics p at c.closed-over.new.pass c.args.self.now.members.items xs xs (inv.answered (c.sweep.ensures.starved fed)) same)
-          (c.in_ok-some.ensures.answered fed);
-      starved = λ fed. inv.starved (c.sweep.ensures.starved fed);
-      number = c.sweep.ensures.number ∙ inv.number;
-      idle = elim c.if-some.branch [ then-some w ↦ omega arith | else-some w ↦ omega arith ];
-      idling = elim c.if-some.branch [
-        | then-some w ↦ subst (λ n. HasIdled all n p now) (sym w.idle-is) (idle-none all p now taken)
-        | else-some w ↦ subst (λ n. HasIdled all n p now) (sym w.idle-is)
-            (idle-more all c.sweeps.idle said.0 p at c.closed-over.new.pass now inv.idling said.1 sweep
-            (c.in_ok-some.ensures.nothing (ap Ok w.if-some.false)))
-      ];
-    }
+use Rattle.scq_work.specs.Leaving.{HasSweptLast}
+use Rattle.scq_work.specs.Working.{HasTaken, HasAnswered, HasLeft, after_retire}
+use Rattle.scq_work.proofs.worker.Worker.leave.Goals as goal
 
 pub returns-clause-taken : goal.returns-clause-taken
 returns-clause-taken g c =
-    let p = c.args.self.now.pass in
-    let at = c.sweeps.self.pass in
-    let said = c.closed-over.ensures.looked in
-    let look : HasTaken at c.closed-over.new.pass = subst (λ (q : PassStanding _). HasTaken at q) (sym said.1) (looked at said.0 c.closed-over.new.pass.seen) in
-    taken-along p c.closed-over.new.pass c.sweep.new.self.pass
-    (taken-along p at c.closed-over.new.pass c.sweeps.invariant.taken look)
-    c.in_ok-some.ensures.taken
+    subst (λ (p : PassStanding _). OnOk c.sweep_out.result (HasTaken p c.sweep_out.new.self.pass)) c.retire.ensures c.sweep_out.ensures.taken
 
 pub returns-clause-swept : goal.returns-clause-swept
 returns-clause-swept g c =
-    let p = c.args.self.now.pass in
-    let at = c.sweeps.self.pass in
-    let now = c.sweep.new.self.pass in
-    let all = length c.args.job.now.topics + 1 in
-    let said = c.closed-over.ensures.looked in
-    let sweep = sweep-of all said.0 at c.closed-over.new.pass now said.1 c.in_ok-some.ensures.taken c.in_ok-some.ensures.found in
-    record {
-      begun = at;
-      before = c.sweeps.invariant.taken;
-      found = said.0;
-      sweep = sweep;
-      why = elim c.then-over.either [
-        | inl over ↦ inl (eqb-true said.0 0 (sym said.2 ∙ over))
-        | inr (going, full) ↦ inr (elim c.if-some.branch [
-          | then-some w ↦ let none : c.if-some.idle ≡ 0 = w.idle-is in absurd (omega (arith, none, full))
-          | else-some w ↦
-              subst (λ n. HasIdled all n p now) (sym w.idle-is ∙ full)
-              (idle-more all c.sweeps.idle said.0 p at c.closed-over.new.pass now c.sweeps.invariant.idling said.1 sweep
-              (c.in_ok-some.ensures.nothing (ap Ok w.if-some.false)))
-        ])
-      ];
-    }
+    subst (λ (p : PassStanding _). OnOk c.sweep_out.result (HasSweptLast (length c.args.job.now.topics + 1) 64 p c.sweep_out.new.self.pass)) c.retire.ensures
+    c.sweep_out.ensures.swept
 
+-- that it has retired makes no difference to what it took
 pub returns-clause-answered : goal.returns-clause-answered
-returns-clause-answered g c fed =
+returns-clause-answered g c =
     let p = c.args.self.now.pass in
-    let at = c.sweeps.self.pass in
+    let q = c.sweep_out.new.self.pass in
+    let xs = c.args.self.now.members.items in
+    let ys = c.sweep_out.new.self.members.items in
     let topics = c.args.job.now.topics in
-    let xs = c.sweeps.self.members.items in
-    let said = c.closed-over.ensures.looked in
-    let same : HasAnswered topics at c.closed-over.new.pass xs xs =
-    subst (λ (q : PassStanding _). HasAnswered topics at q xs xs) (sym said.1) (record { takes = λ h. h; directs = refl }) in
-    answered-along topics p c.closed-over.new.pass c.sweep.new.self.pass c.args.self.now.members.items xs c.sweep.new.self.members.items
-    (answered-along topics p at c.closed-over.new.pass c.args.self.now.members.items xs xs (c.sweeps.invariant.answered (c.sweep.ensures.starved fed)) same)
-    (c.in_ok-some.ensures.answered fed)
+    on_ok_weaker c.sweep_out.result
+    (λ (more : c.sweep_out.new.self.starved ≡ false → HasAnswered topics (after_retire p) q xs ys) fed. (
+    let its = more fed in
+    record { takes = its.takes; directs = its.directs }
+    ))
+    (subst (λ (x : PassStanding _). OnOk c.sweep_out.result (c.sweep_out.new.self.starved ≡ false → HasAnswered topics x q xs ys)) c.retire.ensures
+    c.sweep_out.ensures.answered)
+
+pub returns-clause-left : goal.returns-clause-left
+returns-clause-left g c =
+    subst (λ (p : PassStanding _). IfErr c.sweep_out.result (λ l. (messages : ℕ) → HasLeft messages messages p c.sweep_out.new.self.pass l.held))
+    c.retire.ensures c.sweep_out.ensures.left

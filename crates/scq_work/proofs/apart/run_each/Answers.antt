@@ -7,8 +7,8 @@ use Rattle.scq_queue.specs.contracts.queue.Queue as queue
 use Rattle.scq_queue.proofs.QueuesShared.{queue_sync}
 use Rattle.scq_work.specs.contracts.job.Job as job
 use Rattle.scq_work.proofs.job.Job.TheSendSync as jobs
-use Rattle.scq_work.proofs.working.run_all.Lts.{arg-0-2}
-use Rattle.scq_work.proofs.working.run_all.Goals as goal
+use Rattle.scq_work.proofs.apart.run_each.Lts.{arg-0-2}
+use Rattle.scq_work.proofs.apart.run_each.Goals as goal
 
 queue_shared : IsSync (queue.the_row frame.the_row buffer.ghosts)
 queue_shared = queue_sync frame.the_row buffer.ghosts frame_sent frame_shared

@@ -1,0 +1,15 @@
+use Rattle.std.proofs.Common.{sym, subst, arith}
+use Rattle.scq_park.specs.Crews.{AreAll}
+use Rattle.scq_park.proofs.Firsts.{firsts_all}
+use Rattle.scq_work.proofs.waited.work_waiting.Goals as goal
+
+pub make-requires-clause-some : goal.make-requires-clause-some
+make-requires-clause-some g c = omega (arith, c.args.job.now.valid.some_workers)
+
+pub make-requires-clause-most : goal.make-requires-clause-most
+make-requires-clause-most g c = c.args.job.now.valid.workers_fit
+
+-- the stands of a new crew are all of it
+pub close-requires-clause-stands : goal.close-requires-clause-stands
+close-requires-clause-stands g c =
+    subst (AreAll c.in-Ok.crew) (sym c.in-Ok.ensures.stands) (firsts_all c.in-Ok.crew c.args.job.now.workers (sym c.in-Ok.ensures.crew))
