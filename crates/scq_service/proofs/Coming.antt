@@ -9,7 +9,7 @@ use Rattle.std.proofs.lemmas.List.Elements.{All-push}
 use Rattle.std.proofs.lemmas.Option.{slice_get-get_or}
 use Rattle.scq_outside.specs.Counts.{Rose}
 use Rattle.scq_outside.specs.Table.{Table, without_name}
-use Rattle.scq_work.specs.Ends.{all_left}
+use Rattle.scq_files.specs.Ends.{all_left}
 use Rattle.scq_service.specs.Answers.{HaveCome}
 use Rattle.scq_service.specs.Contents.{IfVisible, IsMissing, without_names}
 use Rattle.scq_service.specs.Ends.{Change, HasMissed}

@@ -4,12 +4,12 @@ use Rattle.std.specs.Prelude.{IsSomeAnd, slice_get}
 use Rattle.std.specs.List.{All}
 use Rattle.std.proofs.lemmas.Option.{slice_get_within, get_or_from_slice_get}
 use Rattle.scq_frames.specs.Trouble.{Trouble, LongPayload, ManyBytes}
-use Rattle.scq_collect.specs.Judged.{file_trouble}
+use Rattle.scq_frames.specs.Judged.{file_trouble}
 use Rattle.scq_outside.specs.Table.{Table}
 use Rattle.std.specs.Option.{option_map}
 use Rattle.scq_words.specs.declared.text_request.TextCommand.{TextCommand}
 use Rattle.scq_service.specs.Causes.{IsTroubled}
-use Rattle.scq_work.specs.Ends.{all_left}
+use Rattle.scq_files.specs.Ends.{all_left}
 use Rattle.scq_outside.specs.Counts.{Rose}
 use Rattle.scq_service.specs.Ends.{Left, Wrote, EndsAlone, EndsOver, EndsWhole, IsCalm, IsCalmText, IsOfTextAlone, most_text}
 use Rattle.scq_service.specs.declared.fault.Fault.{Fault}

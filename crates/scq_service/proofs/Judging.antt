@@ -10,7 +10,7 @@ use Rattle.scq_judge.specs.Judged.{IsCause}
 use Rattle.scq_judge.specs.Reads.{AreReadUntil, HasGiven, OfEach}
 use Rattle.scq_judge.specs.declared.judging.JudgeFault.{JudgeFault}
 use Rattle.scq_judge.specs.declared.judging.JudgeFault.TheVariants as judge
-use Rattle.scq_work.specs.Ends.{HasMoved, all_left}
+use Rattle.scq_files.specs.Ends.{HasMoved, all_left}
 use Rattle.scq_service.specs.Answers.{HaveCome, HaveAllCome}
 use Rattle.scq_service.specs.Contents.{without_names}
 use Rattle.scq_service.specs.Ends.{Change, Wrote, HasGot, HaveAll, EndsJudged, IfTold, IsUnwritten}

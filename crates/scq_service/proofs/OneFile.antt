@@ -8,8 +8,8 @@ use Rattle.scq_frames.specs.Trouble.{Trouble, LongPayload, ManyBytes}
 use Rattle.scq_frames.specs.declared.fault.FrameFault.{FrameFault}
 use Rattle.scq_frames.specs.declared.fault.FrameFault.TheVariants as frame
 use Rattle.scq_outside.specs.Counts.{Rose}
-use Rattle.scq_collect.specs.Judged.{file_trouble, Judges}
-use Rattle.scq_work.specs.Reading as reading
+use Rattle.scq_frames.specs.Judged.{file_trouble, Judges}
+use Rattle.scq_files.specs.Reading as reading
 use Rattle.scq_service.specs.Causes.{given_of, file_fault}
 use Rattle.scq_service.specs.declared.fault.Fault.{Fault}
 use Rattle.scq_service.specs.declared.fault.Fault.TheVariants.{ReadFault, TooLong, TooLarge, NoMemory}

@@ -9,8 +9,9 @@ use Rattle.scq_frames.specs.Framing.{NothingLeft}
 use Rattle.scq_frames.specs.declared.fault.FrameFault.{FrameFault}
 use Rattle.scq_frames.specs.declared.fault.FrameFault.TheVariants as frame
 use Rattle.scq_outside.specs.Table.{Table}
-use Rattle.scq_work.specs.Ends.{HasCause, HasMoved, StopsAt, all_left}
-use Rattle.scq_work.specs.Reading as reading
+use Rattle.scq_files.specs.Ends.{HasMoved, StopsAt, all_left}
+use Rattle.scq_work.specs.Ends.{HasCause}
+use Rattle.scq_files.specs.Reading as reading
 use Rattle.scq_work.specs.declared.worked.WorkFault.{WorkFault}
 use Rattle.scq_work.specs.declared.worked.WorkFault.TheVariants as work
 use Rattle.scq_service.specs.Answers.{HaveAllCome, HaveCome}

@@ -7,7 +7,7 @@ use Rattle.scq_outside.specs.Counts.{Rose}
 use Rattle.scq_outside.specs.Table.{Table, without_name}
 use Rattle.scq_frames.specs.Framing.{NothingLeft}
 use Rattle.scq_frames.specs.Trouble.{LongPayload, ManyBytes}
-use Rattle.scq_collect.specs.Judged.{file_trouble}
+use Rattle.scq_frames.specs.Judged.{file_trouble}
 use Rattle.scq_collect.specs.Output.{one_thread_output}
 use Rattle.scq_lines.specs.Lines.{lines_of}
 use Rattle.scq_self.specs.Summary.{self_summary}
@@ -17,7 +17,7 @@ use Rattle.scq_judge.specs.declared.judging.JudgeFault.{JudgeFault}
 use Rattle.scq_words.specs.Asked.{Asked, run, generated, judged, whole}
 use Rattle.scq_words.specs.declared.fault.WordsFault.{WordsFault}
 use Rattle.scq_words.specs.declared.text_request.TextCommand.{TextCommand}
-use Rattle.scq_work.specs.Ends.{HasMoved, all_left}
+use Rattle.scq_files.specs.Ends.{HasMoved, all_left}
 use Rattle.scq_service.specs.Causes.{first_file_fault, IsTroubled, HaveRest}
 use Rattle.scq_service.specs.Faults.{fault_of_judge}
 use Rattle.scq_service.specs.Contents.{IfVisible, IsMissing, without_names}

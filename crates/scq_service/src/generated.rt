@@ -7,7 +7,7 @@ ghost use Rattle.scq_collect.specs.Merging.{members_in};
 ghost use Rattle.scq_self.specs.Generated.{generated as the_file, self_topics as the_topics};
 ghost use Rattle.scq_self.specs.Summary.{self_summary};
 ghost use Rattle.scq_work.specs.AllWorkers.{HasWorked, NothingIsStranded};
-ghost use Rattle.scq_work.specs.Ends.{messages_in};
+ghost use Rattle.scq_files.specs.Ends.{messages_in};
 ghost use Rattle.scq_service.specs.Answers.{WorkedAt};
 ghost use Rattle.scq_service.specs.Ends.{EndsAlone};
 ghost use Rattle.scq_service.specs.Faults.{status_of};

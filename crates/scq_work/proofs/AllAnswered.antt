@@ -1,11 +1,11 @@
 -- Once the queue is closed: the answers of all workers are those to all parts of all messages, each once.
 use Rattle.std.proofs.Common.{◌≡◌, refl, sym, ◌∙◌, ap, subst, ℕ, ◌≤◌, List, [], ◌∷◌, ◌++◌, length, map, Some}
-use Rattle.std.specs.Prelude.{flat_map, unwrap_or}
+use Rattle.std.specs.Prelude.{unwrap_or}
 use Rattle.std.specs.List.{AllZip, Contains}
 use Rattle.std.specs.List.Sorted.{IsPermutation}
 use Rattle.std.proofs.lemmas.List.{append_assoc, map-append}
 use Rattle.std.proofs.lemmas.List.Elements.{Contains-append_left, Contains-push}
-use Rattle.std.proofs.lemmas.List.Sorted.{IsPermutation-refl, IsPermutation-trans, IsPermutation-append, IsPermutation-append_left, IsPermutation-append_right, IsPermutation-append_comm}
+use Rattle.std.proofs.lemmas.List.Sorted.{IsPermutation-refl, IsPermutation-trans, IsPermutation-append_left, IsPermutation-append_right, IsPermutation-append_comm}
 use Rattle.std.proofs.lemmas.Slice.Zip.{all_zipped_more}
 use Rattle.scq_topics.specs.declared.kind.Kind.{Kind}
 use Rattle.scq_frames.specs.Parts.{Part}
@@ -13,7 +13,6 @@ use Rattle.scq_frames.specs.Encoded.{part_at, IsEncodable, BeginsWith}
 use Rattle.scq_frames.proofs.EncodedLemmas.{part_at-again}
 use Rattle.scq_collect.specs.Joined.{PartAnswer, part_answer, without_way}
 use Rattle.scq_collect.specs.declared.answered.Answered.{Answered}
-use Rattle.scq_collect.proofs.Orders.{contains-first, contains-more}
 use Rattle.scq_queue.specs.Lists.{Placed}
 use Rattle.scq_work.specs.Members.{AnswersTake, AnswersSoFar, none, and_answered, and_passed_over}
 use Rattle.scq_work.specs.Passing.{ArePassedOn, Sends}

@@ -60,7 +60,7 @@ files-gave {S} topics size faults end_count left W (f ∷ files) read whole =
 
 -- the lists of files, one behind the other
 flat-lists : {X A : Type 0} (f : X → List A) (xs : List X) → flat_map (λ l. l) (map f xs) ≡ flat_map f xs
-flat-lists f xs = flat-of (λ (l : List _). l) f xs
+flat-lists f xs = flat_map-map (λ (l : List _). l) f xs
 
 -- what is made of each of several by its number
 by-number : {X A : Type 0} (f : X → List A) (m : ℕ → List A) (xs : List X) (from : ℕ) → ((k : ℕ) (d : X) → k < length xs → f (get_or xs k d) ≡ m (from + k))

@@ -9,6 +9,7 @@ use Rattle.std.specs.List.Sorted.{IsPermutation}
 use Rattle.std.specs.Option.{option_map, option_to_list}
 use Rattle.std.proofs.lemmas.List.{length-map, get_or-map}
 use Rattle.std.proofs.lemmas.List.Elements.{All-map, All-append, All-nil}
+use Rattle.std.proofs.lemmas.List.Folds.{flat_map-map}
 use Rattle.std.proofs.lemmas.List.Sums.{sum_by-cons}
 use Rattle.std.proofs.lemmas.List.Sorted.{All-permutation, IsPermutation-sym, IsPermutation-reverse, IsPermutation-map, IsPermutation-trans}
 use Rattle.std.proofs.lemmas.Option.{slice_get-map, slice_get_within, slice_get_cases, get_or_from_slice_get}
@@ -26,9 +27,10 @@ use Rattle.scq_band.proofs.ClosedCounts.{sum_by-map}
 use Rattle.scq_queue.specs.Closing.{EachTakeIsASend, NoPlaceIsSentTwice, NoPlaceIsTakenTwice, IsBalance, EachSendPassedIsTaken, AllFullsStand, NoneIsKeptWithinTheLimit, IsAllThere, callers_of}
 use Rattle.scq_queue.specs.Lists.{sends_of, takes_of}
 use Rattle.scq_queue.specs.Passes.{PassStanding, HeldStanding}
-use Rattle.scq_work.specs.AllWorkers.{OfEachWorker, HaveAnswered, HaveShared}
-use Rattle.scq_work.specs.Ends.{AreGiven}
-use Rattle.scq_work.specs.Files.{own_of}
+use Rattle.scq_passes.specs.AllPasses.{OfEachWorker, HaveShared}
+use Rattle.scq_work.specs.AllWorkers.{HaveAnswered}
+use Rattle.scq_files.specs.Ends.{AreGiven}
+use Rattle.scq_files.specs.Files.{own_of}
 use Rattle.scq_work.specs.Members.{AnswersItsTakes, AnswersItsFulls}
 use Rattle.scq_work.specs.Passing.{parts_in, HasPassedOn, FollowsCalls}
 use Rattle.scq_work.specs.Reading.{IsRead}
@@ -36,7 +38,7 @@ use Rattle.scq_work.specs.Records.{HoldsNothingAtEachFull, HelpsAfterEachFull, M
 use Rattle.scq_work.specs.Together.{SendsAreTakes, NothingIsLeft, NoneSpent, IsBounded, HasRetired, HasSwept}
 use Rattle.scq_work.specs.Working.{IsThrifty, HasListed, index_of}
 use Rattle.scq_work.specs.declared.desk.Desk.{Desk}
-use Rattle.scq_work.specs.declared.own_file.OwnFile.{OwnFile}
+use Rattle.scq_files.specs.declared.own_file.OwnFile.{OwnFile}
 use Rattle.scq_work.proofs.Cleared.{AllWhole}
 use Rattle.scq_work.proofs.AllGave.{given_of, worker_messages, AllRan, given, is-given, own-given, all-parts-passed, few-in-all}
 use Rattle.scq_work.proofs.Conclusion.{Work, IsWork, passes_in, messages_in, members_of, flat-of, all-taken, all-answered}

@@ -1,9 +1,5 @@
-mod SendsAndTakes
-mod Splits
-mod Blocks
-mod KnownNumbers
-mod PassLemmas
-mod RecordSteps
+mod Following
+mod Sending
 mod WorkerSteps
 mod Sweeps
 mod Vain
@@ -11,16 +7,10 @@ mod LeftLemmas
 mod MemberLemmas
 mod MessageParts
 mod PassedOn
-mod FileLists
-mod ReadLemmas
 mod RunLemmas
-mod NoneSpent
 mod AllAnswered
-mod Lists
-mod Dealt
 mod Conclusion
 mod DeskLemmas
-mod SoFar
 mod Cleared
 mod Faults
 pub mod Orders

@@ -4,7 +4,6 @@ use Rattle.std.proofs.Common.{◌≡◌, ◌∙◌, refl, sym, ap, subst, inl, i
 use Rattle.std.specs.Prelude.{slice_index_or, IfSome, option_and_then, flat_map}
 use Rattle.std.specs.List.{All, Contains, IsDistinct, range_with_len}
 use Rattle.std.specs.List.Sorted.{IsPermutation}
-use Rattle.std.specs.Option.{option_map}
 use Rattle.std.proofs.lemmas.Bool.Decides.{nat_tests}
 use Rattle.std.proofs.lemmas.Grind.{flat_map-append}
 use Rattle.std.proofs.lemmas.List.{append_assoc, get_or-map, length-map}
@@ -123,21 +122,16 @@ unfolding RisesPast
 given-in-order topics size longest left was given gave =
     in-order (0, 0, 0) (parts_in size (all_of given)) (given-past topics size longest left 0 was given gave (0, 0, 0) (omega arith))
 
--- they are on known topics
-pub of-known : (known file line : ℕ) (ms : List Message) → AreOf known file line ms → All (λ m. m.topic ≤ known) ms
-of-known known file line [] of k d less = absurd (omega arith)
-of-known known file line (m ∷ ms) of zero d less = of.2
-of-known known file line (m ∷ ms) of (suc k) d less = of-known known file m.line ms of.3 k d (omega arith)
+-- one file behind the other
+told-messages : (topics : List (List ℕ × Kind)) (file : ℕ) (contents : List (List ℕ))
+    → all_of (messages_in topics file contents) ≡ messages_to topics file contents
+told-messages topics file [] = refl
+told-messages topics file (content ∷ more) =
+    ap (λ (l : List Message). map (numbered file (topic_of topics)) (messages_of content) ++ l) (told-messages topics (file + 1) more)
 
-pub given-known : {S : Type 0} (topics : List (List ℕ × Kind)) (size : ℕ) (left : S → Option (List ℕ)) (file : ℕ) (was : List S)
-    (given : List (List Message)) → AreGiven topics size left file was given
-    → All (λ m. m.topic ≤ length topics) (all_of given)
-given-known topics size left file [] [] none = All-nil (λ (m : Message). m.topic ≤ length topics)
-given-known topics size left file [] (own ∷ more) none = absurd none
-given-known topics size left file (x ∷ xs) [] none = absurd none
-given-known topics size left file (x ∷ xs) (own ∷ more) gave =
-    All-append (λ m. m.topic ≤ length topics) own (all_of more) (of-known (length topics) file 0 own gave.0.of)
-    (given-known topics size left (file + 1) xs more gave.1)
+-- some part, to read past a list
+no_part : Part
+no_part = record { file = 0; line = 0; topic = 0; part = 0; parts = 0; payload = [] }
 
 -- where the bytes of all files are visible, they are those of the contents
 pub given-told : {S : Type 0} (topics : List (List ℕ × Kind)) (size : ℕ) (left : S → Option (List ℕ)) (file : ℕ) (was : List S)

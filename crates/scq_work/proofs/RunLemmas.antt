@@ -11,19 +11,22 @@ use Rattle.scq_collect.specs.declared.answered.Answered.{Answered}
 use Rattle.scq_band.specs.Standing.{Identity}
 use Rattle.scq_band.proofs.Opening.{numbers_length}
 use Rattle.scq_queue.specs.Passes.{PassStanding, HeldStanding, first_pass, known_on}
-use Rattle.scq_work.specs.Desks.{all_given, HasRun}
-use Rattle.scq_work.specs.Given.{given_in}
+use Rattle.scq_files.specs.OwnFiles.{all_given}
+use Rattle.scq_work.specs.Desks.{HasRun}
+use Rattle.scq_files.specs.Given.{given_in}
 use Rattle.scq_work.specs.Members.{none}
 use Rattle.scq_work.specs.Passing as passing
 use Rattle.scq_work.specs.Passing.{no_call, parts_in}
 use Rattle.scq_work.specs.Records.{is_lend, HelpsOnceAfterEachFull}
 use Rattle.scq_work.specs.Together.{HasRetired}
 use Rattle.scq_queue.specs.Lists.{sends_of}
-use Rattle.scq_work.proofs.Blocks.{takes-no_lend, takes-no_send}
-use Rattle.scq_work.specs.Reading.{IsRead}
-use Rattle.scq_work.specs.Working.{Suits, HasTaken, HasAnswered, HasLeft, IsSweeping, IsThrifty, IsAtWork, HasStopped, index_of, after_retire}
-use Rattle.scq_work.specs.declared.own_file.OwnFile.{OwnFile}
-use Rattle.scq_work.proofs.WorkerSteps.{taken-calls, sweeping-first, sweeping-taken, swept, thrifty-taken, listed-taken}
+use Rattle.scq_passes.proofs.Blocks.{takes-no_lend, takes-no_send}
+use Rattle.scq_files.specs.Reading.{IsRead}
+use Rattle.scq_passes.specs.Calls.{Suits, HasTaken, HasLeft, IsThrifty, index_of, after_retire}
+use Rattle.scq_work.specs.Working.{HasAnswered, IsSweeping, IsAtWork, HasStopped}
+use Rattle.scq_files.specs.declared.own_file.OwnFile.{OwnFile}
+use Rattle.scq_passes.proofs.Kept.{taken-calls, swept, thrifty-taken}
+use Rattle.scq_work.proofs.WorkerSteps.{sweeping-first, sweeping-taken, listed-taken}
 
 -- of no calls each is nowhere
 no-call : (before after : List Ended) (call : Ended) → [] ≡ before ++ call ∷ after → ⊥

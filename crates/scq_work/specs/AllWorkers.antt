@@ -1,6 +1,6 @@
 -- What all workers did with the messages of files. `given` has the messages of each file, in the order of the files. A worker is told by
 -- its number, from 0: by it stand its pass among the passes, and its list among the lists.
-use Rattle.std.specs.Prelude.{◌≡◌, ℕ, ◌+◌, ◌^◌, ◌≤◌, List, length, map, flat_map, Some, slice_get, slice_index, All, Vec}
+use Rattle.std.specs.Prelude.{◌≡◌, ℕ, ◌≤◌, List, length, map, flat_map, All, Vec}
 use Rattle.std.specs.Global.{Global}
 use Rattle.std.specs.List.Sorted.{IsPermutation}
 use Rattle.scq_topics.specs.declared.kind.Kind.{Kind}
@@ -9,14 +9,9 @@ use Rattle.scq_collect.specs.Joined.{AreWhole, part_answers, without_way}
 use Rattle.scq_collect.specs.Merging.{members_in}
 use Rattle.scq_collect.specs.declared.answered.Answered.{Answered}
 use Rattle.scq_word.specs.declared.setup.Setup.{Setup}
-use Rattle.scq_word.specs.Sizes.{n_of}
-use Rattle.scq_band.specs.Closing.{IsOneRun}
-use Rattle.scq_band.specs.Standing.{Identity}
-use Rattle.scq_queue.specs.Closing.{AllFullsStand, IsBalance, callers_of}
 use Rattle.scq_queue.specs.Lists.{sends_of, takes_of}
 use Rattle.scq_queue.specs.Passes.{PassStanding}
-use Rattle.scq_queue.specs.declared.counts.Counts.{Counts}
-use Rattle.scq_work.specs.Files.{own_of}
+use Rattle.scq_files.specs.Files.{own_of}
 use Rattle.scq_work.specs.declared.worked.Worked.{Worked}
 use Rattle.scq_work.specs.Members.{AnswersItsTakes, AnswersItsFulls}
 use Rattle.scq_work.specs.Passing.{parts_in, HasPassedOn, FollowsCalls}
@@ -89,10 +84,6 @@ module _ {B : Type 0} where
     pub setup : Setup
     pub of_job : IsSetup order topics workers setup
     pub shared : HaveShared topics setup passes left
-
-  -- how many sends, takes and Full replies a pass has. A queue's count of them stands still at the last value of 64 bits; these are few.
-  abbrev pub lengths_of : PassStanding B → Counts
-  lengths_of p = record { sent = length (sends_of p.calls); taken = length (takes_of p.calls); full = length p.fulls }
 
 -- so many workers answered files that gave these messages: what they answered, by their passes, and the lengths of the passes' lists
 pub record HasWorked (topics : List (List ℕ × Kind)) (size workers : ℕ) (given : List (List Message)) (w : Worked) : Type 0 where

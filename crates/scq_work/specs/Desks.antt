@@ -1,8 +1,6 @@
 -- A desk: a worker, its files, and the value that it keeps where it met a ticket past the limit. What the worker's whole work makes of it.
-use Rattle.std.specs.Prelude.{◌≡◌, ℕ, ◌+◌, ◌<◌, false, Bool, List, [], map, reverse, flat_map, length, Option, Some, None, IfSome, All, slice_index_or}
+use Rattle.std.specs.Prelude.{◌≡◌, ℕ, ◌+◌, false, Bool, List, length, Option, Some, None, IfSome, All}
 use Rattle.scq_topics.specs.declared.kind.Kind.{Kind}
-use Rattle.scq_frames.specs.declared.fault.FrameFault.{FrameFault}
-use Rattle.scq_frames.specs.declared.message.Message.{Message}
 use Rattle.scq_collect.specs.declared.answered.Answered.{Answered}
 use Rattle.scq_band.specs.Standing.{Identity}
 use Rattle.scq_queue.specs.Passes.{PassStanding, HeldStanding}

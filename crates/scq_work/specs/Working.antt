@@ -1,23 +1,16 @@
--- What a worker's calls make of its pass.
-use Rattle.std.specs.Prelude.{◌≡◌, ℕ, zero, suc, ◌+◌, ◌-◌, ◌<◌, ◌≤◌, Bool, false, List, [], ◌∷◌, ◌++◌, length, filter, count_by, Option, Some, None, IfSome}
-use Rattle.std.specs.List.{Contains}
-use Rattle.scq_core.specs.declared.ended.Ended.{Ended}
-use Rattle.scq_core.specs.declared.ended.Ended.TheVariants.{Done, Got, Nothing}
-use Rattle.scq_law.specs.Bounds.{tally, was_put}
+-- What a worker's calls make of its pass and of its list.
+use Rattle.std.specs.Prelude.{◌≡◌, ℕ, suc, ◌+◌, ◌≤◌, Bool, false, List, [], ◌∷◌, ◌++◌, length, filter, Option, Some, None, IfSome}
+use Rattle.scq_core.specs.declared.ended.Ended.TheVariants.{Done, Got}
 use Rattle.scq_topics.specs.declared.kind.Kind.{Kind}
 use Rattle.scq_frames.specs.Parts.{Part}
 use Rattle.scq_collect.specs.declared.answered.Answered.{Answered}
-use Rattle.scq_queue.specs.Lists.{Placed, sends_of, takes_of}
+use Rattle.scq_queue.specs.Lists.{sends_of, takes_of}
 use Rattle.scq_band.specs.Standing.{Identity}
 use Rattle.scq_queue.specs.Passes.{PassStanding, HeldStanding, known_on}
-use Rattle.scq_work.specs.Records.{is_got, is_put, AreTakes, HoldsNothingAtEachFull, HelpsOnceAfterEachFull, HelpsAfterEachFull, MeetsNoSpent}
+use Rattle.scq_passes.specs.Records.{HelpsOnceAfterEachFull, HelpsAfterEachFull}
+use Rattle.scq_passes.specs.Calls.{KnowsMore, IsBetweenParts, IsThrifty, index_of}
 use Rattle.scq_work.specs.Members.{AnswersSoFar, AnswersItsFulls, is_taken, is_direct}
 use Rattle.scq_work.specs.Passing.{HasPassedOn, FollowsCalls, Sends}
-
--- the index of a value, where there is one
-abbrev pub index_of : {B : Type 0} → Option (HeldStanding B) → List ℕ
-index_of None = []
-index_of (Some h) = h.index ∷ []
 
 module _ {B : Type 0} where
   -- a pass of this queue, whose topics are so many declared ones and one more, and which has met no Spent

@@ -1,12 +1,14 @@
 //! A worker with its files: all that one thread has.
 ghost use Rattle.std.specs.Prelude.{◌≡◌, ◌≤◌, ◌<◌, ◌+◌, ◌++◌, ◌∷◌, List, false, true, [], length, Some, None, IfNone, IfSome, All, vec_len, vec_capacity};
 ghost use Rattle.scq_queue.specs.Passes.{first_pass};
-ghost use Rattle.scq_work.specs.Desks.{IsNew, ids_of, HasRun};
+ghost use Rattle.scq_files.specs.OwnFiles.{IsNew, ids_of};
+ghost use Rattle.scq_work.specs.Desks.{HasRun};
 
-use crate::own_file::OwnFile;
-use crate::worker::{AtLimit, Worker};
+use crate::worker::Worker;
 use crate::{Gate, Job};
+use scq_files::OwnFile;
 use scq_outside::Source;
+use scq_passes::AtLimit;
 use scq_queue::{Held, Queue};
 use scq_word::Buffer;
 use std::alloc::Global;

@@ -3,7 +3,7 @@ ghost use Rattle.std.specs.Prelude.{◌≡◌, ◌≤◌, ◌+◌, ◌++◌, ◌
 ghost use Rattle.scq_frames.specs.Parts.{Part as ThePart, IsNumbered, all_parts, parts_of as the_parts_of, part_of};
 ghost use Rattle.scq_work.specs.Working.{Suits, IsAtWork, HasStopped};
 
-use crate::worker::{AtLimit, Worker};
+use crate::worker::Worker;
 use crate::{Gate, Job, Point};
 use scq_frames::{Message, parts_of};
 use scq_queue::{LendRefusal, Queue};

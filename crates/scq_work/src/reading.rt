@@ -7,12 +7,12 @@ ghost use Rattle.scq_work.specs.Passing.{parts_in};
 ghost use Rattle.scq_work.specs.Reading.{IsRead};
 ghost use Rattle.scq_work.specs.Working.{Suits, IsAtWork, HasStopped};
 
-use crate::given::{Given, give};
-use crate::own_file::{FileEnd, OwnFile};
-use crate::worker::{AtLimit, Worker};
+use crate::worker::Worker;
 use crate::{Gate, Job};
+use scq_files::{FileEnd, Given, OwnFile, give};
 use scq_frames::{FrameFault, Framer};
 use scq_outside::Source;
+use scq_passes::AtLimit;
 use scq_queue::Queue;
 use scq_word::Buffer;
 use std::alloc::Global;

@@ -5,7 +5,7 @@ ghost use Rattle.scq_frames.specs.Parts.{IsNumbered, parts_of, part_of};
 ghost use Rattle.scq_frames.specs.Views.{part_of_view};
 ghost use Rattle.scq_queue.specs.Lists.{Placed};
 ghost use Rattle.scq_queue.specs.Passes.{known_on, IsHeldBy, after_put, after_spent_put, having_seen};
-ghost use Rattle.scq_work.specs.Records.{is_take};
+ghost use Rattle.scq_passes.specs.Records.{is_take};
 ghost use Rattle.scq_work.specs.Members.{answered, is_taken, is_direct, AnswersSoFar};
 ghost use Rattle.scq_work.specs.Passing.{Sends};
 ghost use Rattle.scq_work.specs.Leaving.{FoundTopicEmpty, HasSweptLast, TookNothing};
@@ -31,9 +31,16 @@ pub struct Worker<B: Buffer> {
     pub starved: bool,
 }
 
-/// Why a worker leaves at once: a ticket at or past the limit was drawn. It has the value that came back, where there is one.
-pub struct AtLimit<B: Buffer> {
-    pub held: Option<Held<B>>,
+/// The text of a part: the reply to it where it is its whole message, else its bytes.
+fn text_of(alloc: Global, job: &Job, part: View<'_>) -> Result<ReplyBytes, NoMemory>
+    requires { part.topic ≤ length job.now.topics }
+    ensures { IfOk result (λ text. text ≡ text_of_part job.now.topics (part_of_view part.entry)) }
+{
+    if part.parts == 1 {
+        let kind = job.topics.kind(part.topic);
+        return reply(alloc, kind, part.payload);
+    }
+    ReplyBytes::copy_of(alloc, part.payload)
 }
 
 /// The text of a part: the reply to it where it is its whole message, else its bytes.

@@ -10,18 +10,21 @@ ghost use Rattle.scq_collect.specs.Merging.{members_in};
 ghost use Rattle.scq_queue.specs.Passes.{first_passes};
 ghost use Rattle.scq_work.specs.AllWorkers.{HasWorked, NothingIsStranded};
 ghost use Rattle.scq_work.specs.Dealings.{IsFresh};
-ghost use Rattle.scq_work.specs.Desks.{IsNew, HasRun, ids_of};
-ghost use Rattle.scq_work.specs.Ends.{AreGiven, HasCause, HasMoved, MemoryIsFirst, all_left, fault_of_workers, messages_in};
-ghost use Rattle.scq_work.specs.Reading.{IsWhole};
+ghost use Rattle.scq_files.specs.OwnFiles.{IsNew, ids_of};
+ghost use Rattle.scq_work.specs.Desks.{HasRun};
+ghost use Rattle.scq_files.specs.Ends.{AreGiven, HasMoved, all_left, messages_in};
+ghost use Rattle.scq_work.specs.Ends.{HasCause, MemoryIsFirst, fault_of_workers};
+ghost use Rattle.scq_files.specs.Reading.{IsWhole};
 
 use crate::dealing::{deal, make_desks};
 use crate::desk::Desk;
 use crate::gathering::{Gathered, Left, clear, gather};
-use crate::own_file::OwnFile;
 use crate::{Gate, Job, WorkEnd, WorkFault, Worked};
 use scq_block::{Block, Frame};
+use scq_files::{OwnFile, make_lists};
 use scq_frames::FrameFault;
 use scq_outside::Source;
+use scq_passes::make_queue;
 use scq_queue::{Closed, Pass, Queue};
 use scq_word::{NoMemory, Setup};
 use std::alloc::Global;
@@ -31,9 +34,6 @@ use std::thread::Threads;
 
 /// The limit of the queue's tickets, which no work comes near.
 const LIMIT: u64 = 1 << 60;
-
-/// How many bytes stand in front of a part.
-const HEADER: u32 = 24;
 
 /// What the work needs room for, beside its queue: the lists of each worker's files, the desks, and what the workers leave behind.
 struct Room<S: Source> {
@@ -57,22 +57,6 @@ impl<S: Source> Room<S> {
         desks.destroy_empty();
         left.destroy_empty();
     }
-}
-
-/// A list for each worker, with room for so many files.
-fn make_lists<S: Source>(
-    alloc: Global,
-    workers: u32,
-    files: usize,
-) -> Result<Vec<Vec<OwnFile<S>>>, NoMemory>
-    ensures { IfOk result (λ lists. (vec_len lists ≡ workers)
-        × All (λ list. (list.items ≡ []) × (vec_len list ≡ 0) × (files ≤ vec_capacity list)) lists.items) }
-{
-    let mut lists = Vec::with_capacity(alloc, workers as usize)?;
-    'lists: for _number in 0..workers {
-        lists.push_reserved(Vec::with_capacity(alloc, files)?);
-    }
-    Ok(lists)
 }
 
 fn make_left(alloc: Global, workers: usize) -> Result<Left<Frame>, NoMemory>
@@ -242,7 +226,7 @@ pub fn work<R: Threads + Sync, S: Source, G: Gate>(
     let Ok(room) = make_room(alloc, job, sources.len()) else {
         return WorkEnd::starved(sources);
     };
-    match make_queue(alloc, job) {
+    match make_queue(alloc, setup_of(job), job.size) {
         Ok((block, queue, passes)) => {
             work_in(rt, alloc, job, sources, gate, room, block, queue, passes)
         }

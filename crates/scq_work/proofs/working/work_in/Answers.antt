@@ -17,12 +17,14 @@ use Rattle.scq_queue.specs.Closing.{AreTheHeld}
 use Rattle.scq_queue.specs.Lists.{counts_of}
 use Rattle.scq_queue.specs.Passes.{PassStanding, HeldStanding, lists_of}
 use Rattle.scq_collect.specs.Merging.{members_in}
-use Rattle.scq_work.specs.AllWorkers.{HaveAnswered, HasWorked, IsSetup, lengths_of}
+use Rattle.scq_passes.specs.AllPasses.{IsSetup, lengths_of}
+use Rattle.scq_work.specs.AllWorkers.{HaveAnswered, HasWorked}
 use Rattle.scq_work.specs.Dealings.{AreDealt, IsFresh, without_files}
-use Rattle.scq_work.specs.Desks.{IsNew}
-use Rattle.scq_work.specs.Ends.{AreGiven, HasCause, HasMoved, MemoryIsFirst, all_left}
-use Rattle.scq_work.specs.Given.{given_in}
-use Rattle.scq_work.specs.Reading.{IsRead, IsWhole}
+use Rattle.scq_files.specs.OwnFiles.{IsNew}
+use Rattle.scq_files.specs.Ends.{AreGiven, HasMoved, all_left}
+use Rattle.scq_work.specs.Ends.{HasCause, MemoryIsFirst}
+use Rattle.scq_files.specs.Given.{given_in}
+use Rattle.scq_files.specs.Reading.{IsRead, IsWhole}
 use Rattle.scq_work.specs.declared.desk.Desk.{Desk}
 use Rattle.scq_work.specs.declared.worked.WorkFault.{WorkFault}
 use Rattle.scq_work.specs.declared.worked.Worked.{Worked}
@@ -30,10 +32,13 @@ use Rattle.scq_work.proofs.AllGave.{AllRan, given, is-given}
 use Rattle.scq_work.proofs.AllRun.{HasClosed, have-answered, have-shared, passes_at, lists_at, held_at}
 use Rattle.scq_work.proofs.Cleared.{AllWhole}
 use Rattle.scq_work.proofs.DeskLemmas.{still-dealt}
-use Rattle.scq_work.proofs.Faults.{caused, memory-first, err-then}
-use Rattle.scq_work.proofs.Lists.{written-back, right-of}
-use Rattle.scq_work.proofs.Orders.{members-told, given-told}
-use Rattle.scq_work.proofs.Settled.{told-worked, ok-more, ok-on, same-passes, same-lists, same-held, same-fed, still-fresh, place-numbers, are-held, counts-exact}
+use Rattle.scq_work.proofs.Faults.{caused, memory-first}
+use Rattle.scq_files.proofs.Lists.{written-back, right-of}
+use Rattle.scq_files.proofs.GivenLemmas.{given-told}
+use Rattle.scq_work.proofs.Orders.{members-told}
+use Rattle.scq_passes.proofs.Counted.{counts-exact}
+use Rattle.scq_passes.proofs.Results.{err-then, ok-more, ok-on}
+use Rattle.scq_work.proofs.Settled.{told-worked, same-passes, same-lists, same-held, same-fed, still-fresh, place-numbers, are-held}
 use Rattle.scq_work.proofs.working.work_in.Goals as goal
 use Rattle.scq_work.proofs.working.work_in.Goals.{After-conclude}
 

@@ -3,9 +3,9 @@ use Rattle.scq_queue.specs.Passes.{PassStanding}
 use Rattle.scq_work.specs.Desks.{all_given, HasRun}
 use Rattle.scq_work.specs.Passing.{parts_in}
 use Rattle.scq_work.specs.Working.{IsAtWork}
-use Rattle.scq_work.specs.declared.own_file.OwnFile.{OwnFile}
+use Rattle.scq_files.specs.declared.own_file.OwnFile.{OwnFile}
 use Rattle.scq_work.specs.declared.worker.Worker.{Worker}
-use Rattle.scq_work.proofs.Lists.{written-back}
+use Rattle.scq_files.proofs.Lists.{written-back}
 use Rattle.scq_work.proofs.RunLemmas.{suits-first, work-first, run-left, run-late, run-stopped}
 use Rattle.scq_work.proofs.desk.Desk.run.Goals as goal
 use Rattle.scq_work.proofs.desk.Desk.run.Goals.{After-read_files}

@@ -1,11 +1,11 @@
 use Rattle.std.proofs.Common.{rules, ◌≡◌, ◌+◌, ◌∙◌, ap, sym, subst, arith, refl, inl, inr, ℕ, true, false, length, Ok}
 use Rattle.std.proofs.lemmas.Bool.{cases_lt, cases_Bool}
 use Rattle.std.specs.Prelude.{IfErr, Result, Err}
-use Rattle.scq_work.specs.Leaving.{FoundTopicEmpty}
-use Rattle.scq_work.specs.Working.{HasLeft}
-use Rattle.scq_work.proofs.PassLemmas.{taken-nothing, taken-along, left-falls, left-falls-at, empty-more}
-use Rattle.scq_work.proofs.LeftLemmas.{left-taken}
-use Rattle.scq_work.proofs.Sweeps.{found-earlier, found-later}
+use Rattle.scq_passes.specs.Leaving.{FoundTopicEmpty}
+use Rattle.scq_passes.specs.Calls.{HasLeft}
+use Rattle.scq_passes.proofs.PassLemmas.{taken-nothing, taken-along, left-falls, left-falls-at, empty-more}
+use Rattle.scq_passes.proofs.LeftLemmas.{left-taken}
+use Rattle.scq_passes.proofs.Sweeps.{found-earlier, found-later}
 use Rattle.scq_work.proofs.WorkerSteps.{answered-along, answered-nothing}
 use Rattle.scq_work.proofs.worker.Worker.sweep.Goals as goal
 use Rattle.scq_work.proofs.worker.Worker.sweep.Goals.{then-some, else-some}

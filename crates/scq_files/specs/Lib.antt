@@ -1,0 +1,5 @@
+pub mod Given
+pub mod Files
+pub mod Reading
+pub mod Ends
+pub mod OwnFiles

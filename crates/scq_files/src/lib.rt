@@ -1,0 +1,12 @@
+//! The files of workers. A file is a source with its number, read message by message; what it gave and how its reading ended is told by
+//! `IsRead` (`specs/Reading`), and what that says of all files by `specs/Ends`. Which files are a worker's is `specs/Files`. It stands on
+//! `scq_frames`, whose messages these are. What is done with the messages isn't said here.
+#![tactic(auto)]
+
+mod given;
+mod own_file;
+mod own_lists;
+
+pub use given::{Given, give};
+pub use own_file::{FileEnd, OwnFile};
+pub use own_lists::make_lists;

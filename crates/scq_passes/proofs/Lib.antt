@@ -1,0 +1,16 @@
+pub mod Splits
+pub mod KnownNumbers
+pub mod FirstPasses
+pub mod Blocks
+pub mod Kept
+pub mod RecordSteps
+pub mod PassLemmas
+pub mod LeftLemmas
+pub mod Sweeps
+pub mod Vain
+pub mod ManyLists
+pub mod SendsAndTakes
+pub mod NoneSpent
+pub mod Counted
+pub mod Parting
+pub mod Results
