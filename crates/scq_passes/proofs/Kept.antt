@@ -9,9 +9,10 @@ use Rattle.scq_law.proofs.Base.SeatSums.{tally-append}
 use Rattle.scq_queue.specs.Lists.{sends_of, takes_of}
 use Rattle.scq_queue.specs.Passes.{PassStanding, known_on}
 use Rattle.scq_queue.proofs.Records.{sends-append, takes-append}
+use Rattle.scq_passes.specs.Records.{Puts, AreReturns}
 use Rattle.scq_passes.specs.Together.{HasSwept}
-use Rattle.scq_passes.specs.Calls.{KnowsMore, HasTaken, HasFoundFull, KnowsItsSends, IsThrifty}
-use Rattle.scq_passes.proofs.Blocks.{takes-no_send, takes-puts, takes-returns}
+use Rattle.scq_passes.specs.Calls.{KnowsMore, HasTakenFollowed, HasTaken, HasFoundFull, KnowsItsSends, IsThrifty}
+use Rattle.scq_passes.proofs.Blocks.{returns, takes-no_send, takes-puts, takes-returns}
 
 -- one put is at most one on a ring
 pub at_most : (b : Bool) → (if b then 1 else 0) + 0 ≤ 1
@@ -20,15 +21,18 @@ at_most false = omega arith
 
 module _ {B : Type 0} where
   -- the record, the sends and the takes of a pass that has taken
-  pub taken-calls : (p q : PassStanding B) (h : HasTaken p q) → q.calls ≡ p.calls ++ h.block
+  pub taken-calls : {By : Puts} (p q : PassStanding B) (h : HasTakenFollowed By p q) → q.calls ≡ p.calls ++ h.block
   taken-calls p q h = ap (λ (x : PassStanding B). x.calls) h.pass
 
-  pub taken-sends : (p q : PassStanding B) → HasTaken p q → sends_of q.calls ≡ sends_of p.calls
-  taken-sends p q h =
-      ap sends_of (taken-calls p q h) ∙ sends-append p.calls h.block ∙ ap (λ l. sends_of p.calls ++ l) (takes-no_send h.block h.are)
+  pub taken-sends-as : {By : Puts} → AreReturns By → (p q : PassStanding B) → HasTakenFollowed By p q → sends_of q.calls ≡ sends_of p.calls
+  taken-sends-as home p q h =
+      ap sends_of (taken-calls p q h) ∙ sends-append p.calls h.block ∙ ap (λ l. sends_of p.calls ++ l) (takes-no_send home h.block h.are)
       ∙ append-nil (sends_of p.calls)
 
-  taken-takes : (p q : PassStanding B) (h : HasTaken p q) → takes_of q.calls ≡ takes_of p.calls ++ takes_of h.block
+  pub taken-sends : (p q : PassStanding B) → HasTaken p q → sends_of q.calls ≡ sends_of p.calls
+  taken-sends p q h = taken-sends-as returns p q h
+
+  pub taken-takes : {By : Puts} (p q : PassStanding B) (h : HasTakenFollowed By p q) → takes_of q.calls ≡ takes_of p.calls ++ takes_of h.block
   taken-takes p q h = ap takes_of (taken-calls p q h) ∙ takes-append p.calls h.block
 
   -- those of one that found no buffer free
@@ -83,7 +87,7 @@ module _ {B : Type 0} where
       record {
         sends = let low = was.sends in omega (arith, ap length (taken-sends p q h));
         fulls = let low = was.fulls in omega (arith, ap (λ (x : PassStanding B). length x.fulls) h.pass);
-        puts = λ topic. let low = was.puts topic in omega (arith, all (suc topic), takes-puts h.block topic h.are);
+        puts = λ topic. let low = was.puts topic in omega (arith, all (suc topic), takes-puts returns h.block topic h.are);
         returns = let low = was.returns in
-            omega (arith, all 0, takes-returns h.block h.are, ap length (taken-takes p q h), length-append (takes_of p.calls) (takes_of h.block));
+            omega (arith, all 0, takes-returns returns h.block h.are, ap length (taken-takes p q h), length-append (takes_of p.calls) (takes_of h.block));
       }

@@ -14,3 +14,4 @@ pub mod NoneSpent
 pub mod Counted
 pub mod Parting
 pub mod Results
+pub mod Following

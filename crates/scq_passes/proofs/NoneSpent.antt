@@ -100,18 +100,14 @@ module _ {B : Type 0} where
       let few = few-takes (passes_of works) sent once in
       let sends = few-sends works each in
       let takes : length (all_takes (passes_of works)) ≤ messages_of works = omega arith in
-      let puts = messages_of works + length works in
-      let enough = few-tickets c puts (omega (arith, few_seats c)) in
-      let all = limits puts (omega (arith, enough, limit)) (λ r low. begun-few works each takes r) in
-      λ k d less.
-      let long = length-map (passes_of works) (λ (p : PassStanding B). p.spent) in
-      sym (get_or-map (λ (p : PassStanding B). p.spent) (passes_of works) k d d.spent less) ∙ all k d.spent (omega arith)
+      none-spent-within c (passes_of works) (messages_of works + length works) limit (omega (arith, few_seats c)) (λ r low. begun-few works each takes r)
+      limits
 
   -- each pass has few sends, takes and Full replies
   pub all-bounded : (works : List (ℕ × PassStanding B)) → messages_of works ≤ 2 ^ 36 → AllThrifty works → EachTakeIsASend (passes_of works)
       → NoPlaceIsTakenTwice (passes_of works)
-      → (k : ℕ) (d : ℕ × PassStanding B) → k < length works → IsBounded (get_or works k d).1
-  all-bounded works messages each sent once k d less =
+      → (k : ℕ) (d : ℕ × PassStanding B) → k < length works → IsBounded most (get_or works k d).1
+  all-bounded works most messages each sent once k d less =
       let its = each k d less in
       let sends = its.sends in
       let fulls = its.fulls in

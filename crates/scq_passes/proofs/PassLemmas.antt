@@ -14,8 +14,8 @@ use Rattle.scq_frames.specs.Parts.{Part}
 use Rattle.scq_collect.proofs.Orders.{contains-first, contains-more}
 use Rattle.scq_band.specs.RunSeen.{Seen}
 use Rattle.scq_queue.specs.Passes.{PassStanding, HeldStanding, HasGot, WasGivenBack, FoundEmpty, FoundFull, having_seen, without, known_on, after_look}
-use Rattle.scq_passes.specs.Records.{none, and_got, and_found_none}
-use Rattle.scq_passes.specs.Calls.{KnowsMore, HasTaken, HasFoundFull, Suits, takes_left}
+use Rattle.scq_passes.specs.Records.{Puts, none, and_got, and_found_none}
+use Rattle.scq_passes.specs.Calls.{KnowsMore, HasTakenFollowed, HasTaken, HasFoundFull, Suits, takes_left}
 use Rattle.scq_passes.proofs.Blocks.{takes-join}
 use Rattle.scq_passes.proofs.KnownNumbers.{known-other, known-same, Raises, raises-along, known-raised, finishes-raises, got-raises, empty-raises, empty-finished, empty-passes, finished-stays}
 
@@ -71,11 +71,11 @@ module _ {B : Type 0} where
       is ∙ ap (λ (x : PassStanding B). record p { calls = calls; numbers = x.numbers; gates = x.gates; gate = x.gate; seen = x.seen }) (sym is)
 
   -- nothing was done
-  pub taken-nothing : (p : PassStanding B) → HasTaken p p
+  pub taken-nothing : {By : Puts} (p : PassStanding B) → HasTakenFollowed By p p
   taken-nothing p = record { block = []; are = none; pass = rw (append-nil p.calls) refl; knows = knows-itself p; same = λ t. refl }
 
   -- one behind the other
-  pub taken-along : (p q r : PassStanding B) → HasTaken p q → HasTaken q r → HasTaken p r
+  pub taken-along : {By : Puts} (p q r : PassStanding B) → HasTakenFollowed By p q → HasTakenFollowed By q r → HasTakenFollowed By p r
   taken-along p q r one more =
       record {
         block = one.block ++ more.block;
@@ -94,10 +94,11 @@ module _ {B : Type 0} where
         same = λ t. more.same t ∙ one.same t;
       }
 
-  -- a value was taken from a topic and given back
-  pub took-one : (contents : B → List ℕ) (topic place : ℕ) (p q r : PassStanding B) (h : HeldStanding B) → suc topic < length p.numbers
-      → HasGot contents (suc topic) place p q h → WasGivenBack (contents h.buffer) h.index q r → HasTaken p r
-  took-one contents topic place p q r h within got back =
+  -- a value was taken from a topic and given back, with such bytes
+  pub took-and-gave : {By : Puts} (contents : B → List ℕ) (topic place : ℕ) (later : List ℕ) (p q r : PassStanding B) (h : HeldStanding B)
+      → suc topic < length p.numbers
+      → HasGot contents (suc topic) place p q h → WasGivenBack later h.index q r → By topic (contents h.buffer) 0 later → HasTakenFollowed By p r
+  took-and-gave contents topic place later p q r h within got back by =
       let bytes = contents h.buffer in
       let f : Numbers → Numbers = λ x. sees place (passes (place + 1) x) in
       let q_numbers : q.numbers ≡ changed f (suc topic) p.numbers = ap (λ (x : PassStanding B). x.numbers) got.pass in
@@ -111,16 +112,16 @@ module _ {B : Type 0} where
       (known-raised (finishes back.place) 0 k q.numbers (finishes-raises back.place) (omega arith)) in
       let both : (k : ℕ) → Raises (known_of p.numbers k) (known_of r.numbers k) = λ k. raises-along _ _ _ (first k) (then_ k) in
       record {
-        block = ([] ++ Got (suc topic) place bytes ∷ []) ++ Done 0 back.place bytes ∷ [];
-        are = and_got topic place back.place bytes none;
+        block = ([] ++ Got (suc topic) place bytes ∷ []) ++ Done 0 back.place later ∷ [];
+        are = and_got topic place bytes 0 back.place later none by;
         pass = calls-alone p r _ _ (back.pass ∙ ap (λ (x : PassStanding B). record x {
-          calls = x.calls ++ Done 0 back.place bytes ∷ [];
+          calls = x.calls ++ Done 0 back.place later ∷ [];
           held = without h.index x.held;
           numbers = changed (finishes back.place) 0 x.numbers;
           seen = r.seen;
         }) got.pass
             ∙ ap (λ (held : List ℕ). record p {
-              calls = (p.calls ++ Got (suc topic) place bytes ∷ []) ++ Done 0 back.place bytes ∷ [];
+              calls = (p.calls ++ Got (suc topic) place bytes ∷ []) ++ Done 0 back.place later ∷ [];
               held = held;
               numbers = changed (finishes back.place) 0 (changed f (suc topic) p.numbers);
               seen = r.seen;
@@ -131,8 +132,8 @@ module _ {B : Type 0} where
                   (suc topic) p.numbers);
               seen = r.seen;
             })
-            (append_assoc p.calls (Got (suc topic) place bytes ∷ []) (Done 0 back.place bytes ∷ []))
-            ∙ ap (λ ns. record p { calls = p.calls ++ (Got (suc topic) place bytes ∷ Done 0 back.place bytes ∷ []); numbers = ns; seen = r.seen })
+            (append_assoc p.calls (Got (suc topic) place bytes ∷ []) (Done 0 back.place later ∷ []))
+            ∙ ap (λ ns. record p { calls = p.calls ++ (Got (suc topic) place bytes ∷ Done 0 back.place later ∷ []); numbers = ns; seen = r.seen })
             (sym (r_numbers ∙ ap (changed (finishes back.place) 0) q_numbers)));
         knows = record { rings = r_length ∙ q_length; finished = λ t. (both (suc t)).finished; head = λ t. (both (suc t)).head };
         same = λ t. ap (λ ns. (known_of ns (suc t)).finished) r_numbers
@@ -141,33 +142,49 @@ module _ {B : Type 0} where
             ∙ finished-stays f (suc topic) (suc t) p.numbers (λ x. refl) within;
       }
 
-  -- a topic was found empty: each place known there to be finished is passed
-  pub found-none : (topic head : ℕ) (p q : PassStanding B) → suc topic < length p.numbers → FoundEmpty topic head p q
-      → HasTaken p q × ((known_on topic q).finished < (known_on topic q).head)
+  -- as it was
+  pub took-one : (contents : B → List ℕ) (topic place : ℕ) (p q r : PassStanding B) (h : HeldStanding B) → suc topic < length p.numbers
+      → HasGot contents (suc topic) place p q h → WasGivenBack (contents h.buffer) h.index q r → HasTaken p r
+  took-one contents topic place p q r h within got back = took-and-gave contents topic place (contents h.buffer) p q r h within got back (refl, refl)
+
+  -- where a topic was found empty, the finished places known stay, and each one known there is passed
+  found-stays : (topic head : ℕ) (p q : PassStanding B) → suc topic < length p.numbers → FoundEmpty topic head p q → (k : ℕ)
+      → (known_of q.numbers k).finished ≡ (known_of p.numbers k).finished
+  found-stays topic head p q within found k =
+      let f : Numbers → Numbers = λ x. empties (drew found.drawn x) in
+      let numbers : q.numbers ≡ changed f (suc topic) p.numbers = ap (λ (x : PassStanding B). x.numbers) found.pass in
+      ap (λ ns. (known_of ns k).finished) numbers ∙ finished-stays f (suc topic) k p.numbers (empty-finished found.drawn) within
+
+  pub found-past : (topic head : ℕ) (p q : PassStanding B) → suc topic < length p.numbers → FoundEmpty topic head p q
+      → (known_on topic q).finished < (known_on topic q).head
+  found-past topic head p q within found =
+      let f : Numbers → Numbers = λ x. empties (drew found.drawn x) in
+      let numbers : q.numbers ≡ changed f (suc topic) p.numbers = ap (λ (x : PassStanding B). x.numbers) found.pass in
+      let past : (known_of p.numbers (suc topic)).finished < (known_of q.numbers (suc topic)).head =
+      subst (λ ns. (known_of p.numbers (suc topic)).finished < (known_of ns (suc topic)).head) (sym numbers)
+      (subst (λ x. (known_of p.numbers (suc topic)).finished < x.head) (sym (known-same f (suc topic) p.numbers within))
+      (empty-passes found.drawn (known_of p.numbers (suc topic)))) in
+      subst (λ n. n < (known_of q.numbers (suc topic)).head) (sym (found-stays topic head p q within found (suc topic))) past
+
+  -- a topic was found empty
+  pub found-none : {By : Puts} (topic head : ℕ) (p q : PassStanding B) → suc topic < length p.numbers → FoundEmpty topic head p q
+      → HasTakenFollowed By p q
   found-none topic head p q within found =
       let f : Numbers → Numbers = λ x. empties (drew found.drawn x) in
       let numbers : q.numbers ≡ changed f (suc topic) p.numbers = ap (λ (x : PassStanding B). x.numbers) found.pass in
       let raised : (k : ℕ) → Raises (known_of p.numbers k) (known_of q.numbers k) = λ k.
       subst (λ ns. Raises (known_of p.numbers k) (known_of ns k)) (sym numbers) (known-raised f (suc topic) k p.numbers (empty-raises found.drawn) within) in
-      let stays : (k : ℕ) → (known_of q.numbers k).finished ≡ (known_of p.numbers k).finished = λ k.
-      ap (λ ns. (known_of ns k).finished) numbers ∙ finished-stays f (suc topic) k p.numbers (empty-finished found.drawn) within in
-      let past : (known_of p.numbers (suc topic)).finished < (known_of q.numbers (suc topic)).head =
-      subst (λ ns. (known_of p.numbers (suc topic)).finished < (known_of ns (suc topic)).head) (sym numbers)
-      (subst (λ x. (known_of p.numbers (suc topic)).finished < x.head) (sym (known-same f (suc topic) p.numbers within))
-      (empty-passes found.drawn (known_of p.numbers (suc topic)))) in (
-        record {
-          block = [] ++ Nothing (suc topic) ∷ [];
-          are = and_found_none topic none;
-          pass = calls-alone p q (p.calls ++ Nothing (suc topic) ∷ []) (changed f (suc topic) p.numbers) found.pass;
-          knows = record {
-            rings = ap length numbers ∙ changed_length f (suc topic) p.numbers;
-            finished = λ t. (raised (suc t)).finished;
-            head = λ t. (raised (suc t)).head;
-          };
-          same = λ t. stays (suc t);
-        },
-        subst (λ n. n < (known_of q.numbers (suc topic)).head) (sym (stays (suc topic))) past,
-      )
+      record {
+        block = [] ++ Nothing (suc topic) ∷ [];
+        are = and_found_none topic none;
+        pass = calls-alone p q (p.calls ++ Nothing (suc topic) ∷ []) (changed f (suc topic) p.numbers) found.pass;
+        knows = record {
+          rings = ap length numbers ∙ changed_length f (suc topic) p.numbers;
+          finished = λ t. (raised (suc t)).finished;
+          head = λ t. (raised (suc t)).head;
+        };
+        same = λ t. found-stays topic head p q within found (suc t);
+      }
 
   -- no buffer was free
   pub found-full : (head : ℕ) (p q : PassStanding B) → 0 < length p.numbers → FoundFull head p q → HasFoundFull head p q
@@ -226,7 +243,7 @@ module _ {B : Type 0} where
       }
 
   -- it asked whether all had retired
-  pub looked : (p : PassStanding B) (found : ℕ) (seen : Seen) → HasTaken p (having_seen seen (after_look found p))
+  pub looked : {By : Puts} (p : PassStanding B) (found : ℕ) (seen : Seen) → HasTakenFollowed By p (having_seen seen (after_look found p))
   looked p found seen =
       record {
         block = [];
@@ -237,7 +254,8 @@ module _ {B : Type 0} where
       }
 
   -- a pass that has taken still suits
-  pub suits-taken : (shared : Identity B) (topics : ℕ) (p q : PassStanding B) → Suits shared topics p → HasTaken p q → Suits shared topics q
+  pub suits-taken : {By : Puts} (shared : Identity B) (topics : ℕ) (p q : PassStanding B) → Suits shared topics p → HasTakenFollowed By p q
+      → Suits shared topics q
   suits-taken shared topics p q suits h =
       record {
         queue = ap (λ (x : PassStanding B). x.queue) h.pass ∙ suits.queue;
@@ -274,14 +292,15 @@ module _ {B : Type 0} where
         below t n apart low_ = ⊎_elim (λ (h : t < n). h) (λ (h : n ≤ t). absurd (apart (omega arith))) (cases_lt t n)
 
   -- a topic that was found empty, still is as far as is known
-  pub empty-still : (topic : ℕ) (p q : PassStanding B) → HasTaken p q → (known_on topic p).finished < (known_on topic p).head
+  pub empty-still : {By : Puts} (topic : ℕ) (p q : PassStanding B) → HasTakenFollowed By p q → (known_on topic p).finished < (known_on topic p).head
       → (known_on topic q).finished < (known_on topic q).head
   empty-still topic p q h low =
       let same = h.same topic in
       let more = h.knows.head topic in
       omega arith
 
-  pub empty-more : (topic : ℕ) (p q : PassStanding B) → HasTaken p q → ((t : ℕ) → t < topic → (known_on t p).finished < (known_on t p).head)
+  pub empty-more : {By : Puts} (topic : ℕ) (p q : PassStanding B) → HasTakenFollowed By p q
+      → ((t : ℕ) → t < topic → (known_on t p).finished < (known_on t p).head)
       → (known_on topic q).finished < (known_on topic q).head → (t : ℕ) → t < topic + 1 → (known_on t q).finished < (known_on t q).head
   empty-more topic p q h before here t low =
       ⊎_elim (λ (under : t < topic). empty-still t p q h (before t under))

@@ -25,10 +25,10 @@ no-full calls front after zero_ is =
     ap (tally was_full) is ∙ tally-append was_full front (Nothing 0 ∷ after) in
     omega arith
 
-pub takes-no_full : (calls : List Ended) → AreTakes calls → tally was_full calls ≡ 0
+pub takes-no_full : {By : Puts} (calls : List Ended) → AreTakesFollowed By calls → tally was_full calls ≡ 0
 takes-no_full calls none = refl
-takes-no_full calls (and_got {calls = before} topic place back bytes more) =
-    tally-append was_full (before ++ Got (suc topic) place bytes ∷ []) (Done 0 back bytes ∷ [])
+takes-no_full calls (and_got {calls = before} topic place bytes ring back later more by) =
+    tally-append was_full (before ++ Got (suc topic) place bytes ∷ []) (Done ring back later ∷ [])
     ∙ rw (tally-append was_full before (Got (suc topic) place bytes ∷ []), takes-no_full before more) (omega arith)
 takes-no_full calls (and_found_none {calls = before} topic more) =
     tally-append was_full before (Nothing (suc topic) ∷ []) ∙ rw (takes-no_full before more) (omega arith)
@@ -79,20 +79,22 @@ even-sent xs from ring place over bytes even =
     subst P (sym (append_assoc xs (Got 0 from over ∷ []) (Done ring place bytes ∷ [])))
     (sum_by-append _ xs block ∙ ap (λ n. n + 1) even ∙ sym (sum_by-append _ xs block))
 
-pub even-taken : (xs block : List Ended) → AreTakes block → count_by is_got xs ≡ count_by is_put xs
+pub even-taken : {By : Puts} (xs block : List Ended) → AreTakesFollowed By block → count_by is_got xs ≡ count_by is_put xs
     → count_by is_got (xs ++ block) ≡ count_by is_put (xs ++ block)
 even-taken xs block are even =
     sum_by-append _ xs block ∙ ap (λ n. n + count_by is_got block) even ∙ ap (λ n. count_by is_put xs + n) (takes-even block are)
     ∙ sym (sum_by-append _ xs block)
 
 -- a Full, and then the help: a take of each topic
-where-full : (block front after : List Ended) → AreTakes block → Nothing 0 ∷ block ≡ front ++ Nothing 0 ∷ after → (front ≡ []) × (block ≡ after)
+where-full : {By : Puts} (block front after : List Ended) → AreTakesFollowed By block → Nothing 0 ∷ block ≡ front ++ Nothing 0 ∷ after
+    → (front ≡ []) × (block ≡ after)
 where-full block [] after are is = let same : block ≡ after = cc in (refl, same)
 where-full block (x ∷ front) after are is =
     let rest : block ≡ front ++ Nothing 0 ∷ after = cc in
     absurd (no-full block front after (takes-no_full block are) rest)
 
-pub helps-helped : (topics : ℕ) (xs block : List Ended) → AreTakes block → ((topic : ℕ) → topic < topics → count_by (is_take topic) block ≡ 1)
+pub helps-helped : {By : Puts} (topics : ℕ) (xs block : List Ended) → AreTakesFollowed By block
+    → ((topic : ℕ) → topic < topics → count_by (is_take topic) block ≡ 1)
     → HelpsOnceAfterEachFull topics xs → HelpsOnceAfterEachFull topics ((xs ++ Nothing 0 ∷ []) ++ block)
 helps-helped topics xs block are each once =
     subst (HelpsOnceAfterEachFull topics) (sym (append_assoc xs (Nothing 0 ∷ []) block))
@@ -102,7 +104,7 @@ helps-helped topics xs block are each once =
     let P : List Ended → Type 0 = λ l. count_by (is_take topic) (before_first is_lend l) ≡ 1 in
     subst P at.1 (ap (count_by (is_take topic)) (before-none is_lend block (takes-no_lend block are)) ∙ each topic low)))
 
-pub alone-helped : (xs block : List Ended) → AreTakes block → count_by is_got xs ≡ count_by is_put xs → HoldsNothingAtEachFull xs
+pub alone-helped : {By : Puts} (xs block : List Ended) → AreTakesFollowed By block → count_by is_got xs ≡ count_by is_put xs → HoldsNothingAtEachFull xs
     → HoldsNothingAtEachFull ((xs ++ Nothing 0 ∷ []) ++ block)
 alone-helped xs block are even alone =
     subst HoldsNothingAtEachFull (sym (append_assoc xs (Nothing 0 ∷ []) block))
@@ -113,16 +115,17 @@ alone-helped xs block are even alone =
     let Q : List Ended → Type 0 = λ l. count_by is_got l ≡ count_by is_put l in
     subst P (sym at.0) (subst Q (sym (append-nil xs)) even)))
 
-pub even-helped : (xs block : List Ended) → AreTakes block → count_by is_got xs ≡ count_by is_put xs
+pub even-helped : {By : Puts} (xs block : List Ended) → AreTakesFollowed By block → count_by is_got xs ≡ count_by is_put xs
     → count_by is_got ((xs ++ Nothing 0 ∷ []) ++ block) ≡ count_by is_put ((xs ++ Nothing 0 ∷ []) ++ block)
 even-helped xs block are even =
     even-taken (xs ++ Nothing 0 ∷ []) block are (sum_by-append _ xs (Nothing 0 ∷ []) ∙ ap (λ n. n + 0) even ∙ sym (sum_by-append _ xs (Nothing 0 ∷ [])))
 
 -- takes alone
-pub alone-taken : (xs block : List Ended) → AreTakes block → HoldsNothingAtEachFull xs → HoldsNothingAtEachFull (xs ++ block)
+pub alone-taken : {By : Puts} (xs block : List Ended) → AreTakesFollowed By block → HoldsNothingAtEachFull xs → HoldsNothingAtEachFull (xs ++ block)
 alone-taken xs block are alone = alone-more xs block alone (λ front after is. absurd (no-full block front after (takes-no_full block are) is))
 
-pub helps-taken : (topics : ℕ) (xs block : List Ended) → AreTakes block → HelpsAfterEachFull topics xs → HelpsAfterEachFull topics (xs ++ block)
+pub helps-taken : {By : Puts} (topics : ℕ) (xs block : List Ended) → AreTakesFollowed By block → HelpsAfterEachFull topics xs
+    → HelpsAfterEachFull topics (xs ++ block)
 helps-taken topics xs block are helps before after topic is low =
     ⊎_elim (λ (h : (mid : List Ended) × (xs ≡ before ++ Nothing 0 ∷ mid) × (after ≡ mid ++ block)).
     let P : List Ended → Type 0 = λ l. (1 ≤ count_by (is_take topic) (before_first is_lend l))
@@ -182,13 +185,13 @@ unspent-sent xs from ring place over bytes was =
 pub unspent-full : (xs : List Ended) → MeetsNoSpent xs → MeetsNoSpent (xs ++ Nothing 0 ∷ [])
 unspent-full xs was = unspent-more xs (Nothing 0 ∷ []) was (unspent-nothing 0)
 
-pub unspent-taken : (xs block : List Ended) → AreTakes block → MeetsNoSpent xs → MeetsNoSpent (xs ++ block)
-unspent-taken xs block are was = unspent-more xs block was (all block are) where
-  all : (calls : List Ended) → AreTakes calls → MeetsNoSpent calls
+pub unspent-taken : {By : Puts} (xs block : List Ended) → AreTakesFollowed By block → MeetsNoSpent xs → MeetsNoSpent (xs ++ block)
+unspent-taken {By} xs block are was = unspent-more xs block was (all block are) where
+  all : (calls : List Ended) → AreTakesFollowed By calls → MeetsNoSpent calls
   all calls none = λ ring ticket put has. absurd (search rules)
-  all calls (and_got {calls = before} topic place back bytes more) =
-      unspent-more (before ++ Got (suc topic) place bytes ∷ []) (Done 0 back bytes ∷ [])
-      (unspent-more before (Got (suc topic) place bytes ∷ []) (all before more) (unspent-got (suc topic) place bytes)) (unspent-done 0 back bytes)
+  all calls (and_got {calls = before} topic place bytes ring back later more by) =
+      unspent-more (before ++ Got (suc topic) place bytes ∷ []) (Done ring back later ∷ [])
+      (unspent-more before (Got (suc topic) place bytes ∷ []) (all before more) (unspent-got (suc topic) place bytes)) (unspent-done ring back later)
   all calls (and_found_none {calls = before} topic more) = unspent-more before (Nothing (suc topic) ∷ []) (all before more) (unspent-nothing (suc topic))
 
 -- messages go on following a record that grows

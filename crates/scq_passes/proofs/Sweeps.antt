@@ -6,8 +6,9 @@ use Rattle.scq_core.specs.declared.ended.Ended.TheVariants.{Nothing}
 use Rattle.scq_queue.specs.Lists.{takes_of}
 use Rattle.scq_queue.specs.Passes.{PassStanding, after_look, having_seen}
 use Rattle.scq_queue.proofs.Records.{takes-append}
+use Rattle.scq_passes.specs.Records.{Puts}
 use Rattle.scq_passes.specs.Leaving.{TookNothing, FoundTopicEmpty, IsSweep, HasIdled, no_sweep, and_idle}
-use Rattle.scq_passes.specs.Calls.{HasTaken}
+use Rattle.scq_passes.specs.Calls.{HasTakenFollowed}
 use Rattle.scq_passes.proofs.Kept.{taken-calls}
 
 module _ {B : Type 0} where
@@ -25,7 +26,7 @@ module _ {B : Type 0} where
   found-takes topic p q is = ap takes_of is ∙ takes-append p.calls (Nothing (suc topic) ∷ []) ∙ append-nil (takes_of p.calls)
 
   -- so it was also where more was taken before, or since
-  pub found-later : (topic : ℕ) (p q r : PassStanding B) → FoundTopicEmpty topic p q → HasTaken q r → FoundTopicEmpty topic p r
+  pub found-later : {By : Puts} (topic : ℕ) (p q r : PassStanding B) → FoundTopicEmpty topic p q → HasTakenFollowed By q r → FoundTopicEmpty topic p r
   found-later topic p q r found more = record {
     before = found.before;
     after = found.after ++ more.block;
@@ -33,7 +34,7 @@ module _ {B : Type 0} where
         ∙ append_assoc ((p.calls ++ found.before) ++ Nothing (suc topic) ∷ []) found.after more.block;
   }
 
-  pub found-earlier : (topic : ℕ) (p q r : PassStanding B) → HasTaken p q → FoundTopicEmpty topic q r → FoundTopicEmpty topic p r
+  pub found-earlier : {By : Puts} (topic : ℕ) (p q r : PassStanding B) → HasTakenFollowed By p q → FoundTopicEmpty topic q r → FoundTopicEmpty topic p r
   found-earlier topic p q r more found = record {
     before = more.block ++ found.before;
     after = found.after;
@@ -42,13 +43,14 @@ module _ {B : Type 0} where
   }
 
   -- the pass asked, and then took from each topic until it was empty
-  pub sweep-of : (topics found : ℕ) (p looked q : PassStanding B) → looked ≡ having_seen looked.seen (after_look found p) → HasTaken looked q
-      → ((topic : ℕ) → topic < topics → FoundTopicEmpty topic looked q) → IsSweep topics found p q
+  pub sweep-of : {By : Puts} (topics found : ℕ) (p looked q : PassStanding B) → looked ≡ having_seen looked.seen (after_look found p)
+      → HasTakenFollowed By looked q
+      → ((topic : ℕ) → topic < topics → FoundTopicEmpty topic looked q) → IsSweep By topics found p q
   sweep-of topics found p looked q is taken empty = record { asked = looked; answer = is; taken = taken; empty = empty }
 
   -- it took nothing, in this sweep and in those before
-  pub idle-more : (topics count found : ℕ) (p old looked q : PassStanding B) → HasIdled topics count p old
-      → looked ≡ having_seen looked.seen (after_look found old) → IsSweep topics found old q → TookNothing looked q → HasIdled topics (count + 1) p q
+  pub idle-more : {By : Puts} (topics count found : ℕ) (p old looked q : PassStanding B) → HasIdled By topics count p old
+      → looked ≡ having_seen looked.seen (after_look found old) → IsSweep By topics found old q → TookNothing looked q → HasIdled By topics (count + 1) p q
   idle-more topics count found p old looked q idled is sweep none = record {
     first = idled.first;
     before = idled.before;
@@ -56,5 +58,5 @@ module _ {B : Type 0} where
   }
 
   -- a sweep took something
-  pub idle-none : (topics : ℕ) (p q : PassStanding B) → HasTaken p q → HasIdled topics 0 p q
+  pub idle-none : {By : Puts} (topics : ℕ) (p q : PassStanding B) → HasTakenFollowed By p q → HasIdled By topics 0 p q
   idle-none topics p q taken = record { first = q; before = taken; idle = no_sweep q }

@@ -8,7 +8,8 @@ use Rattle.scq_core.specs.declared.ended.Ended.TheVariants.{Done, Got, Nothing}
 use Rattle.scq_queue.specs.Lists.{takes_of}
 use Rattle.scq_queue.specs.Passes.{PassStanding, HeldStanding, HasGot, WasGivenBack}
 use Rattle.scq_queue.proofs.Records.{takes-append}
-use Rattle.scq_passes.specs.Calls.{HasTaken}
+use Rattle.scq_passes.specs.Records.{Puts}
+use Rattle.scq_passes.specs.Calls.{HasTakenFollowed}
 use Rattle.scq_passes.specs.Waiting.{vain_takes, TookInVain, TookMore, SweepsInVain}
 use Rattle.scq_passes.proofs.Kept.{taken-calls}
 
@@ -45,7 +46,7 @@ module _ {B : Type 0} where
       (omega (arith, all, before), omega (arith, takes, more))
 
   -- takes of topics take nothing off the list of takes
-  pub takes-rise : (p q : PassStanding B) → HasTaken p q → length (takes_of p.calls) ≤ length (takes_of q.calls)
+  pub takes-rise : {By : Puts} (p q : PassStanding B) → HasTakenFollowed By p q → length (takes_of p.calls) ≤ length (takes_of q.calls)
   takes-rise p q h =
       let all = ap (λ (l : List Ended). length (takes_of l)) (taken-calls p q h) ∙ ap length (takes-append p.calls h.block)
       ∙ length-append (takes_of p.calls) (takes_of h.block) in

@@ -10,8 +10,8 @@ use Rattle.scq_queue.specs.Closing.{AllFullsStand, IsBalance, callers_of}
 use Rattle.scq_queue.specs.Lists.{sends_of, takes_of}
 use Rattle.scq_queue.specs.Passes.{PassStanding}
 use Rattle.scq_queue.specs.declared.counts.Counts.{Counts}
-use Rattle.scq_passes.specs.Records.{HoldsNothingAtEachFull, HelpsAfterEachFull, MeetsNoSpent}
-use Rattle.scq_passes.specs.Together.{SendsAreTakes, NoPlaceStandsTwice, NothingIsLeft, HasRetired, NoneSpent, IsBounded}
+use Rattle.scq_passes.specs.Records.{HoldsNothingAtEachFull, MeetsNoSpent}
+use Rattle.scq_passes.specs.Together.{SendsAreTakes, NoPlaceStandsTwice, NothingIsLeft, NoneSpent, IsBounded}
 
 -- the setup of a queue for a job: a ring for each of so many topics, one for the buffers that nobody holds, and a seat for each worker
 pub record IsSetup (order topics workers : ℕ) (c : Setup) : Type 0 where
@@ -26,21 +26,20 @@ module _ {B : Type 0} where
   OfEachWorker {M} P passes lists =
       (w : ℕ) (p : PassStanding B) (list : Vec M Global) → slice_get passes w ≡ Some p → slice_get lists w ≡ Some list → P w p list.items
 
-  -- what the passes of a queue of this setup did, each and together, and what was left in its rings. It has so many topics.
-  pub record HaveShared (topics : ℕ) (c : Setup) (passes : List (PassStanding B)) (left : List ℕ) : Type 0 where
+  -- what the passes of a queue of this setup did, each and together, and what was left in its rings. It has so many topics, no pass has more
+  -- than `most` sends, takes or Full replies, and of each this holds besides.
+  pub record HaveShared (Each : PassStanding B → Type 0) (most topics : ℕ) (c : Setup) (passes : List (PassStanding B)) (left : List ℕ) : Type 0 where
     -- they are the passes of one queue, in the order of their numbers
     pub one : (queue : Identity B) × (queue.setup ≡ c) × All (λ p. p.queue ≡ queue) passes
     pub numbers : (w : ℕ) (p : PassStanding B) → slice_get passes w ≡ Some p → p.number ≡ w
     -- one run of the rings' steps stands behind all their calls: its history has the four aspects, and the calls of each ring stand in
     -- one order, in which every reply is a plain queue's
     pub run : (opening : List (List ℕ)) × IsOneRun c opening (callers_of passes)
-    -- each Full stands where the pass held nothing. After it, before the next lend, comes one take of each topic. The record has as many
-    -- Fulls as the list.
+    -- each Full stands where the pass held nothing. The record has as many Fulls as the list.
     pub alone : All (λ p. HoldsNothingAtEachFull p.calls) passes
-    pub helps : All (λ p. HelpsAfterEachFull topics p.calls) passes
     pub fulls : AllFullsStand passes
-    -- each has retired, and no call met a ticket past the limit
-    pub retired : All (HasRetired topics) passes
+    pub each : All Each passes
+    -- no call met a ticket past the limit
     pub unspent : NoneSpent passes
     pub no_spent : All (λ p. MeetsNoSpent p.calls) passes
     -- the takes are the sends, and no place of a topic stands twice
@@ -50,7 +49,7 @@ module _ {B : Type 0} where
     pub balance : IsBalance c passes left
     pub none_left : NothingIsLeft topics left
     pub free : slice_index left 0 ≡ n_of c.order
-    pub bounded : All IsBounded passes
+    pub bounded : All (IsBounded most) passes
 
   -- how many sends, takes and Full replies a pass has. A queue's count of them stands still at the last value of 64 bits; these are few.
   abbrev pub lengths_of : PassStanding B → Counts

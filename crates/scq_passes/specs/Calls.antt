@@ -7,7 +7,7 @@ use Rattle.scq_law.specs.Bounds.{tally, was_put}
 use Rattle.scq_band.specs.Standing.{Identity}
 use Rattle.scq_queue.specs.Lists.{Placed, sends_of, takes_of}
 use Rattle.scq_queue.specs.Passes.{PassStanding, HeldStanding, known_on}
-use Rattle.scq_passes.specs.Records.{is_got, is_put, AreTakes, HoldsNothingAtEachFull, MeetsNoSpent}
+use Rattle.scq_passes.specs.Records.{is_got, is_put, Puts, AreTakesFollowed, IsReturn, HoldsNothingAtEachFull, MeetsNoSpent}
 
 -- the index of a value, where there is one
 abbrev pub index_of : {B : Type 0} → Option (HeldStanding B) → List ℕ
@@ -28,13 +28,18 @@ module _ {B : Type 0} where
     pub finished : (topic : ℕ) → (known_on topic old).finished ≤ (known_on topic new).finished
     pub head : (topic : ℕ) → (known_on topic old).head ≤ (known_on topic new).head
 
-  -- a pass that has taken from topics and given back what it took, and has done nothing else but ask whether all had retired
-  pub record HasTaken (old new : PassStanding B) : Type 0 where
+  -- a pass that has taken from topics, each take followed by such a put of what it got, and has done nothing else but ask whether all had
+  -- retired. No finished place that it knows of a topic changed.
+  pub record HasTakenFollowed (By : Puts) (old new : PassStanding B) : Type 0 where
     pub block : List Ended
-    pub are : AreTakes block
+    pub are : AreTakesFollowed By block
     pub pass : new ≡ record old { calls = old.calls ++ block; numbers = new.numbers; gates = new.gates; gate = new.gate; seen = new.seen }
     pub knows : KnowsMore old new
     pub same : (topic : ℕ) → (known_on topic new).finished ≡ (known_on topic old).finished
+
+  -- it gave back what it took, as it was
+  abbrev pub HasTaken : PassStanding B → PassStanding B → Type 0
+  HasTaken old new = HasTakenFollowed IsReturn old new
 
   -- a pass that found no buffer free
   pub record HasFoundFull (head : ℕ) (old new : PassStanding B) : Type 0 where
@@ -61,13 +66,19 @@ module _ {B : Type 0} where
     pub puts : (topic : ℕ) → tally (was_put (suc topic)) p.calls ≤ parts + late
     pub returns : tally (was_put 0) p.calls ≤ length (takes_of p.calls) + late
 
-  -- a pass that met Spent, with the value that it keeps: before it had passed on at most so many parts, and now at most so many
-  pub record HasLeft (before after : ℕ) (old new : PassStanding B) (kept : Option (HeldStanding B)) : Type 0 where
+  -- a pass that met Spent, with the value that it keeps. `Thrifty late parts p` says how much one begins for so many parts, `late` as above:
+  -- before it had passed on at most so many, and now at most so many
+  pub record HasLeftSo (Thrifty : ℕ → ℕ → PassStanding B → Type 0) (before after : ℕ) (old new : PassStanding B) (kept : Option (HeldStanding B))
+      : Type 0 where
     pub spent : (ticket : ℕ) × (new.spent ≡ Some ticket)
-    pub thrifty : IsThrifty 0 before old → IsThrifty 1 after new
+    pub thrifty : Thrifty 0 before old → Thrifty 1 after new
     pub held : new.held ≡ old.held ++ index_of kept
     pub own : (new.queue ≡ old.queue) × (new.number ≡ old.number) × (new.retired ≡ old.retired)
     pub its : IfSome kept (λ h. h.queue ≡ old.queue)
+
+  -- the same where all parts are sent or made directly
+  abbrev pub HasLeft : ℕ → ℕ → PassStanding B → PassStanding B → Option (HeldStanding B) → Type 0
+  HasLeft before after old new kept = HasLeftSo IsThrifty before after old new kept
 
   -- how many more tickets takes of so many topics could draw: each take that gets something uses one up
   abbrev pub takes_left : ℕ → ℕ → PassStanding B → ℕ

@@ -4,7 +4,8 @@ use Rattle.scq_core.specs.declared.ended.Ended.{Ended}
 use Rattle.scq_core.specs.declared.ended.Ended.TheVariants.{Nothing}
 use Rattle.scq_queue.specs.Lists.{takes_of}
 use Rattle.scq_queue.specs.Passes.{PassStanding, after_look, having_seen}
-use Rattle.scq_passes.specs.Calls.{HasTaken}
+use Rattle.scq_passes.specs.Records.{Puts}
+use Rattle.scq_passes.specs.Calls.{HasTakenFollowed}
 
 module _ {B : Type 0} where
   -- the pass took nothing meanwhile
@@ -17,29 +18,30 @@ module _ {B : Type 0} where
     pub after : List Ended
     pub calls : new.calls ≡ ((old.calls ++ before) ++ Nothing (suc topic) ∷ []) ++ after
 
-  -- a sweep: the pass asked whether all had retired, when so many had not, and then took from so many topics, each until it was empty
-  pub record IsSweep (topics found : ℕ) (old new : PassStanding B) : Type 0 where
+  -- a sweep: the pass asked whether all had retired, when so many had not, and then took from so many topics, each until it was empty. Such puts
+  -- follow the takes
+  pub record IsSweep (By : Puts) (topics found : ℕ) (old new : PassStanding B) : Type 0 where
     pub asked : PassStanding B
     pub answer : asked ≡ having_seen asked.seen (after_look found old)
-    pub taken : HasTaken asked new
+    pub taken : HasTakenFollowed By asked new
     pub empty : (topic : ℕ) → topic < topics → FoundTopicEmpty topic asked new
 
   -- so many sweeps in a row that took nothing
-  pub data AreIdle (topics : ℕ) : ℕ → PassStanding B → PassStanding B → Type 0 where
-    no_sweep : (p : PassStanding B) → AreIdle topics 0 p p
+  pub data AreIdle (By : Puts) (topics : ℕ) : ℕ → PassStanding B → PassStanding B → Type 0 where
+    no_sweep : (p : PassStanding B) → AreIdle By topics 0 p p
     and_idle : {count : ℕ} {first old new : PassStanding B} (found : ℕ)
-        → AreIdle topics count first old → IsSweep topics found old new → TookNothing old new → AreIdle topics (count + 1) first new
+        → AreIdle By topics count first old → IsSweep By topics found old new → TookNothing old new → AreIdle By topics (count + 1) first new
 
   -- its last sweeps, so many, took nothing
-  pub record HasIdled (topics count : ℕ) (old new : PassStanding B) : Type 0 where
+  pub record HasIdled (By : Puts) (topics count : ℕ) (old new : PassStanding B) : Type 0 where
     pub first : PassStanding B
-    pub before : HasTaken old first
-    pub idle : AreIdle topics count first new
+    pub before : HasTakenFollowed By old first
+    pub idle : AreIdle By topics count first new
 
   -- it has left after a sweep before which all had retired, or after so many in a row that took nothing
-  pub record HasSweptLast (topics most : ℕ) (old new : PassStanding B) : Type 0 where
+  pub record HasSweptLast (By : Puts) (topics most : ℕ) (old new : PassStanding B) : Type 0 where
     pub begun : PassStanding B
-    pub before : HasTaken old begun
+    pub before : HasTakenFollowed By old begun
     pub found : ℕ
-    pub sweep : IsSweep topics found begun new
-    pub why : (found ≡ 0) ⊎ HasIdled topics most old new
+    pub sweep : IsSweep By topics found begun new
+    pub why : (found ≡ 0) ⊎ HasIdled By topics most old new

@@ -4,3 +4,5 @@ pub mod Calls
 pub mod Leaving
 pub mod Waiting
 pub mod AllPasses
+pub mod PassedOn
+pub mod Becoming

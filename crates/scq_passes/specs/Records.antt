@@ -50,12 +50,25 @@ HelpsOnceAfterEachFull topics calls =
     (before after : List Ended) (topic : ℕ) → calls ≡ before ++ Nothing 0 ∷ after → topic < topics
     → count_by (is_take topic) (before_first is_lend after) ≡ 1
 
--- takes of topics, each with the return of what it got, and no other calls
-pub data AreTakes : List Ended → Type 0 where
-  none : AreTakes []
-  and_got : {calls : List Ended} (topic place back : ℕ) (bytes : List ℕ)
-      → AreTakes calls → AreTakes ((calls ++ Got (suc topic) place bytes ∷ []) ++ Done 0 back bytes ∷ [])
-  and_found_none : {calls : List Ended} (topic : ℕ) → AreTakes calls → AreTakes (calls ++ Nothing (suc topic) ∷ [])
+-- which puts may follow a take: for a take of this topic that got these bytes, one on this ring, of these bytes
+abbrev pub Puts : Type 1
+Puts = ℕ → List ℕ → ℕ → List ℕ → Type 0
+
+-- takes of topics, each with such a put of what it got, and no other calls
+pub data AreTakesFollowed (By : Puts) : List Ended → Type 0 where
+  none : AreTakesFollowed By []
+  and_got : {calls : List Ended} (topic place : ℕ) (bytes : List ℕ) (ring back : ℕ) (later : List ℕ)
+      → AreTakesFollowed By calls → By topic bytes ring later
+      → AreTakesFollowed By ((calls ++ Got (suc topic) place bytes ∷ []) ++ Done ring back later ∷ [])
+  and_found_none : {calls : List Ended} (topic : ℕ) → AreTakesFollowed By calls → AreTakesFollowed By (calls ++ Nothing (suc topic) ∷ [])
+
+-- the put is a return to the free ring, with the bytes as they were
+abbrev pub IsReturn : ℕ → List ℕ → ℕ → List ℕ → Type 0
+IsReturn topic bytes ring later = (ring ≡ 0) × (later ≡ bytes)
+
+-- such puts are on the free ring alone
+abbrev pub AreReturns : Puts → Type 0
+AreReturns By = (topic : ℕ) (bytes : List ℕ) (ring : ℕ) (later : List ℕ) → By topic bytes ring later → ring ≡ 0
 
 -- no call met a ticket past the limit
 abbrev pub MeetsNoSpent : List Ended → Type 0

@@ -1,10 +1,11 @@
 -- What all workers' passes did together, and what the queue was left with.
-use Rattle.std.specs.Prelude.{◌≡◌, ℕ, suc, ◌^◌, ◌<◌, ◌≤◌, false, List, [], length, take, drop, flat_map, Some, None, slice_index, All}
+use Rattle.std.specs.Prelude.{◌≡◌, ℕ, suc, ◌<◌, ◌≤◌, false, List, [], length, take, drop, flat_map, Some, None, slice_index, All}
 use Rattle.std.specs.List.{AllPairs, Contains, list_any}
 use Rattle.std.specs.List.Sorted.{IsPermutation}
+use Rattle.scq_core.specs.declared.ended.Ended.{Ended}
 use Rattle.scq_queue.specs.Lists.{Placed, sends_of, takes_of}
 use Rattle.scq_queue.specs.Passes.{PassStanding, known_on}
-use Rattle.scq_passes.specs.Records.{is_lend, HelpsOnceAfterEachFull}
+use Rattle.scq_passes.specs.Records.{is_lend}
 
 -- two places are not one: their topics or their numbers differ
 abbrev pub Apart : Placed → Placed → Type 0
@@ -30,13 +31,13 @@ module _ {B : Type 0} where
   abbrev pub NoPlaceStandsTwice : List (PassStanding B) → Type 0
   NoPlaceStandsTwice passes = AllPairs Apart (all_sends passes)
 
-  -- a worker's pass has retired, when so many calls stood in its record: up to there it helped once after each Full, and from there on it
-  -- has neither lent, and so found no Full, nor sent
-  pub record HasRetired (topics : ℕ) (p : PassStanding B) : Type 0 where
+  -- a worker's pass has retired, when so many calls stood in its record, of which this holds. From there on it has neither lent, and so found
+  -- no Full, nor sent
+  pub record HasRetired (Before : List Ended → Type 0) (p : PassStanding B) : Type 0 where
     pub calls : ℕ
     pub retired : p.retired ≡ Some calls
     pub within : calls ≤ length p.calls
-    pub helps : HelpsOnceAfterEachFull topics (take calls p.calls)
+    pub before : Before (take calls p.calls)
     pub lends : list_any is_lend (drop calls p.calls) ≡ false
     pub sends : sends_of (drop calls p.calls) ≡ []
 
@@ -44,11 +45,11 @@ module _ {B : Type 0} where
   abbrev pub NoneSpent : List (PassStanding B) → Type 0
   NoneSpent passes = All (λ (p : PassStanding B). p.spent ≡ None) passes
 
-  -- no pass has more than 2^36 sends, takes or Full replies
-  pub record IsBounded (p : PassStanding B) : Type 0 where
-    pub sends : length (sends_of p.calls) ≤ 2 ^ 36
-    pub takes : length (takes_of p.calls) ≤ 2 ^ 36
-    pub fulls : length p.fulls ≤ 2 ^ 36
+  -- a pass has at most so many sends, takes and Full replies
+  pub record IsBounded (most : ℕ) (p : PassStanding B) : Type 0 where
+    pub sends : length (sends_of p.calls) ≤ most
+    pub takes : length (takes_of p.calls) ≤ most
+    pub fulls : length p.fulls ≤ most
 
   -- a pass knows of each of its sends that the topic's Head is past it: its last sweep found each topic empty after its last send there
   abbrev pub HasSwept : PassStanding B → Type 0

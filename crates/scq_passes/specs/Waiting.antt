@@ -4,8 +4,9 @@ use Rattle.scq_core.specs.declared.ended.Ended.{Ended}
 use Rattle.scq_core.specs.declared.ended.Ended.TheVariants.{Nothing}
 use Rattle.scq_queue.specs.Lists.{takes_of}
 use Rattle.scq_queue.specs.Passes.{PassStanding}
+use Rattle.scq_passes.specs.Records.{Puts}
 use Rattle.scq_passes.specs.Leaving.{IsSweep}
-use Rattle.scq_passes.specs.Calls.{HasTaken}
+use Rattle.scq_passes.specs.Calls.{HasTakenFollowed}
 
 -- whether a call is a take of a topic that found nothing, and how many of a record are
 abbrev pub is_vain : Ended → Bool
@@ -30,7 +31,7 @@ module _ {B : Type 0} where
   SweepsInVain topics begun rests p = vain_takes p.calls ≤ topics * (begun + rests + length (takes_of p.calls) + length p.fulls)
 
   -- it has left after a sweep before which all had retired. There is no other way to leave
-  pub record HasSweptTold (topics : ℕ) (old new : PassStanding B) : Type 0 where
+  pub record HasSweptTold (By : Puts) (topics : ℕ) (old new : PassStanding B) : Type 0 where
     pub begun : PassStanding B
-    pub before : HasTaken old begun
-    pub sweep : IsSweep topics 0 begun new
+    pub before : HasTakenFollowed By old begun
+    pub sweep : IsSweep By topics 0 begun new

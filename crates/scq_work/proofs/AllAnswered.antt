@@ -14,9 +14,10 @@ use Rattle.scq_frames.proofs.EncodedLemmas.{part_at-again}
 use Rattle.scq_collect.specs.Joined.{PartAnswer, part_answer, without_way}
 use Rattle.scq_collect.specs.declared.answered.Answered.{Answered}
 use Rattle.scq_queue.specs.Lists.{Placed}
-use Rattle.scq_work.specs.Members.{AnswersTake, AnswersSoFar, none, and_answered, and_passed_over}
+use Rattle.scq_passes.specs.Becoming.{none, and_became, and_passed_over}
+use Rattle.scq_passes.specs.PassedOn as passing
+use Rattle.scq_work.specs.Members.{AnswersTake, AnswersSoFar}
 use Rattle.scq_work.specs.Passing.{ArePassedOn, Sends}
-use Rattle.scq_work.specs.Passing as passing
 
 -- a part that stands where there is none
 abbrev pub no_part : Part
@@ -97,7 +98,7 @@ pub taken-answers : (topics : List (List ℕ × Kind)) (takes : List Placed) (me
     → ((t : Placed) → Contains takes t → IsPart (length topics) t)
     → AllZip (AnswersTake topics) takes members × (map without_way members ≡ map (answer_at topics) takes)
 taken-answers topics takes members none each = (tt, refl)
-taken-answers topics takes members (and_answered {takes = before} {members = ms} take a more is) each =
+taken-answers topics takes members (and_became {takes = before} {members = ms} take a more is) each =
     let rest = taken-answers topics before ms more (λ t has. each t (Contains-append_left before (take ∷ []) t has)) in
     let its = each take (Contains-push before take) in
     let same : is.part ≡ its.part = is.decodes.only its.part its.fits its.begins in

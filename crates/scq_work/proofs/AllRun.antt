@@ -28,7 +28,7 @@ use Rattle.scq_queue.specs.Closing.{EachTakeIsASend, NoPlaceIsSentTwice, NoPlace
 use Rattle.scq_queue.specs.Lists.{sends_of, takes_of}
 use Rattle.scq_queue.specs.Passes.{PassStanding, HeldStanding}
 use Rattle.scq_passes.specs.AllPasses.{OfEachWorker, HaveShared}
-use Rattle.scq_work.specs.AllWorkers.{HaveAnswered}
+use Rattle.scq_work.specs.AllWorkers.{HaveAnswered, HasHelped}
 use Rattle.scq_files.specs.Ends.{AreGiven}
 use Rattle.scq_files.specs.Files.{own_of}
 use Rattle.scq_work.specs.Members.{AnswersItsTakes, AnswersItsFulls}
@@ -215,7 +215,7 @@ module _ {B S : Type 0} where
       nothing : NothingIsLeft (length topics + 1) left_in
       nothing = nothing-is-left c (passes_at desks) (length topics + 1) left_in (omega (arith, ran.rings)) closed.balance same
 
-      pub have-shared : HaveShared (length topics + 1) c (passes_at desks) left_in
+      pub have-shared : HaveShared (HasHelped (length topics + 1)) (2 ^ 36) (length topics + 1) c (passes_at desks) left_in
       have-shared = record {
         one = (
           shared,
@@ -227,13 +227,12 @@ module _ {B S : Type 0} where
         run = closed.run;
         alone = All-map (λ (p : PassStanding B). HoldsNothingAtEachFull p.calls) (λ (d : Desk B S). d.worker.pass) desks
             (λ k d less. ((ran.run k d less).sweeping (spent-none k d less)).between.alone);
-        helps = All-map (λ (p : PassStanding B). HelpsAfterEachFull (length topics + 1) p.calls) (λ (d : Desk B S). d.worker.pass) desks
-            (λ k d less. ((ran.run k d less).sweeping (spent-none k d less)).helps);
+        each = All-map (HasHelped (length topics + 1)) (λ (d : Desk B S). d.worker.pass) desks (λ k d less.
+            record { helps = ((ran.run k d less).sweeping (spent-none k d less)).helps; retired = (ran.run k d less).ended (spent-none k d less) });
         fulls = closed.fulls;
         same = same;
         places = no-place-twice (passes_at desks) closed.sent_once;
         none_left = nothing;
-        retired = All-map (HasRetired (length topics + 1)) (λ (d : Desk B S). d.worker.pass) desks (λ k d less. (ran.run k d less).ended (spent-none k d less));
         no_spent = All-map (λ (p : PassStanding B). MeetsNoSpent p.calls) (λ (d : Desk B S). d.worker.pass) desks
             (λ k d less. ((ran.run k d less).sweeping (spent-none k d less)).between.unspent);
         balance = closed.balance;

@@ -18,7 +18,7 @@ use Rattle.scq_queue.specs.Passes.{PassStanding}
 use Rattle.scq_queue.specs.Closing.{EachTakeIsASend}
 use Rattle.scq_work.specs.Members.{is_taken, is_direct, AnswersItsTakes}
 use Rattle.scq_work.specs.Passing.{ArePassedOn}
-use Rattle.scq_work.specs.Passing as passing
+use Rattle.scq_passes.specs.PassedOn as passing
 use Rattle.scq_passes.specs.Together.{all_sends, all_takes, SendsAreTakes}
 use Rattle.scq_work.specs.Working.{HasListed}
 use Rattle.scq_work.proofs.AllAnswered.{answer_at, passed-answers, IsPart, taken-answers}

@@ -11,16 +11,15 @@ use Rattle.scq_collect.specs.declared.answered.Answered.{Answered}
 use Rattle.scq_band.specs.Standing.{Identity}
 use Rattle.scq_band.proofs.Opening.{numbers_length}
 use Rattle.scq_queue.specs.Passes.{PassStanding, HeldStanding, first_pass, known_on}
-use Rattle.scq_files.specs.OwnFiles.{all_given}
-use Rattle.scq_work.specs.Desks.{HasRun}
-use Rattle.scq_files.specs.Given.{given_in}
+use Rattle.scq_work.specs.Desks.{all_given, HasRun}
+use Rattle.scq_work.specs.Given.{given_in}
 use Rattle.scq_work.specs.Members.{none}
 use Rattle.scq_work.specs.Passing as passing
 use Rattle.scq_work.specs.Passing.{no_call, parts_in}
 use Rattle.scq_work.specs.Records.{is_lend, HelpsOnceAfterEachFull}
 use Rattle.scq_work.specs.Together.{HasRetired}
 use Rattle.scq_queue.specs.Lists.{sends_of}
-use Rattle.scq_passes.proofs.Blocks.{takes-no_lend, takes-no_send}
+use Rattle.scq_passes.proofs.Blocks.{returns, takes-no_lend, takes-no_send}
 use Rattle.scq_files.specs.Reading.{IsRead}
 use Rattle.scq_passes.specs.Calls.{Suits, HasTaken, HasLeft, IsThrifty, index_of, after_retire}
 use Rattle.scq_work.specs.Working.{HasAnswered, IsSweeping, IsAtWork, HasStopped}
@@ -95,7 +94,7 @@ module _ {B : Type 0} where
 
   -- it retired, and then only took
   retired-taken : (topics : List (List ℕ × Kind)) (p q : PassStanding B) → HelpsOnceAfterEachFull (length topics + 1) p.calls → HasTaken (after_retire p) q
-      → HasRetired (length topics + 1) q
+      → HasRetired (HelpsOnceAfterEachFull (length topics + 1)) q
   retired-taken topics p q helps taken =
       let calls : q.calls ≡ p.calls ++ taken.block = taken-calls (after_retire p) q taken in
       let front : take (length p.calls) q.calls ≡ p.calls = ap (take (length p.calls)) calls ∙ take-append_seam p.calls taken.block in
@@ -104,9 +103,9 @@ module _ {B : Type 0} where
         calls = length p.calls;
         retired = ap (λ (x : PassStanding B). x.retired) taken.pass;
         within = omega (arith, ap length calls, length-append p.calls taken.block);
-        helps = subst (HelpsOnceAfterEachFull (length topics + 1)) (sym front) helps;
+        before = subst (HelpsOnceAfterEachFull (length topics + 1)) (sym front) helps;
         lends = ap (list_any is_lend) rest ∙ takes-no_lend taken.block taken.are;
-        sends = ap sends_of rest ∙ takes-no_send taken.block taken.are;
+        sends = ap sends_of rest ∙ takes-no_send returns taken.block taken.are;
       }
 
   -- it has read its files, swept and left

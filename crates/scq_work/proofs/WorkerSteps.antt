@@ -19,7 +19,8 @@ use Rattle.scq_queue.specs.Lists.{Placed, sends_of, takes_of}
 use Rattle.scq_queue.specs.Passes.{PassStanding, known_on}
 use Rattle.scq_passes.specs.Records.{is_got, is_put, is_take, HoldsNothingAtEachFull, HelpsAfterEachFull, HelpsOnceAfterEachFull, MeetsNoSpent}
 use Rattle.scq_work.specs.Members.{answered, is_taken, is_direct, AnswersSoFar, AnswersItsFulls, AnswersFull}
-use Rattle.scq_work.specs.Passing.{ArePassedOn, and_sent, and_answered, FollowsCalls, by_full}
+use Rattle.scq_passes.specs.PassedOn.{and_sent, and_made}
+use Rattle.scq_work.specs.Passing.{ArePassedOn, FollowsCalls, by_full}
 use Rattle.scq_passes.specs.Calls.{HasTaken, HasFoundFull, IsThrifty}
 use Rattle.scq_work.specs.Working.{HasSent, IsProducing, IsSweeping, HasListed, HasAnswered}
 use Rattle.scq_queue.proofs.Records.{sends-append, takes-append}
@@ -163,7 +164,7 @@ module _ {B : Type 0} where
       let takens : filter is_taken (members ++ a ∷ []) ≡ filter is_taken members =
       filter-append is_taken members (a ∷ []) ∙ append-nil (filter is_taken members) in
       let passed : ArePassedOn topics (messages ++ m ∷ []) (sends_of p.calls) (filter is_direct members ++ a ∷ []) =
-      and_answered m a was.passed (record { head = head; answer = refl }) in
+      and_made m a was.passed (record { head = head; answer = refl }) in
       let fulls : AllZip AnswersFull (p.fulls ++ head ∷ []) (filter is_direct members ++ a ∷ []) =
       all_zipped_more AnswersFull p.fulls (filter is_direct members) head a was.fulls refl in
       record {

@@ -1,6 +1,6 @@
 -- What all workers did with the messages of files. `given` has the messages of each file, in the order of the files. A worker is told by
 -- its number, from 0: by it stand its pass among the passes, and its list among the lists.
-use Rattle.std.specs.Prelude.{◌≡◌, ℕ, ◌≤◌, List, length, map, flat_map, All, Vec}
+use Rattle.std.specs.Prelude.{◌≡◌, ℕ, ◌^◌, ◌≤◌, List, length, map, flat_map, All, Vec}
 use Rattle.std.specs.Global.{Global}
 use Rattle.std.specs.List.Sorted.{IsPermutation}
 use Rattle.scq_topics.specs.declared.kind.Kind.{Kind}
@@ -52,38 +52,18 @@ module _ {B : Type 0} where
     -- and they stand so in its record: each is its next send or its next Full
     pub follows : OfEachWorker (λ w p list. FollowsCalls (parts_in size (own_of workers w 1 given)) p.calls) passes lists
 
-  -- what the passes of a queue of this setup did, each and together, and what was left in its rings. It has so many topics.
-  pub record HaveShared (topics : ℕ) (c : Setup) (passes : List (PassStanding B)) (left : List ℕ) : Type 0 where
-    -- they are the passes of one queue, in the order of their numbers
-    pub one : (queue : Identity B) × (queue.setup ≡ c) × All (λ p. p.queue ≡ queue) passes
-    pub numbers : (w : ℕ) (p : PassStanding B) → slice_get passes w ≡ Some p → p.number ≡ w
-    -- one run of the rings' steps stands behind all their calls: its history has the four aspects, and the calls of each ring stand in
-    -- one order, in which every reply is a plain queue's
-    pub run : (opening : List (List ℕ)) × IsOneRun c opening (callers_of passes)
-    -- each Full stands where the pass held nothing. After it, before the next lend, comes one take of each topic. The record has as many
-    -- Fulls as the list.
-    pub alone : All (λ p. HoldsNothingAtEachFull p.calls) passes
-    pub helps : All (λ p. HelpsAfterEachFull topics p.calls) passes
-    pub fulls : AllFullsStand passes
-    -- each has retired, and no call met a ticket past the limit
-    pub retired : All (HasRetired topics) passes
-    pub unspent : NoneSpent passes
-    pub no_spent : All (λ p. MeetsNoSpent p.calls) passes
-    -- the takes are the sends, and no place of a topic stands twice
-    pub same : SendsAreTakes passes
-    pub places : NoPlaceStandsTwice passes
-    -- on each topic the sends less the takes are what is left: nothing. The ring of free buffers has all of them.
-    pub balance : IsBalance c passes left
-    pub none_left : NothingIsLeft topics left
-    pub free : slice_index left 0 ≡ n_of c.order
-    pub bounded : All IsBounded passes
+  -- a pass has helped: after each Full, before the next lend, comes one take of each topic. And it has retired; up to there it took just once
+  -- from each topic after each Full
+  pub record HasHelped (topics : ℕ) (p : PassStanding B) : Type 0 where
+    pub helps : HelpsAfterEachFull topics p.calls
+    pub retired : HasRetired (HelpsOnceAfterEachFull topics) p
 
   -- the queue of a job with so many topics is closed, and nothing is stranded in it, whatever its workers met: they have retired and swept, and
   -- all buffers are free
   pub record NothingIsStranded (order topics workers : ℕ) (passes : List (PassStanding B)) (left : List ℕ) : Type 0 where
     pub setup : Setup
     pub of_job : IsSetup order topics workers setup
-    pub shared : HaveShared topics setup passes left
+    pub shared : HaveShared (HasHelped topics) (2 ^ 36) topics setup passes left
 
 -- so many workers answered files that gave these messages: what they answered, by their passes, and the lengths of the passes' lists
 pub record HasWorked (topics : List (List ℕ × Kind)) (size workers : ℕ) (given : List (List Message)) (w : Worked) : Type 0 where

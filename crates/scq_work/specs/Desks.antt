@@ -45,6 +45,6 @@ pub record HasRun {B S : Type 0} (shared : Identity B) (topics : List (List ℕ 
   pub its : IfSome kept (λ h. h.queue ≡ shared)
   -- where it met no such ticket
   pub sweeping : pass.spent ≡ None → IsSweeping (length topics + 1) pass
-  pub ended : pass.spent ≡ None → HasRetired (length topics + 1) pass
+  pub ended : pass.spent ≡ None → HasRetired (HelpsOnceAfterEachFull (length topics + 1)) pass
   pub swept : pass.spent ≡ None → HasSwept pass
   pub listed : pass.spent ≡ None → starved ≡ false → HasListed topics (parts_in size (all_given files)) pass members

@@ -9,6 +9,7 @@ use Rattle.scq_frames.specs.Encoded.{IsEncodable, BeginsWith}
 use Rattle.scq_collect.specs.declared.answered.Answered.{Answered}
 use Rattle.scq_collect.specs.declared.answered.Way.TheVariants.{Direct}
 use Rattle.scq_queue.specs.Lists.{Placed, sent_by, was_full}
+use Rattle.scq_passes.specs.PassedOn as passed
 use Rattle.scq_work.specs.Members.{answered, is_direct}
 
 -- all parts of messages, in order, where a part has at most so many bytes

@@ -5,7 +5,7 @@ ghost use Rattle.scq_frames.specs.Parts.{IsNumbered, parts_of, part_of};
 ghost use Rattle.scq_frames.specs.Views.{part_of_view};
 ghost use Rattle.scq_queue.specs.Lists.{Placed};
 ghost use Rattle.scq_queue.specs.Passes.{known_on, IsHeldBy, after_put, after_spent_put, having_seen};
-ghost use Rattle.scq_passes.specs.Records.{is_take};
+ghost use Rattle.scq_passes.specs.Records.{IsReturn, is_take};
 ghost use Rattle.scq_work.specs.Members.{answered, is_taken, is_direct, AnswersSoFar};
 ghost use Rattle.scq_work.specs.Passing.{Sends};
 ghost use Rattle.scq_work.specs.Leaving.{FoundTopicEmpty, HasSweptLast, TookNothing};
@@ -310,7 +310,7 @@ impl<B: Buffer> Worker<B> {
         ensures taken { OnOk result (HasTaken (after_retire self.old.pass) self.new.pass) }
         ensures empty { OnOk result ((t : ℕ) → t < length job.now.topics + 1
             → (known_on t self.new.pass).finished < (known_on t self.new.pass).head) }
-        ensures swept { OnOk result (HasSweptLast (length job.now.topics + 1) 64 (after_retire self.old.pass) self.new.pass) }
+        ensures swept { OnOk result (HasSweptLast IsReturn (length job.now.topics + 1) 64 (after_retire self.old.pass) self.new.pass) }
         ensures answered { OnOk result (self.new.starved ≡ false
             → HasAnswered job.now.topics self.old.pass self.new.pass self.old.members.items self.new.members.items) }
         ensures left { IfErr result (λ l. (parts : ℕ) → HasLeft parts parts (after_retire self.old.pass) self.new.pass l.held) }

@@ -353,7 +353,7 @@ returns-clause-worked g c =
             (subst (λ (ls : List (Vec Answered Global)). Are (passes_at ran) ls c.args.job.now.workers) (sym f.lists)
             (subst (λ n. Are (passes_at ran) (lists_at ran) n) f.count answered));
         counts = c.close-buffers.ensures.counts ∙ ap (map (λ (p : PassStanding Frame). counts_of (lists_of p))) f.passes
-            ∙ counts-exact (passes_at ran) shared.bounded ∙ ap (map lengths_of) (sym its_passes);
+            ∙ counts-exact (2 ^ 36) (omega arith) (passes_at ran) shared.bounded ∙ ap (map lengths_of) (sym its_passes);
       },
     ))
 

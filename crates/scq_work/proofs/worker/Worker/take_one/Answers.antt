@@ -32,7 +32,7 @@ returns-in-Err-clause-left g c messages =
 pub returns-in-Err-Empty-clause-taken : goal.returns-in-Err-Empty-clause-taken
 returns-in-Err-Empty-clause-taken g c =
     let low : suc c.args.topic < length c.args.self.now.pass.numbers = let n = c.requires.suits.numbers in omega arith in
-    (found-none c.args.topic c.in-Err-Empty.field-0-0 c.args.self.now.pass c.take.new.pass low (c.in-Err-Empty.ensures.empty c.in-Err-Empty.field-0-0 (cc))).0
+    found-none c.args.topic c.in-Err-Empty.field-0-0 c.args.self.now.pass c.take.new.pass low (c.in-Err-Empty.ensures.empty c.in-Err-Empty.field-0-0 (cc))
 
 pub returns-in-Err-Empty-clause-one : goal.returns-in-Err-Empty-clause-one
 returns-in-Err-Empty-clause-one g c t =
@@ -43,7 +43,7 @@ returns-in-Err-Empty-clause-one g c t =
 pub returns-in-Err-Empty-clause-empty : goal.returns-in-Err-Empty-clause-empty
 returns-in-Err-Empty-clause-empty g c is =
     let low : suc c.args.topic < length c.args.self.now.pass.numbers = let n = c.requires.suits.numbers in omega arith in
-    (found-none c.args.topic c.in-Err-Empty.field-0-0 c.args.self.now.pass c.take.new.pass low (c.in-Err-Empty.ensures.empty c.in-Err-Empty.field-0-0 (cc))).1
+    found-past c.args.topic c.in-Err-Empty.field-0-0 c.args.self.now.pass c.take.new.pass low (c.in-Err-Empty.ensures.empty c.in-Err-Empty.field-0-0 (cc))
 
 pub returns-in-Err-Empty-clause-found : goal.returns-in-Err-Empty-clause-found
 returns-in-Err-Empty-clause-found g c is =
