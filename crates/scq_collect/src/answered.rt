@@ -40,6 +40,8 @@ impl Answered {
             file: self.file,
             line: self.line,
             topic: self.topic,
+            part: self.part,
+            parts: self.parts,
             bytes: self.bytes,
             reply: self.text.bytes(),
         }

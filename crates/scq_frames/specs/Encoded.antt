@@ -1,5 +1,5 @@
 -- The bytes of a part of a message.
-use Rattle.std.specs.Prelude.{◌≡◌, ◌^◌, ◌<◌, ◌||◌, ℕ, nat_lt, List, ◌++◌, length, take, drop, Option, Some, None, option_and_then, if◌then◌else◌}
+use Rattle.std.specs.Prelude.{◌≡◌, ◌^◌, ◌+◌, ◌<◌, ◌||◌, ℕ, nat_lt, List, ◌++◌, length, take, drop, Option, Some, None, option_and_then, if◌then◌else◌}
 use Rattle.byteorder.specs.Endian.{big_bytes, big_number}
 use Rattle.scq_frames.specs.Parts.{Part, IsNumbered}
 
@@ -41,3 +41,7 @@ part_at bytes =
     else if nat_lt (length parts.1) len.0 then None
     else Some (record { file = file.0; line = line.0; topic = topic.0; part = part.0; parts = parts.0; payload = take len.0 parts.1 }))
     (number_at part.1)) (number_at len.1)) (number_at topic.1)) (number_at line.1)) (number_at file.1)) (number_at bytes)
+
+-- the bytes, with these in place of as many of the part that comes first
+abbrev pub with_payload : List ℕ → List ℕ → List ℕ
+with_payload bytes payload = take 24 bytes ++ payload ++ drop (24 + length payload) bytes

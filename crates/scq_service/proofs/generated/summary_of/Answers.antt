@@ -1,6 +1,7 @@
 use Rattle.std.proofs.Common.{◌≡◌, ◌∙◌, ◌^◌, sym, ap, subst, arith, List, ◌∷◌, [], length, map}
 use Rattle.std.specs.Prelude.{Vec}
 use Rattle.std.specs.Global.{Global}
+use Rattle.std.specs.List.{All}
 use Rattle.std.specs.List.Sorted.{IsPermutation}
 use Rattle.scq_topics.specs.declared.kind.Kind.{Kind}
 use Rattle.scq_collect.specs.declared.answered.Answered.{Answered}
@@ -9,7 +10,6 @@ use Rattle.scq_collect.specs.Joined.{part_answers, without_way}
 use Rattle.scq_collect.specs.Merging.{members_in}
 use Rattle.scq_collect.specs.Output.{answer_of_whole, answers_to}
 use Rattle.scq_self.specs.Generated.{generated, self_topics}
-use Rattle.scq_service.proofs.Merging.{merged-known}
 use Rattle.scq_service.proofs.generated.summary_of.Goals as goal
 
 pub merge-requires : goal.merge-requires

@@ -1,0 +1,4 @@
+pub mod Handlings
+pub mod Merged
+pub mod Texts
+pub mod Threads

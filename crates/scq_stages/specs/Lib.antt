@@ -1,0 +1,4 @@
+pub mod Stages
+pub mod Jobs
+pub mod Output
+pub mod Handling
