@@ -1,0 +1,46 @@
+-- Lists in which one element after the other is replaced.
+use Rattle.std.proofs.Common.{◌≡◌, ◌≢◌, ◌∙◌, ap, refl, sym, subst, arith, ℕ, ◌<◌, ◌≤◌, ◌+◌, List, [], ◌∷◌, ◌++◌, reverse, length, take, drop, map, set, get_or, length-set, get_or-set_other, append_assoc}
+use Rattle.std.specs.List.{All, AllWithin, AllZip}
+use Rattle.std.proofs.lemmas.List.{reverse-append, take-append-le, take_all, length-append, get_or_append_left, get_or_push}
+use Rattle.std.proofs.lemmas.List.Elements.{AllWithin-more_set}
+use Rattle.std.proofs.Math.Seq.{map-set_same}
+
+-- the next one, which f can't tell from what it was
+pub record Replaced {X Y : Type 0} (P Q : X → Type 0) (f : X → Y) (all : List Y) (xs : List X) (i : ℕ) : Type 0 where
+  pub same : map f xs ≡ all
+  pub done : AllWithin Q xs 0 i
+  pub rest : AllWithin P xs i (length xs)
+
+pub replaced-next : {X Y : Type 0} (P Q : X → Type 0) (f : X → Y) (all : List Y) (xs : List X) (i : ℕ) (y d : X)
+    → Replaced P Q f all xs i → i < length xs → f y ≡ f (get_or xs i d) → Q y → Replaced P Q f all (set xs i y) (i + 1)
+replaced-next P Q f all xs i y d was less same holds =
+    record {
+      same = map-set_same f xs i y d same ∙ was.same;
+      done = AllWithin-more_set xs i y less Q was.done holds;
+      rest = λ k e low high.
+          let apart : k ≢ i = λ is. omega (arith, is) in
+          subst P (sym (get_or-set_other xs i k y e apart)) (was.rest k e (omega arith) (omega (arith, length-set xs i y)));
+    }
+
+-- what holds of all holds of those in front, and of the last
+pub all-front : {X : Type 0} (P : X → Type 0) (xs : List X) (y : X) → All P (xs ++ y ∷ []) → All P xs
+all-front P xs y all k d less = subst P (get_or_append_left xs (y ∷ []) d k less) (all k d (omega (arith, less, length-append xs (y ∷ []))))
+
+pub all-last : {X : Type 0} (P : X → Type 0) (xs : List X) (y : X) → All P (xs ++ y ∷ []) → P y
+all-last P xs y all = subst P (get_or_push xs y y (length xs) refl) (all (length xs) y (omega (arith, length-append xs (y ∷ []))))
+
+-- a list whose last element was taken off, turned
+pub turned : {X : Type 0} (all rest : List X) (x : X) → all ≡ rest ++ x ∷ [] → reverse all ≡ x ∷ reverse rest
+turned all rest x is = ap reverse is ∙ reverse-append rest (x ∷ [])
+
+-- what is known of the ends behind one more of them
+pub zipped-next : {X Y Z : Type 0} (R : X → Y → Type 0) (f : Z → X) (all : List X) (old rest : List Z) (z : Z) (ys : List Y) (y : Y)
+    → ((more : List Y) → AllZip R (map f (reverse old)) more → AllZip R all (ys ++ more)) → old ≡ rest ++ z ∷ [] → R (f z) y
+    → (more : List Y) → AllZip R (map f (reverse rest)) more → AllZip R all ((ys ++ y ∷ []) ++ more)
+zipped-next R f all old rest z ys y was is holds more so =
+    subst (AllZip R all) (sym (append_assoc ys (y ∷ []) more))
+    (was (y ∷ more) (subst (λ l. AllZip R (map f l) (y ∷ more)) (sym (turned old rest z is)) (holds, so)))
+
+-- what a whole slice was written back as
+pub written-back : {X : Type 0} (n : ℕ) (new old : List X) → length new ≡ n → take n (new ++ drop (length new) old) ≡ new
+written-back n new old long = take-append-le n new (drop (length new) old) (omega (arith, long)) ∙ take_all n new (omega (arith, long))
