@@ -1,5 +1,5 @@
 //! The answer to a message from the answers to its parts.
-ghost use Rattle.std.specs.Prelude.{◌≡◌, ◌<◌, ◌≤◌, length, IfOk};
+ghost use Rattle.std.specs.Prelude.{◌≡◌, ◌<◌, ◌≤◌, length, IfOk, IfSome};
 ghost use Rattle.std.specs.List.{All};
 ghost use Rattle.scq_topics.specs.Reply.{reply_of};
 ghost use Rattle.scq_topics.specs.Topics.{kind_of};
@@ -7,7 +7,8 @@ ghost use Rattle.scq_collect.specs.Joined.{joined, plain, text_of_parts};
 ghost use Rattle.scq_collect.specs.Output.{answer_of_whole};
 
 use crate::{Answered, Whole};
-use scq_topics::{ReplyBytes, Topics, reply};
+use itoa::Buffer;
+use scq_topics::{Kind, ReplyBytes, Topics, reply};
 use scq_word::NoMemory;
 use std::alloc::Global;
 
@@ -33,7 +34,7 @@ pub fn whole_of(alloc: Global, topics: &Topics, parts: &[&Answered]) -> Result<W
     })
 }
 
-/// How many bytes the texts of these parts have together, and the reply to them.
+/// How many bytes the texts of these parts have together, and the reply to them. They are joined only where the reply needs it.
 fn reply_to(
     alloc: Global,
     topics: &Topics,
@@ -44,16 +45,21 @@ fn reply_to(
     ensures bytes { IfOk result (λ r. r.0 ≡ length (text_of_parts (plain parts.now))) }
     ensures reply { IfOk result (λ r. r.1 ≡ reply_of (kind_of topics.now topic) (text_of_parts (plain parts.now))) }
 {
-    let text = joined_text(alloc, parts)?;
-    let bytes = text.len() as u64;
-    Ok((bytes, reply(alloc, topics.kind(topic), text.as_slice())?))
+    let len = joined_len(parts).ok_or(NoMemory)?;
+    let bytes = len as u64;
+    let reply = match topics.kind(topic) {
+        Kind::Len => ReplyBytes::copy_of(alloc, Buffer::new().format(bytes).as_bytes())?,
+        Kind::Echo => ReplyBytes::from(joined_text(alloc, parts, len)?),
+        kind => reply(alloc, kind, joined_text(alloc, parts, len)?.as_slice())?,
+    };
+    Ok((bytes, reply))
 }
 
-/// The texts of parts, one behind the other.
-fn joined_text(alloc: Global, parts: &[&Answered]) -> Result<Vec<u8>, NoMemory>
+/// The texts of parts, one behind the other: so many bytes.
+fn joined_text(alloc: Global, parts: &[&Answered], len: usize) -> Result<Vec<u8>, NoMemory>
     ensures { IfOk result (λ text. text.items ≡ text_of_parts (plain parts.now)) }
 {
-    let mut text = Vec::with_capacity(alloc, joined_len(parts))?;
+    let mut text = Vec::with_capacity(alloc, len)?;
     'parts: for part in parts {
         text.extend_from_slice(part.text.bytes())?;
     }
@@ -61,10 +67,12 @@ fn joined_text(alloc: Global, parts: &[&Answered]) -> Result<Vec<u8>, NoMemory>
 }
 
 /// How many bytes the texts of parts have together.
-fn joined_len(parts: &[&Answered]) -> usize {
+fn joined_len(parts: &[&Answered]) -> Option<usize>
+    ensures { IfSome result (λ len. len ≡ length (text_of_parts (plain parts.now))) }
+{
     let mut len: usize = 0;
-    for part in parts {
-        len = len.saturating_add(part.text.bytes().len());
+    'parts: for part in parts {
+        len = len.checked_add(part.text.bytes().len())?;
     }
-    len
+    Some(len)
 }

@@ -22,8 +22,10 @@ use std::marker::Model;
 use std::thread;
 use std::thread::Threads;
 
-/// How many parts a piece has at least, where it isn't the last.
-const LEAST: usize = 1 << 14;
+/// How many parts are enough for a piece, and how many bytes of text.
+const PARTS: usize = 1 << 14;
+
+const BYTES: usize = 1 << 20;
 
 /// Lines for some answers, and their totals.
 #[derive(Drop)]
@@ -56,9 +58,9 @@ impl Text {
     }
 }
 
-/// The text that `output` makes of what `merge` gives, in pieces to be written one behind the other. No answer of one part is copied,
-/// the texts of a message's parts are joined while its line is made, and about so many threads make the pieces. It fails only for want
-/// of memory.
+/// The text that `output` makes of what `merge` gives, in pieces to be written one behind the other, by at most so many threads. No answer
+/// of one part is copied, and the texts of a message's parts are joined while its line is made, where the reply needs them so. It fails only
+/// for want of memory.
 pub fn output_in_pieces<R: Threads + Sync>(
     rt: &R,
     alloc: Global,
@@ -77,17 +79,33 @@ pub fn output_in_pieces<R: Threads + Sync>(
 {
     let numbers = topics.len() + 1;
     let all = ordered(alloc, lists)?;
-    let cuts = cuts_of(alloc, all.as_slice(), size_of_piece(all.len(), threads))?;
+    let members = all.as_slice();
+    let cuts = cuts_of(alloc, members, size_of_piece(members, threads))?;
     let pieces = pieces_of(rt, alloc, topics, cuts.as_slice())?;
     let pieces = joined(alloc, topics, numbers, pieces)?;
     Ok(Text { pieces })
 }
 
-/// How many parts a piece has at least, where there are to be at most as many pieces as threads.
-fn size_of_piece(count: usize, threads: u32) -> usize
+/// How many parts a piece has at least, where there are to be at most as many pieces as threads, and each is to have parts enough, or about
+/// bytes enough.
+fn size_of_piece(all: &[&Answered], threads: u32) -> usize
     ensures { 0 < result }
 {
-    count.div_ceil((threads as usize).max(1)).max(LEAST)
+    let even = all.len().div_ceil((threads as usize).max(1));
+    if even >= PARTS {
+        return even;
+    }
+    let mean = bytes_in(all) / all.len().max(1);
+    even.max((BYTES / mean.max(1)).clamp(1, PARTS))
+}
+
+/// How many bytes the texts of members have together.
+fn bytes_in(members: &[&Answered]) -> usize {
+    let mut bytes: usize = 0;
+    for member in members {
+        bytes = bytes.saturating_add(member.text.bytes().len());
+    }
+    bytes
 }
 
 /// Members in order, cut into pieces of about this size, where no message is cut.

@@ -17,30 +17,30 @@ pieces_of-requires-clause-known g c κs within =
     let Q : Bor Answered → Type 0 = λ m. P m.now in
     let all = c.in_ok-all.all.items in
     let known : All Q all = in-place P all (All-permutation P (members_in c.args.lists.now) (map (λ m. m.now) all) c.in_ok-all.ensures.same c.requires) in
-    subst (λ (cuts : List (Bor (List (Bor Answered)))). All (λ cut. All Q cut.now) cuts) (sym c.as_slice-2.ensures.value)
-    (in-each Q c.in_ok-cuts.cuts.items (subst (All Q) (sym (c.in_ok-cuts.ensures.all ∙ c.as_slice.ensures.value)) known))
+    subst (λ (cuts : List (Bor (List (Bor Answered)))). All (λ cut. All Q cut.now) cuts) (sym c.as_slice.ensures.value)
+    (in-each Q c.in_ok-cuts.cuts.items (subst (All Q) (sym (c.in_ok-cuts.ensures.all ∙ c.as_slice-members.ensures.value)) known))
 
 pub pieces_of-requires-clause-few : goal.pieces_of-requires-clause-few
 pieces_of-requires-clause-few g c κs within =
     let topics = c.args.topics.now in
-    let small : length c.as_slice.result.now < 2 ^ 64 = search rules in
-    let same = ap (λ (cuts : List (Bor (List (Bor Answered)))). all_answers (map (cut_answers topics) cuts)) c.as_slice-2.ensures.value
-    ∙ all-cut-answers topics c.in_ok-cuts.cuts.items c.as_slice.result.now c.in_ok-cuts.ensures.messages in
-    omega (arith, small, ap length same, few-answers topics c.as_slice.result.now)
+    let small : length c.as_slice-members.result.now < 2 ^ 64 = search rules in
+    let same = ap (λ (cuts : List (Bor (List (Bor Answered)))). all_answers (map (cut_answers topics) cuts)) c.as_slice.ensures.value
+    ∙ all-cut-answers topics c.in_ok-cuts.cuts.items c.as_slice-members.result.now c.in_ok-cuts.ensures.messages in
+    omega (arith, small, ap length same, few-answers topics c.as_slice-members.result.now)
 
 pub returns-clause-text : goal.returns-clause-text
 returns-clause-text g c =
     let topics = c.args.topics.now in
     let all = c.in_ok-all.all.items in
-    let same = ap (λ (cuts : List (Bor (List (Bor Answered)))). all_answers (map (cut_answers topics) cuts)) c.as_slice-2.ensures.value
-    ∙ all-cut-answers topics c.in_ok-cuts.cuts.items c.as_slice.result.now c.in_ok-cuts.ensures.messages in (
-      answers_of topics (plain c.as_slice.result.now),
+    let same = ap (λ (cuts : List (Bor (List (Bor Answered)))). all_answers (map (cut_answers topics) cuts)) c.as_slice.ensures.value
+    ∙ all-cut-answers topics c.in_ok-cuts.cuts.items c.as_slice-members.result.now c.in_ok-cuts.ensures.messages in (
+      answers_of topics (plain c.as_slice-members.result.now),
       record {
         all = map (λ m. m.now) all;
         merged = c.in_ok-all.ensures;
-        wholes_are = ap (λ ms. answers_of topics (plain ms)) c.as_slice.ensures.value ∙ ap (answers_of topics) (sym (maps without_way (λ m. m.now) all));
+        wholes_are = ap (λ ms. answers_of topics (plain ms)) c.as_slice-members.ensures.value ∙ ap (answers_of topics) (sym (maps without_way (λ m. m.now) all));
       },
-      c.in_ok-pieces-2.ensures (map (cut_answers topics) c.as_slice-2.result.now) c.in_ok-pieces.ensures ∙ ap (text_of_answers topics) same,
+      c.in_ok-pieces-2.ensures (map (cut_answers topics) c.as_slice.result.now) c.in_ok-pieces.ensures ∙ ap (text_of_answers topics) same,
     )
 
 pub returns-clause-one_thread : goal.returns-clause-one_thread
