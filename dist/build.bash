@@ -1,4 +1,4 @@
-# How ./scq and dist/make prove and build, who read this file behind sources.bash. `say` and `fail` are
+# How dist/start.bash and dist/make prove and build, who read this file behind sources.bash. `say` and `fail` are
 # theirs. All is done in folders of its own: nothing is written where rt works by hand.
 work=$top/crates/scq_main/out
 log=$work/scq.log

@@ -1,4 +1,4 @@
-# What ./scq and dist/make have in common, who read this file: which crates a file is made of, the sum of
+# What dist/start.bash and dist/make have in common, who read this file: which crates a file is made of, the sum of
 # their sources, and what dist/RECORD says of each file of dist/. `top` is the repository's folder.
 
 # The crates of the repository that these crates are made of, lowest first and themselves last.

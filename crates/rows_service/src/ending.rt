@@ -3,10 +3,10 @@
 use crate::files::RowFiles;
 use crate::row::Row;
 use scq_outside::MemSink;
-use scq_service::serve;
+use scq_service::{serve, serve_waiting};
 use scq_word::NoMemory;
-use scq_work::FreeGate;
 use std::alloc::Global;
+use std::sync::Wait;
 use std::thread::Threads;
 
 /// What a run left.
@@ -19,20 +19,36 @@ pub struct Ending {
 }
 
 /// Runs a row.
-pub fn ending_of<R: Threads + Sync>(rt: &R, alloc: Global, row: &Row) -> Result<Ending, NoMemory> {
+pub fn ending_of<R: Threads + Wait + Sync>(
+    rt: &R,
+    alloc: Global,
+    row: &Row,
+) -> Result<Ending, NoMemory> {
     let mut files = RowFiles::new(alloc, row.files.as_slice(), row.reads)?;
     let mut output = row.writes.sink(alloc, row.room)?;
     let mut errors = row.error_writes.sink(alloc, row.room)?;
     let words = row.words.as_slice();
-    let outcome = serve(
-        rt,
-        alloc,
-        words,
-        &mut files,
-        &mut output,
-        &mut errors,
-        &FreeGate,
-    );
+    let outcome = if row.waits {
+        serve_waiting(
+            rt,
+            alloc,
+            words,
+            &mut files,
+            &mut output,
+            &mut errors,
+            &row.gate,
+        )
+    } else {
+        serve(
+            rt,
+            alloc,
+            words,
+            &mut files,
+            &mut output,
+            &mut errors,
+            &row.gate,
+        )
+    };
     Ok(Ending {
         status: outcome.status,
         output,
@@ -57,6 +73,9 @@ impl Ending {
         };
         if !right {
             return Some("what is written to the errors");
+        }
+        if !row.gate.is_met() {
+            return Some("how often workers met");
         }
         if row.left.is_empty() || self.has_left(row.left.as_slice()) {
             None

@@ -1,9 +1,9 @@
 //! Files of a row, and how reads and writes are cut.
-ghost use Rattle.std.specs.Prelude.{◌≡◌, IsTrue, IfOk, IfSome, None};
+ghost use Rattle.std.specs.Prelude.{◌≡◌, if◌then◌else◌, IsTrue, IfOk, IfSome, None, Some};
 ghost use Rattle.scq_outside.specs.Calls.{are_pieces};
 
 use anyhow::{Context, Result};
-use scq_outside::{Failed, Files, MemSink, MemSource};
+use scq_outside::{Failed, Files, MemSink, MemSource, Source};
 use scq_word::NoMemory;
 use std::alloc::Global;
 
@@ -77,6 +77,8 @@ pub struct RowFile {
     pub content: Vec<u8>,
     /// How its reads are cut, where not as those of all files.
     pub reads: Option<Cut>,
+    /// It gives lines that never end in place of its content.
+    pub endless: bool,
 }
 
 impl RowFile {
@@ -86,7 +88,33 @@ impl RowFile {
             name,
             content: Vec::new(alloc),
             reads: None,
+            endless: false,
         }
+    }
+}
+
+/// The source of a file of a row. Its bytes are visible, unless they never end.
+#[derive(Drop)]
+pub struct RowSource {
+    content: MemSource,
+    endless: bool,
+}
+
+impl Source for RowSource {
+    ghost faults = { λ s. s.content.faults };
+
+    ghost ends = { λ s. s.content.ends };
+
+    ghost left = { λ s. if s.endless then None else Some s.content.left };
+
+    fn read(&mut self, into: &mut [u8]) -> Result<usize, Failed> {
+        if !self.endless {
+            return self.content.read(into);
+        }
+        into.fill(b'x');
+        let last = into.len() - 1;
+        into[last] = b'\n';
+        Ok(into.len())
     }
 }
 
@@ -112,15 +140,17 @@ impl RowFiles<'_> {
     }
 
     /// The source of the first file of this name that isn't given yet.
-    fn next(&mut self, name: &str) -> Option<MemSource>
+    fn next(&mut self, name: &str) -> Option<RowSource>
         ensures faults { self.new.faults ≡ self.old.faults }
-        ensures fresh { IfSome result (λ source. source.faults ≡ 0) }
+        ensures fresh { IfSome result (λ source. source.content.faults ≡ 0) }
     {
         for (file, given) in self.files.iter().zip(self.given.iter_mut()) {
             if file.name.as_str() == name && !*given {
                 *given = true;
                 let reads = file.reads.unwrap_or(self.reads);
-                return reads.source(self.alloc, file.content.as_slice()).ok();
+                let content = reads.source(self.alloc, file.content.as_slice()).ok()?;
+                let endless = file.endless;
+                return Some(RowSource { content, endless });
             }
         }
         None
@@ -128,13 +158,13 @@ impl RowFiles<'_> {
 }
 
 impl Files for RowFiles<'_> {
-    type Src = MemSource;
+    type Src = RowSource;
 
     ghost faults = { λ f. f.faults };
 
     ghost table = { λ _. None };
 
-    fn source(&mut self, name: &str) -> Result<MemSource, Failed> {
+    fn source(&mut self, name: &str) -> Result<RowSource, Failed> {
         match self.next(name) {
             Some(source) => Ok(source),
             None => {

@@ -5,14 +5,14 @@
 
 mod ending;
 mod files;
+mod gates;
 mod row;
-#[cfg(test)]
-mod tests;
 
 use anyhow::{Context, Result, anyhow};
 use ending::ending_of;
 use row::Row;
 use std::alloc::Global;
+use std::sync::Wait;
 use std::thread::Threads;
 use std::{env, fs};
 
@@ -26,7 +26,7 @@ fn main(rt: HostRuntime) -> Result<()> {
 }
 
 /// Runs the rows of a file, prints those that end otherwise, and tells how many there are.
-fn run_rows<R: Threads + Sync + Print>(
+fn run_rows<R: Threads + Wait + Sync + Print>(
     rt: &R,
     alloc: Global,
     name: &str,

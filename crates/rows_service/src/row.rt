@@ -1,17 +1,21 @@
 //! A row: what the service is given, and what is to come of it. Its lines, each a mark and, after a space, a text:
 //!
 //! - `$` words of the command line, with a space between them, and `+` more of the last of them;
-//! - `<` the name of a file, then for each line of its content a `|`, and `cut` where its reads alone go otherwise than `reads` says;
+//! - `<` the name of a file, then for each line of its content a `|`, or `endless` where it gives lines that never end, and `cut` where
+//!   its reads alone go otherwise than `reads` says;
 //! - `>` a line of the output, `!` a line of the errors; `?` in place of these where the errors are a report,
 //!   which has to add up;
 //! - `reads`, `writes`, `errors`: the greatest piece that a read or a write moves, and which call of each object fails, 0 for none;
 //! - `room`: how many bytes fit the output;
+//! - `waits`: workers that find nothing to take wait in place of leaving early;
+//! - `meets`: its two workers meet at each point of the gate; `hands`: the first one's part is taken by the other;
 //! - `left`: how many buffers are left in each ring of the workers' queue; without this line that isn't compared;
 //! - `=` the status, which ends the row.
 //!
 //! `rows_text` has what stands for bytes that aren't seen.
 
 use crate::files::{Cut, RowFile};
+use crate::gates::RowGate;
 use anyhow::{Context, Result};
 use rows_text::{add_line, word_of};
 use std::alloc::Global;
@@ -31,6 +35,10 @@ pub struct Row {
     pub errors: Vec<u8>,
     /// The errors are a report of workers.
     pub reports: bool,
+    /// Its workers wait in place of leaving early.
+    pub waits: bool,
+    /// Where its workers wait for one another.
+    pub gate: RowGate,
     /// What is left in each ring, where it is compared.
     pub left: Vec<u64>,
 }
@@ -48,6 +56,8 @@ impl Row {
             output: Vec::new(alloc),
             errors: Vec::new(alloc),
             reports: false,
+            waits: false,
+            gate: RowGate::Free,
             left: Vec::new(alloc),
         }
     }
@@ -73,6 +83,13 @@ impl Row {
             ">" => add_line(&mut self.output, text)?,
             "!" => add_line(&mut self.errors, text)?,
             "?" => self.reports = true,
+            "waits" => self.waits = true,
+            "meets" => self.gate = RowGate::meeting(),
+            "hands" => self.gate = RowGate::handing(),
+            "endless" => {
+                let file = self.files.last_mut().context("lines of no file")?;
+                file.endless = true;
+            }
             "cut" => {
                 let file = self.files.last_mut().context("a cut of no file")?;
                 file.reads = Some(Cut::of(text)?);

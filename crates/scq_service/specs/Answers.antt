@@ -4,6 +4,7 @@ use Rattle.std.specs.List.{All}
 use Rattle.std.specs.Option.{option_map}
 use Rattle.std.specs.List.Sorted.{IsPermutation}
 use Rattle.scq_block.specs.declared.frame.Frame.{Frame}
+use Rattle.scq_park.specs.declared.rested.Rested.{Rested}
 use Rattle.scq_queue.specs.Passes.{PassStanding}
 use Rattle.scq_frames.specs.declared.message.Message.{Message}
 use Rattle.scq_collect.specs.Collected.{messages_to}
@@ -17,6 +18,7 @@ use Rattle.scq_words.specs.declared.fault.WordsFault.{WordsFault}
 use Rattle.scq_work.specs.AllWorkers.{HasWorked, NothingIsStranded}
 use Rattle.scq_work.specs.Ends.{AreGiven, all_left, messages_in}
 use Rattle.scq_work.specs.Reading as reading
+use Rattle.scq_work.specs.Waiting.{HaveWaited}
 use Rattle.scq_work.specs.declared.worked.Worked.{Worked}
 use Rattle.scq_service.specs.Contents.{IfVisible, without_names}
 use Rattle.scq_service.specs.Ends.{Left, IsUnchanged, IfTold, HasMissed, most_payload}
@@ -88,3 +90,8 @@ abbrev pub IsSeenAt : Result Asked WordsFault → Option Fault → Bool → Type
 IsSeenAt (Ok (asks.run a)) end seen = seen ≡ false → end ≡ Some NoMemory
 IsSeenAt (Ok (asks.generated a)) end seen = seen ≡ false → end ≡ Some NoMemory
 IsSeenAt asked end seen = seen ≡ false
+
+-- how the workers of a run waited, by these passes: as many as were asked for, with a ring for each topic. Another run has none
+abbrev pub WaitedAs : Result Asked WordsFault → List (PassStanding Frame) → List Bool → List Rested → Type 0
+WaitedAs (Ok (asks.run a)) passes saw rested = HaveWaited (length a.topics + 1) a.workers passes saw rested
+WaitedAs asked passes saw rested = ⊥

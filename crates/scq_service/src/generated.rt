@@ -1,4 +1,4 @@
-ghost use Rattle.std.specs.Prelude.{◌≡◌, ℕ, ◌+◌, ◌<◌, ◌≤◌, ◌^◌, [], ◌∷◌, Some, IfOk, IfSome, IsNone, IsSome, IsSomeAnd, length, map};
+ghost use Rattle.std.specs.Prelude.{◌≡◌, ℕ, ◌+◌, ◌<◌, ◌≤◌, ◌^◌, [], ◌∷◌, Some, None, IfOk, IfSome, IsNone, IsSome, IsSomeAnd, length, map};
 ghost use Rattle.std.specs.List.{All};
 ghost use Rattle.std.specs.List.Sorted.{IsPermutation};
 ghost use Rattle.scq_collect.specs.Collected.{messages_to};
@@ -58,6 +58,7 @@ pub fn run_self<R: Threads + Sync, S, K: Sink, G: Gate>(
         NothingIsStranded 6 (length the_topics + 1) workers passes.value.items left.items)) }
     ensures seen { IsNone result.left → result.fault ≡ Some Fault.NoMemory }
     ensures same { IfSome result.worked (λ w. IsSomeAnd result.passes (λ passes. passes.value.items ≡ w.passes.value.items)) }
+    ensures leaves { result.waited ≡ None }
 {
     let Ok(answers) = answer_file(rt, alloc, seed, lines, workers, gate) else {
         return Outcome::at(Vec::new(alloc), Fault::NoMemory);
@@ -71,7 +72,7 @@ pub fn run_self<R: Threads + Sync, S, K: Sink, G: Gate>(
     let text = summary_of(alloc, &topics, lines, &worked);
     let sources = Vec::new(alloc);
     let got = Snapshot::of(&sources);
-    let outcome = Outcome::answered(sources, worked).behind(got, left, passes);
+    let outcome = Outcome::answered(sources, worked).behind(got, left, passes, None);
     match text {
         Ok(text) => match write_all(out, text.bytes()) {
             Ok(()) => outcome,

@@ -7,7 +7,7 @@ use crate::whole::MOST_TEXT;
 use scq_block::Frame;
 use scq_outside::ReadAllFault;
 use scq_queue::Pass;
-use scq_work::{WorkFault, Worked};
+use scq_work::{Waited, WorkFault, Worked};
 use std::snapshot::Snapshot;
 
 /// The greatest number of bytes of a file.
@@ -30,6 +30,9 @@ pub struct Outcome<S> {
     pub left: Option<Vec<u64>>,
     /// For contracts alone, and where `left` is there, the workers' passes as they were then.
     pub passes: Option<Snapshot<Vec<Pass<Frame>>>>,
+    /// Where idle workers wait: of each worker, whether it saw that all had retired, and how often it rested and was woken. None only at
+    /// status 2 and 5. Where they leave early it is None.
+    pub waited: Option<Waited>,
     /// For contracts alone, the sources of `run` and `judge` as they were when they were got.
     pub got: Snapshot<Vec<S>>,
 }
@@ -42,6 +45,7 @@ impl<S> Outcome<S> {
         ensures read { result.read ≡ 0 }
         ensures worked { result.worked ≡ None }
         ensures left { (result.left ≡ None) × (result.passes ≡ None) }
+        ensures waited { result.waited ≡ None }
     {
         let got = Snapshot::of(&sources);
         Outcome {
@@ -52,6 +56,7 @@ impl<S> Outcome<S> {
             worked: None,
             left: None,
             passes: None,
+            waited: None,
             got,
         }
     }
@@ -78,6 +83,7 @@ impl<S> Outcome<S> {
         ensures read { result.read ≡ self.read }
         ensures worked { result.worked ≡ self.worked }
         ensures left { (result.left ≡ self.left) × (result.passes ≡ self.passes) }
+        ensures waited { result.waited ≡ self.waited }
         ensures got { result.got ≡ self.got }
     {
         Outcome {
@@ -95,6 +101,7 @@ impl<S> Outcome<S> {
         ensures read { result.read ≡ 0 }
         ensures worked { result.worked ≡ None }
         ensures left { (result.left ≡ self.left) × (result.passes ≡ self.passes) }
+        ensures waited { result.waited ≡ self.waited }
         ensures got { result.got ≡ self.got }
     {
         Outcome {
@@ -106,12 +113,13 @@ impl<S> Outcome<S> {
         }
     }
 
-    /// The same end, with the sources as they were when they were got, and with what is seen of the workers' queue.
+    /// The same end, with the sources as they were when they were got, and with what is seen of the workers' queue and of how they waited.
     pub(crate) fn behind(
         self,
         got: Snapshot<Vec<S>>,
         left: Option<Vec<u64>>,
         passes: Option<Snapshot<Vec<Pass<Frame>>>>,
+        waited: Option<Waited>,
     ) -> Outcome<S>
         ensures status { result.status ≡ self.status }
         ensures fault { result.fault ≡ self.fault }
@@ -119,11 +127,13 @@ impl<S> Outcome<S> {
         ensures read { result.read ≡ self.read }
         ensures worked { result.worked ≡ self.worked }
         ensures left { (result.left ≡ left) × (result.passes ≡ passes) }
+        ensures waited { result.waited ≡ waited }
         ensures got { result.got ≡ got }
     {
         Outcome {
             left,
             passes,
+            waited,
             got,
             ..self
         }
@@ -136,6 +146,7 @@ impl<S> Outcome<S> {
         ensures read { result.read ≡ 0 }
         ensures worked { result.worked ≡ None }
         ensures left { (result.left ≡ None) × (result.passes ≡ None) }
+        ensures waited { result.waited ≡ None }
         ensures got { result.got.value ≡ sources }
     {
         let got = Snapshot::of(&sources);
@@ -147,6 +158,7 @@ impl<S> Outcome<S> {
             worked: None,
             left: None,
             passes: None,
+            waited: None,
             got,
         }
     }
@@ -196,6 +208,7 @@ impl<S> Outcome<S> {
         ensures read { result.read ≡ bytes_of_large_text fault }
         ensures worked { result.worked ≡ None }
         ensures left { result.left ≡ None }
+        ensures waited { result.waited ≡ None }
     {
         match fault {
             ReadAllFault::ReadFault => Outcome::at(sources, Fault::ReadFault { file: 1 }),

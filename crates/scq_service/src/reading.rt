@@ -1,16 +1,25 @@
-ghost use Rattle.std.specs.Prelude.{◌≡◌, ◌+◌, ◌≤◌, [], Some, IfSome, IsNone, IsSome, IsSomeAnd, OnSome, length, map, string_bytes, vec_len, vec_capacity};
+//! The files of a run: their sources, and what the workers' end makes of it.
+ghost use Rattle.std.specs.Prelude.{◌≡◌, ℕ, ◌+◌, ◌<◌, ◌≤◌, List, [], Some, None, IfOk, IfErr, IfSome, IsErrOf, IsNone, IsSome, IsSomeAnd, OnOk, OnSome, length, map, slice_index_or, string_bytes, vec_len, vec_capacity};
 ghost use Rattle.std.specs.List.{All};
+ghost use Rattle.std.specs.List.Sorted.{IsPermutation};
+ghost use Rattle.scq_frames.specs.declared.message.Message.{Message as TheMessage};
+ghost use Rattle.scq_collect.specs.Collected.{messages_to};
+ghost use Rattle.scq_collect.specs.Joined.{part_answers, without_way};
 ghost use Rattle.scq_collect.specs.Merging.{members_in};
-ghost use Rattle.scq_work.specs.AllWorkers.{NothingIsStranded};
+ghost use Rattle.scq_work.specs.AllWorkers.{HasWorked, NothingIsStranded};
+ghost use Rattle.scq_work.specs.Ends.{AreGiven, HasCause, HasMoved, all_left, messages_in};
+ghost use Rattle.scq_work.specs.Reading.{IsWhole};
+ghost use Rattle.scq_work.specs.Waiting.{HaveWaited};
 ghost use Rattle.scq_service.specs.Answers.{HaveCome, HaveAllCome, AreOfParts, IsWork, IsWorkOf, WorkedAt};
 ghost use Rattle.scq_service.specs.Ends.{HasGot, ReadsOver};
 ghost use Rattle.scq_service.specs.Faults.{status_of};
 
 use crate::{Fault, Outcome};
 use scq_outside::{Failed, Files};
-use scq_work::{Gate, Job, WorkEnd, work};
+use scq_work::{Gate, Job, WaitEnd, Waited, WorkEnd, WorkFault, work, work_waiting};
 use std::alloc::Global;
 use std::snapshot::Snapshot;
+use std::sync::Wait;
 use std::thread::Threads;
 
 /// Gets the sources of the files in order, up to the first that isn't got, and says whether all were got.
@@ -84,28 +93,166 @@ pub fn read_files<R: Threads + Sync, F: Files, G: Gate>(
     ensures there { OnSome result.worked (IsSome result.left) }
     ensures seen { IsNone result.left → result.fault ≡ Some Fault.NoMemory }
     ensures same { IfSome result.worked (λ w. IsSomeAnd result.passes (λ passes. passes.value.items ≡ w.passes.value.items)) }
+    ensures leaves { IsNone result.waited }
 {
     let Ok(mut sources) = Vec::with_capacity(alloc, names.len()) else {
         return Outcome::at(Vec::new(alloc), Fault::NoMemory);
     };
+    let was = Snapshot::of(files);
     let all = get_sources(names, files, &mut sources);
     let count = sources.len();
     let got = Snapshot::of(&sources);
+    let end = work(rt, alloc, job, sources, gate);
+    conclude(job, names, &was, files, all, count, got, end, None)
+}
+
+/// The same by workers that rest in place of leaving early.
+pub fn read_files_waiting<R: Threads + Wait + Sync, F: Files, G: Gate>(
+    rt: &R,
+    alloc: Global,
+    job: &Job,
+    names: &[String],
+    files: &mut F,
+    gate: &G,
+) -> Outcome<F::Src>
+    requires few { length names.now ≤ 64 }
+    ensures got { HasGot F.Src.faults F.Src.left (map string_bytes names.now) result.got.value.items (record {
+      table = record { old = F.table files.old; new = F.table files.new };
+      opens = record { old = F.faults files.old; new = F.faults files.new };
+      sources = result.sources.items;
+      read = result.read;
+    }) }
+    ensures ends { ReadsOver job.now.longest F.Src.faults F.Src.ends F.Src.left (map string_bytes names.now) result.got.value.items (record {
+      table = record { old = F.table files.old; new = F.table files.new };
+      opens = record { old = F.faults files.old; new = F.faults files.new };
+      sources = result.sources.items;
+      read = result.read;
+    }) result.fault }
+    ensures status { result.status ≡ status_of result.fault }
+    ensures worked { WorkedAt result.fault result.worked }
+    ensures known { IfSome result.worked (λ w. All (λ a. a.topic ≤ length job.now.topics) (members_in w.answered.items)) }
+    ensures answers { AreOfParts job.now.topics job.now.size F.Src.left result.got.value.items result.worked }
+    ensures told { IsWorkOf job.now.topics job.now.size job.now.workers F.Src.left result.got.value.items result.worked }
+    ensures work { IsWork job.now.topics job.now.size job.now.longest job.now.workers F.Src.faults F.Src.ends F.Src.left result.got.value.items (record {
+      table = record { old = F.table files.old; new = F.table files.new };
+      opens = record { old = F.faults files.old; new = F.faults files.new };
+      sources = result.sources.items;
+      read = result.read;
+    }) result.worked }
+    ensures left { IfSome result.left (λ left. IsSomeAnd result.passes (λ passes.
+        NothingIsStranded job.now.order (length job.now.topics + 1) job.now.workers passes.value.items left.items)) }
+    ensures there { OnSome result.worked (IsSome result.left) }
+    ensures seen { IsNone result.left → result.fault ≡ Some Fault.NoMemory }
+    ensures same { IfSome result.worked (λ w. IsSomeAnd result.passes (λ passes. passes.value.items ≡ w.passes.value.items)) }
+    ensures waited { IfSome result.waited (λ waited. IsSomeAnd result.passes (λ passes.
+        HaveWaited (length job.now.topics + 1) job.now.workers passes.value.items waited.saw.items waited.rested.items)) }
+    ensures waits { IsNone result.waited → result.fault ≡ Some Fault.NoMemory }
+    ensures attended { OnSome result.worked (IsSome result.waited) }
+    ensures both { OnSome result.waited (IsSome result.left) }
+{
+    let Ok(mut sources) = Vec::with_capacity(alloc, names.len()) else {
+        return Outcome::at(Vec::new(alloc), Fault::NoMemory);
+    };
+    let was = Snapshot::of(files);
+    let all = get_sources(names, files, &mut sources);
+    let count = sources.len();
+    let got = Snapshot::of(&sources);
+    let WaitEnd { end, waited } = work_waiting(rt, alloc, job, sources, gate);
+    conclude(job, names, &was, files, all, count, got, end, waited)
+}
+
+/// How a run ends whose workers ended so. `was` is what the files were before any source was got, `got` the sources as they were then, and
+/// `all` says whether all were got.
+fn conclude<F: Files>(
+    job: &Job,
+    names: &[String],
+    was: &Snapshot<F>,
+    files: &F,
+    all: bool,
+    count: usize,
+    got: Snapshot<Vec<F::Src>>,
+    end: WorkEnd<F::Src>,
+    waited: Option<Waited>,
+) -> Outcome<F::Src>
+    requires few { count ≤ 64 }
+    requires number { count ≡ length got.value.items }
+    requires come { HaveCome F.Src.faults F.Src.left (map string_bytes names.now) (record {
+      table = record { old = F.table was.now.value; new = F.table files.now };
+      opens = record { old = F.faults was.now.value; new = F.faults files.now };
+      sources = got.value.items;
+      read = 0;
+    }) }
+    requires all { HaveAllCome (map string_bytes names.now) (record {
+      table = record { old = F.table was.now.value; new = F.table files.now };
+      opens = record { old = F.faults was.now.value; new = F.faults files.now };
+      sources = got.value.items;
+      read = 0;
+    }) all }
+    requires count { length end.sources.items ≡ length got.value.items }
+    requires moved { (k : ℕ) (d : F.Src) → k < length got.value.items
+        → HasMoved F.Src.faults F.Src.left (slice_index_or got.value.items k d) (slice_index_or end.sources.items k d) }
+    requires whole { OnOk end.result ((k : ℕ) (d : F.Src) → k < length got.value.items
+        → IsWhole job.now.longest F.Src.faults F.Src.ends F.Src.left (slice_index_or got.value.items k d) (slice_index_or end.sources.items k d)) }
+    requires answers { IfOk end.result (λ w. IfSome (all_left F.Src.left got.value.items) (λ contents.
+        IsPermutation (map without_way (members_in w.answered.items)) (part_answers job.now.topics job.now.size (messages_to job.now.topics 1 contents)))) }
+    requires told { IfOk end.result (λ w. IfSome (all_left F.Src.left got.value.items) (λ contents.
+        HasWorked job.now.topics job.now.size job.now.workers (messages_in job.now.topics 1 contents) w)) }
+    requires worked { IfOk end.result (λ w. (given : List (List TheMessage)) × AreGiven job.now.topics job.now.longest F.Src.left 1 got.value.items given
+        × HasWorked job.now.topics job.now.size job.now.workers given w) }
+    requires left { IfSome end.left (λ left. IsSomeAnd end.passes (λ passes.
+        NothingIsStranded job.now.order (length job.now.topics + 1) job.now.workers passes.value.items left.items)) }
+    requires none { end.left ≡ None → IsErrOf end.result WorkFault.NoMemory }
+    requires same { IfOk end.result (λ w. IsSomeAnd end.passes (λ passes. passes.value.items ≡ w.passes.value.items)) }
+    requires cause { IfErr end.result (λ fault. HasCause job.now.longest F.Src.faults F.Src.ends F.Src.left got.value.items end.sources.items fault) }
+    ensures got { HasGot F.Src.faults F.Src.left (map string_bytes names.now) result.got.value.items (record {
+      table = record { old = F.table was.now.value; new = F.table files.now };
+      opens = record { old = F.faults was.now.value; new = F.faults files.now };
+      sources = result.sources.items;
+      read = result.read;
+    }) }
+    ensures ends { ReadsOver job.now.longest F.Src.faults F.Src.ends F.Src.left (map string_bytes names.now) result.got.value.items (record {
+      table = record { old = F.table was.now.value; new = F.table files.now };
+      opens = record { old = F.faults was.now.value; new = F.faults files.now };
+      sources = result.sources.items;
+      read = result.read;
+    }) result.fault }
+    ensures status { result.status ≡ status_of result.fault }
+    ensures worked { WorkedAt result.fault result.worked }
+    ensures known { IfSome result.worked (λ w. All (λ a. a.topic ≤ length job.now.topics) (members_in w.answered.items)) }
+    ensures answers { AreOfParts job.now.topics job.now.size F.Src.left result.got.value.items result.worked }
+    ensures told { IsWorkOf job.now.topics job.now.size job.now.workers F.Src.left result.got.value.items result.worked }
+    ensures work { IsWork job.now.topics job.now.size job.now.longest job.now.workers F.Src.faults F.Src.ends F.Src.left result.got.value.items (record {
+      table = record { old = F.table was.now.value; new = F.table files.now };
+      opens = record { old = F.faults was.now.value; new = F.faults files.now };
+      sources = result.sources.items;
+      read = result.read;
+    }) result.worked }
+    ensures left { IfSome result.left (λ left. IsSomeAnd result.passes (λ passes.
+        NothingIsStranded job.now.order (length job.now.topics + 1) job.now.workers passes.value.items left.items)) }
+    ensures there { OnSome result.worked (IsSome result.left) }
+    ensures seen { IsNone result.left → result.fault ≡ Some Fault.NoMemory }
+    ensures same { IfSome result.worked (λ w. IsSomeAnd result.passes (λ passes. passes.value.items ≡ w.passes.value.items)) }
+    ensures waited { result.waited ≡ waited }
+    ensures closed { (result.left ≡ end.left) × (result.passes ≡ end.passes) }
+    ensures wanting { IsErrOf end.result WorkFault.NoMemory → (result.fault ≡ Some Fault.NoMemory) × (result.worked ≡ None) }
+{
     let WorkEnd {
         sources,
         result,
         left,
         passes,
-    } = work(rt, alloc, job, sources, gate);
+    } = end;
     match result {
         Ok(worked) => {
             if all {
-                Outcome::answered(sources, worked).behind(got, left, passes)
+                Outcome::answered(sources, worked).behind(got, left, passes, waited)
             } else {
                 let file = count as u32 + 1;
-                Outcome::at(sources, Fault::OpenFault { file }).behind(got, left, passes)
+                Outcome::at(sources, Fault::OpenFault { file }).behind(got, left, passes, waited)
             }
         }
-        Err(fault) => Outcome::of_work(sources, job.longest, fault).behind(got, left, passes),
+        Err(fault) => Outcome::of_work(sources, job.longest, fault).behind(
+            got, left, passes, waited,
+        ),
     }
 }

@@ -44,6 +44,7 @@ pub fn run_judge<F: Files, K: Sink>(
         }) result.fault }
     ensures worked { result.worked ≡ None }
     ensures left { result.left ≡ None }
+    ensures leaves { result.waited ≡ None }
 {
     let Ok(mut sources) = Vec::with_capacity(alloc, names.len()) else {
         return Outcome::at(Vec::new(alloc), Fault::NoMemory);
@@ -54,10 +55,12 @@ pub fn run_judge<F: Files, K: Sink>(
         let (sources, report) = report_on(alloc, sources);
         match report {
             Ok(text) => match write_all(out, text.bytes()) {
-                Ok(()) => Outcome::whole(sources).behind(got, None, None),
-                Err(Failed) => Outcome::at(sources, Fault::WriteFault).behind(got, None, None),
+                Ok(()) => Outcome::whole(sources).behind(got, None, None, None),
+                Err(Failed) => Outcome::at(sources, Fault::WriteFault).behind(
+                    got, None, None, None,
+                ),
             },
-            Err(fault) => Outcome::at(sources, Fault::from(fault)).behind(got, None, None),
+            Err(fault) => Outcome::at(sources, Fault::from(fault)).behind(got, None, None, None),
         }
     } else {
         let file = sources.len() as u32 + 1;

@@ -68,6 +68,9 @@ pub fn serve<R: Threads + Sync, F: Files, K: Sink, G: Gate>(
     ensures seen { IsSeenAt (asked (map string_bytes words.now)) result.fault (is_some result.left) }
     ensures same { IfSome result.worked (λ w. IsSomeAnd result.passes (λ passes. passes.value.items ≡ w.passes.value.items)) }
 
+    // Its workers leave early.
+    ensures leaves { result.waited ≡ None }
+
     // `clap` refuses no words that it is said to take.
     ensures taken { result.fault ≡ Some (Fault.Words WordsFault.NotUnderstood) → is_taken (map string_bytes words.now) ≡ false }
 
@@ -112,16 +115,16 @@ pub fn serve<R: Threads + Sync, F: Files, K: Sink, G: Gate>(
 
 /// How a run ended, and whether the words ask for the lines of the workers.
 #[derive(Drop)]
-struct Ran<S> {
-    outcome: Outcome<S>,
-    report: bool,
+pub(crate) struct Ran<S> {
+    pub outcome: Outcome<S>,
+    pub report: bool,
 }
 
 impl<S> Ran<S> {
     ghost use Rattle.std.specs.Prelude.{◌≡◌, false};
 
     /// A run whose workers are not reported.
-    fn quiet(outcome: Outcome<S>) -> Ran<S>
+    pub fn quiet(outcome: Outcome<S>) -> Ran<S>
         ensures outcome { result.outcome ≡ outcome }
         ensures report { result.report ≡ false }
     {
@@ -164,6 +167,7 @@ fn run<R: Threads + Sync, F: Files, K: Sink, G: Gate>(
         LeavesNothing (asked (map string_bytes words.now)) passes.value.items left.items)) }
     ensures seen { IsSeenAt (asked (map string_bytes words.now)) result.outcome.fault (is_some result.outcome.left) }
     ensures same { IfSome result.outcome.worked (λ w. IsSomeAnd result.outcome.passes (λ passes. passes.value.items ≡ w.passes.value.items)) }
+    ensures leaves { result.outcome.waited ≡ None }
     ensures taken { result.outcome.fault ≡ Some (Fault.Words WordsFault.NotUnderstood) → is_taken (map string_bytes words.now) ≡ false }
     ensures report { result.outcome.fault ≡ None → result.report ≡ asks_report (asked (map string_bytes words.now)) }
 {

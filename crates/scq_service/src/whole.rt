@@ -39,6 +39,7 @@ pub fn run_text<F: Files, K: Sink>(
         }) result.fault }
     ensures worked { result.worked ≡ None }
     ensures left { result.left ≡ None }
+    ensures leaves { result.waited ≡ None }
 {
     match read_one(alloc, name, files) {
         Ok(whole) => match tell(alloc, command, whole.text.bytes()) {
@@ -80,6 +81,7 @@ fn read_one<F: Files>(
     ensures status { IfErr result (λ outcome. outcome.status ≡ status_of outcome.fault) }
     ensures worked { IfErr result (λ outcome. outcome.worked ≡ None) }
     ensures left { IfErr result (λ outcome. outcome.left ≡ None) }
+    ensures leaves { IfErr result (λ outcome. outcome.waited ≡ None) }
     ensures ends { IfErr result (λ outcome. (command : TheCommand) (w : Wrote) → IsUnwritten w → EndsWhole command F.Src.faults F.Src.left name.now (record {
       table = record { old = F.table files.old; new = F.table files.new };
       opens = record { old = F.faults files.old; new = F.faults files.new };

@@ -203,6 +203,11 @@ asked (command ∷ words) =
     else if bytes_eq command (codes "replay") then asked_of_text Replay words
     else Err NotUnderstood
 
+-- the same of a program that understands `run` alone
+abbrev pub asked_for_run : List (List ℕ) → Result Asked WordsFault
+asked_for_run [] = Err NotUnderstood
+asked_for_run (command ∷ words) = if bytes_eq command (codes "run") then asked_of_run words else Err NotUnderstood
+
 -- a request of the program as what is asked
 abbrev pub run_of : RunRequest → RunAsked
 run_of r = record {

@@ -18,6 +18,11 @@ is_taken (command ∷ words) =
     else if bytes_eq command (codes "replay") then takes (text_app Replay) words
     else false
 
+-- the same where the command is `run`
+abbrev pub is_taken_for_run : List (List ℕ) → Bool
+is_taken_for_run [] = false
+is_taken_for_run (command ∷ words) = if bytes_eq command (codes "run") then takes run_app words else false
+
 -- the settings of a run are in their ranges, and each of its files has a name
 pub record IsRunInRange (a : RunAsked) : Type 0 where
   pub order : (1 ≤ a.order) × (a.order ≤ 12)

@@ -17,6 +17,6 @@ mod text_request;
 mod workers;
 
 pub use fault::{WordsError, WordsFault};
-pub use reading::read_words;
+pub use reading::{read_run_words, read_words};
 pub use request::{JudgeRequest, Request, RunRequest, SelfRequest};
 pub use text_request::{TextCommand, TextRequest};

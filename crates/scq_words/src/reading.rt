@@ -1,13 +1,13 @@
 ghost use Rattle.std.specs.Prelude.{◌≡◌, Ok, Err, false, map, string_bytes, IfOk, IsErrOf};
 ghost use Rattle.scq_words.specs.declared.fault.WordsFault.{WordsFault as TheFault};
-ghost use Rattle.scq_words.specs.Asked.{asked, asked_by};
-ghost use Rattle.scq_words.specs.Ranges.{IsInRange, is_taken};
+ghost use Rattle.scq_words.specs.Asked.{asked, asked_by, asked_for_run, run, run_of};
+ghost use Rattle.scq_words.specs.Ranges.{IsInRange, IsRunInRange, is_taken, is_taken_for_run};
 
 use crate::judge_words::read_judge;
 use crate::run::read_run;
 use crate::self_words::read_self;
 use crate::text_request::read_text;
-use crate::{Request, TextCommand, WordsError, WordsFault};
+use crate::{Request, RunRequest, TextCommand, WordsError, WordsFault};
 use std::alloc::Global;
 
 /// What the words ask for, which are the program's arguments without its own name. They are refused by
@@ -28,6 +28,22 @@ pub fn read_words(alloc: Global, words: &[String]) -> Result<Request, WordsError
             "judge" => Ok(Request::Judge(read_judge(alloc, rest)?)),
             "check" => Ok(Request::Text(read_text(alloc, TextCommand::Check, rest)?)),
             "replay" => Ok(Request::Text(read_text(alloc, TextCommand::Replay, rest)?)),
+            _ => Err(WordsError::Refused(WordsFault::NotUnderstood)),
+        },
+        [] => Err(WordsError::Refused(WordsFault::NotUnderstood)),
+    }
+}
+
+/// The same for a program that understands `run` alone.
+pub fn read_run_words(alloc: Global, words: &[String]) -> Result<RunRequest, WordsError>
+    ensures request { IfOk result (λ request. asked_for_run (map string_bytes words.now) ≡ Ok (run (run_of request))) }
+    ensures refused { (fault : TheFault) → IsErrOf result (WordsError.Refused fault) → asked_for_run (map string_bytes words.now) ≡ Err fault }
+    ensures taken { IsErrOf result (WordsError.Refused WordsFault.NotUnderstood) → is_taken_for_run (map string_bytes words.now) ≡ false }
+    ensures ranges { IfOk result (λ request. IsRunInRange (run_of request)) }
+{
+    match words {
+        [command, rest @ ..] => match command.as_str() {
+            "run" => read_run(alloc, rest),
             _ => Err(WordsError::Refused(WordsFault::NotUnderstood)),
         },
         [] => Err(WordsError::Refused(WordsFault::NotUnderstood)),

@@ -14,6 +14,10 @@ mod PassedOn
 mod FileLists
 mod ReadLemmas
 mod RunLemmas
+mod Produced
+mod PlaceLemmas
+mod WorkSent
+mod Settling
 mod NoneSpent
 mod AllAnswered
 mod Lists

@@ -40,7 +40,3 @@ map-reverse f [] = refl
 map-reverse f (x ∷ xs) =
     ap (map f) (reverse-append (x ∷ []) xs) ∙ map-append f (reverse xs) (x ∷ []) ∙ ap (λ l. l ++ f x ∷ []) (map-reverse f xs)
     ∙ sym (reverse-append (f x ∷ []) (map f xs))
-
--- the right side of an equation
-abbrev pub right-of : {X : Type 0} {x y : X} → x ≡ y → X
-right-of {y = y} e = y

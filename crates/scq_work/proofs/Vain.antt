@@ -1,5 +1,5 @@
 -- How often a pass took in vain, and that it took something, by the calls that stand behind its record.
-use Rattle.std.proofs.Common.{◌≡◌, ◌∙◌, ap, arith, suc, ℕ, ◌+◌, ◌*◌, ◌≤◌, List, [], ◌∷◌, ◌++◌, length}
+use Rattle.std.proofs.Common.{◌≡◌, ◌∙◌, sym, ap, subst, arith, suc, ℕ, ◌+◌, ◌*◌, ◌≤◌, List, [], ◌∷◌, ◌++◌, length}
 use Rattle.std.proofs.Math.Nat.{mul-le-mul_left, mul-add}
 use Rattle.std.proofs.lemmas.List.{length-append}
 use Rattle.std.proofs.lemmas.List.Sums.{sum_by-append}
@@ -8,8 +8,9 @@ use Rattle.scq_core.specs.declared.ended.Ended.TheVariants.{Done, Got, Nothing}
 use Rattle.scq_queue.specs.Lists.{takes_of}
 use Rattle.scq_queue.specs.Passes.{PassStanding, HeldStanding, HasGot, WasGivenBack}
 use Rattle.scq_queue.proofs.Records.{takes-append}
-use Rattle.scq_work.specs.Working.{HasTaken}
-use Rattle.scq_work.specs.Waiting.{vain_takes, TookInVain, TookMore, SweepsInVain}
+use Rattle.scq_frames.specs.Parts.{Part}
+use Rattle.scq_work.specs.Working.{HasTaken, HasSent, HasFoundFull}
+use Rattle.scq_work.specs.Waiting.{vain_takes, TookInVain, TookMore, HelpsInVain, SweepsInVain}
 use Rattle.scq_work.proofs.WorkerSteps.{taken-calls}
 
 -- one call more
@@ -62,3 +63,29 @@ module _ {B : Type 0} where
       let full = ap length (same ∙ fulls) in
       let old = ap vain_takes calls in
       paid-for topics before after (vain_takes p.calls) (vain_takes r.calls) was (omega (arith, few, old)) (omega (arith, paid, full))
+
+  -- what it took in vain while it read its files is paid for as in its sweeps
+  pub sweeps-begin : (topics rests : ℕ) (p : PassStanding B) → HelpsInVain topics p → SweepsInVain topics 0 rests p
+  sweeps-begin topics rests p helps =
+      let more : topics * length p.fulls ≤ topics * (0 + rests + length (takes_of p.calls) + length p.fulls) = mul-le-mul_left topics (omega arith) in
+      omega (arith, helps, more)
+
+  -- it sent a part: it took nothing in vain
+  pub vain-sent : (topics : ℕ) (m : Part) (p q : PassStanding B) → HasSent m p q → HelpsInVain topics p → HelpsInVain topics q
+  vain-sent topics m p q h was =
+      let first = Got 0 h.from h.over in
+      let last = Done (suc m.topic) h.place h.bytes in
+      let calls : q.calls ≡ (p.calls ++ first ∷ []) ++ last ∷ [] = ap (λ (x : PassStanding B). x.calls) h.pass in
+      let all = ap vain_takes calls ∙ vain-more (p.calls ++ first ∷ []) last in
+      let before = vain-more p.calls first in
+      subst (λ (fulls : List ℕ). vain_takes q.calls ≤ topics * length fulls) (sym (ap (λ (x : PassStanding B). x.fulls) h.pass))
+      (omega (arith, was, all, before))
+
+  -- it found no buffer free, and helped
+  pub vain-helped : (topics head : ℕ) (p q r : PassStanding B) → HasFoundFull head p q → TookInVain topics q r → r.fulls ≡ q.fulls → HelpsInVain topics p
+      → HelpsInVain topics r
+  vain-helped topics head p q r full took same was =
+      let calls : q.calls ≡ p.calls ++ Nothing 0 ∷ [] = ap (λ (x : PassStanding B). x.calls) full.pass in
+      let all = ap vain_takes calls ∙ vain-more p.calls (Nothing 0) in
+      let long = ap length (same ∙ ap (λ (x : PassStanding B). x.fulls) full.pass) ∙ length-append p.fulls (head ∷ []) in
+      paid-for topics (length p.fulls) (length r.fulls) (vain_takes p.calls) (vain_takes r.calls) was (omega (arith, took, all)) (omega (arith, long))

@@ -13,3 +13,6 @@ pub mod Dealings
 pub mod Ends
 pub mod AllWorkers
 pub mod Waiting
+pub mod Threads
+pub mod Places
+pub mod Resting

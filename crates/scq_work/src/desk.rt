@@ -1,16 +1,20 @@
 //! A worker with its files: all that one thread has.
 ghost use Rattle.std.specs.Prelude.{◌≡◌, ◌≤◌, ◌<◌, ◌+◌, ◌++◌, ◌∷◌, List, false, true, [], length, Some, None, IfNone, IfSome, All, vec_len, vec_capacity};
 ghost use Rattle.scq_queue.specs.Passes.{first_pass};
-ghost use Rattle.scq_work.specs.Desks.{IsNew, ids_of, HasRun};
+ghost use Rattle.scq_work.specs.Desks.{IsNew, ids_of, HasProduced, IsToSweep, HasRun};
+ghost use Rattle.scq_work.specs.Waiting.{HasWaited};
 
+use crate::bell::{Bell, Silent};
 use crate::own_file::OwnFile;
 use crate::worker::{AtLimit, Worker};
 use crate::{Gate, Job};
 use scq_outside::Source;
+use scq_park::{Crew, Stand};
 use scq_queue::{Held, Queue};
 use scq_word::Buffer;
 use std::alloc::Global;
 use std::mem;
+use std::sync::Wait;
 
 /// A worker with its files, from the last to the first, and the value that it keeps where it met a ticket past the limit.
 pub struct Desk<B: Buffer, S> {
@@ -40,8 +44,45 @@ impl<B: Buffer, S: Source> Desk<B, S> {
         self.files.pop()
     }
 
+    /// It reads its files and passes their messages on, and retires. Where it met a ticket past the limit, it retires at once, and keeps the value
+    /// that came back.
+    pub fn produce<G: Gate, T, W: Bell<T>>(
+        &mut self,
+        alloc: Global,
+        job: &Job,
+        queue: &Queue<B>,
+        gate: &G,
+        bell: &W,
+        stand: &mut T,
+    )
+        requires rings { queue.now.setup.rings ≡ length job.now.topics + 2 }
+        requires room { All (λ b. job.now.size + 24 ≤ length (B.contents b)) queue.now.given }
+        requires pass { self.old.worker.pass ≡ first_pass queue.now self.old.worker.number }
+        requires members { self.old.worker.members.items ≡ [] }
+        requires kept { self.old.kept ≡ None }
+        requires unread { All IsNew self.old.files.items }
+        requires bell { W.fits bell.now (W.kept stand.old) job.now.workers }
+        ensures same { ids_of self.new.files.items ≡ ids_of self.old.files.items }
+        ensures produced { HasProduced queue.now job.now.topics job.now.size job.now.longest S.faults S.ends S.left self.new.files.items self.new.worker.pass
+            self.new.worker.members.items self.new.worker.starved self.new.kept }
+        ensures number { (self.new.worker.number ≡ self.old.worker.number) × (self.new.worker.pass.number ≡ self.old.worker.number) }
+        ensures bell { W.kept stand.new ≡ W.kept stand.old }
+    {
+        let files = self.files.as_mut_slice();
+        match self
+            .worker
+            .read_files(alloc, job, queue, gate, bell, stand, files)
+        {
+            Ok(()) => self.worker.retire(job, queue, bell, stand),
+            Err(at_limit) => {
+                self.worker.retire(job, queue, bell, stand);
+                self.keep(at_limit);
+            }
+        }
+    }
+
     /// The worker's whole work: it reads its files and passes their messages on, retires, and sweeps until it leaves. Where it met a ticket
-    /// past the limit, it retires and leaves at once, and keeps the value that came back.
+    /// past the limit, it leaves at once, and keeps the value that came back.
     pub fn run<G: Gate>(&mut self, alloc: Global, job: &Job, queue: &Queue<B>, gate: &G)
         requires rings { queue.now.setup.rings ≡ length job.now.topics + 2 }
         requires room { All (λ b. job.now.size + 24 ≤ length (B.contents b)) queue.now.given }
@@ -54,17 +95,82 @@ impl<B: Buffer, S: Source> Desk<B, S> {
             self.new.worker.members.items self.new.worker.starved self.new.kept }
         ensures number { (self.new.worker.number ≡ self.old.worker.number) × (self.new.worker.pass.number ≡ self.old.worker.number) }
     {
-        let files = self.files.as_mut_slice();
-        match self.worker.read_files(alloc, job, queue, gate, files) {
-            Ok(()) => {
-                if let Err(at_limit) = self.worker.leave(alloc, job, queue, gate) {
-                    self.keep(at_limit);
-                }
-            }
-            Err(at_limit) => {
-                queue.retire(&mut self.worker.pass);
-                self.keep(at_limit);
-            }
+        let mut nobody = Silent;
+        self.produce(alloc, job, queue, gate, &Silent, &mut nobody);
+        match self.worker.pass.spent() {
+            Some(_) => {}
+            None => self.sweep_out(alloc, job, queue, gate),
+        }
+    }
+
+    /// It sweeps until it leaves.
+    fn sweep_out<G: Gate>(&mut self, alloc: Global, job: &Job, queue: &Queue<B>, gate: &G)
+        requires sweep { IsToSweep queue.now job.now.topics job.now.size job.now.longest S.faults S.ends S.left self.old.files.items self.old.worker.pass
+            self.old.worker.members.items self.old.worker.starved self.old.kept }
+        ensures same { self.new.files.items ≡ self.old.files.items }
+        ensures run { HasRun queue.now job.now.topics job.now.size job.now.longest S.faults S.ends S.left self.new.files.items self.new.worker.pass
+            self.new.worker.members.items self.new.worker.starved self.new.kept }
+        ensures number { (self.new.worker.number ≡ self.old.worker.number) × (self.new.worker.pass.number ≡ self.old.worker.pass.number) }
+    {
+        if let Err(at_limit) = self.worker.sweep_out(alloc, job, queue, gate) {
+            self.keep(at_limit);
+        }
+    }
+
+    /// Once it has retired: it sweeps, and rests after each sweep that took nothing, until all have retired. Where no wake comes it never
+    /// returns.
+    pub fn finish<G: Gate, R: Wait>(
+        &mut self,
+        rt: &R,
+        alloc: Global,
+        job: &Job,
+        queue: &Queue<B>,
+        gate: &G,
+        crew: &Crew,
+        stand: &mut Stand,
+    )
+        requires produced { HasProduced queue.now job.now.topics job.now.size job.now.longest S.faults S.ends S.left self.old.files.items self.old.worker.pass
+            self.old.worker.members.items self.old.worker.starved self.old.kept }
+        requires stand { stand.old.crew ≡ crew.now }
+        ensures same { self.new.files.items ≡ self.old.files.items }
+        ensures run { HasRun queue.now job.now.topics job.now.size job.now.longest S.faults S.ends S.left self.new.files.items self.new.worker.pass
+            self.new.worker.members.items self.new.worker.starved self.new.kept }
+        ensures waited { HasWaited (length job.now.topics + 1) stand.new.rests self.new.worker.pass }
+        ensures number { (self.new.worker.number ≡ self.old.worker.number) × (self.new.worker.pass.number ≡ self.old.worker.pass.number) }
+        ensures stand { (stand.new.crew ≡ stand.old.crew) × (stand.new.worker ≡ stand.old.worker) }
+    {
+        match self.worker.pass.spent() {
+            Some(_) => {}
+            None => self.rest_out(rt, alloc, job, queue, gate, crew, stand),
+        }
+    }
+
+    /// It sweeps and rests until all have retired.
+    fn rest_out<G: Gate, R: Wait>(
+        &mut self,
+        rt: &R,
+        alloc: Global,
+        job: &Job,
+        queue: &Queue<B>,
+        gate: &G,
+        crew: &Crew,
+        stand: &mut Stand,
+    )
+        requires sweep { IsToSweep queue.now job.now.topics job.now.size job.now.longest S.faults S.ends S.left self.old.files.items self.old.worker.pass
+            self.old.worker.members.items self.old.worker.starved self.old.kept }
+        requires stand { stand.old.crew ≡ crew.now }
+        ensures same { self.new.files.items ≡ self.old.files.items }
+        ensures run { HasRun queue.now job.now.topics job.now.size job.now.longest S.faults S.ends S.left self.new.files.items self.new.worker.pass
+            self.new.worker.members.items self.new.worker.starved self.new.kept }
+        ensures waited { HasWaited (length job.now.topics + 1) stand.new.rests self.new.worker.pass }
+        ensures number { (self.new.worker.number ≡ self.old.worker.number) × (self.new.worker.pass.number ≡ self.old.worker.pass.number) }
+        ensures stand { (stand.new.crew ≡ stand.old.crew) × (stand.new.worker ≡ stand.old.worker) }
+    {
+        if let Err(at_limit) = self
+            .worker
+            .sweep_and_rest(rt, alloc, job, queue, gate, crew, stand)
+        {
+            self.keep(at_limit);
         }
     }
 

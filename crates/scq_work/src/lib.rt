@@ -1,6 +1,8 @@
 //! Workers: the messages of files, answered part by part by several threads that share a queue over the frames of one block.
 #![tactic(auto)]
 
+mod apart;
+mod bell;
 mod dealing;
 mod desk;
 mod gate;
@@ -9,7 +11,11 @@ mod given;
 mod job;
 mod own_file;
 mod passing;
+mod places;
 mod reading;
+mod resting;
+mod threads;
+mod waited;
 mod waiting;
 mod worked;
 mod worker;
@@ -17,5 +23,6 @@ mod working;
 
 pub use gate::{FreeGate, Gate, Point};
 pub use job::Job;
+pub use waited::{WaitEnd, Waited, work_waiting};
 pub use worked::{WorkEnd, WorkFault, Worked};
 pub use working::work;

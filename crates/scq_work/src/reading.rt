@@ -5,8 +5,10 @@ ghost use Rattle.scq_work.specs.Desks.{IsNew, StopsAtAFault, ids_of, all_given};
 ghost use Rattle.scq_work.specs.Given.{given_in};
 ghost use Rattle.scq_work.specs.Passing.{parts_in};
 ghost use Rattle.scq_work.specs.Reading.{IsRead};
+ghost use Rattle.scq_work.specs.Waiting.{HelpsInVain};
 ghost use Rattle.scq_work.specs.Working.{Suits, IsAtWork, HasStopped};
 
+use crate::bell::Bell;
 use crate::given::{Given, give};
 use crate::own_file::{FileEnd, OwnFile};
 use crate::worker::{AtLimit, Worker};
@@ -23,12 +25,14 @@ const MOST_BYTES: u64 = 1 << 30;
 
 impl<B: Buffer> Worker<B> {
     /// Passes on the messages of a file one by one, and says how far it was read.
-    fn read_messages<S: Source, G: Gate>(
+    fn read_messages<S: Source, G: Gate, T, W: Bell<T>>(
         &mut self,
         alloc: Global,
         job: &Job,
         queue: &Queue<B>,
         gate: &G,
+        bell: &W,
+        stand: &mut T,
         file: u32,
         source: &mut S,
         given: &mut Snapshot<Given>,
@@ -37,6 +41,7 @@ impl<B: Buffer> Worker<B> {
         requires suits { Suits queue.now (length job.now.topics) self.old.pass }
         requires stays { self.old.pass.retired ≡ None }
         requires room { All (λ b. job.now.size + 24 ≤ length (B.contents b)) queue.now.given }
+        requires bell { W.fits bell.now (W.kept stand.old) job.now.workers }
         requires none { given_in given.old.value ≡ [] }
         ensures read { IsRead job.now.topics job.now.longest S.faults S.ends S.left file source.old source.new (given_in given.new.value) end.new }
         ensures suits { OnOk result (Suits queue.now (length job.now.topics) self.new.pass) }
@@ -47,6 +52,8 @@ impl<B: Buffer> Worker<B> {
         ensures left { IfErr result (λ l. (parts : List ThePart)
             → IsAtWork job.now.topics parts self.old.pass self.old.members.items self.old.starved
             → HasStopped queue.now (length (parts ++ parts_in job.now.size (given_in given.new.value))) self.new.pass l.held) }
+        ensures vain { OnOk result (HelpsInVain (length job.now.topics + 1) self.old.pass → HelpsInVain (length job.now.topics + 1) self.new.pass) }
+        ensures bell { W.kept stand.new ≡ W.kept stand.old }
         ensures starved { self.new.starved ≡ false → self.old.starved ≡ false }
         ensures number { (self.new.number ≡ self.old.number) × (self.new.pass.number ≡ self.old.pass.number) }
     {
@@ -59,7 +66,7 @@ impl<B: Buffer> Worker<B> {
             match framer.next(&job.topics, source) {
                 Ok(Some(message)) => {
                     give(given, &message);
-                    self.pass_on(alloc, job, queue, gate, &message)?;
+                    self.pass_on(alloc, job, queue, gate, bell, stand, &message)?;
                     if self.starved {
                         return Ok(());
                     }
@@ -77,17 +84,20 @@ impl<B: Buffer> Worker<B> {
     }
 
     /// Reads a file to its end or up to a fault.
-    fn read_file<S: Source, G: Gate>(
+    fn read_file<S: Source, G: Gate, T, W: Bell<T>>(
         &mut self,
         alloc: Global,
         job: &Job,
         queue: &Queue<B>,
         gate: &G,
+        bell: &W,
+        stand: &mut T,
         file: &mut OwnFile<S>,
     ) -> Result<(), AtLimit<B>>
         requires suits { Suits queue.now (length job.now.topics) self.old.pass }
         requires stays { self.old.pass.retired ≡ None }
         requires room { All (λ b. job.now.size + 24 ≤ length (B.contents b)) queue.now.given }
+        requires bell { W.fits bell.now (W.kept stand.old) job.now.workers }
         requires unread { IsNew file.old }
         ensures same { (file.new.number ≡ file.old.number) × (file.new.was.value ≡ file.old.was.value) }
         ensures read { IsRead job.now.topics job.now.longest S.faults S.ends S.left file.new.number file.new.was.value file.new.source
@@ -100,6 +110,8 @@ impl<B: Buffer> Worker<B> {
         ensures left { IfErr result (λ l. (parts : List ThePart)
             → IsAtWork job.now.topics parts self.old.pass self.old.members.items self.old.starved
             → HasStopped queue.now (length (parts ++ parts_in job.now.size (given_in file.new.given.value))) self.new.pass l.held) }
+        ensures vain { OnOk result (HelpsInVain (length job.now.topics + 1) self.old.pass → HelpsInVain (length job.now.topics + 1) self.new.pass) }
+        ensures bell { W.kept stand.new ≡ W.kept stand.old }
         ensures starved { self.new.starved ≡ false → self.old.starved ≡ false }
         ensures number { (self.new.number ≡ self.old.number) × (self.new.pass.number ≡ self.old.pass.number) }
     {
@@ -109,6 +121,8 @@ impl<B: Buffer> Worker<B> {
             job,
             queue,
             gate,
+            bell,
+            stand,
             number,
             &mut file.source,
             &mut file.given,
@@ -117,17 +131,20 @@ impl<B: Buffer> Worker<B> {
     }
 
     /// Reads files from the last of the list to the first, up to the first that has a fault.
-    pub fn read_files<S: Source, G: Gate>(
+    pub fn read_files<S: Source, G: Gate, T, W: Bell<T>>(
         &mut self,
         alloc: Global,
         job: &Job,
         queue: &Queue<B>,
         gate: &G,
+        bell: &W,
+        stand: &mut T,
         files: &mut [OwnFile<S>],
     ) -> Result<(), AtLimit<B>>
         requires suits { Suits queue.now (length job.now.topics) self.old.pass }
         requires stays { self.old.pass.retired ≡ None }
         requires room { All (λ b. job.now.size + 24 ≤ length (B.contents b)) queue.now.given }
+        requires bell { W.fits bell.now (W.kept stand.old) job.now.workers }
         requires unread { All IsNew files.old }
         ensures same { ids_of files.new ≡ ids_of files.old }
         ensures read { All (λ f. IsRead job.now.topics job.now.longest S.faults S.ends S.left f.number f.was.value f.source (given_in f.given.value) f.end)
@@ -139,13 +156,15 @@ impl<B: Buffer> Worker<B> {
             → IsAtWork job.now.topics (parts_in job.now.size (all_given files.new)) self.new.pass self.new.members.items self.new.starved) }
         ensures left { IfErr result (λ l. IsAtWork job.now.topics [] self.old.pass self.old.members.items self.old.starved
             → HasStopped queue.now (length (parts_in job.now.size (all_given files.new))) self.new.pass l.held) }
+        ensures vain { OnOk result (HelpsInVain (length job.now.topics + 1) self.old.pass → HelpsInVain (length job.now.topics + 1) self.new.pass) }
+        ensures bell { W.kept stand.new ≡ W.kept stand.old }
         ensures starved { self.new.starved ≡ false → self.old.starved ≡ false }
         ensures number { (self.new.number ≡ self.old.number) × (self.new.pass.number ≡ self.old.pass.number) }
     {
         let mut at = files.len();
         'files: while at > 0 {
             at -= 1;
-            self.read_file(alloc, job, queue, gate, &mut files[at])?;
+            self.read_file(alloc, job, queue, gate, bell, stand, &mut files[at])?;
             if let FileEnd::Stopped(_) = files[at].end {
                 return Ok(());
             }

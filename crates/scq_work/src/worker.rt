@@ -12,6 +12,7 @@ ghost use Rattle.scq_work.specs.Leaving.{FoundTopicEmpty, HasSweptLast, TookNoth
 ghost use Rattle.scq_work.specs.Waiting.{TookInVain, TookMore};
 ghost use Rattle.scq_work.specs.Working.{Suits, HasTaken, HasAnswered, HasLeft, takes_left, after_retire};
 
+use crate::bell::Bell;
 use crate::{Gate, Job, Point};
 use scq_collect::{Answered, Way};
 use scq_frames::{Message, View, decode, encode, view_of};
@@ -24,6 +25,7 @@ use std::alloc::Global;
 const MOST_IDLE: u32 = 64;
 
 /// A worker: the pass by which it makes its calls, what it has answered, and whether it wanted memory.
+#[derive(Drop)]
 pub struct Worker<B: Buffer> {
     pub number: u32,
     pub pass: Pass<B>,
@@ -290,32 +292,21 @@ impl<B: Buffer> Worker<B> {
         Ok(some)
     }
 
-    /// Retires and sweeps: leaves after a sweep before which every worker had retired, or after 64 in a row that took nothing.
-    pub fn leave<G: Gate>(
-        &mut self,
-        alloc: Global,
-        job: &Job,
-        queue: &Queue<B>,
-        gate: &G,
-    ) -> Result<(), AtLimit<B>>
-        requires suits { Suits queue.now (length job.now.topics) self.old.pass }
+    /// Retires, and wakes those who may rest.
+    pub fn retire<T, W: Bell<T>>(&mut self, job: &Job, queue: &Queue<B>, bell: &W, stand: &mut T)
+        requires pass { self.old.pass.queue ≡ queue.now }
         requires stays { self.old.pass.retired ≡ None }
-        ensures taken { OnOk result (HasTaken (after_retire self.old.pass) self.new.pass) }
-        ensures empty { OnOk result ((t : ℕ) → t < length job.now.topics + 1
-            → (known_on t self.new.pass).finished < (known_on t self.new.pass).head) }
-        ensures swept { OnOk result (HasSweptLast (length job.now.topics + 1) 64 (after_retire self.old.pass) self.new.pass) }
-        ensures answered { OnOk result (self.new.starved ≡ false
-            → HasAnswered job.now.topics self.old.pass self.new.pass self.old.members.items self.new.members.items) }
-        ensures left { IfErr result (λ l. (parts : ℕ) → HasLeft parts parts (after_retire self.old.pass) self.new.pass l.held) }
-        ensures starved { self.new.starved ≡ false → self.old.starved ≡ false }
-        ensures number { self.new.number ≡ self.old.number }
+        requires bell { W.fits bell.now (W.kept stand.old) job.now.workers }
+        ensures pass { self.new.pass ≡ after_retire self.old.pass }
+        ensures same { (self.new.members.items ≡ self.old.members.items) × (self.new.starved ≡ self.old.starved) × (self.new.number ≡ self.old.number) }
+        ensures bell { W.kept stand.new ≡ W.kept stand.old }
     {
         queue.retire(&mut self.pass);
-        self.sweep_out(alloc, job, queue, gate)
+        bell.after_retire(stand, self.number, job.workers);
     }
 
     /// Sweeps, and leaves after a sweep before which every worker had retired, or after 64 in a row that took nothing.
-    fn sweep_out<G: Gate>(
+    pub fn sweep_out<G: Gate>(
         &mut self,
         alloc: Global,
         job: &Job,

@@ -1,5 +1,5 @@
 //! The work of all workers together.
-ghost use Rattle.std.specs.Prelude.{◌≡◌, ℕ, ◌+◌, ◌^◌, ◌<◌, ◌≤◌, ◌||◌, List, [], None, Some, false, length, map, slice_index_or, vec_len, vec_capacity, IfOk, IfErr, IfSome, IsErrOf, IsSomeAnd, OnOk};
+ghost use Rattle.std.specs.Prelude.{◌≡◌, ℕ, ◌+◌, ◌^◌, ◌<◌, ◌≤◌, ◌||◌, List, [], None, Some, false, length, map, slice_index_or, vec_len, vec_capacity, IfOk, IfErr, IfSome, IsErrOf, IsSome, IsSomeAnd, OnOk};
 ghost use Rattle.std.specs.List.{All};
 ghost use Rattle.std.specs.List.Sorted.{IsPermutation};
 ghost use Rattle.scq_block.specs.Blocks.{AreAllOf};
@@ -7,13 +7,14 @@ ghost use Rattle.scq_frames.specs.declared.message.Message.{Message as TheMessag
 ghost use Rattle.scq_collect.specs.Collected.{messages_to};
 ghost use Rattle.scq_collect.specs.Joined.{part_answers, without_way};
 ghost use Rattle.scq_collect.specs.Merging.{members_in};
-ghost use Rattle.scq_queue.specs.Passes.{first_passes};
+ghost use Rattle.scq_queue.specs.Passes.{first_passes, was_told};
 ghost use Rattle.scq_work.specs.AllWorkers.{HasWorked, NothingIsStranded};
-ghost use Rattle.scq_work.specs.Dealings.{IsFresh};
-ghost use Rattle.scq_work.specs.Desks.{IsNew, HasRun, ids_of};
+ghost use Rattle.scq_work.specs.Dealings.{AreDealt, IsFresh};
+ghost use Rattle.scq_work.specs.Desks.{IsNew, HasRun};
 ghost use Rattle.scq_work.specs.Ends.{AreGiven, HasCause, HasMoved, MemoryIsFirst, all_left, fault_of_workers, messages_in};
 ghost use Rattle.scq_work.specs.Reading.{IsWhole};
 
+use crate::apart::run_apart;
 use crate::dealing::{deal, make_desks};
 use crate::desk::Desk;
 use crate::gathering::{Gathered, Left, clear, gather};
@@ -26,7 +27,6 @@ use scq_queue::{Closed, Pass, Queue};
 use scq_word::{NoMemory, Setup};
 use std::alloc::Global;
 use std::snapshot::Snapshot;
-use std::thread;
 use std::thread::Threads;
 
 /// The limit of the queue's tickets, which no work comes near.
@@ -36,7 +36,7 @@ const LIMIT: u64 = 1 << 60;
 const HEADER: u32 = 24;
 
 /// What the work needs room for, beside its queue: the lists of each worker's files, the desks, and what the workers leave behind.
-struct Room<S: Source> {
+pub(crate) struct Room<S: Source> {
     files: Vec<Vec<OwnFile<S>>>,
     desks: Vec<Desk<Frame, S>>,
     left: Left<Frame>,
@@ -46,7 +46,7 @@ impl<S: Source> Room<S> {
     ghost use Rattle.std.specs.Prelude.{◌≡◌, []};
 
     /// Ends it where nothing was put into it.
-    fn destroy_empty(self)
+    pub(crate) fn destroy_empty(self)
         requires { (self.desks.items ≡ []) × (self.left.held.items ≡ []) }
     {
         let Room {
@@ -90,7 +90,11 @@ fn make_left(alloc: Global, workers: usize) -> Result<Left<Frame>, NoMemory>
     })
 }
 
-fn make_room<S: Source>(alloc: Global, job: &Job, files: usize) -> Result<Room<S>, NoMemory>
+pub(crate) fn make_room<S: Source>(
+    alloc: Global,
+    job: &Job,
+    files: usize,
+) -> Result<Room<S>, NoMemory>
     ensures files { IfOk result (λ room. (vec_len room.files ≡ job.now.workers)
         × All (λ list. (list.items ≡ []) × (vec_len list ≡ 0) × (files ≤ vec_capacity list)) room.files.items) }
     ensures desks { IfOk result (λ room. (room.desks.items ≡ []) × (job.now.workers ≤ vec_capacity room.desks)) }
@@ -118,7 +122,10 @@ fn make_frames(alloc: Global, job: &Job) -> Result<(Block, Vec<Frame>), NoMemory
 }
 
 /// The queue of a job, over the frames of one block, with a pass for each worker: a topic for each declared one, and one for all others.
-fn make_queue(alloc: Global, job: &Job) -> Result<(Block, Queue<Frame>, Vec<Pass<Frame>>), NoMemory>
+pub(crate) fn make_queue(
+    alloc: Global,
+    job: &Job,
+) -> Result<(Block, Queue<Frame>, Vec<Pass<Frame>>), NoMemory>
     ensures setup { IfOk result (λ made. (made.1.setup.order ≡ job.now.order) × (made.1.setup.rings ≡ length job.now.topics + 2)
         × (made.1.setup.seats ≡ job.now.workers) × (made.1.setup.limit ≡ 2 ^ 60)) }
     ensures passes { IfOk result (λ made. made.2.items ≡ first_passes made.1 made.1.setup.seats) }
@@ -146,42 +153,6 @@ fn setup_of(job: &Job) -> Setup
         Ok(setup) => setup,
         Err(_) => unreachable!(),
     }
-}
-
-/// Lets each worker work, in threads of their own.
-fn run_all<R: Threads + Sync, S: Source, G: Gate>(
-    rt: &R,
-    alloc: Global,
-    job: &Job,
-    queue: &Queue<Frame>,
-    gate: &G,
-    desks: &mut [Desk<Frame, S>],
-)
-    requires some { 0 < length desks.old }
-    requires rings { queue.now.setup.rings ≡ length job.now.topics + 2 }
-    requires room { All (λ b. job.now.size + 24 ≤ length b.bytes.items) queue.now.given }
-    requires fresh { All (IsFresh queue.now) desks.old }
-    requires unread { All (λ d. All IsNew d.files.items) desks.old }
-    ensures same { (w : ℕ) (d : _) → w < length desks.old
-        → ids_of (slice_index_or desks.new w d).files.items ≡ ids_of (slice_index_or desks.old w d).files.items }
-    ensures numbers { (w : ℕ) (d : _) → w < length desks.old
-        → (slice_index_or desks.new w d).worker.pass.number ≡ (slice_index_or desks.old w d).worker.pass.number }
-    ensures run { All (λ d.
-        HasRun queue.now job.now.topics job.now.size job.now.longest S.faults S.ends S.left d.files.items d.worker.pass
-        d.worker.members.items d.worker.starved d.kept)
-        desks.new }
-{
-    let threads = desks.len();
-    let run = |_: usize, desk: &mut Desk<Frame, S>|
-        requires { (queue.now.setup.rings ≡ length job.now.topics + 2) × All (λ b. job.now.size + 24 ≤ length b.bytes.items) queue.now.given
-            × IsFresh queue.now desk.now × All IsNew desk.now.files.items }
-        ensures { (ids_of desk.exit.now.files.items ≡ ids_of desk.entry.now.files.items)
-            × (desk.exit.now.worker.pass.number ≡ desk.entry.now.worker.pass.number)
-            × HasRun queue.entry.now job.entry.now.topics job.entry.now.size job.entry.now.longest S.faults S.ends S.left
-            desk.exit.now.files.items desk.exit.now.worker.pass
-            desk.exit.now.worker.members.items desk.exit.now.worker.starved desk.exit.now.kept }
-    { desk.run(alloc, job, queue, gate) };
-    thread::for_each_mut(rt, desks, threads, &run);
 }
 
 /// The fault of the workers: want of memory where any met it, else the first one.
@@ -244,7 +215,10 @@ pub fn work<R: Threads + Sync, S: Source, G: Gate>(
     };
     match make_queue(alloc, job) {
         Ok((block, queue, passes)) => {
-            work_in(rt, alloc, job, sources, gate, room, block, queue, passes)
+            let (laid, desks) = lay_out(alloc, job, &queue, passes, sources, room);
+            let desks = run_apart(rt, alloc, job, &queue, gate, desks);
+            let (end, _saw) = wind_up(job, laid, block, queue, desks);
+            end
         }
         Err(NoMemory) => {
             room.destroy_empty();
@@ -253,59 +227,119 @@ pub fn work<R: Threads + Sync, S: Source, G: Gate>(
     }
 }
 
-/// The same, once there are room and a queue over all frames of a block. They are merged in every answer.
-fn work_in<R: Threads + Sync, S: Source, G: Gate>(
-    rt: &R,
+/// What waits on the work of all workers: what the sources were, their list, now empty, how many there are, and room for what the workers
+/// leave behind.
+pub(crate) struct Laid<S: Source> {
+    was: Snapshot<Vec<S>>,
+    sources: Vec<S>,
+    count: usize,
+    left: Left<Frame>,
+}
+
+/// Makes the desks of the workers, and deals the files to them.
+pub(crate) fn lay_out<S: Source>(
     alloc: Global,
     job: &Job,
-    sources: Vec<S>,
-    gate: &G,
-    room: Room<S>,
-    block: Block,
-    queue: Queue<Frame>,
+    queue: &Queue<Frame>,
     passes: Vec<Pass<Frame>>,
-) -> WorkEnd<S>
+    sources: Vec<S>,
+    room: Room<S>,
+) -> (Laid<S>, Vec<Desk<Frame, S>>)
     requires few { vec_len sources ≤ 64 }
-    requires setup { (queue.setup.order ≡ job.now.order) × (queue.setup.rings ≡ length job.now.topics + 2) × (queue.setup.seats ≡ job.now.workers)
-        × (queue.setup.limit ≡ 2 ^ 60) }
-    requires frames { All (λ f. job.now.size + 24 ≤ length f.bytes.items) queue.given }
-    requires all { AreAllOf block queue.given }
-    requires passes { passes.items ≡ first_passes queue queue.setup.seats }
+    requires seats { queue.now.setup.seats ≡ job.now.workers }
+    requires passes { passes.items ≡ first_passes queue.now queue.now.setup.seats }
     requires files { (vec_len room.files ≡ job.now.workers)
         × All (λ list. (list.items ≡ []) × (vec_len list ≡ 0) × (vec_len sources ≤ vec_capacity list)) room.files.items }
     requires desks { (room.desks.items ≡ []) × (job.now.workers ≤ vec_capacity room.desks) }
     requires left { (room.left.passes.items ≡ []) × (room.left.held.items ≡ []) × (room.left.lists.items ≡ []) }
     requires room { (job.now.workers ≤ vec_capacity room.left.passes) × (job.now.workers ≤ vec_capacity room.left.held)
         × (job.now.workers ≤ vec_capacity room.left.lists) }
-    ensures count { length result.sources.items ≡ length sources.items }
-    ensures moved { (k : ℕ) (d : S) → k < length sources.items
-        → HasMoved S.faults S.left (slice_index_or sources.items k d) (slice_index_or result.sources.items k d) }
-    ensures whole { OnOk result.result ((k : ℕ) (d : S) → k < length sources.items
-        → IsWhole job.now.longest S.faults S.ends S.left (slice_index_or sources.items k d) (slice_index_or result.sources.items k d)) }
-    ensures answers { IfOk result.result (λ w. IfSome (all_left S.left sources.items) (λ contents.
-        IsPermutation (map without_way (members_in w.answered.items)) (part_answers job.now.topics job.now.size (messages_to job.now.topics 1 contents)))) }
-    ensures told { IfOk result.result (λ w. IfSome (all_left S.left sources.items) (λ contents.
-        HasWorked job.now.topics job.now.size job.now.workers (messages_in job.now.topics 1 contents) w)) }
-    ensures worked { IfOk result.result (λ w. (given : List (List TheMessage)) × AreGiven job.now.topics job.now.longest S.left 1 sources.items given
-        × HasWorked job.now.topics job.now.size job.now.workers given w) }
-    ensures left { IfSome result.left (λ left. IsSomeAnd result.passes (λ passes.
-        NothingIsStranded job.now.order (length job.now.topics + 1) job.now.workers passes.value.items left.items)) }
-    ensures none { result.left ≡ None → IsErrOf result.result WorkFault.NoMemory }
-    ensures same { IfOk result.result (λ w. IsSomeAnd result.passes (λ passes. passes.value.items ≡ w.passes.value.items)) }
-    ensures cause { IfErr result.result (λ fault. HasCause job.now.longest S.faults S.ends S.left sources.items result.sources.items fault) }
-    ensures memory_first { IfErr result.result (λ fault. MemoryIsFirst job.now.longest S.faults S.ends S.left sources.items result.sources.items fault) }
+    ensures was { result.0.was.value ≡ sources }
+    ensures few { vec_len result.0.was.value ≤ 64 }
+    ensures emptied { (result.0.sources.items ≡ []) × (vec_len result.0.sources ≡ 0) × (result.0.count ≡ vec_len result.0.was.value)
+        × (vec_len result.0.was.value ≤ vec_capacity result.0.sources) }
+    ensures left { (result.0.left.passes.items ≡ []) × (result.0.left.held.items ≡ []) × (result.0.left.lists.items ≡ []) }
+    ensures room { (job.now.workers ≤ vec_capacity result.0.left.passes) × (job.now.workers ≤ vec_capacity result.0.left.held)
+        × (job.now.workers ≤ vec_capacity result.0.left.lists) }
+    ensures count { length result.1.items ≡ job.now.workers }
+    ensures fresh { All (IsFresh queue.now) result.1.items }
+    ensures unread { All (λ d. All IsNew d.files.items) result.1.items }
+    ensures dealt { AreDealt 1 result.0.was.value.items result.1.items }
+    ensures numbers { (w : ℕ) (d : _) → w < length result.1.items → (slice_index_or result.1.items w d).worker.pass.number ≡ w }
 {
     let Room {
         files,
         mut desks,
-        mut left,
+        left,
     } = room;
     let was = Snapshot::of(&sources);
     let count = sources.len();
     let mut sources = sources;
-    make_desks(alloc, &queue, passes, files, count, &mut desks);
+    make_desks(alloc, queue, passes, files, count, &mut desks);
     deal(&was, &mut sources, desks.as_mut_slice());
-    run_all(rt, alloc, job, &queue, gate, desks.as_mut_slice());
+    let laid = Laid {
+        was,
+        sources,
+        count,
+        left,
+    };
+    (laid, desks)
+}
+
+/// Ends the work of all workers once each has done its own: the files are gathered, the queue is closed and its block merged, in every answer. With
+/// the end comes, of each worker, whether it saw that all had retired.
+pub(crate) fn wind_up<S: Source>(
+    job: &Job,
+    laid: Laid<S>,
+    block: Block,
+    queue: Queue<Frame>,
+    desks: Vec<Desk<Frame, S>>,
+) -> (WorkEnd<S>, Vec<bool>)
+    requires few { vec_len laid.was.value ≤ 64 }
+    requires emptied { (laid.sources.items ≡ []) × (vec_len laid.sources ≡ 0) × (laid.count ≡ vec_len laid.was.value)
+        × (vec_len laid.was.value ≤ vec_capacity laid.sources) }
+    requires left { (laid.left.passes.items ≡ []) × (laid.left.held.items ≡ []) × (laid.left.lists.items ≡ []) }
+    requires room { (job.now.workers ≤ vec_capacity laid.left.passes) × (job.now.workers ≤ vec_capacity laid.left.held)
+        × (job.now.workers ≤ vec_capacity laid.left.lists) }
+    requires setup { (queue.setup.order ≡ job.now.order) × (queue.setup.rings ≡ length job.now.topics + 2) × (queue.setup.seats ≡ job.now.workers)
+        × (queue.setup.limit ≡ 2 ^ 60) }
+    requires all { AreAllOf block queue.given }
+    requires count { length desks.items ≡ job.now.workers }
+    requires dealt { AreDealt 1 laid.was.value.items desks.items }
+    requires numbers { (w : ℕ) (d : _) → w < length desks.items → (slice_index_or desks.items w d).worker.pass.number ≡ w }
+    requires run { All (λ d.
+        HasRun queue job.now.topics job.now.size job.now.longest S.faults S.ends S.left d.files.items d.worker.pass
+        d.worker.members.items d.worker.starved d.kept)
+        desks.items }
+    ensures count { length result.0.sources.items ≡ length laid.was.value.items }
+    ensures moved { (k : ℕ) (d : S) → k < length laid.was.value.items
+        → HasMoved S.faults S.left (slice_index_or laid.was.value.items k d) (slice_index_or result.0.sources.items k d) }
+    ensures whole { OnOk result.0.result ((k : ℕ) (d : S) → k < length laid.was.value.items
+        → IsWhole job.now.longest S.faults S.ends S.left (slice_index_or laid.was.value.items k d) (slice_index_or result.0.sources.items k d)) }
+    ensures answers { IfOk result.0.result (λ w. IfSome (all_left S.left laid.was.value.items) (λ contents.
+        IsPermutation (map without_way (members_in w.answered.items)) (part_answers job.now.topics job.now.size (messages_to job.now.topics 1 contents)))) }
+    ensures told { IfOk result.0.result (λ w. IfSome (all_left S.left laid.was.value.items) (λ contents.
+        HasWorked job.now.topics job.now.size job.now.workers (messages_in job.now.topics 1 contents) w)) }
+    ensures worked { IfOk result.0.result (λ w. (given : List (List TheMessage)) × AreGiven job.now.topics job.now.longest S.left 1 laid.was.value.items given
+        × HasWorked job.now.topics job.now.size job.now.workers given w) }
+    ensures left { IfSome result.0.left (λ left. IsSomeAnd result.0.passes (λ passes.
+        NothingIsStranded job.now.order (length job.now.topics + 1) job.now.workers passes.value.items left.items)) }
+    ensures none { result.0.left ≡ None → IsErrOf result.0.result WorkFault.NoMemory }
+    ensures same { IfOk result.0.result (λ w. IsSomeAnd result.0.passes (λ passes. passes.value.items ≡ w.passes.value.items)) }
+    ensures cause { IfErr result.0.result (λ fault. HasCause job.now.longest S.faults S.ends S.left laid.was.value.items result.0.sources.items fault) }
+    ensures memory_first { IfErr result.0.result (λ fault. MemoryIsFirst job.now.longest S.faults S.ends S.left laid.was.value.items result.0.sources.items fault) }
+    ensures passes { IfSome result.0.passes (λ passes. passes.value.items ≡ map (λ d. d.worker.pass) desks.items) }
+    ensures saw { IfSome result.0.passes (λ passes. result.1.items ≡ map (λ p. was_told p.gate) passes.value.items) }
+    ensures there { IsSome result.0.passes }
+    ensures closed { IsSome result.0.left }
+{
+    let Laid {
+        was,
+        sources,
+        count,
+        mut left,
+    } = laid;
+    let mut desks = desks;
     let mut gathered = Gathered {
         sources,
         fault: None,
@@ -324,7 +358,7 @@ fn work_in<R: Threads + Sync, S: Source, G: Gate>(
         buffers,
         left,
         counts,
-        saw: _saw,
+        saw,
         passes,
     } = queue.close(passes, held);
     block.merge(buffers);
@@ -338,12 +372,13 @@ fn work_in<R: Threads + Sync, S: Source, G: Gate>(
         answered: lists,
         passes,
     };
-    WorkEnd {
+    let end = WorkEnd {
         sources,
         result: conclude(worked, starved, wants, fault),
         left: Some(left),
         passes: Some(closing),
-    }
+    };
+    (end, saw)
 }
 
 /// What was answered, where no worker wanted memory and no file has a fault.

@@ -1,6 +1,6 @@
 -- What is seen of the queue of a run's workers, by what was asked.
 use Rattle.std.proofs.Common.{refl, ap, ◌∙◌, Err}
-use Rattle.scq_service.proofs.Seen.{unseen}
+use Rattle.scq_service.proofs.Seen.{unseen, none-seen}
 use Rattle.scq_service.proofs.serving.run.Goals as goal
 
 pub returns-in-Ok-Run-clause-seen : goal.returns-in-Ok-Run-clause-seen
@@ -29,3 +29,13 @@ returns-in-Err-Refused-clause-seen g c =
 pub returns-in-Err-NoMemory-clause-seen : goal.returns-in-Err-NoMemory-clause-seen
 returns-in-Err-NoMemory-clause-seen g c =
     rw (c.quiet-in-Err-NoMemory.ensures.outcome, c.at-in-Err-NoMemory.ensures.fault, c.at-in-Err-NoMemory.ensures.left.0) (unseen _)
+
+-- workers that leave early don't wait
+pub returns-in-Ok-Run-clause-leaves : goal.returns-in-Ok-Run-clause-leaves
+returns-in-Ok-Run-clause-leaves g c = none-seen _ c.run_files.ensures.leaves
+
+pub returns-in-Ok-SelfRun-clause-leaves : goal.returns-in-Ok-SelfRun-clause-leaves
+returns-in-Ok-SelfRun-clause-leaves g c = rw c.quiet.ensures.outcome c.run_self.ensures.leaves
+
+pub returns-in-Ok-Text-clause-leaves : goal.returns-in-Ok-Text-clause-leaves
+returns-in-Ok-Text-clause-leaves g c = rw c.quiet-in-Ok-Text.ensures.outcome c.run_text.ensures.leaves

@@ -43,6 +43,8 @@ parts-init g c = record {
   work = λ parts was.
       subst (λ (l : List Part). IsAtWork c.args.job.now.topics l c.args.self.now.pass c.args.self.now.members.items c.args.self.now.starved)
       (sym (append-nil parts)) was;
+  vain = λ was. was;
+  bell = refl;
   starved = λ fed. fed;
   number = refl;
   pass = refl;
@@ -60,10 +62,16 @@ parts-preserved g c =
           subst (λ (l : List Part). IsAtWork c.args.job.now.topics l now.pass now.members.items now.starved)
           (grown c.args.job.now.size c.parts.before c.args.message.now parts)
           (its.work (parts ++ map (part_of c.args.job.now.size c.args.message.now) (range_with_len 1 c.parts.before)) (inv.work parts was));
+      vain = λ was. its.vain (inv.vain was);
+      bell = c.pass_part.ensures.bell ∙ inv.bell;
       starved = λ fed. inv.starved (c.pass_part.ensures.starved fed);
       number = c.pass_part.ensures.number.0 ∙ inv.number;
       pass = c.pass_part.ensures.number.1 ∙ inv.pass;
     }
+
+pub pass_part-requires-clause-bell : goal.pass_part-requires-clause-bell
+pass_part-requires-clause-bell g c κs within =
+    subst (λ k. g.W.Bell.fits c.args.bell.now k c.args.job.now.workers) (sym c.parts.invariant.bell) c.requires.bell
 
 -- a part met Spent
 pub returns-in_err-pass_part-clause-left : goal.returns-in_err-pass_part-clause-left

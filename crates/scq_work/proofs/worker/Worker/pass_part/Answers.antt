@@ -4,10 +4,12 @@ use Rattle.scq_collect.specs.declared.answered.Answered.{Answered}
 use Rattle.scq_work.specs.Records.{is_take}
 use Rattle.scq_frames.specs.Parts.{Part, part_of}
 use Rattle.scq_queue.specs.Passes.{PassStanding}
+use Rattle.scq_work.specs.Waiting.{TookInVain}
 use Rattle.scq_work.specs.Working.{Suits, HasTaken, HasSent, HasFoundFull, HasLeft, HasAnswered, IsAtWork, HasStopped}
 use Rattle.scq_work.proofs.PassLemmas.{found-full, lent-and-sent, suits-taken}
 use Rattle.scq_work.proofs.LeftLemmas.{left-at-get, left-full, left-more}
 use Rattle.scq_work.proofs.PassedOn.{one-of-all, left-sent, suits-full, work-sent, work-helped, work-stopped}
+use Rattle.scq_work.proofs.Vain.{vain-sent, vain-helped}
 use Rattle.scq_work.proofs.worker.Worker.pass_part.Goals as goal
 use Rattle.scq_work.proofs.worker.Worker.pass_part.Goals.{After-answer_directly}
 
@@ -136,3 +138,22 @@ returns-in_ok-help-in-Err-Full-clause-work g c messages was =
     (λ fed. c.answer_directly.ensures.starved (c.help.ensures.starved fed))
     (λ fed. c.answer_directly.ensures.listed (c.help.ensures.starved fed))
     (λ fed. subst (λ (x : PassStanding _). HasAnswered topics x now.pass mid.members.items now.members.items) same (said.answered fed))
+
+-- what it took in vain is paid for by its Fulls
+pub returns-in_ok-send_in-in-Ok-clause-vain : goal.returns-in_ok-send_in-in-Ok-clause-vain
+returns-in_ok-send_in-in-Ok-clause-vain g c was =
+    let m = part_of c.args.job.now.size c.args.message.now c.args.part in
+    let p = c.args.self.now.pass in
+    let said = c.in_ok-send_in-in-Ok.ensures.sent in
+    let within : suc m.topic < length p.numbers = let n = c.requires.suits.numbers in let low = c.requires.topic in omega arith in
+    vain-sent (length c.args.job.now.topics + 1) m p c.send_in.new.self.pass
+    (lent-and-sent g.B.Buffer.contents m said.0 said.1 p c.lend.new.pass c.send_in.new.self.pass c.in-Ok.held within c.in-Ok.ensures.lent said.2 said.3) was
+
+pub returns-in_ok-help-in-Err-Full-clause-vain : goal.returns-in_ok-help-in-Err-Full-clause-vain
+returns-in_ok-help-in-Err-Full-clause-vain g c was =
+    let all = length c.args.job.now.topics + 1 in
+    let full = full-at g (goal.at.returns-in_ok-help-in-Err-Full-clause-vain g c).After-answer_directly in
+    let took : TookInVain all c.lend.new.pass c.help.new.self.pass =
+    subst (λ (q : PassStanding _). TookInVain all q c.help.new.self.pass) c.answer_directly.ensures.same.0 c.in_ok-help-in-Err-Full.ensures.vain in
+    vain-helped all c.in-Err-Full.head c.args.self.now.pass c.lend.new.pass c.help.new.self.pass full took
+    (ap (λ (x : PassStanding _). x.fulls) (helped g c).pass) was

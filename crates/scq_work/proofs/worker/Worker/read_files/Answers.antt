@@ -83,10 +83,16 @@ files-init g c = record {
   work = λ was.
       subst (λ (ms : List _). IsAtWork c.args.job.now.topics ms c.args.self.now.pass c.args.self.now.members.items c.args.self.now.starved)
       (sym (ap (parts_in c.args.job.now.size) (given-none c.args.files.now (λ k d less. (c.requires.unread k d less).given)))) was;
+  vain = λ was. was;
+  bell = refl;
   starved = λ fed. fed;
   number = refl;
   pass = refl;
 }
+
+pub read_file-requires-clause-bell : goal.read_file-requires-clause-bell
+read_file-requires-clause-bell g c κs within =
+    subst (λ k. g.W.Bell.fits c.args.bell.now k c.args.job.now.workers) (sym c.files.invariant.bell) c.requires.bell
 
 pub returns-in_err-read_file-clause-same : goal.returns-in_err-read_file-clause-same
 returns-in_err-read_file-clause-same g c = same-after g (goal.at.returns-in_err-read_file-clause-same g c).After-read_file
@@ -165,6 +171,8 @@ files-preserved g c =
           let all = given-after g (goal.at.files-preserved g c).After-read_file in
           subst (λ (ms : List _). IsAtWork c.args.job.now.topics ms now.pass now.members.items now.starved) (sym all)
           (its.work (parts_in c.args.job.now.size (all_given c.files.files)) (inv.work was));
+      vain = λ was. its.vain (inv.vain was);
+      bell = c.read_file.ensures.bell ∙ inv.bell;
       starved = λ fed. inv.starved (c.read_file.ensures.starved fed);
       number = c.read_file.ensures.number.0 ∙ inv.number;
       pass = c.read_file.ensures.number.1 ∙ inv.pass;

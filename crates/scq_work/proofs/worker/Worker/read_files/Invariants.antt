@@ -1,9 +1,10 @@
-use Rattle.std.proofs.Common.{◌≡◌, ◌<◌, ◌≤◌, ℕ, [], false, length, None}
+use Rattle.std.proofs.Common.{◌≡◌, ◌+◌, ◌<◌, ◌≤◌, ℕ, [], false, length, None}
 use Rattle.std.specs.Prelude.{All, slice_index_or}
 use Rattle.scq_work.specs.Desks.{IsNew, ids_of, all_given}
 use Rattle.scq_work.specs.Given.{given_in}
 use Rattle.scq_work.specs.Passing.{parts_in}
 use Rattle.scq_work.specs.Reading.{IsRead}
+use Rattle.scq_work.specs.Waiting.{HelpsInVain}
 use Rattle.scq_work.specs.Working.{Suits, IsAtWork}
 use Rattle.scq_work.specs.declared.own_file.FileEnd.TheVariants.{Stopped}
 use Rattle.scq_work.proofs.worker.Worker.read_files.Given as goal
@@ -21,6 +22,8 @@ invariant-files g l = record {
   stays : l.self.pass.retired ≡ None;
   work : IsAtWork l.job.topics [] l.fn.self.pass l.fn.self.members.items l.fn.self.starved
       → IsAtWork l.job.topics (parts_in l.job.size (all_given l.files)) l.self.pass l.self.members.items l.self.starved;
+  vain : HelpsInVain (length l.job.topics + 1) l.fn.self.pass → HelpsInVain (length l.job.topics + 1) l.self.pass;
+  bell : g.W.Bell.kept l.stand ≡ g.W.Bell.kept l.fn.stand;
   starved : l.self.starved ≡ false → l.fn.self.starved ≡ false;
   number : l.self.number ≡ l.fn.self.number;
   pass : l.self.pass.number ≡ l.fn.self.pass.number;

@@ -61,6 +61,10 @@ reading g c answer =
     (given_in c.messages.given.value) (given_in c.give.new.given.value) m c.messages.invariant.reading answer gives next known fits found its.failed
     (its.kept (λ e. absurd (cc))) c.give.ensures
 
+pub pass_on-requires-clause-bell : goal.pass_on-requires-clause-bell
+pass_on-requires-clause-bell g c κs within =
+    subst (λ k. g.W.Bell.fits c.args.bell.now k c.args.job.now.workers) (sym c.messages.invariant.bell) c.requires.bell
+
 pub returns-in_err-pass_on-in-Ok-Some-clause-read : goal.returns-in_err-pass_on-in-Ok-Some-clause-read
 returns-in_err-pass_on-in-Ok-Some-clause-read g c =
     let now = reading g (goal.at.returns-in_err-pass_on-in-Ok-Some-clause-read g c).After-pass_on
@@ -119,6 +123,8 @@ messages-preserved g c =
           subst (λ (ms : List Part). IsAtWork c.args.job.now.topics ms now.pass now.members.items now.starved)
           (parts-behind c.args.job.now.size messages old (given_in c.give.new.given.value) c.in-Ok-Some.message c.give.ensures)
           (its.work (messages ++ parts_in c.args.job.now.size old) (inv.work messages was));
+      vain = λ was. its.vain (inv.vain was);
+      bell = c.pass_on.ensures.bell ∙ inv.bell;
       starved = λ fed. inv.starved (c.pass_on.ensures.starved fed);
       number = c.pass_on.ensures.number.0 ∙ inv.number;
       pass = c.pass_on.ensures.number.1 ∙ inv.pass;

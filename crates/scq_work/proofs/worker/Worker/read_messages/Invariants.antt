@@ -3,6 +3,7 @@ use Rattle.scq_frames.specs.declared.fault.FrameFault.TheVariants.{NoMemory}
 use Rattle.scq_frames.specs.Parts.{Part}
 use Rattle.scq_work.specs.Given.{given_in}
 use Rattle.scq_work.specs.Passing.{parts_in}
+use Rattle.scq_work.specs.Waiting.{HelpsInVain}
 use Rattle.scq_work.specs.Working.{Suits, IsAtWork}
 use Rattle.scq_work.specs.declared.own_file.FileEnd.TheVariants.{Stopped}
 use Rattle.scq_work.proofs.ReadLemmas.{IsReading}
@@ -18,6 +19,8 @@ invariant-messages g l = record {
   stays : l.self.pass.retired ≡ None;
   work : (messages : List Part) → IsAtWork l.job.topics messages l.fn.self.pass l.fn.self.members.items l.fn.self.starved
       → IsAtWork l.job.topics (messages ++ parts_in l.job.size (given_in l.given.value)) l.self.pass l.self.members.items l.self.starved;
+  vain : HelpsInVain (length l.job.topics + 1) l.fn.self.pass → HelpsInVain (length l.job.topics + 1) l.self.pass;
+  bell : g.W.Bell.kept l.stand ≡ g.W.Bell.kept l.fn.stand;
   starved : l.self.starved ≡ false → l.fn.self.starved ≡ false;
   number : l.self.number ≡ l.fn.self.number;
   pass : l.self.pass.number ≡ l.fn.self.pass.number;

@@ -2,7 +2,7 @@ use Rattle.std.proofs.Common.{rules, ◌≡◌, ◌+◌, ◌∙◌, ap, sym, sub
 use Rattle.std.specs.Prelude.{IfErr, Result, Err}
 use Rattle.std.proofs.lemmas.Bool.{eqb-true}
 use Rattle.scq_queue.specs.Passes.{PassStanding}
-use Rattle.scq_work.specs.Leaving.{HasIdled, HasSweptLast}
+use Rattle.scq_work.specs.Leaving.{HasIdled}
 use Rattle.scq_work.specs.Working.{HasTaken, HasAnswered, HasLeft}
 use Rattle.scq_work.proofs.PassLemmas.{taken-nothing, taken-along, left-falls, looked}
 use Rattle.scq_work.proofs.LeftLemmas.{left-taken}

@@ -1,0 +1,128 @@
+//! Gates by which the two workers of a row wait for one another, so that both are at work at one time.
+ghost use Rattle.std.specs.Prelude.{◌<◌};
+
+use scq_work::{Gate, Point};
+use std::sync::atomic::{AtomicU64, Ordering};
+
+/// How many turns a worker waits for the other.
+const TURNS: u32 = 20_000_000;
+
+/// Where the workers of a row wait.
+#[derive(Drop)]
+pub enum RowGate {
+    /// Nowhere.
+    Free,
+    Meeting(Meeting),
+    Handing(Handing),
+}
+
+/// Two workers wait for one another, each at its first call with a point. It counts how often a worker saw the other.
+#[derive(Drop)]
+pub struct Meeting {
+    came: [AtomicU64; 6],
+    saw: AtomicU64,
+}
+
+/// Worker 0 stays behind its send until worker 1 has taken, and worker 1 in front of its first take until worker 0 has sent.
+#[derive(Drop)]
+pub struct Handing {
+    sent: AtomicU64,
+    came: AtomicU64,
+    took: AtomicU64,
+}
+
+impl RowGate {
+    /// Workers who meet at each point.
+    pub fn meeting() -> RowGate {
+        RowGate::Meeting(Meeting {
+            came: [
+                AtomicU64::new(0),
+                AtomicU64::new(0),
+                AtomicU64::new(0),
+                AtomicU64::new(0),
+                AtomicU64::new(0),
+                AtomicU64::new(0),
+            ],
+            saw: AtomicU64::new(0),
+        })
+    }
+
+    /// One worker hands what it sends to the other.
+    pub fn handing() -> RowGate {
+        RowGate::Handing(Handing {
+            sent: AtomicU64::new(0),
+            came: AtomicU64::new(0),
+            took: AtomicU64::new(0),
+        })
+    }
+
+    /// Whether nobody waited in vain: each of two workers saw the other at each of three points.
+    pub fn is_met(&self) -> bool {
+        match self {
+            RowGate::Meeting(meeting) => meeting.saw.load(Ordering::SeqCst) == 6,
+            RowGate::Free | RowGate::Handing(_) => true,
+        }
+    }
+}
+
+impl Gate for RowGate {
+    fn at(&self, worker: u32, point: Point) {
+        match self {
+            RowGate::Free => {}
+            RowGate::Meeting(meeting) => meeting.meet(worker, point),
+            RowGate::Handing(handing) => handing.hand(worker, point),
+        }
+    }
+}
+
+impl Meeting {
+    fn meet(&self, worker: u32, point: Point) {
+        let place = place(point);
+        let own = if worker == 0 { place } else { 3 + place };
+        let other = if worker == 0 { 3 + place } else { place };
+        let flag = &self.came[own];
+        if flag.swap(1, Ordering::SeqCst) == 0 && is_seen(&self.came[other]) {
+            self.saw.fetch_add(1, Ordering::SeqCst);
+        }
+    }
+}
+
+impl Handing {
+    fn hand(&self, worker: u32, point: Point) {
+        match point {
+            Point::AfterSend => {
+                self.sent.store(1, Ordering::SeqCst);
+                is_seen(&self.took);
+            }
+            Point::BeforeTake => {
+                if worker == 1 && self.came.swap(1, Ordering::SeqCst) == 1 {
+                    self.took.store(1, Ordering::SeqCst);
+                } else if worker == 1 {
+                    is_seen(&self.sent);
+                }
+            }
+            Point::BeforeLeave => {}
+        }
+    }
+}
+
+/// The place of a point.
+fn place(point: Point) -> usize
+    ensures { result < 3 }
+{
+    match point {
+        Point::AfterSend => 0,
+        Point::BeforeTake => 1,
+        Point::BeforeLeave => 2,
+    }
+}
+
+/// Waits until a flag is set, for so many turns at most.
+fn is_seen(flag: &AtomicU64) -> bool {
+    for _ in 0..TURNS {
+        if flag.load(Ordering::SeqCst) == 1 {
+            return true;
+        }
+    }
+    false
+}

@@ -1,0 +1,53 @@
+use Rattle.std.proofs.Common.{◌∙◌, ap, sym, subst, List}
+use Rattle.scq_queue.specs.Passes.{PassStanding}
+use Rattle.scq_work.specs.Desks.{HasRun}
+use Rattle.scq_work.specs.declared.own_file.OwnFile.{OwnFile}
+use Rattle.scq_work.specs.declared.worker.Worker.{Worker}
+use Rattle.scq_work.proofs.Produced.{sweep-suits, swept-out, late-out}
+use Rattle.scq_work.proofs.desk.Desk.sweep_out.Goals as goal
+
+pub sweep_out-requires-clause-suits : goal.sweep_out-requires-clause-suits
+sweep_out-requires-clause-suits g c κs within =
+    let job = c.args.job.now in
+    let d = c.args.self.now in
+    sweep-suits c.args.queue.now job.topics job.size job.longest g.S.Source.faults g.S.Source.ends g.S.Source.left d.files.items d.worker.pass d.worker.pass
+    d.worker.members.items d.worker.members.items d.worker.starved d.worker.starved d.kept c.requires.sweep
+
+pub returns-in_default-clause-run : goal.returns-in_default-clause-run
+returns-in_default-clause-run g c =
+    let job = c.args.job.now in
+    let d = c.args.self.now in
+    let now = c.sweep_out.new.self in
+    let end = c.in_default.ensures in
+    swept-out c.args.queue.now job.topics job.size job.longest g.S.Source.faults g.S.Source.ends g.S.Source.left d.files.items d.worker.pass now.pass
+    d.worker.members.items now.members.items d.worker.starved now.starved d.kept c.requires.sweep end.taken end.empty c.sweep_out.ensures.starved
+    end.answered
+
+pub returns-in_default-clause-number : goal.returns-in_default-clause-number
+returns-in_default-clause-number g c =
+    (c.sweep_out.ensures.number, ap (λ (p : PassStanding _). p.number) c.in_default.ensures.taken.pass)
+
+pub returns-in-Err-clause-run : goal.returns-in-Err-clause-run
+returns-in-Err-clause-run g c =
+    let job = c.args.job.now in
+    let faults = g.S.Source.faults in
+    let end_count = g.S.Source.ends in
+    let left = g.S.Source.left in
+    let d = c.args.self.now in
+    let now = c.sweep_out.new.self in
+    let later = c.keep.new.self in
+    let same = c.keep.ensures.same in
+    subst (λ (w : Worker _). HasRun c.args.queue.now job.topics job.size job.longest faults end_count left later.files.items w.pass w.members.items
+    w.starved later.kept) (sym same.0)
+    (subst (λ (fs : List (OwnFile _)). HasRun c.args.queue.now job.topics job.size job.longest faults end_count left fs now.pass now.members.items
+    now.starved later.kept) (sym (ap (λ (v : _). v.items) same.1))
+    (late-out c.args.queue.now job.topics job.size job.longest faults end_count left d.files.items d.worker.pass now.pass
+    d.worker.members.items now.members.items d.worker.starved now.starved d.kept c.requires.sweep later.kept c.in-Err.at_limit.held
+    c.in-Err.ensures.left c.keep.ensures.kept))
+
+pub returns-in-Err-clause-number : goal.returns-in-Err-clause-number
+returns-in-Err-clause-number g c =
+    let left = c.in-Err.ensures.left 0 in (
+      ap (λ (w : Worker _). w.number) c.keep.ensures.same.0 ∙ c.sweep_out.ensures.number,
+      ap (λ (w : Worker _). w.pass.number) c.keep.ensures.same.0 ∙ left.own.1,
+    )

@@ -1,0 +1,59 @@
+-- The passes were there when the queue was closed, and the crew is closed with all its stands.
+use Rattle.std.proofs.Common.{◌≡◌, ◌∙◌, ◌+◌, sym, ap, subst, List, length, map, Option, Some, None, refl}
+use Rattle.std.specs.Prelude.{IfSome, IsSome, IsSomeAnd}
+use Rattle.std.proofs.lemmas.List.{length-map}
+use Rattle.scq_block.specs.declared.frame.Frame.{Frame}
+use Rattle.scq_queue.specs.Passes.{PassStanding, was_told}
+use Rattle.scq_work.specs.AllWorkers.{NothingIsStranded}
+use Rattle.scq_work.specs.Resting.{AreSettled}
+use Rattle.scq_work.specs.Waiting.{HaveWaited}
+use Rattle.scq_work.specs.declared.desk.Desk.{Desk}
+use Rattle.scq_work.proofs.DeskLemmas.{still-dealt}
+use Rattle.scq_work.proofs.Settling.{have-waited}
+use Rattle.scq_work.proofs.waited.wait_in.Goals as goal
+
+-- what is there, with what holds of it
+record Shown {X : Type 0} (o : Option X) (P : X → Type 0) : Type 0 where
+  it : X
+  same : o ≡ Some it
+  holds : P it
+
+some-of : {X : Type 0} (o : Option X) (P : X → Type 0) → IsSome o → IfSome o P → Shown o P
+some-of None P there so = absurd (cc)
+some-of (Some x) P there so = record { it = x; same = refl; holds = so }
+
+pub wind_up-end-requires-clause-dealt : goal.wind_up-end-requires-clause-dealt
+wind_up-end-requires-clause-dealt g c κs within =
+    still-dealt 1 c.lay_out-laid.result.0.was.value.items c.lay_out-laid.result.1.items c.run_resting-desks.result.0.items c.run_resting-desks.ensures.count
+    c.run_resting-desks.ensures.same c.lay_out-laid.ensures.dealt
+
+-- the sources are those that were laid out
+pub returns-clause-moved : goal.returns-clause-moved
+returns-clause-moved g c = rw (sym (ap (λ v. v.items) c.lay_out-laid.ensures.was)) c.wind_up-end.ensures.moved
+
+pub returns-clause-whole : goal.returns-clause-whole
+returns-clause-whole g c = rw (sym (ap (λ v. v.items) c.lay_out-laid.ensures.was)) c.wind_up-end.ensures.whole
+
+pub returns-clause-waited : goal.returns-clause-waited
+returns-clause-waited g c =
+    let S = g.row.S.Denot in
+    let job = c.args.job.now in
+    let topics = length job.topics + 1 in
+    let ran = c.run_resting-desks.result.0.items in
+    let stands = c.run_resting-desks.result.1.items in
+    let end = c.wind_up-end.result.0 in
+    let its = some-of end.passes (λ ps. ps.value.items ≡ map (λ (d : Desk Frame S). d.worker.pass) ran) c.wind_up-end.ensures.there c.wind_up-end.ensures.passes in
+    let passes = its.it.value.items in
+    let left = some-of end.left (λ l. IsSomeAnd end.passes (λ ps. NothingIsStranded job.order topics job.workers ps.value.items l.items))
+    c.wind_up-end.ensures.closed c.wind_up-end.ensures.left in
+    let closed : NothingIsStranded job.order topics job.workers passes left.it.items =
+    subst (λ o. IsSomeAnd o (λ ps. NothingIsStranded job.order topics job.workers ps.value.items left.it.items)) its.same left.holds in
+    let seats : length passes ≡ job.workers =
+    ap length its.holds ∙ length-map ran (λ (d : Desk Frame S). d.worker.pass) ∙ c.run_resting-desks.ensures.count ∙ c.lay_out-laid.ensures.count in
+    let saw : c.wind_up-end.result.1.items ≡ map (λ (p : PassStanding Frame). was_told p.gate) passes =
+    subst (λ o. IfSome o (λ ps. c.wind_up-end.result.1.items ≡ map (λ (p : PassStanding Frame). was_told p.gate) ps.value.items)) its.same c.wind_up-end.ensures.saw in
+    let settled : AreSettled c.args.crew topics stands passes =
+    subst (λ (ps : List (PassStanding Frame)). AreSettled c.args.crew topics stands ps) (sym its.holds) c.run_resting-desks.ensures.settled in
+    subst (λ o. IsSomeAnd o (λ ps. HaveWaited topics job.workers ps.value.items c.wind_up-end.result.1.items c.close-rested.result.items)) (sym its.same)
+    (have-waited topics job.workers c.args.crew stands passes c.wind_up-end.result.1.items c.close-rested.result.items settled closed.shared.unspent seats saw
+    c.close-rested.ensures.counts c.close-rested.ensures.woken)

@@ -1,0 +1,79 @@
+//! Workers that leave early in place of waiting.
+ghost use Rattle.std.specs.Prelude.{◌≡◌, ℕ, ◌+◌, ◌<◌, ◌≤◌, length, slice_index_or};
+ghost use Rattle.std.specs.List.{All};
+ghost use Rattle.scq_work.specs.Dealings.{IsFresh};
+ghost use Rattle.scq_work.specs.Desks.{IsNew, HasRun, ids_of};
+
+use crate::desk::Desk;
+use crate::{Gate, Job};
+use scq_block::Frame;
+use scq_outside::Source;
+use scq_queue::Queue;
+use std::alloc::Global;
+use std::thread;
+use std::thread::Threads;
+
+/// The work of all workers, each in a thread, of which none waits. The desks come back in their order.
+pub fn run_apart<R: Threads + Sync, S: Source, G: Gate>(
+    rt: &R,
+    alloc: Global,
+    job: &Job,
+    queue: &Queue<Frame>,
+    gate: &G,
+    desks: Vec<Desk<Frame, S>>,
+) -> Vec<Desk<Frame, S>>
+    requires some { 0 < length desks.items }
+    requires rings { queue.now.setup.rings ≡ length job.now.topics + 2 }
+    requires room { All (λ b. job.now.size + 24 ≤ length b.bytes.items) queue.now.given }
+    requires fresh { All (IsFresh queue.now) desks.items }
+    requires unread { All (λ d. All IsNew d.files.items) desks.items }
+    ensures count { length result.items ≡ length desks.items }
+    ensures same { (w : ℕ) (d : _) → w < length desks.items
+        → ids_of (slice_index_or result.items w d).files.items ≡ ids_of (slice_index_or desks.items w d).files.items }
+    ensures numbers { (w : ℕ) (d : _) → w < length desks.items
+        → (slice_index_or result.items w d).worker.pass.number ≡ (slice_index_or desks.items w d).worker.pass.number }
+    ensures run { All (λ d.
+        HasRun queue.now job.now.topics job.now.size job.now.longest S.faults S.ends S.left d.files.items d.worker.pass
+        d.worker.members.items d.worker.starved d.kept)
+        result.items }
+{
+    let mut desks = desks;
+    run_each(rt, alloc, job, queue, gate, desks.as_mut_slice());
+    desks
+}
+
+/// Lets each worker work, in threads of their own.
+fn run_each<R: Threads + Sync, S: Source, G: Gate>(
+    rt: &R,
+    alloc: Global,
+    job: &Job,
+    queue: &Queue<Frame>,
+    gate: &G,
+    desks: &mut [Desk<Frame, S>],
+)
+    requires some { 0 < length desks.old }
+    requires rings { queue.now.setup.rings ≡ length job.now.topics + 2 }
+    requires room { All (λ b. job.now.size + 24 ≤ length b.bytes.items) queue.now.given }
+    requires fresh { All (IsFresh queue.now) desks.old }
+    requires unread { All (λ d. All IsNew d.files.items) desks.old }
+    ensures same { (w : ℕ) (d : _) → w < length desks.old
+        → ids_of (slice_index_or desks.new w d).files.items ≡ ids_of (slice_index_or desks.old w d).files.items }
+    ensures numbers { (w : ℕ) (d : _) → w < length desks.old
+        → (slice_index_or desks.new w d).worker.pass.number ≡ (slice_index_or desks.old w d).worker.pass.number }
+    ensures run { All (λ d.
+        HasRun queue.now job.now.topics job.now.size job.now.longest S.faults S.ends S.left d.files.items d.worker.pass
+        d.worker.members.items d.worker.starved d.kept)
+        desks.new }
+{
+    let threads = desks.len();
+    let run = |_: usize, desk: &mut Desk<Frame, S>|
+        requires { (queue.now.setup.rings ≡ length job.now.topics + 2) × All (λ b. job.now.size + 24 ≤ length b.bytes.items) queue.now.given
+            × IsFresh queue.now desk.now × All IsNew desk.now.files.items }
+        ensures { (ids_of desk.exit.now.files.items ≡ ids_of desk.entry.now.files.items)
+            × (desk.exit.now.worker.pass.number ≡ desk.entry.now.worker.pass.number)
+            × HasRun queue.entry.now job.entry.now.topics job.entry.now.size job.entry.now.longest S.faults S.ends S.left
+            desk.exit.now.files.items desk.exit.now.worker.pass
+            desk.exit.now.worker.members.items desk.exit.now.worker.starved desk.exit.now.kept }
+    { desk.run(alloc, job, queue, gate) };
+    thread::for_each_mut(rt, desks, threads, &run);
+}

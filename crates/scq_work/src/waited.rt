@@ -1,0 +1,222 @@
+//! The work of workers that wait in place of leaving early, as `work` else.
+ghost use Rattle.std.specs.Prelude.{◌≡◌, ℕ, ◌+◌, ◌^◌, ◌<◌, ◌≤◌, List, [], None, length, map, slice_index_or, vec_len, vec_capacity, IfOk, IfErr, IfSome, IsErrOf, IsSome, IsSomeAnd, OnOk, OnSome};
+ghost use Rattle.std.specs.List.{All};
+ghost use Rattle.std.specs.List.Sorted.{IsPermutation};
+ghost use Rattle.scq_block.specs.Blocks.{AreAllOf};
+ghost use Rattle.scq_frames.specs.declared.message.Message.{Message as TheMessage};
+ghost use Rattle.scq_collect.specs.Collected.{messages_to};
+ghost use Rattle.scq_collect.specs.Joined.{part_answers, without_way};
+ghost use Rattle.scq_collect.specs.Merging.{members_in};
+ghost use Rattle.scq_queue.specs.Passes.{first_passes};
+ghost use Rattle.scq_work.specs.AllWorkers.{HasWorked, NothingIsStranded};
+ghost use Rattle.scq_work.specs.Ends.{AreGiven, HasCause, HasMoved, MemoryIsFirst, all_left, messages_in};
+ghost use Rattle.scq_work.specs.Reading.{IsWhole};
+ghost use Rattle.scq_park.specs.Crews.{first_posts};
+ghost use Rattle.scq_work.specs.Resting.{HasRoom};
+ghost use Rattle.scq_work.specs.Waiting.{HaveWaited};
+
+use crate::resting::{Berths, make_berths, run_resting};
+use crate::working::{Room, lay_out, make_queue, make_room, wind_up};
+use crate::{Gate, Job, WorkEnd, WorkFault};
+use scq_block::{Block, Frame};
+use scq_outside::Source;
+use scq_park::{Crew, Rested, Stand};
+use scq_queue::{Pass, Queue};
+use scq_word::NoMemory;
+use std::alloc::Global;
+use std::sync::Wait;
+use std::thread::Threads;
+
+/// Of each worker, in the order of their numbers: whether it saw that all had retired, and how often it rested and was woken.
+#[derive(Drop)]
+pub struct Waited {
+    pub saw: Vec<bool>,
+    pub rested: Vec<Rested>,
+}
+
+/// How the work of workers that wait ended. `waited` is None only at want of memory.
+#[derive(Drop)]
+pub struct WaitEnd<S> {
+    pub end: WorkEnd<S>,
+    pub waited: Option<Waited>,
+}
+
+impl<S> WaitEnd<S> {
+    ghost use Rattle.std.specs.Prelude.{◌≡◌, None, Err};
+
+    /// The end where no memory was found for a crew, its room or its queue.
+    fn starved(sources: Vec<S>) -> WaitEnd<S>
+        ensures sources { result.end.sources ≡ sources }
+        ensures fault { result.end.result ≡ Err WorkFault.NoMemory }
+        ensures left { (result.end.left ≡ None) × (result.end.passes ≡ None) }
+        ensures waited { result.waited ≡ None }
+    {
+        WaitEnd {
+            end: WorkEnd::starved(sources),
+            waited: None,
+        }
+    }
+}
+
+/// What the work needs beside its crew: room, and a queue over the frames of one block with a pass for each worker.
+struct Made<S: Source> {
+    berths: Berths<S>,
+    room: Room<S>,
+    block: Block,
+    queue: Queue<Frame>,
+    passes: Vec<Pass<Frame>>,
+}
+
+fn make_all<S: Source>(alloc: Global, job: &Job, files: usize) -> Result<Made<S>, NoMemory>
+    ensures setup { IfOk result (λ made. (made.queue.setup.order ≡ job.now.order) × (made.queue.setup.rings ≡ length job.now.topics + 2)
+        × (made.queue.setup.seats ≡ job.now.workers) × (made.queue.setup.limit ≡ 2 ^ 60)) }
+    ensures frames { IfOk result (λ made. All (λ f. job.now.size + 24 ≤ length f.bytes.items) made.queue.given) }
+    ensures all { IfOk result (λ made. AreAllOf made.block made.queue.given) }
+    ensures passes { IfOk result (λ made. made.passes.items ≡ first_passes made.queue made.queue.setup.seats) }
+    ensures files { IfOk result (λ made. (vec_len made.room.files ≡ job.now.workers)
+        × All (λ list. (list.items ≡ []) × (vec_len list ≡ 0) × (files ≤ vec_capacity list)) made.room.files.items) }
+    ensures desks { IfOk result (λ made. (made.room.desks.items ≡ []) × (job.now.workers ≤ vec_capacity made.room.desks)) }
+    ensures left { IfOk result (λ made. (made.room.left.passes.items ≡ []) × (made.room.left.held.items ≡ []) × (made.room.left.lists.items ≡ [])) }
+    ensures room { IfOk result (λ made. (job.now.workers ≤ vec_capacity made.room.left.passes) × (job.now.workers ≤ vec_capacity made.room.left.held)
+        × (job.now.workers ≤ vec_capacity made.room.left.lists)) }
+    ensures berths { IfOk result (λ made. HasRoom job.now.workers made.berths) }
+{
+    let berths = make_berths(alloc, job.workers)?;
+    let room = make_room(alloc, job, files)?;
+    match make_queue(alloc, job) {
+        Ok((block, queue, passes)) => Ok(Made {
+            berths,
+            room,
+            block,
+            queue,
+            passes,
+        }),
+        Err(NoMemory) => {
+            room.destroy_empty();
+            Err(NoMemory)
+        }
+    }
+}
+
+/// Answers the messages of all sources as `work` does, but that a worker that finds nothing to take rests until another wakes it, and leaves only
+/// once it was told that all have retired. Where no wake comes it never returns.
+pub fn work_waiting<R: Threads + Wait + Sync, S: Source, G: Gate>(
+    rt: &R,
+    alloc: Global,
+    job: &Job,
+    sources: Vec<S>,
+    gate: &G,
+) -> WaitEnd<S>
+    requires { vec_len sources ≤ 64 }
+    ensures count { length result.end.sources.items ≡ length sources.items }
+    ensures moved { (k : ℕ) (d : S) → k < length sources.items
+        → HasMoved S.faults S.left (slice_index_or sources.items k d) (slice_index_or result.end.sources.items k d) }
+
+    // Each source was read to its end, and where the bytes of all are visible the answers are those to all parts of their messages.
+    ensures whole { OnOk result.end.result ((k : ℕ) (d : S) → k < length sources.items
+        → IsWhole job.now.longest S.faults S.ends S.left (slice_index_or sources.items k d) (slice_index_or result.end.sources.items k d)) }
+    ensures answers { IfOk result.end.result (λ w. IfSome (all_left S.left sources.items) (λ contents.
+        IsPermutation (map without_way (members_in w.answered.items)) (part_answers job.now.topics job.now.size (messages_to job.now.topics 1 contents)))) }
+
+    // The lists answer for the messages that the files gave, and the passes for what was sent and taken: of contents that are visible, and of
+    // every source.
+    ensures told { IfOk result.end.result (λ w. IfSome (all_left S.left sources.items) (λ contents.
+        HasWorked job.now.topics job.now.size job.now.workers (messages_in job.now.topics 1 contents) w)) }
+    ensures worked { IfOk result.end.result (λ w. (given : List (List TheMessage)) × AreGiven job.now.topics job.now.longest S.left 1 sources.items given
+        × HasWorked job.now.topics job.now.size job.now.workers given w) }
+
+    // Whatever the answer is, the queue was closed with each buffer free: each pass has retired, what was sent was taken, and the block was
+    // merged. Only where there was no memory for a queue there was none.
+    ensures left { IfSome result.end.left (λ left. IsSomeAnd result.end.passes (λ passes.
+        NothingIsStranded job.now.order (length job.now.topics + 1) job.now.workers passes.value.items left.items)) }
+    ensures none { result.end.left ≡ None → IsErrOf result.end.result WorkFault.NoMemory }
+    ensures same { IfOk result.end.result (λ w. IsSomeAnd result.end.passes (λ passes. passes.value.items ≡ w.passes.value.items)) }
+
+    // A fault is that of its file, and those in front of it were read to their ends. Where there is one of a file, each source is as one
+    // whose reading didn't stop for want of memory.
+    ensures cause { IfErr result.end.result (λ fault. HasCause job.now.longest S.faults S.ends S.left sources.items result.end.sources.items fault) }
+    ensures memory_first { IfErr result.end.result (λ fault. MemoryIsFirst job.now.longest S.faults S.ends S.left sources.items result.end.sources.items fault) }
+
+    // Each worker was told that all had retired, rested no more often than it was woken, and took in vain no more often than one does that
+    // rests after each sweep that took nothing.
+    ensures waited { IfSome result.waited (λ waited. IsSomeAnd result.end.passes (λ passes.
+        HaveWaited (length job.now.topics + 1) job.now.workers passes.value.items waited.saw.items waited.rested.items)) }
+    ensures unwaited { result.waited ≡ None → IsErrOf result.end.result WorkFault.NoMemory }
+    ensures both { OnSome result.waited (IsSome result.end.left) }
+{
+    let Ok((crew, stands)) = Crew::make(alloc, job.workers) else {
+        return WaitEnd::starved(sources);
+    };
+    match make_all(alloc, job, sources.len()) {
+        Ok(made) => wait_in(rt, alloc, job, sources, gate, crew, stands, made),
+        Err(NoMemory) => {
+            let _rested = crew.close(stands);
+            WaitEnd::starved(sources)
+        }
+    }
+}
+
+/// The same, once there are a crew, room and a queue.
+fn wait_in<R: Threads + Wait + Sync, S: Source, G: Gate>(
+    rt: &R,
+    alloc: Global,
+    job: &Job,
+    sources: Vec<S>,
+    gate: &G,
+    crew: Crew,
+    stands: Vec<Stand>,
+    made: Made<S>,
+) -> WaitEnd<S>
+    requires few { vec_len sources ≤ 64 }
+    requires setup { (made.queue.setup.order ≡ job.now.order) × (made.queue.setup.rings ≡ length job.now.topics + 2)
+        × (made.queue.setup.seats ≡ job.now.workers) × (made.queue.setup.limit ≡ 2 ^ 60) }
+    requires frames { All (λ f. job.now.size + 24 ≤ length f.bytes.items) made.queue.given }
+    requires all { AreAllOf made.block made.queue.given }
+    requires passes { made.passes.items ≡ first_passes made.queue made.queue.setup.seats }
+    requires files { (vec_len made.room.files ≡ job.now.workers)
+        × All (λ list. (list.items ≡ []) × (vec_len list ≡ 0) × (vec_len sources ≤ vec_capacity list)) made.room.files.items }
+    requires desks { (made.room.desks.items ≡ []) × (job.now.workers ≤ vec_capacity made.room.desks) }
+    requires left { (made.room.left.passes.items ≡ []) × (made.room.left.held.items ≡ []) × (made.room.left.lists.items ≡ []) }
+    requires room { (job.now.workers ≤ vec_capacity made.room.left.passes) × (job.now.workers ≤ vec_capacity made.room.left.held)
+        × (job.now.workers ≤ vec_capacity made.room.left.lists) }
+    requires berths { HasRoom job.now.workers made.berths }
+    requires crew { length crew ≡ job.now.workers }
+    requires stands { stands.items ≡ first_posts crew job.now.workers }
+    ensures count { length result.end.sources.items ≡ length sources.items }
+    ensures moved { (k : ℕ) (d : S) → k < length sources.items
+        → HasMoved S.faults S.left (slice_index_or sources.items k d) (slice_index_or result.end.sources.items k d) }
+    ensures whole { OnOk result.end.result ((k : ℕ) (d : S) → k < length sources.items
+        → IsWhole job.now.longest S.faults S.ends S.left (slice_index_or sources.items k d) (slice_index_or result.end.sources.items k d)) }
+    ensures answers { IfOk result.end.result (λ w. IfSome (all_left S.left sources.items) (λ contents.
+        IsPermutation (map without_way (members_in w.answered.items)) (part_answers job.now.topics job.now.size (messages_to job.now.topics 1 contents)))) }
+    ensures told { IfOk result.end.result (λ w. IfSome (all_left S.left sources.items) (λ contents.
+        HasWorked job.now.topics job.now.size job.now.workers (messages_in job.now.topics 1 contents) w)) }
+    ensures worked { IfOk result.end.result (λ w. (given : List (List TheMessage)) × AreGiven job.now.topics job.now.longest S.left 1 sources.items given
+        × HasWorked job.now.topics job.now.size job.now.workers given w) }
+    ensures left { IfSome result.end.left (λ left. IsSomeAnd result.end.passes (λ passes.
+        NothingIsStranded job.now.order (length job.now.topics + 1) job.now.workers passes.value.items left.items)) }
+    ensures none { result.end.left ≡ None → IsErrOf result.end.result WorkFault.NoMemory }
+    ensures same { IfOk result.end.result (λ w. IsSomeAnd result.end.passes (λ passes. passes.value.items ≡ w.passes.value.items)) }
+    ensures cause { IfErr result.end.result (λ fault. HasCause job.now.longest S.faults S.ends S.left sources.items result.end.sources.items fault) }
+    ensures memory_first { IfErr result.end.result (λ fault. MemoryIsFirst job.now.longest S.faults S.ends S.left sources.items result.end.sources.items fault) }
+    ensures waited { IfSome result.waited (λ waited. IsSomeAnd result.end.passes (λ passes.
+        HaveWaited (length job.now.topics + 1) job.now.workers passes.value.items waited.saw.items waited.rested.items)) }
+    ensures there { IsSome result.waited }
+    ensures closed { IsSome result.end.left }
+{
+    let Made {
+        berths,
+        room,
+        block,
+        queue,
+        passes,
+    } = made;
+    let (laid, desks) = lay_out(alloc, job, &queue, passes, sources, room);
+    let (desks, stands) = run_resting(rt, alloc, job, &queue, gate, &crew, stands, berths, desks);
+    let (end, saw) = wind_up(job, laid, block, queue, desks);
+    let rested = crew.close(stands);
+    WaitEnd {
+        end,
+        waited: Some(Waited { saw, rested }),
+    }
+}

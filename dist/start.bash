@@ -1,0 +1,96 @@
+# How ./scq and ./scq_wait start, who read this file: each says which crate its program is made of, and which words that begins with. The program
+# is the one of dist/, where that is of exactly these sources, whole, and starts on this machine. Else, or where SCQ_BUILD=1 asks for it, it is the
+# one that this kit makes of these sources, which is proved and built first where it isn't there yet, over what is kept, with lines on standard
+# error that say why and how far it is. A second start waits for the first. Where the program can't be built, the status is 125.
+# `self` is the launcher, whose name is the program's.
+name=$(basename "$self")
+top=$(dirname "$self")
+out=$top/crates/$crate/out
+program=$out/$crate
+# Four lines: the kit, which file rt was, the sum of what the program was made of, and the program's own sum.
+record=$out/$name.record
+shipped=x86_64-linux/$name
+
+say() { echo "$name: $1" >&2; }
+
+fail() {
+    say "$1"
+    exit 125
+}
+
+is_command() {
+    local word
+    for word in $commands; do [ "$word" != "$1" ] || return 0; done
+    return 1
+}
+
+# Whether the program of dist/ can be taken. If not, `reason` says why. No file is written, and rt isn't asked.
+is_shipped() {
+    local machine file=$top/dist/$shipped said status
+    reason=
+    [ "${SCQ_BUILD-}" != 1 ] || return 1
+    machine=$(uname -sm)
+    if [ "$machine" != 'Linux x86_64' ]; then
+        reason="dist/ has no program for $machine"
+    elif [ ! -e "$file" ] || [ ! -e "$top/dist/RECORD" ]; then
+        reason="dist/$shipped or dist/RECORD isn't there"
+    elif [ "$(sum_with "$(recorded kit)" "$sources")" != "$(recorded sources "$shipped")" ]; then
+        reason="dist/$shipped was made of other sources"
+    elif [ "$(sum_of_file "$file")" != "$(recorded sum "$shipped")" ]; then
+        reason="dist/$shipped isn't what dist/RECORD says"
+    else
+        # It may be for another C library, may not be marked as a program, or lie where none may be started.
+        said=$("$file" 2>&1 </dev/null)
+        status=$?
+        [ "$status" != 2 ] || [ "$said" != 'words not understood' ] || return 0
+        said=${said%%$'\n'*}
+        reason="dist/$shipped doesn't start here: status $status${said:+, ${said##*: }}"
+    fi
+    return 1
+}
+
+# The kit's own line. To ask for it takes a third of a second, so that is done only where rt is another
+# file than at the last build. Where there is no rt, the kit counts as the last one.
+read_kit() {
+    local known=()
+    [ ! -e "$record" ] || mapfile -t known <"$record"
+    rt_file=$(stat -Lc '%n %d %i %s %Z' "$(command -v rt)" 2>/dev/null)
+    if [ -n "$rt_file" ] && [ "$rt_file" != "${known[1]-}" ]; then
+        kit=$(rt version)
+    else
+        kit=${known[0]-}
+    fi
+}
+
+is_built() {
+    local known
+    read_kit
+    sum=$(sum_with "$kit" "$sources")
+    [ -x "$program" ] && [ -e "$record" ] || return 1
+    mapfile -t known <"$record"
+    [ "$sum" = "${known[2]-}" ] && [ "$(sum_of_file "$program")" = "${known[3]-}" ]
+}
+
+is_command "${1-}" || {
+    echo 'words not understood' >&2
+    exit 2
+}
+. "$top/dist/sources.bash" || exit 125
+mapfile -t crates < <(crates_of "$crate")
+[ ${#crates[@]} -gt 0 ] || fail "no crates.txt beside this file names $crate"
+sources=$(sources_of "${crates[@]}")
+! is_shipped || exec "$top/dist/$shipped" "$@"
+if ! is_built; then
+    [ -z "$reason" ] || say "$reason"
+    [ -n "$rt_file" ] || fail "the command rt isn't on the PATH, and the program has to be built"
+    . "$top/dist/build.bash"
+    take_turn
+    # It may have been built meanwhile.
+    sources=$(sources_of "${crates[@]}")
+    is_built || {
+        build "$crate"
+        printf '%s\n' "$kit" "$rt_file" "$sum" "$(sum_of_file "$program")" >"$record"
+    }
+    end_turn
+fi
+exec "$program" "$@"
