@@ -1,42 +1,33 @@
 //! Answers merged and written.
-ghost use Rattle.std.specs.Prelude.{◌≤◌, All, IfOk, length};
+ghost use Rattle.std.specs.Prelude.{◌≡◌, ◌≤◌, All, IfOk, length};
 ghost use Rattle.scq_collect.specs.Merging.{members_in};
 
+use crate::given::{bytes_of, long, number, topics_of};
 use anyhow::{Context, Result, ensure};
-use rows_text::{add_bytes, field};
+use rows_text::field;
 use scq_collect::{Answered, Way, Whole, merge, output};
 use scq_topics::{ReplyBytes, Topics};
 use std::alloc::Global;
 
-/// The bytes that a text says.
-fn bytes_of(alloc: Global, text: &str) -> Result<ReplyBytes> {
-    let mut bytes = Vec::new(alloc);
-    add_bytes(&mut bytes, text)?;
-    Ok(ReplyBytes::copy_of(alloc, bytes.as_slice())?)
-}
-
-/// The topics of a table, or none where it is `-`.
-fn topics_of(table: &str) -> Result<Topics> {
-    Ok(match table {
-        "-" => Topics::none(),
-        declared => Topics::read(declared)?,
-    })
+/// The reply whose bytes a text says.
+fn reply_of(alloc: Global, text: &str) -> Result<ReplyBytes> {
+    Ok(ReplyBytes::copy_of(alloc, &bytes_of(alloc, text)?)?)
 }
 
 /// An answer to a part: `FILE LINE TOPIC PART PARTS BYTES WAY NUMBER TEXT`, where the way is `taken` or `direct`.
 fn answered_of(alloc: Global, text: &str) -> Result<Answered> {
-    let number = field(text, 7).parse::<u64>()?;
+    let place = long(text, 7)?;
     Ok(Answered {
-        file: field(text, 0).parse::<u32>()?,
-        line: field(text, 1).parse::<u32>()?,
-        topic: field(text, 2).parse::<u32>()?,
-        part: field(text, 3).parse::<u32>()?,
-        parts: field(text, 4).parse::<u32>()?,
-        bytes: field(text, 5).parse::<u64>()?,
-        text: bytes_of(alloc, field(text, 8))?,
+        file: number(text, 0)?,
+        line: number(text, 1)?,
+        topic: number(text, 2)?,
+        part: number(text, 3)?,
+        parts: number(text, 4)?,
+        bytes: long(text, 5)?,
+        text: reply_of(alloc, field(text, 8))?,
         way: match field(text, 6) {
-            "taken" => Way::Taken { place: number },
-            _ => Way::Direct { head: number },
+            "taken" => Way::Taken { place },
+            _ => Way::Direct { head: place },
         },
     })
 }
@@ -94,14 +85,21 @@ pub fn merged(alloc: Global, given: &str) -> Result<String> {
 /// An answer to a message, `FILE LINE TOPIC BYTES REPLY`, and a comma.
 fn text_of(alloc: Global, whole: &Whole) -> Result<String> {
     let reply = String::from_utf8_lossy(alloc, whole.reply.bytes())?;
-    let Whole {
-        file,
-        line,
-        topic,
-        bytes,
-        ..
-    } = whole;
+    let (file, line, topic, bytes) = (whole.file, whole.line, whole.topic, whole.bytes);
     Ok(format!(in alloc; "{file} {line} {topic} {bytes} {reply},")?)
+}
+
+/// An answer to a message of this topic: `FILE LINE TOPIC BYTES REPLY`.
+fn whole_of(alloc: Global, topic: u32, text: &str) -> Result<Whole>
+    ensures { IfOk result (λ whole. whole.topic ≡ topic) }
+{
+    Ok(Whole {
+        file: number(text, 0)?,
+        line: number(text, 1)?,
+        topic,
+        bytes: long(text, 3)?,
+        reply: reply_of(alloc, field(text, 4))?,
+    })
 }
 
 /// Adds an answer to a message, whose topic is declared or the number behind the last.
@@ -109,28 +107,30 @@ fn push_whole(alloc: Global, topics: &Topics, text: &str, to: &mut Vec<Whole>) -
     requires { All (λ a. a.topic ≤ length topics.now) to.old.items }
     ensures { All (λ a. a.topic ≤ length topics.now) to.new.items }
 {
-    let topic = field(text, 2).parse::<u32>()?;
+    let topic = number(text, 2)?;
     ensure!(topic <= topics.len(), "a topic");
-    to.push(Whole {
-        file: field(text, 0).parse::<u32>()?,
-        line: field(text, 1).parse::<u32>()?,
-        topic,
-        bytes: field(text, 3).parse::<u64>()?,
-        reply: bytes_of(alloc, field(text, 4))?,
-    })?;
+    to.push(whole_of(alloc, topic, text)?)?;
     Ok(())
+}
+
+/// The answers to messages of a text that has `,` behind each.
+fn wholes_of(alloc: Global, topics: &Topics, given: &str) -> Result<Vec<Whole>>
+    ensures { IfOk result (λ wholes. All (λ a. a.topic ≤ length topics.now) wholes.items) }
+{
+    let mut wholes = Vec::new(alloc);
+    for text in given.split(',') {
+        if !text.is_empty() {
+            push_whole(alloc, topics, text, &mut wholes)?;
+        }
+    }
+    Ok(wholes)
 }
 
 /// `TABLE ANSWERS`, of answers to messages that have `,` behind each: their text.
 pub fn written(alloc: Global, given: &str) -> Result<String> {
     let (table, answers) = given.split_once(' ').context("a table and answers")?;
     let topics = topics_of(table)?;
-    let mut wholes = Vec::new(alloc);
-    for text in answers.split(',') {
-        if !text.is_empty() {
-            push_whole(alloc, &topics, text, &mut wholes)?;
-        }
-    }
+    let wholes = wholes_of(alloc, &topics, answers)?;
     let text = output(alloc, &topics, wholes.as_slice())?;
     Ok(String::from_utf8_lossy(alloc, text.bytes())?)
 }

@@ -3,14 +3,14 @@ ghost use Rattle.std.specs.Prelude.{◌<◌, IfOk};
 ghost use Rattle.std.specs.Option.{ForSome};
 ghost use Rattle.scq_word.specs.Sizes.{n_of};
 
+use crate::given::{long, number};
 use anyhow::{Context, Result, ensure};
 use rows_text::field;
 use scq_word::{Entry, Setup, Shape, cycle_of, limit_for, pack, rank, slot_of, unpack};
 use std::alloc::Global;
 
 fn shape_of(given: &str) -> Result<Shape> {
-    let order = field(given, 0).parse::<u32>()?;
-    Ok(Shape::new(order).context("an order")?)
+    Ok(Shape::new(number(given, 0)?).context("an order")?)
 }
 
 /// An index of the shape, or `-` for none.
@@ -29,7 +29,7 @@ fn index_of(shape: Shape, text: &str) -> Result<Option<u32>>
 /// the entry again.
 pub fn entry(alloc: Global, given: &str) -> Result<String> {
     let shape = shape_of(given)?;
-    let cycle = field(given, 1).parse::<u64>()?;
+    let cycle = long(given, 1)?;
     let safe = field(given, 2).parse::<bool>()?;
     let index = index_of(shape, field(given, 3))?;
     ensure!(cycle < 1 << 50, "a small cycle");
@@ -47,13 +47,13 @@ pub fn entry(alloc: Global, given: &str) -> Result<String> {
 
 /// `ORDER TICKET`: the ticket's cycle.
 pub fn cycle(alloc: Global, given: &str) -> Result<String> {
-    let cycle = cycle_of(shape_of(given)?, field(given, 1).parse::<u64>()?);
+    let cycle = cycle_of(shape_of(given)?, long(given, 1)?);
     Ok(format!(in alloc; "{cycle}")?)
 }
 
 /// `ORDER TICKET`: the ticket's slot.
 pub fn slot(alloc: Global, given: &str) -> Result<String> {
-    let slot = slot_of(shape_of(given)?, field(given, 1).parse::<u64>()?);
+    let slot = slot_of(shape_of(given)?, long(given, 1)?);
     Ok(format!(in alloc; "{slot}")?)
 }
 
@@ -77,49 +77,51 @@ pub fn met(alloc: Global, given: &str) -> Result<String> {
 
 /// `ORDER`: how many indices and slots there are, and the mark.
 pub fn shape(alloc: Global, given: &str) -> Result<String> {
-    let order = given.parse::<u32>()?;
-    Ok(match Shape::new(order) {
+    let shown = match Shape::new(number(given, 0)?) {
         Some(shape) => {
             let (n, slots, none) = (shape.n(), shape.slots(), shape.none());
-            format!(in alloc; "{n} {slots} {none}")?
+            format!(in alloc; "{n} {slots} {none}")
         }
-        None => String::from_str(alloc, "none")?,
-    })
+        None => format!(in alloc; "none"),
+    };
+    Ok(shown?)
 }
 
 /// `ORDER RINGS SEATS LIMIT`: the setup's numbers.
 pub fn setup(alloc: Global, given: &str) -> Result<String> {
-    let order = field(given, 0).parse::<u32>()?;
-    let rings = field(given, 1).parse::<u32>()?;
-    let seats = field(given, 2).parse::<u32>()?;
-    let limit = field(given, 3).parse::<u64>()?;
-    Ok(match Setup::new(order, rings, seats, limit) {
+    let order = number(given, 0)?;
+    let rings = number(given, 1)?;
+    let seats = number(given, 2)?;
+    let limit = long(given, 3)?;
+    let shown = match Setup::new(order, rings, seats, limit) {
         Ok(setup) => {
             let n = setup.shape().n();
             let (rings, seats, limit) = (setup.rings(), setup.seats(), setup.limit());
-            format!(in alloc; "{n} {rings} {seats} {limit}")?
+            format!(in alloc; "{n} {rings} {seats} {limit}")
         }
-        Err(fault) => format!(in alloc; "{fault}")?,
-    })
+        Err(fault) => format!(in alloc; "{fault}"),
+    };
+    Ok(shown?)
 }
 
 /// `ORDER SEATS`: the value to which Threshold is reset.
 pub fn reset(alloc: Global, given: &str) -> Result<String> {
-    let order = field(given, 0).parse::<u32>()?;
-    let seats = field(given, 1).parse::<u32>()?;
+    let order = number(given, 0)?;
+    let seats = number(given, 1)?;
     let value = Setup::new(order, 2, seats, 1 << 60)?.reset_value();
     Ok(format!(in alloc; "{value}")?)
 }
 
 /// `ORDER SEATS PUTS`: the limit that is enough for so many puts.
 pub fn limit(alloc: Global, given: &str) -> Result<String> {
-    let order = field(given, 0).parse::<u32>()?;
-    let seats = field(given, 1).parse::<u32>()?;
-    let puts = field(given, 2).parse::<u64>()?;
+    let order = number(given, 0)?;
+    let seats = number(given, 1)?;
+    let puts = long(given, 2)?;
     let is_setup = 1 <= order && order <= 12 && 1 <= seats && seats <= 4096;
     ensure!(is_setup, "an order and seats");
-    Ok(match limit_for(order, seats, puts) {
-        Some(limit) => format!(in alloc; "{limit}")?,
-        None => String::from_str(alloc, "none")?,
-    })
+    let shown = match limit_for(order, seats, puts) {
+        Some(limit) => format!(in alloc; "{limit}"),
+        None => format!(in alloc; "none"),
+    };
+    Ok(shown?)
 }

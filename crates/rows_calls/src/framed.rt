@@ -1,8 +1,9 @@
 //! Messages framed from a source that gives its bytes in pieces, and messages as bytes.
 ghost use Rattle.std.specs.Prelude.{◌^◌, ◌≤◌, None};
 
+use crate::given::{bytes_of, long, number, topics_of};
 use anyhow::{Result, ensure};
-use rows_text::{add_bytes, field};
+use rows_text::field;
 use scq_frames::{Framer, Message, decode, encode, parts_of};
 use scq_outside::{Failed, Source};
 use scq_topics::Topics;
@@ -54,20 +55,16 @@ struct Limits {
 /// `TOPICS SIZE MOST PIECE READS TEXT`, where 0 reads are as many as there are and `-` is no topic: each message with its file, its
 /// line, its topic and its payload, and then how the framer ended.
 pub fn framed(alloc: Global, given: &str) -> Result<String> {
-    let topics = match field(given, 0) {
-        "-" => Topics::none(),
-        declared => Topics::read(declared)?,
-    };
+    let topics = topics_of(field(given, 0))?;
     let limits = Limits {
-        size: field(given, 1).parse::<u32>()?,
-        most: field(given, 2).parse::<u64>()?.min(1 << 30),
+        size: number(given, 1)?,
+        most: long(given, 2)?.min(1 << 30),
     };
-    let reads = field(given, 4).parse::<u64>()?;
-    let mut text = Vec::new(alloc);
-    add_bytes(&mut text, field(given, 5))?;
+    let reads = long(given, 4)?;
+    let text = bytes_of(alloc, field(given, 5))?;
     let source = Pieces {
         rest: text.as_slice(),
-        size: field(given, 3).parse::<u32>()? as usize,
+        size: number(given, 3)? as usize,
         reads: if reads == 0 { u64::MAX } else { reads - 1 },
         faults: 0,
         ends: 0,
@@ -88,18 +85,9 @@ fn listed(
             break;
         }
         match framer.next(topics, &mut source) {
-            Ok(Some(message)) => {
-                let Message {
-                    file,
-                    line,
-                    topic,
-                    payload,
-                } = message;
-                let text = String::from_utf8_lossy(alloc, payload.bytes())?;
-                write!(out, "{file}:{line} {topic} {text};")?;
-            }
+            Ok(Some(message)) => out.push_str(&message_text(alloc, &message)?)?,
             Ok(None) => {
-                write!(out, "end")?;
+                out.push_str("end")?;
                 break;
             }
             Err(fault) => write!(out, "{fault:?}")?,
@@ -108,16 +96,22 @@ fn listed(
     Ok(out)
 }
 
+fn message_text(alloc: Global, message: &Message) -> Result<String> {
+    let (file, line, topic) = (message.file, message.line, message.topic);
+    let text = String::from_utf8_lossy(alloc, message.payload.bytes())?;
+    Ok(format!(in alloc; "{file}:{line} {topic} {text};")?)
+}
+
 /// `FILE LINE TOPIC SIZE PART PAYLOAD`: the bytes of the message's part in a room of 32.
 pub fn encoded(alloc: Global, given: &str) -> Result<String> {
-    let size = field(given, 3).parse::<u32>()?;
-    let part = field(given, 4).parse::<u32>()?;
+    let size = number(given, 3)?;
+    let part = number(given, 4)?;
     let payload = field(given, 5).as_bytes();
     ensure!(payload.len() <= 8, "a short payload");
     let message = Message {
-        file: field(given, 0).parse::<u32>()?,
-        line: field(given, 1).parse::<u32>()?,
-        topic: field(given, 2).parse::<u32>()?,
+        file: number(given, 0)?,
+        line: number(given, 1)?,
+        topic: number(given, 2)?,
         payload: Bytes::copy_of(alloc, payload)?,
     };
     ensure!(0 < size, "a size");
@@ -132,15 +126,15 @@ pub fn encoded(alloc: Global, given: &str) -> Result<String> {
 
 /// `BYTES`: the part that they begin with.
 pub fn decoded(alloc: Global, given: &str) -> Result<String> {
-    let mut bytes = Vec::new(alloc);
-    add_bytes(&mut bytes, given)?;
-    Ok(match decode(bytes.as_slice()) {
+    let bytes = bytes_of(alloc, given)?;
+    let shown = match decode(bytes.as_slice()) {
         Some(view) => {
             let payload = String::from_utf8_lossy(alloc, view.payload)?;
             let (file, line, topic) = (view.file, view.line, view.topic);
             let (part, parts) = (view.part, view.parts);
-            format!(in alloc; "{file} {line} {topic} {part} {parts} {payload}")?
+            format!(in alloc; "{file} {line} {topic} {part} {parts} {payload}")
         }
-        None => String::from_str(alloc, "none")?,
-    })
+        None => format!(in alloc; "none"),
+    };
+    Ok(shown?)
 }

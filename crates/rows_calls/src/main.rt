@@ -8,6 +8,7 @@ mod calls;
 mod entries;
 mod faults;
 mod framed;
+mod given;
 mod histories;
 mod lined;
 mod outside;

@@ -1,8 +1,9 @@
 //! Sources, sinks and files, in memory and of the system.
 ghost use Rattle.std.specs.Prelude.{◌≡◌, IfOk};
 
+use crate::given::{bytes_of, number};
 use anyhow::{Context, Result, ensure};
-use rows_text::{add_bytes, field};
+use rows_text::field;
 use scq_outside::{
     DiskFiles, Failed, Files, MemFiles, MemSink, MemSource, PlainSource, Sink, Source, StdSink,
 };
@@ -22,30 +23,31 @@ fn read_of<S: Source>(alloc: Global, source: &mut S, most: usize, reads: u32) ->
                 text.push_str("end")?;
                 break;
             }
-            Ok(count) => {
-                let piece = into.get(..count).context("no more than was asked for")?;
-                let piece = String::from_utf8_lossy(alloc, piece)?;
-                write!(text, "{piece};")?;
-            }
+            Ok(count) => text.push_str(&piece_of(alloc, &into, count)?)?,
             Err(Failed) => text.push_str("failed;")?,
         }
     }
     Ok(text)
 }
 
+/// The first so many bytes, and a semicolon.
+fn piece_of(alloc: Global, bytes: &[u8], count: usize) -> Result<String> {
+    let piece = bytes.get(..count).context("no more than was asked for")?;
+    let piece = String::from_utf8_lossy(alloc, piece)?;
+    Ok(format!(in alloc; "{piece};")?)
+}
+
 /// `MOST TEXT`: the reads of a plain source.
 pub fn plain(alloc: Global, given: &str) -> Result<String> {
-    let most = field(given, 0).parse::<u32>()? as usize;
-    let mut text = Vec::new(alloc);
-    add_bytes(&mut text, field(given, 1))?;
+    let most = number(given, 0)? as usize;
+    let text = bytes_of(alloc, field(given, 1))?;
     read_of(alloc, &mut PlainSource::new(text), most, 9)
 }
 
 /// `MOST TEXT`: the reads of a source that gives at most 2, 9, 1 and 4 bytes at first, and whose reads 2 and 5 fail.
 pub fn told(alloc: Global, given: &str) -> Result<String> {
-    let most = field(given, 0).parse::<u32>()? as usize;
-    let mut text = Vec::new(alloc);
-    add_bytes(&mut text, field(given, 1))?;
+    let most = number(given, 0)? as usize;
+    let text = bytes_of(alloc, field(given, 1))?;
     let pieces = vec![in alloc; 2, 9, 1, 4]?;
     let fails = vec![in alloc; 5, 2]?;
     read_of(alloc, &mut MemSource::new(text, pieces, fails), most, 9)
@@ -64,7 +66,7 @@ fn put<S: Sink>(into: &mut String, sink: &mut S, piece: &str) -> Result<()> {
 
 /// `ROOM PIECE ..`: how many bytes of each piece a sink takes whose first write takes at most 2 and whose second fails; and what it has.
 pub fn taken(alloc: Global, given: &str) -> Result<String> {
-    let room = field(given, 0).parse::<u32>()?;
+    let room = number(given, 0)?;
     let pieces = vec![in alloc; 2]?;
     let fails = vec![in alloc; 2]?;
     let mut sink = MemSink::new(alloc, u64::from(room), pieces, fails)?;
@@ -127,7 +129,7 @@ impl Write for Narrow {
 
 /// `MOST PIECE`: how many bytes of a piece a stream takes that takes at most so many.
 pub fn streamed(alloc: Global, given: &str) -> Result<String> {
-    let most = field(given, 0).parse::<u32>()? as usize;
+    let most = number(given, 0)? as usize;
     let mut text = String::new(alloc);
     put(
         &mut text,

@@ -4,7 +4,7 @@ ghost use Rattle.std.specs.List.{All};
 ghost use Rattle.scq_core.specs.declared.step.Step.{Step as StepOf};
 
 use anyhow::Result;
-use scq_check::verdict_text;
+use scq_check::{Verdict, verdict_text};
 use scq_core::Step;
 use scq_replay::judge_run;
 use scq_word::{Bytes, NoMemory, Setup};
@@ -13,7 +13,10 @@ use std::alloc::Global;
 fn opening(alloc: Global) -> Result<Vec<Bytes>, NoMemory>
     ensures { IfOk result (λ opening. vec_len opening ≡ 2) }
 {
-    Ok(vec![in alloc; Bytes::copy_of(alloc, b"a")?, Bytes::copy_of(alloc, b"b")?]?)
+    let mut opening = Vec::new(alloc);
+    opening.push(Bytes::copy_of(alloc, b"a")?)?;
+    opening.push(Bytes::copy_of(alloc, b"b")?)?;
+    Ok(opening)
 }
 
 /// The verdict of a run of one seat, or why there is none.
@@ -26,13 +29,15 @@ fn judged(alloc: Global, steps: &[(u32, Step)]) -> Result<String>
         seats: 1,
         limit: 1000,
     };
-    Ok(match judge_run(alloc, setup, opening(alloc)?, steps) {
-        Ok(verdict) => {
-            let text = verdict_text(alloc, &verdict)?;
-            String::from_utf8_lossy(alloc, text.bytes())?
-        }
-        Err(fault) => format!(in alloc; "{fault}")?,
-    })
+    match judge_run(alloc, setup, opening(alloc)?, steps) {
+        Ok(verdict) => shown(alloc, &verdict),
+        Err(fault) => Ok(format!(in alloc; "{fault}")?),
+    }
+}
+
+fn shown(alloc: Global, verdict: &Verdict) -> Result<String> {
+    let text = verdict_text(alloc, verdict)?;
+    Ok(String::from_utf8_lossy(alloc, text.bytes())?)
 }
 
 /// `more` is a get and a step that isn't enabled, `alone` that step, and anything else the get.

@@ -1,9 +1,10 @@
 //! What command lines ask for, and sources read whole.
 
+use crate::given::{bytes_of, long, number};
 use anyhow::Result;
-use rows_text::{add_bytes, field, word_of};
+use rows_text::{field, word_of};
 use scq_outside::{MemSource, read_all};
-use scq_words::{Request, RunRequest, SelfRequest, TextRequest, read_words};
+use scq_words::{Request, RunRequest, TextRequest, read_words};
 use std::alloc::Global;
 
 /// `WORDS`: what they ask for, or why they are refused.
@@ -12,25 +13,25 @@ pub fn request(alloc: Global, given: &str) -> Result<String> {
     for word in given.split(' ') {
         words.push(word_of(alloc, word)?)?;
     }
-    let mut text = String::new(alloc);
     match read_words(alloc, words.as_slice()) {
-        Ok(Request::Run(run)) => write_run(&mut text, &run)?,
-        Ok(Request::SelfRun(asked)) => {
-            let SelfRequest {
-                seed,
-                lines,
-                workers,
-            } = asked;
+        Ok(request) => request_text(alloc, &request),
+        Err(error) => Ok(format!(in alloc; "{error}")?),
+    }
+}
+
+fn request_text(alloc: Global, request: &Request) -> Result<String> {
+    let mut text = String::new(alloc);
+    match request {
+        Request::Run(run) => write_run(&mut text, run)?,
+        Request::SelfRun(asked) => {
+            let (seed, lines, workers) = (asked.seed, asked.lines, asked.workers);
             write!(text, "self {seed} {lines} {workers}")?;
         }
-        Ok(Request::Text(TextRequest { command, file })) => {
-            write!(text, "{command:?} {file}")?;
-        }
-        Ok(Request::Judge(judge)) => {
+        Request::Text(TextRequest { command, file }) => write!(text, "{command:?} {file}")?,
+        Request::Judge(judge) => {
             text.push_str("judge")?;
             write_files(&mut text, &judge.files)?;
         }
-        Err(error) => write!(text, "{error}")?,
     }
     Ok(text)
 }
@@ -56,11 +57,10 @@ fn write_files(text: &mut String, files: &[String]) -> Result<()> {
 /// `FAILS MOST TEXT`: what comes of reading a source whole that gives two bytes at a time, and whose read of this number fails.
 pub fn read_whole(alloc: Global, given: &str) -> Result<String> {
     let mut fails = Vec::new(alloc);
-    fails.push(field(given, 0).parse::<u32>()?)?;
-    let most = field(given, 1).parse::<u64>()?.min(1 << 30);
+    fails.push(number(given, 0)?)?;
+    let most = long(given, 1)?.min(1 << 30);
     let pieces = vec![in alloc; 2; 9]?;
-    let mut text = Vec::new(alloc);
-    add_bytes(&mut text, field(given, 2))?;
+    let text = bytes_of(alloc, field(given, 2))?;
     let mut source = MemSource::new(text, pieces, fails);
     Ok(match read_all(alloc, &mut source, most) {
         Ok(bytes) => String::from_utf8_lossy(alloc, bytes.bytes())?,

@@ -3,9 +3,8 @@ ghost use Rattle.std.specs.Prelude.{◌≡◌, ℕ, ◌<◌, IfOk};
 ghost use Rattle.std.specs.List.{All};
 ghost use Rattle.scq_core.specs.declared.step.Step.{Step as StepOf};
 
-use crate::schedules::{opening, push_steps};
-use crate::steps::number;
-use anyhow::{Context, Result, anyhow, ensure};
+use crate::schedules::{one_of_two, opening, push_steps};
+use anyhow::{Context, Result};
 use scq_core::Step;
 use scq_law::{OrderFault, Ordered, one_order};
 use scq_word::Setup;
@@ -17,11 +16,7 @@ fn push_piece(alloc: Global, piece: &str, steps: &mut Vec<(u32, Step)>) -> Resul
     ensures { All (λ (x : ℕ × StepOf). x.0 < 2) steps.new.items }
 {
     let (seat, words) = piece.split_once(' ').context("no seat")?;
-    let seat = number(Some(seat))?;
-    if seat >= 2 {
-        return Err(anyhow!("no such seat"));
-    }
-    push_steps(alloc, seat, words, steps)
+    push_steps(alloc, one_of_two(seat)?, words, steps)
 }
 
 fn steps_of(alloc: Global, text: &str) -> Result<Vec<(u32, Step)>>
@@ -76,7 +71,5 @@ fn shown(alloc: Global, text: &str, queue: u32) -> Result<String>
 /// call of seat 1. The limit of tickets is 16.
 pub fn ordered(alloc: Global, given: &str) -> Result<String> {
     let (ring, pieces) = given.split_once("; ").context("a ring and pieces")?;
-    let ring = number(Some(ring))?;
-    ensure!(ring < 2, "a ring");
-    shown(alloc, pieces, ring)
+    shown(alloc, pieces, one_of_two(ring)?)
 }

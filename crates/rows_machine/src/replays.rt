@@ -5,12 +5,12 @@ ghost use Rattle.scq_core.specs.declared.step.Step.{Step as StepOf};
 ghost use Rattle.scq_hist.specs.Aspects.{IsLawful};
 
 use crate::schedules::{opening, push_steps};
-use crate::steps::number;
+use crate::steps::{Part, part_of, ring_shown, text_of};
 use anyhow::{Context, Result, anyhow, ensure};
 use scq_core::{Ended, State, Step};
 use scq_hist::{Call, Event, PutName, Reply, empty_right, fresh, in_order, lawful_calls, once};
 use scq_law::{ReplayFault, Replayed, replay};
-use scq_word::Setup;
+use scq_word::{Bytes, Setup};
 use std::alloc::Global;
 
 /// From the start of a setup with two indices, rings and seats, and the opening contents `a` and `b`.
@@ -18,7 +18,7 @@ fn replayed(alloc: Global, limit: u64, steps: &[(u32, Step)]) -> Result<Replayed
     requires seats { All (λ (x : ℕ × StepOf). x.0 < 2) steps.now }
     requires limit { (16 ≤ limit) × (limit ≤ 2 ^ 60) }
     ensures lawful { IfOk result (λ replayed. IsLawful replayed.events.items) }
-    ensures setup { IfOk result (λ replayed. (replayed.state.setup.order ≡ 1) × (replayed.state.setup.rings ≡ 2) × (replayed.state.setup.seats ≡ 2)) }
+    ensures seats { IfOk result (λ replayed. replayed.state.setup.seats ≡ 2) }
 {
     let setup = Setup {
         order: 1,
@@ -30,44 +30,12 @@ fn replayed(alloc: Global, limit: u64, steps: &[(u32, Step)]) -> Result<Replayed
 }
 
 /// A line taken apart.
-#[derive(Drop)]
-struct Line<'a> {
-    seat: u32,
-    steps: &'a str,
-    ring: u32,
-}
-
-/// `SEAT STEPS @RING`.
-fn parse(line: &str) -> Result<Line<'_>>
-    ensures { IfOk result (λ line. (line.seat < 2) × (line.ring < 2)) }
+fn line_of(text: &str) -> Result<Part<'_>>
+    ensures { IfOk result (λ line. line.seat < 2) }
 {
-    let (made, ring) = line.split_once(" @").context("a ring")?;
-    let (seat, steps) = made.split_once(" ").context("a seat")?;
-    let seat = number(Some(seat))?;
-    let ring = number(Some(ring))?;
-    if seat < 2 && ring < 2 {
-        Ok(Line { seat, steps, ring })
-    } else {
-        Err(anyhow!("no such seat or ring"))
-    }
-}
-
-/// What a line says of the ring and of the seat's newest call.
-fn shown(alloc: Global, state: &State, line: &Line) -> Result<String>
-    requires seat { line.now.seat < state.now.setup.seats }
-    requires ring { line.now.ring < state.now.setup.rings }
-    requires order { state.now.setup.order ≡ 1 }
-{
-    let ring = line.ring;
-    let (head, tail, threshold) = (state.head(ring), state.tail(ring), state.threshold(ring));
-    let entries = format!(in alloc;
-        "{} {} {} {}",
-        state.entry(ring, 0),
-        state.entry(ring, 1),
-        state.entry(ring, 2),
-        state.entry(ring, 3)
-    )?;
-    Ok(format!(in alloc; "{ring} {head} {tail} {threshold} {entries}")?)
+    let line = part_of(text)?;
+    ensure!(line.seat < 2, "no such seat");
+    Ok(line)
 }
 
 fn counts(alloc: Global, replayed: &Replayed, ring: u32) -> Result<String> {
@@ -87,16 +55,17 @@ fn call(alloc: Global, state: &State, seat: u32) -> Result<String>
 }
 
 fn newest(alloc: Global, last: Option<&Ended>) -> Result<String> {
-    match last {
-        None => Ok(String::from_str(alloc, "no call")?),
-        Some(Ended::Done { place, .. }) => Ok(format!(in alloc; "done {place}")?),
+    let said = match last {
+        None => format!(in alloc; "no call"),
+        Some(Ended::Done { place, .. }) => format!(in alloc; "done {place}"),
         Some(Ended::Got { place, content, .. }) => {
-            let text = std::str::from_utf8(content.bytes())?;
-            Ok(format!(in alloc; "got {place} {text}")?)
+            let text = text_of(content)?;
+            format!(in alloc; "got {place} {text}")
         }
-        Some(Ended::Nothing { .. }) => Ok(String::from_str(alloc, "nothing")?),
-        Some(Ended::Spent { ticket, .. }) => Ok(format!(in alloc; "spent {ticket}")?),
-    }
+        Some(Ended::Nothing { .. }) => format!(in alloc; "nothing"),
+        Some(Ended::Spent { ticket, .. }) => format!(in alloc; "spent {ticket}"),
+    };
+    Ok(said?)
 }
 
 fn event_text(alloc: Global, event: &Event) -> Result<String> {
@@ -105,7 +74,7 @@ fn event_text(alloc: Global, event: &Event) -> Result<String> {
             seat,
             call: Call::Put { queue, content },
         } => {
-            let text = std::str::from_utf8(content.bytes())?;
+            let text = text_of(content)?;
             Ok(format!(in alloc; " {seat} put {queue} {text},")?)
         }
         Event::Start {
@@ -117,22 +86,25 @@ fn event_text(alloc: Global, event: &Event) -> Result<String> {
 }
 
 fn end_text(alloc: Global, seat: u32, reply: &Reply) -> Result<String> {
-    match reply {
-        Reply::Done => Ok(format!(in alloc; " {seat} done,")?),
+    let text = match reply {
+        Reply::Done => format!(in alloc; " {seat} done,"),
         Reply::Got { name, content } => {
-            let text = std::str::from_utf8(content.bytes())?;
-            match name {
-                PutName::Opening { number } => {
-                    Ok(format!(in alloc; " {seat} got token {number} {text},")?)
-                }
-                PutName::Of { seat: of, number } => {
-                    Ok(format!(in alloc; " {seat} got {of}.{number} {text},")?)
-                }
-            }
+            let name = name_text(alloc, name)?;
+            let content = text_of(content)?;
+            format!(in alloc; " {seat} got {name} {content},")
         }
-        Reply::Nothing => Ok(format!(in alloc; " {seat} nothing,")?),
-        Reply::Spent => Ok(format!(in alloc; " {seat} spent,")?),
-    }
+        Reply::Nothing => format!(in alloc; " {seat} nothing,"),
+        Reply::Spent => format!(in alloc; " {seat} spent,"),
+    };
+    Ok(text?)
+}
+
+fn name_text(alloc: Global, name: &PutName) -> Result<String> {
+    let text = match name {
+        PutName::Opening { number } => format!(in alloc; "token {number}"),
+        PutName::Of { seat, number } => format!(in alloc; "{seat}.{number}"),
+    };
+    Ok(text?)
 }
 
 fn events_text(alloc: Global, events: &[Event]) -> Result<String> {
@@ -148,19 +120,21 @@ fn passes(alloc: Global, limit: u64, steps: &[(u32, Step)]) -> Result<bool>
     requires seats { All (λ (x : ℕ × StepOf). x.0 < 2) steps.now }
     requires limit { (16 ≤ limit) × (limit ≤ 2 ^ 60) }
 {
-    let tokens = opening(alloc)?;
-    let events = match replayed(alloc, limit, steps) {
-        Ok(replayed) => replayed.events,
-        Err(ReplayFault::NotEnabled { .. }) => return Ok(true),
-        Err(fault) => return Err(fault.into()),
-    };
-    Ok(
-        lawful_calls(&events)
-            && fresh(&tokens, &events)
-            && once(&events)
-            && in_order(&tokens, &events)
-            && empty_right(&tokens, &events),
-    )
+    match replayed(alloc, limit, steps) {
+        Ok(replayed) => Ok(is_right(&opening(alloc)?, &replayed.events)),
+        Err(ReplayFault::NotEnabled { .. }) => Ok(true),
+        Err(fault) => Err(fault.into()),
+    }
+}
+
+fn is_right(tokens: &[Bytes], events: &[Event]) -> bool
+    requires { IsLawful events.now }
+{
+    lawful_calls(events)
+        && fresh(tokens, events)
+        && once(events)
+        && in_order(tokens, events)
+        && empty_right(tokens, events)
 }
 
 /// Whether the history of each cut of the steps passes them.
@@ -177,12 +151,10 @@ fn all_pass(alloc: Global, limit: u64, steps: &[(u32, Step)]) -> Result<bool>
 }
 
 /// What was replayed up to a line, with the events after those that were seen before.
-fn replayed_text(alloc: Global, line: &Line, seen: usize, replayed: &Replayed) -> Result<String>
-    requires seat { line.now.seat < replayed.now.state.setup.seats }
-    requires ring { line.now.ring < replayed.now.state.setup.rings }
-    requires order { replayed.now.state.setup.order ≡ 1 }
+fn replayed_text(alloc: Global, line: &Part, seen: usize, replayed: &Replayed) -> Result<String>
+    requires { line.now.seat < replayed.now.state.setup.seats }
 {
-    let words = shown(alloc, &replayed.state, line)?;
+    let words = ring_shown(alloc, &replayed.state, line.ring)?;
     let counts = counts(alloc, replayed, line.ring)?;
     let call = call(alloc, &replayed.state, line.seat)?;
     let events = events_text(alloc, replayed.events.get(seen..).context("no events")?)?;
@@ -193,12 +165,11 @@ fn replayed_text(alloc: Global, line: &Line, seen: usize, replayed: &Replayed) -
 fn line_text(
     alloc: Global,
     limit: u64,
-    line: &Line,
+    line: &Part,
     seen: usize,
     steps: &[(u32, Step)],
 ) -> Result<(String, usize)>
     requires seat { line.now.seat < 2 }
-    requires ring { line.now.ring < 2 }
     requires seats { All (λ (x : ℕ × StepOf). x.0 < 2) steps.now }
     requires limit { (16 ≤ limit) × (limit ≤ 2 ^ 60) }
 {
@@ -226,7 +197,7 @@ pub fn replayed_lines(alloc: Global, given: &str) -> Result<String> {
     let mut steps = Vec::new(alloc);
     let mut seen = 0;
     for line in lines.split("; ") {
-        let line = parse(line)?;
+        let line = line_of(line)?;
         push_steps(alloc, line.seat, line.steps, &mut steps)?;
         let (said, events) = line_text(alloc, limit, &line, seen, &steps)?;
         text.push_str("; ")?;

@@ -3,8 +3,8 @@ ghost use Rattle.std.specs.Prelude.{◌≡◌, ℕ, ◌<◌, IfOk, vec_len};
 ghost use Rattle.std.specs.List.{All};
 ghost use Rattle.scq_core.specs.declared.step.Step.{Step as StepOf};
 
-use crate::steps::step_of;
-use anyhow::Result;
+use crate::steps::{number, step_of};
+use anyhow::{Result, ensure};
 use scq_core::Step;
 use scq_word::{Bytes, NoMemory};
 use std::alloc::Global;
@@ -13,7 +13,19 @@ use std::alloc::Global;
 pub fn opening(alloc: Global) -> Result<Vec<Bytes>, NoMemory>
     ensures { IfOk result (λ opening. vec_len opening ≡ 2) }
 {
-    Ok(vec![in alloc; Bytes::copy_of(alloc, b"a")?, Bytes::copy_of(alloc, b"b")?]?)
+    let mut opening = Vec::new(alloc);
+    opening.push(Bytes::copy_of(alloc, b"a")?)?;
+    opening.push(Bytes::copy_of(alloc, b"b")?)?;
+    Ok(opening)
+}
+
+/// The number of a seat or of a ring.
+pub fn one_of_two(text: &str) -> Result<u32>
+    ensures { IfOk result (λ number. number < 2) }
+{
+    let number = number(Some(text))?;
+    ensure!(number < 2, "no such seat or ring");
+    Ok(number)
 }
 
 /// Steps of this seat.

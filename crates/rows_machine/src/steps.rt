@@ -20,29 +20,29 @@ pub fn step_of(alloc: Global, text: &str) -> Result<Step> {
         "D1" => Ok(Step::D1 {
             ring: number(parts.next())?,
         }),
-        name => bare_step(name),
+        name => Ok(bare_step(name).context("no such step")?),
     }
 }
 
-fn bare_step(name: &str) -> Result<Step> {
-    match name {
-        "E1Again" => Ok(Step::E1Again),
-        "E2" => Ok(Step::E2),
-        "E3" => Ok(Step::E3),
-        "E4" => Ok(Step::E4),
-        "E5" => Ok(Step::E5),
-        "E6" => Ok(Step::E6),
-        "D2" => Ok(Step::D2),
-        "D3" => Ok(Step::D3),
-        "D4" => Ok(Step::D4),
-        "D5" => Ok(Step::D5),
-        "D6" => Ok(Step::D6),
-        "D7" => Ok(Step::D7),
-        "D8" => Ok(Step::D8),
-        "D9" => Ok(Step::D9),
-        "D10" => Ok(Step::D10),
-        _ => Err(anyhow!("no such step")),
-    }
+fn bare_step(name: &str) -> Option<Step> {
+    Some(match name {
+        "E1Again" => Step::E1Again,
+        "E2" => Step::E2,
+        "E3" => Step::E3,
+        "E4" => Step::E4,
+        "E5" => Step::E5,
+        "E6" => Step::E6,
+        "D2" => Step::D2,
+        "D3" => Step::D3,
+        "D4" => Step::D4,
+        "D5" => Step::D5,
+        "D6" => Step::D6,
+        "D7" => Step::D7,
+        "D8" => Step::D8,
+        "D9" => Step::D9,
+        "D10" => Step::D10,
+        _ => return None,
+    })
 }
 
 /// The state after a step, made by a copy of the step on a copy of the state: so a state is copied at each phase and after each
@@ -72,30 +72,41 @@ fn made(alloc: Global, mut state: State, seat: u32, steps: &str) -> Result<State
     Ok(state)
 }
 
+/// The text of a content.
+pub fn text_of(content: &Bytes) -> Result<&str> {
+    Ok(std::str::from_utf8(content.bytes())?)
+}
+
+/// The newest call, as a copy of it says.
 fn call_shown(alloc: Global, last: Option<&Ended>) -> Result<String> {
-    let Some(ended) = last else {
-        return Ok(String::from_str(alloc, "no call")?);
-    };
-    match ended.copy(alloc)? {
+    match last {
+        Some(ended) => ended_shown(alloc, &ended.copy(alloc)?),
+        None => Ok(String::from_str(alloc, "no call")?),
+    }
+}
+
+fn ended_shown(alloc: Global, ended: &Ended) -> Result<String> {
+    let shown = match ended {
         Ended::Done {
             ring,
             place,
             content,
         } => {
-            let text = std::str::from_utf8(content.bytes())?;
-            Ok(format!(in alloc; "done {ring} {place} {text}")?)
+            let text = text_of(content)?;
+            format!(in alloc; "done {ring} {place} {text}")
         }
         Ended::Got {
             ring,
             place,
             content,
         } => {
-            let text = std::str::from_utf8(content.bytes())?;
-            Ok(format!(in alloc; "got {ring} {place} {text}")?)
+            let text = text_of(content)?;
+            format!(in alloc; "got {ring} {place} {text}")
         }
-        Ended::Nothing { ring } => Ok(format!(in alloc; "nothing {ring}")?),
-        Ended::Spent { ring, ticket, put } => Ok(format!(in alloc; "spent {ring} {ticket} {put}")?),
-    }
+        Ended::Nothing { ring } => format!(in alloc; "nothing {ring}"),
+        Ended::Spent { ring, ticket, put } => format!(in alloc; "spent {ring} {ticket} {put}"),
+    };
+    Ok(shown?)
 }
 
 fn seat_shown(alloc: Global, state: &State, seat: u32) -> Result<String> {
@@ -125,7 +136,8 @@ fn seat_shown(alloc: Global, state: &State, seat: u32) -> Result<String> {
     }
 }
 
-fn ring_shown(alloc: Global, state: &State, ring: u32) -> Result<String> {
+/// A ring with its Head, Tail, Threshold and entries.
+pub fn ring_shown(alloc: Global, state: &State, ring: u32) -> Result<String> {
     if ring >= state.setup().rings() {
         return Err(anyhow!("no such ring"));
     }
@@ -136,7 +148,7 @@ fn ring_shown(alloc: Global, state: &State, ring: u32) -> Result<String> {
         state.threshold(ring)
     )?;
     for slot in 0..state.setup().shape().slots() {
-        text = format!(in alloc; "{text} {}", state.entry(ring, slot))?;
+        write!(text, " {}", state.entry(ring, slot))?;
     }
     Ok(text)
 }
@@ -159,6 +171,30 @@ fn started(alloc: Global, order: u32, limit: u64) -> Result<State> {
     Ok(state)
 }
 
+/// A part of what is given, taken apart.
+#[derive(Drop)]
+pub struct Part<'a> {
+    pub seat: u32,
+    pub steps: &'a str,
+    pub ring: u32,
+}
+
+/// `SEAT STEPS @RING`, or `SEAT @RING` where no step is made.
+pub fn part_of(text: &str) -> Result<Part<'_>> {
+    let (made, ring) = text.split_once(" @").context("a ring")?;
+    let (seat, steps) = made.split_once(' ').unwrap_or((made, ""));
+    let seat = number(Some(seat))?;
+    let ring = number(Some(ring))?;
+    Ok(Part { seat, steps, ring })
+}
+
+/// What stands after a part.
+fn part_shown(alloc: Global, state: &State, part: &Part) -> Result<String> {
+    let stands = ring_shown(alloc, state, part.ring)?;
+    let does = seat_shown(alloc, state, part.seat)?;
+    Ok(format!(in alloc; "; {stands} | {does}")?)
+}
+
 /// `ORDER LIMIT; SEAT STEPS @RING; ..`: after each part the ring's Head, Tail, Threshold and entries, and behind `|` the indices in the
 /// seat's hand, or `-`, and its newest call, or the step that it makes next. `E1/1/0/x` is E1 on ring 1 of index 0 with content x, `D1/1`
 /// is D1 on ring 1, and a step behind `!` must not be enabled.
@@ -167,14 +203,10 @@ pub fn stepped_through(alloc: Global, given: &str) -> Result<String> {
     let (order, limit) = setup.split_once(' ').context("an order and a limit")?;
     let mut state = started(alloc, order.parse::<u32>()?, limit.parse::<u64>()?)?;
     let mut shown = String::new(alloc);
-    for part in parts.split("; ") {
-        let (made_by, ring) = part.split_once(" @").context("a ring")?;
-        let (seat, steps) = made_by.split_once(' ').unwrap_or((made_by, ""));
-        let seat = number(Some(seat))?;
-        state = made(alloc, state, seat, steps)?;
-        let stands = ring_shown(alloc, &state, number(Some(ring))?)?;
-        let does = seat_shown(alloc, &state, seat)?;
-        shown = format!(in alloc; "{shown}; {stands} | {does}")?;
+    for text in parts.split("; ") {
+        let part = part_of(text)?;
+        state = made(alloc, state, part.seat, part.steps)?;
+        shown.push_str(&part_shown(alloc, &state, &part)?)?;
     }
     Ok(shown)
 }

@@ -1,10 +1,11 @@
 //! Runs calls of the band, of the queue and of its ports over rows that stand in files, prints each row whose answer is another, and how many rows of
-//! each file ran; and then lets two threads pass indices round. `calls.rt` and `pair.rt` have the calls of the queue, `ports.rt` those of
-//! its ports, `moves.rt` those of the band, and `rows_text` has the form of a row.
+//! each file ran; and then lets two threads pass indices round, and two workers of a crew rest and wake each other. `calls.rt` and `pair.rt` have
+//! the calls of the queue, `ports.rt` those of its ports, `moves.rt` those of the band, and `rows_text` has the form of a row.
 #![tactic(auto)]
 
 mod bands;
 mod calls;
+mod crews;
 mod moves;
 mod pair;
 mod ports;
@@ -14,6 +15,7 @@ mod threads;
 use anyhow::{Result, anyhow};
 use bands::lifted;
 use calls::called;
+use crews::{in_turn, woken};
 use moves::moves;
 use pair::told;
 use ports::ported;
@@ -41,6 +43,9 @@ impl Calls for Queues {
 /// How often each of two threads passes an index there and back.
 const ROUNDS: u32 = 20_000;
 
+/// How often each of two workers wakes the other.
+const WAKES: u32 = 1_000;
+
 fn main(rt: HostRuntime) -> Result<()> {
     for name in env::args(&rt)?.skip(1) {
         let text = fs::read_to_string(&rt, &name)?;
@@ -49,5 +54,9 @@ fn main(rt: HostRuntime) -> Result<()> {
     }
     let kept = two_threads(&rt, rt.alloc(), ROUNDS)?;
     println!(rt; "two threads: {kept}")?;
+    let rested = woken(&rt, rt.alloc())?;
+    println!(rt; "a crew of two, rests and wakes: {rested}")?;
+    let rested = in_turn(&rt, rt.alloc(), WAKES)?;
+    println!(rt; "two threads of a crew, in turn: {rested}")?;
     Ok(())
 }

@@ -17,6 +17,3 @@ mod waker;
 pub use crew::Crew;
 pub use rested::Rested;
 pub use stand::Stand;
-
-#[cfg(test)]
-mod tests;
