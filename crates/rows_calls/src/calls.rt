@@ -9,6 +9,7 @@ use crate::histories::{broken, first_out_of_place};
 use crate::lined::{below, content_in, fields, first_line, number_in};
 use crate::outside::{opened, plain, streamed, taken, told};
 use crate::runs::run;
+use crate::staged::{job, left, lent, staged};
 use crate::topical::{found, generated, reply_to, topics};
 use crate::worded::{read_whole, request};
 use anyhow::{Result, anyhow};
@@ -57,6 +58,10 @@ impl Calls for Libraries {
             "carved" => carved(alloc, given),
             "reversed" => reversed(alloc),
             "run" => run(alloc, given),
+            "left" => left(alloc, given),
+            "lent" => lent(alloc, given),
+            "job" => job(alloc, given),
+            "staged" => staged(alloc, given),
             "fault" => fault_text(alloc, given),
             _ => Err(anyhow!("no such call")),
         }

@@ -13,6 +13,7 @@ mod histories;
 mod lined;
 mod outside;
 mod runs;
+mod staged;
 mod topical;
 mod worded;
 

@@ -4,7 +4,7 @@ use crate::given::{bytes_of, long, number};
 use anyhow::Result;
 use rows_text::{field, word_of};
 use scq_outside::{MemSource, read_all};
-use scq_words::{Request, RunRequest, TextRequest, read_words};
+use scq_words::{Request, RunRequest, StagesRequest, TextRequest, read_words};
 use std::alloc::Global;
 
 /// `WORDS`: what they ask for, or why they are refused.
@@ -23,6 +23,7 @@ fn request_text(alloc: Global, request: &Request) -> Result<String> {
     let mut text = String::new(alloc);
     match request {
         Request::Run(run) => write_run(&mut text, run)?,
+        Request::Stages(stages) => write_stages(&mut text, stages)?,
         Request::SelfRun(asked) => {
             let (seed, lines, workers) = (asked.seed, asked.lines, asked.workers);
             write!(text, "self {seed} {lines} {workers}")?;
@@ -45,6 +46,13 @@ fn write_run(text: &mut String, run: &RunRequest) -> Result<()> {
         text.push_str(" report")?;
     }
     write_files(text, &run.files)
+}
+
+/// The workers, the order, the size and the files.
+fn write_stages(text: &mut String, stages: &StagesRequest) -> Result<()> {
+    let (workers, order, size) = (stages.workers, stages.order, stages.size);
+    write!(text, "stages {workers} {order} {size}")?;
+    write_files(text, &stages.files)
 }
 
 fn write_files(text: &mut String, files: &[String]) -> Result<()> {

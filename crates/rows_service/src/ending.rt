@@ -4,7 +4,9 @@ use crate::files::RowFiles;
 use crate::row::Row;
 use scq_outside::MemSink;
 use scq_service::{serve, serve_waiting};
+use scq_stages::Staged;
 use scq_word::NoMemory;
+use scq_work::Worked;
 use std::alloc::Global;
 use std::sync::Wait;
 use std::thread::Threads;
@@ -15,6 +17,7 @@ pub struct Ending {
     status: u8,
     output: MemSink,
     errors: MemSink,
+    counts: Option<[u64; 3]>,
     left: Option<Vec<u64>>,
 }
 
@@ -24,7 +27,8 @@ pub fn ending_of<R: Threads + Wait + Sync>(
     alloc: Global,
     row: &Row,
 ) -> Result<Ending, NoMemory> {
-    let mut files = RowFiles::new(alloc, row.files.as_slice(), row.reads)?;
+    let first_reads = row.first_reads.as_ref();
+    let mut files = RowFiles::new(alloc, row.files.as_slice(), row.reads, first_reads)?;
     let mut output = row.writes.sink(alloc, row.room)?;
     let mut errors = row.error_writes.sink(alloc, row.room)?;
     let words = row.words.as_slice();
@@ -53,6 +57,7 @@ pub fn ending_of<R: Threads + Wait + Sync>(
         status: outcome.status,
         output,
         errors,
+        counts: counts_of(&outcome.worked, &outcome.staged),
         left: outcome.left,
     })
 }
@@ -74,13 +79,28 @@ impl Ending {
         if !right {
             return Some("what is written to the errors");
         }
-        if !row.gate.is_met() {
+        let met = match &row.first_reads {
+            Some(reads) => reads.is_met(),
+            None => row.gate.is_met(),
+        };
+        if !met {
             return Some("how often workers met");
+        }
+        if !row.counts.is_empty() && !self.has_counts(row.counts.as_slice()) {
+            return Some("what workers sent, took and found no buffer for");
         }
         if row.left.is_empty() || self.has_left(row.left.as_slice()) {
             None
         } else {
             Some("what is left in the queue")
+        }
+    }
+
+    /// Whether all workers together have these counts.
+    fn has_counts(&self, counts: &[u64]) -> bool {
+        match &self.counts {
+            Some(own) => own.as_slice() == counts,
+            None => false,
         }
     }
 
@@ -91,6 +111,24 @@ impl Ending {
             None => false,
         }
     }
+}
+
+/// What all workers together sent, took and found no buffer for, whatever they made.
+fn counts_of(worked: &Option<Worked>, staged: &Option<Staged>) -> Option<[u64; 3]> {
+    let counts = if let Some(worked) = worked {
+        &worked.counts
+    } else if let Some(staged) = staged {
+        &staged.counts
+    } else {
+        return None;
+    };
+    let mut sums = [0u64; 3];
+    for each in counts {
+        sums[0] = sums[0].saturating_add(each.sent);
+        sums[1] = sums[1].saturating_add(each.taken);
+        sums[2] = sums[2].saturating_add(each.full);
+    }
+    Some(sums)
 }
 
 /// Whether the last line of a report tells as many taken as sent, and with those answered directly as many as the output answers.

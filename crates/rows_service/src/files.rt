@@ -2,6 +2,7 @@
 ghost use Rattle.std.specs.Prelude.{◌≡◌, if◌then◌else◌, IsTrue, IfOk, IfSome, None, Some};
 ghost use Rattle.scq_outside.specs.Calls.{are_pieces};
 
+use crate::gates::FirstReads;
 use anyhow::{Context, Result};
 use scq_outside::{Failed, Files, MemSink, MemSource, Source};
 use scq_word::NoMemory;
@@ -95,12 +96,14 @@ impl RowFile {
 
 /// The source of a file of a row. Its bytes are visible, unless they never end.
 #[derive(Drop)]
-pub struct RowSource {
+pub struct RowSource<'a> {
     content: MemSource,
     endless: bool,
+    /// What its first read waits in, and whether it is that of the first file.
+    meets: Option<(&'a FirstReads, bool)>,
 }
 
-impl Source for RowSource {
+impl Source for RowSource<'_> {
     ghost faults = { λ s. s.content.faults };
 
     ghost ends = { λ s. s.content.ends };
@@ -108,6 +111,9 @@ impl Source for RowSource {
     ghost left = { λ s. if s.endless then None else Some s.content.left };
 
     fn read(&mut self, into: &mut [u8]) -> Result<usize, Failed> {
+        if let Some((reads, first)) = self.meets.take() {
+            reads.meet(first);
+        }
         if !self.endless {
             return self.content.read(into);
         }
@@ -124,47 +130,61 @@ pub struct RowFiles<'a> {
     alloc: Global,
     files: &'a [RowFile],
     reads: Cut,
+    first_reads: Option<&'a FirstReads>,
     given: Vec<bool>,
     faults: u64,
 }
 
-impl RowFiles<'_> {
-    pub fn new(alloc: Global, files: &[RowFile], reads: Cut) -> Result<RowFiles<'_>, NoMemory> {
+impl<'a> RowFiles<'a> {
+    pub fn new(
+        alloc: Global,
+        files: &'a [RowFile],
+        reads: Cut,
+        first_reads: Option<&'a FirstReads>,
+    ) -> Result<RowFiles<'a>, NoMemory> {
         Ok(RowFiles {
             alloc,
             files,
             reads,
+            first_reads,
             given: vec![in alloc; false; files.len()]?,
             faults: 0,
         })
     }
 
     /// The source of the first file of this name that isn't given yet.
-    fn next(&mut self, name: &str) -> Option<RowSource>
+    fn next(&mut self, name: &str) -> Option<RowSource<'a>>
         ensures faults { self.new.faults ≡ self.old.faults }
         ensures fresh { IfSome result (λ source. source.content.faults ≡ 0) }
     {
+        let mut first = true;
         for (file, given) in self.files.iter().zip(self.given.iter_mut()) {
             if file.name.as_str() == name && !*given {
                 *given = true;
                 let reads = file.reads.unwrap_or(self.reads);
                 let content = reads.source(self.alloc, file.content.as_slice()).ok()?;
                 let endless = file.endless;
-                return Some(RowSource { content, endless });
+                let meets = self.first_reads.map(|reads| (reads, first));
+                return Some(RowSource {
+                    content,
+                    endless,
+                    meets,
+                });
             }
+            first = false;
         }
         None
     }
 }
 
-impl Files for RowFiles<'_> {
-    type Src = RowSource;
+impl<'a> Files for RowFiles<'a> {
+    type Src = RowSource<'a>;
 
     ghost faults = { λ f. f.faults };
 
     ghost table = { λ _. None };
 
-    fn source(&mut self, name: &str) -> Result<RowSource, Failed> {
+    fn source(&mut self, name: &str) -> Result<RowSource<'a>, Failed> {
         match self.next(name) {
             Some(source) => Ok(source),
             None => {

@@ -1,4 +1,5 @@
-//! Gates by which the two workers of a row wait for one another, so that both are at work at one time.
+//! Gates by which the two workers of a row wait for one another, so that both are at work at one time. Where workers call no gate, the first
+//! reads of their files do the same.
 ghost use Rattle.std.specs.Prelude.{◌<◌};
 
 use scq_work::{Gate, Point};
@@ -103,6 +104,39 @@ impl Handing {
             }
             Point::BeforeLeave => {}
         }
+    }
+}
+
+/// The first reads of two files, each of which waits for the other.
+#[derive(Drop)]
+pub struct FirstReads {
+    first: AtomicU64,
+    second: AtomicU64,
+    saw: AtomicU64,
+}
+
+impl FirstReads {
+    pub fn new() -> FirstReads {
+        FirstReads {
+            first: AtomicU64::new(0),
+            second: AtomicU64::new(0),
+            saw: AtomicU64::new(0),
+        }
+    }
+
+    /// Waits in the first read of a file until that of the other has begun. It counts how often one saw the other.
+    pub fn meet(&self, first: bool) {
+        let own = if first { &self.first } else { &self.second };
+        let other = if first { &self.second } else { &self.first };
+        own.store(1, Ordering::SeqCst);
+        if is_seen(other) {
+            self.saw.fetch_add(1, Ordering::SeqCst);
+        }
+    }
+
+    /// Whether each saw the other.
+    pub fn is_met(&self) -> bool {
+        self.saw.load(Ordering::SeqCst) == 2
     }
 }
 

@@ -8,14 +8,16 @@
 //! - `reads`, `writes`, `errors`: the greatest piece that a read or a write moves, and which call of each object fails, 0 for none;
 //! - `room`: how many bytes fit the output;
 //! - `waits`: workers that find nothing to take wait in place of leaving early;
-//! - `meets`: its two workers meet at each point of the gate; `hands`: the first one's part is taken by the other;
+//! - `meets`: its two workers meet at each point of the gate; `hands`: the first one's part is taken by the other; `reads_meet`: the first
+//!   reads of its two files wait for one another;
+//! - `counts`: how many messages all workers together sent, took and found no buffer for; without this line that isn't compared;
 //! - `left`: how many buffers are left in each ring of the workers' queue; without this line that isn't compared;
 //! - `=` the status, which ends the row.
 //!
 //! `rows_text` has what stands for bytes that aren't seen.
 
 use crate::files::{Cut, RowFile};
-use crate::gates::RowGate;
+use crate::gates::{FirstReads, RowGate};
 use anyhow::{Context, Result};
 use rows_text::{add_line, word_of};
 use std::alloc::Global;
@@ -39,6 +41,10 @@ pub struct Row {
     pub waits: bool,
     /// Where its workers wait for one another.
     pub gate: RowGate,
+    /// Where the first reads of its two files wait for one another.
+    pub first_reads: Option<FirstReads>,
+    /// What all workers sent, took and found no buffer for, where it is compared.
+    pub counts: Vec<u64>,
     /// What is left in each ring, where it is compared.
     pub left: Vec<u64>,
 }
@@ -58,6 +64,8 @@ impl Row {
             reports: false,
             waits: false,
             gate: RowGate::Free,
+            first_reads: None,
+            counts: Vec::new(alloc),
             left: Vec::new(alloc),
         }
     }
@@ -86,6 +94,7 @@ impl Row {
             "waits" => self.waits = true,
             "meets" => self.gate = RowGate::meeting(),
             "hands" => self.gate = RowGate::handing(),
+            "reads_meet" => self.first_reads = Some(FirstReads::new()),
             "endless" => {
                 let file = self.files.last_mut().context("lines of no file")?;
                 file.endless = true;
@@ -94,11 +103,8 @@ impl Row {
                 let file = self.files.last_mut().context("a cut of no file")?;
                 file.reads = Some(Cut::of(text)?);
             }
-            "left" => {
-                for number in text.split(' ') {
-                    self.left.push(number.parse::<u64>()?)?;
-                }
-            }
+            "left" => add_numbers(&mut self.left, text)?,
+            "counts" => add_numbers(&mut self.counts, text)?,
             "reads" => self.reads = Cut::of(text)?,
             "writes" => self.writes = Cut::of(text)?,
             "errors" => self.error_writes = Cut::of(text)?,
@@ -107,4 +113,12 @@ impl Row {
         }
         Ok(true)
     }
+}
+
+/// Adds numbers with a space between them.
+fn add_numbers(numbers: &mut Vec<u64>, text: &str) -> Result<()> {
+    for number in text.split(' ') {
+        numbers.push(number.parse::<u64>()?)?;
+    }
+    Ok(())
 }

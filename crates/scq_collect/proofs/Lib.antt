@@ -4,7 +4,6 @@ pub mod Cutting
 pub mod Distinct
 pub mod FromSlots
 pub mod InChunks
-pub mod Judging
 pub mod Lines
 pub mod Merged
 pub mod OneEach

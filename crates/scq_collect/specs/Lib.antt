@@ -1,5 +1,4 @@
 pub mod Output
-pub mod Judged
 pub mod Collected
 pub mod Merging
 pub mod Joined

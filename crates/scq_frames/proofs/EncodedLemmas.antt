@@ -129,3 +129,18 @@ written front old now new bytes at n before count size e =
     let high : drop (at + n) now ≡ drop (at + n) old =
     ap (drop (at + n)) before ∙ sym (drop-drop n at (front ++ drop at old)) ∙ ap (drop n) (drop_at front (drop at old) at count) ∙ drop-drop n at old in
     e ∙ ap (λ (l : List ℕ). l ++ bytes ++ drop (at + n) now) low ∙ ap (λ (l : List ℕ). front ++ bytes ++ l) high
+
+-- the bytes of a part stand behind its six numbers
+pub begins-room : (bytes : List ℕ) (p : Part) → BeginsWith bytes p
+    → (24 + length p.payload ≤ length bytes) × (take (length p.payload) (drop 24 bytes) ≡ p.payload)
+unfolding message_bytes
+begins-room bytes p begins =
+    let front : List ℕ =
+    big_bytes 4 p.file ++ big_bytes 4 p.line ++ big_bytes 4 p.topic ++ big_bytes 4 (length p.payload) ++ big_bytes 4 p.part ++ big_bytes 4 p.parts in
+    let whole : bytes ≡ front ++ (p.payload ++ begins.0) = begins.1 in
+    let behind : drop 24 bytes ≡ p.payload ++ begins.0 = ap (drop 24) whole ∙ drop_at front (p.payload ++ begins.0) 24 refl in
+    let all : length bytes ≡ 24 + (length p.payload + length begins.0) =
+    ap length whole ∙ length-append front (p.payload ++ begins.0) ∙ ap (λ n. 24 + n) (length-append p.payload begins.0) in (
+      omega (arith, all),
+      ap (take (length p.payload)) behind ∙ take_at p.payload begins.0 (length p.payload) refl,
+    )

@@ -11,3 +11,4 @@ pub mod FramerState
 pub mod Parts
 pub mod Encoded
 pub mod Views
+pub mod Judged

@@ -105,8 +105,26 @@ pub fn decode(bytes: &[u8]) -> Option<View<'_>>
     ensures found { IfSome result (λ view. BeginsWith bytes.now (part_of_view view)) }
     ensures numbered { IfSome result (λ view. IsNumbered view.part view.parts) }
     ensures only { (p : ThePart) → IsEncodable p → BeginsWith bytes.now p → option_map part_of_view result ≡ Some p }
+    ensures part { option_map part_of_view result ≡ part_at bytes.now }
 {
     read_part(bytes)
+}
+
+/// How many bytes the part has that comes first: they stand behind its six numbers. `None` exactly where `decode` answers it.
+pub fn payload_len(bytes: &[u8]) -> Option<usize>
+    ensures len { result ≡ option_map (λ (p : ThePart). length p.payload) (part_at bytes.now) }
+    ensures room { IfSome result (λ len. 24 + len ≤ length bytes.now) }
+    ensures bytes { IfSome result (λ len. option_map (λ (p : ThePart). p.payload) (part_at bytes.now) ≡ Some (take len (drop 24 bytes.now))) }
+{
+    Some(read_part(bytes)?.payload.len())
+}
+
+/// The bytes of the part that comes first, where they stand, to be written. `None` exactly where `decode` answers it.
+pub fn payload_mut(bytes: &mut [u8]) -> Option<&mut [u8]>
+    ensures { option_map (λ payload. payload.now) result ≡ option_map (λ (p : ThePart). p.payload) (part_at bytes.old) }
+{
+    let len = payload_len(bytes)?;
+    Some(&mut bytes[24..24 + len])
 }
 
 /// The part whose bytes come first.

@@ -15,7 +15,7 @@ mod message;
 mod room;
 mod window;
 
-pub use encoded::{View, decode, encode, parts_of, view_of};
+pub use encoded::{View, decode, encode, parts_of, payload_len, payload_mut, view_of};
 pub use fault::FrameFault;
 pub use framer::Framer;
 pub use message::Message;

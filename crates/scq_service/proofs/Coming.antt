@@ -9,13 +9,13 @@ use Rattle.std.proofs.lemmas.List.Elements.{All-push}
 use Rattle.std.proofs.lemmas.Option.{slice_get-get_or}
 use Rattle.scq_outside.specs.Counts.{Rose}
 use Rattle.scq_outside.specs.Table.{Table, without_name}
-use Rattle.scq_work.specs.Ends.{all_left}
+use Rattle.scq_files.specs.Ends.{all_left}
 use Rattle.scq_service.specs.Answers.{HaveCome}
 use Rattle.scq_service.specs.Contents.{IfVisible, IsMissing, without_names}
 use Rattle.scq_service.specs.Ends.{Change, HasMissed}
 use Rattle.scq_service.proofs.Files.{gone, no-contents, parts, visible-more, without-more}
 
--- one name more left the table
+-- the table without the names so far and without the next one
 table-more : (old now new : Option Table) (names : List (List ℕ)) (name : List ℕ) → now ≡ option_map (without_names names) old
     → new ≡ option_map (without_name name) now
     → new ≡ option_map (without_names (names ++ name ∷ [])) old
@@ -41,7 +41,7 @@ rose-since : (old now new : ℕ) → now ≡ old → Rose now new → Rose old n
 rose-since old now new same rose = let R : ℕ → Type 0 = λ n. Rose n new in subst R same rose
 
 module _ {S : Type 0} (faults : S → ℕ) (left : S → Option (List ℕ)) where
-  -- what one source more has left
+  -- what sources have left, with one source more
   left-more : (sources : List S) (source : S) (contents : List (List ℕ)) (content : List ℕ) → left source ≡ Some content → all_left left sources ≡ Some contents
       → all_left left (sources ++ source ∷ []) ≡ Some (contents ++ content ∷ [])
   left-more [] source contents content this all =
@@ -53,7 +53,7 @@ module _ {S : Type 0} (faults : S → ℕ) (left : S → Option (List ℕ)) wher
       ∙ ap (option_map (λ more. p.0 ∷ more)) (left-more ss source p.1 content this p.3)
       ∙ ap (λ (before : List (List ℕ)). Some (before ++ content ∷ [])) (sym p.4)
 
-  -- one more has come
+  -- with the next source, which was got, one source more has come
   pub come-more : (names : List (List ℕ)) (table : Change (Option Table)) (opens opens' : Change ℕ) (sources : List S) (source : S) (name : List ℕ)
       (new : Option Table)
       → HaveCome faults left names (record { table = table; opens = opens; sources = sources; read = 0 })
@@ -74,7 +74,7 @@ module _ {S : Type 0} (faults : S → ℕ) (left : S → Option (List ℕ)) wher
             (λ contents content this all. left-more sources source contents content this all));
       }
 
-  -- the next was not got
+  -- the next source was not got, so that its name is missing
   pub missed : (names : List (List ℕ)) (table : Change (Option Table)) (opens : Change ℕ) (sources : List S) (name : List ℕ) (new : Option Table) (count : ℕ)
       → HaveCome faults left names (record { table = table; opens = opens; sources = sources; read = 0 }) → opens.new ≡ opens.old
       → length sources < length names → name ≡ get_or names (length sources) [] → IfSome table.new (λ files. files name ≡ None) → Rose opens.new count

@@ -4,18 +4,18 @@ use Rattle.std.specs.Prelude.{IsSomeAnd, slice_get}
 use Rattle.std.specs.List.{All}
 use Rattle.std.proofs.lemmas.Option.{slice_get_within, get_or_from_slice_get}
 use Rattle.scq_frames.specs.Trouble.{Trouble, LongPayload, ManyBytes}
-use Rattle.scq_collect.specs.Judged.{file_trouble}
+use Rattle.scq_frames.specs.Judged.{file_trouble}
 use Rattle.scq_outside.specs.Table.{Table}
 use Rattle.std.specs.Option.{option_map}
 use Rattle.scq_words.specs.declared.text_request.TextCommand.{TextCommand}
 use Rattle.scq_service.specs.Causes.{IsTroubled}
-use Rattle.scq_work.specs.Ends.{all_left}
+use Rattle.scq_files.specs.Ends.{all_left}
 use Rattle.scq_outside.specs.Counts.{Rose}
-use Rattle.scq_service.specs.Ends.{Left, Wrote, EndsAlone, EndsOver, EndsWhole, IsCalm, IsCalmText, IsOfTextAlone, most_text}
+use Rattle.scq_service.specs.Ends.{Inputs, Wrote, EndsAlone, EndsOver, EndsWhole, IsCalm, IsCalmText, IsOfTextAlone, most_text}
 use Rattle.scq_service.specs.declared.fault.Fault.{Fault}
 use Rattle.scq_service.specs.declared.fault.Fault.TheVariants.{Words, OpenFault, ReadFault, TooLong, TooLarge, WriteFault, BadLine, NotEnabled, Unlawful, Unfinished, BadLineOf, UnlawfulOf, NoMemory}
 
--- an element that is there meets what all meet
+-- an element at a place meets what all elements of the list meet
 all-at : {X : Type 0} (P Q : X → Type 0) (xs : List X) (k : ℕ) → All P xs → IsSomeAnd (slice_get xs k) Q → (x : X) × P x × Q x
 all-at {X = X} P Q xs k all some = at (slice_get xs k) refl some where
   at : (o : Option X) → slice_get xs k ≡ o → IsSomeAnd o Q → (x : X) × P x × Q x
@@ -24,7 +24,7 @@ all-at {X = X} P Q xs k all some = at (slice_get xs k) refl some where
       let is = get_or_from_slice_get xs k x x e in
       (x, subst P is (all k x (slice_get_within xs k x e)), q)
 
--- no trouble and some trouble
+-- where no content has trouble, none has this trouble
 never : (size : ℕ) (trouble : Trouble) (told : Option (List (List ℕ))) (file : ℕ) (P : List (List ℕ) → Type 0) → IsSome told
     → IfSome told (λ contents. All (λ content. file_trouble size false content ≡ None) contents) → IfSome told P
     → ((contents : List (List ℕ)) → P contents → IsTroubled size contents file trouble) → ⊥
@@ -42,7 +42,7 @@ above-none faults sources k quiet some =
     omega (arith, found.1, found.2)
 
 pub complete : {S : Type 0} (size : ℕ) (text : List (List ℕ) → List ℕ) (faults end_count : S → ℕ) (left : S → Option (List ℕ)) (names : List (List ℕ))
-    (got : List S) (r : Left S) (w : Wrote) (end : Option Fault)
+    (got : List S) (r : Inputs S) (w : Wrote) (end : Option Fault)
     → EndsOver size text faults end_count left names got r w end → IsCalm size faults left names got r w → (end ≡ None) ⊎ (end ≡ Some NoMemory)
 complete size text faults end_count left names got r w None e calm = inl refl
 complete size text faults end_count left names got r w (Some NoMemory) e calm = inr refl
@@ -79,13 +79,13 @@ complete-alone text w (Some (Unfinished seat)) e calm = absurd e
 complete-alone text w (Some (BadLineOf file line)) e calm = absurd e
 complete-alone text w (Some (UnlawfulOf file line)) e calm = absurd e
 
--- the one source has not both counts
+-- the count of one source isn't both 0 and 1
 one-apart : {S : Type 0} (faults : S → ℕ) (sources : List S) → length sources ≡ 1 → All (λ source. faults source ≡ 0) sources
     → All (λ source. faults source ≡ 1) sources → ⊥
 one-apart faults [] one quiet failed = cc
 one-apart faults (x ∷ xs) one quiet failed = omega (arith, quiet 0 x (omega arith), failed 0 x (omega arith))
 
--- a content that fits was not too large
+-- a content that is within the most bytes doesn't have one byte more than these
 fits-or-large : {S : Type 0} (left : S → Option (List ℕ)) (table : Option Table) (name : List ℕ) (sources : List S) (read : ℕ) → IsSome table
     → length sources ≡ 1 → read ≡ most_text + 1
     → IfSome table (λ files. IsSomeAnd (files name)
@@ -104,7 +104,7 @@ fits-or-large left (Some files) name (x ∷ xs) read some one more large fits = 
   at (Some content) large fits = past (left x) (length content) (large 0 x (omega arith)) fits
 
 -- a run over one whole file, in whose way nothing stood, ends by its text or for want of memory
-pub complete-text : {S : Type 0} (command : TextCommand) (faults : S → ℕ) (left : S → Option (List ℕ)) (name : List ℕ) (r : Left S) (w : Wrote)
+pub complete-text : {S : Type 0} (command : TextCommand) (faults : S → ℕ) (left : S → Option (List ℕ)) (name : List ℕ) (r : Inputs S) (w : Wrote)
     (end : Option Fault)
     → EndsWhole command faults left name r w end → IsCalmText faults name r w → IsOfTextAlone command end
 complete-text command faults left name r w None e calm = inl refl

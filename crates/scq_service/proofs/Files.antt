@@ -14,7 +14,7 @@ pub without-more : (names : List (List ℕ)) (name : List ℕ) (table : Table)
 without-more [] name table = refl
 without-more (x ∷ xs) name table = without-more xs name (without_name x table)
 
--- what is not there now was never there, or was taken
+-- a name that isn't in the table now never was in it, or is one of those that were taken out
 pub gone : (names : List (List ℕ)) (table : Table) (name : List ℕ) → without_names names table name ≡ None
     → (table name ≡ None) ⊎ (list_any (bytes_eq name) names ≡ true)
 gone [] table name e = inl e
@@ -33,11 +33,11 @@ gone (x ∷ xs) table name e = elim (gone xs (without_name x table) name e) [
       inr (ap (λ b. b || list_any (bytes_eq name) xs) back)
   at false other e = inl e
 
--- of no files these are no contents
+-- there are no contents of no files
 pub no-contents : {contents : List (List ℕ)} → Some [] ≡ Some contents → [] ≡ contents
 no-contents e = cc
 
--- what the first has, and the others
+-- contents of several files are that of the first, and those of the others
 pub parts : (o : Option (List ℕ)) (more : Option (List (List ℕ))) (contents : List (List ℕ))
     → option_and_then (λ c. option_map (λ cs. c ∷ cs) more) o ≡ Some contents
     → (c : List ℕ) × (cs : List (List ℕ)) × (o ≡ Some c) × (more ≡ Some cs) × (contents ≡ c ∷ cs)

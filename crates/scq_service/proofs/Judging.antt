@@ -10,16 +10,16 @@ use Rattle.scq_judge.specs.Judged.{IsCause}
 use Rattle.scq_judge.specs.Reads.{AreReadUntil, HasGiven, OfEach}
 use Rattle.scq_judge.specs.declared.judging.JudgeFault.{JudgeFault}
 use Rattle.scq_judge.specs.declared.judging.JudgeFault.TheVariants as judge
-use Rattle.scq_work.specs.Ends.{HasMoved, all_left}
+use Rattle.scq_files.specs.Ends.{HasMoved, all_left}
 use Rattle.scq_service.specs.Answers.{HaveCome, HaveAllCome}
 use Rattle.scq_service.specs.Contents.{without_names}
-use Rattle.scq_service.specs.Ends.{Change, Wrote, HasGot, HaveAll, EndsJudged, IfTold, IsUnwritten}
+use Rattle.scq_service.specs.Ends.{Change, Wrote, HasGotSources, HaveAll, EndsJudged, IfTold, IsUnwritten}
 use Rattle.scq_service.specs.Faults.{fault_of_judge}
 use Rattle.scq_service.specs.declared.fault.Fault.{Fault}
 use Rattle.scq_service.proofs.Files.{parts}
 use Rattle.scq_service.proofs.Working.{has-got, kept-of}
 
--- what all have left is what each has
+-- the contents that all sources have left, with one source more in front
 more : {S : Type 0} (left : S → Option (List ℕ)) (source : S) (sources : List S) (content : List ℕ) (contents : List (List ℕ)) → left source ≡ Some content
     → HaveContents left sources contents → HaveContents left (source ∷ sources) (content ∷ contents)
 more {S} left source sources content contents here is = record { many = ap suc is.many; each = at } where
@@ -47,7 +47,7 @@ pub moved_of : {S : Type 0} (faults : S → ℕ) (left : S → Option (List ℕ)
     → (k : ℕ) (d : S) → k < length olds → HasMoved faults left (slice_index_or olds k d) (slice_index_or news k d)
 moved_of {S} faults left olds news given = λ k d lt. let h = given k d lt in record { bytes = h.bytes; moved = h.took; counted = h.counted }
 
--- nothing, where none was read
+-- a source that wasn't read gave no bytes
 pub none_moved : {S : Type 0} (faults : S → ℕ) (left : S → Option (List ℕ)) (olds : List S)
     → (k : ℕ) (d : S) → k < length olds → HasMoved faults left (slice_index_or olds k d) (slice_index_or olds k d)
 none_moved {S} faults left olds = λ k d lt. record { bytes = []; moved = same (left (slice_index_or olds k d)); counted = inl refl } where
@@ -61,12 +61,12 @@ pub got_of : {S : Type 0} (left : S → Option (List ℕ)) (faults end_count : S
     → length news ≡ length olds → HaveCome faults left names (record { table = table; opens = opens; sources = olds; read = 0 })
     → HaveAllCome names (record { table = table; opens = opens; sources = olds; read = 0 }) all
     → ((k : ℕ) (d : S) → k < length olds → HasMoved faults left (slice_index_or olds k d) (slice_index_or news k d))
-    → HasGot faults left names olds (record { table = table; opens = opens; sources = news; read = 0 })
+    → HasGotSources faults left names olds (record { table = table; opens = opens; sources = news; read = 0 })
 got_of {S} left faults end_count names table opens olds news all same come have moved =
     has-got 0 faults end_count left names table opens olds news same come 0 moved
     (kept-of 0 faults end_count left names table opens olds news same come all have)
 
--- all came, and stand there still
+-- where all sources came, those that are there now are the sources of all names
 pub have_all : {S : Type 0} (left : S → Option (List ℕ)) (faults : S → ℕ) (names : List (List ℕ))
     (table : Change (Option Table)) (opens : Change ℕ) (olds news : List S)
     → length news ≡ length olds → HaveCome faults left names (record { table = table; opens = opens; sources = olds; read = 0 })
@@ -79,7 +79,7 @@ have_all left faults names table opens olds news same come all = record {
   read = refl;
 }
 
--- what refused it
+-- how a run ends whose recordings were refused for this fault
 pub ends_refused : {S : Type 0} (left : S → Option (List ℕ)) (faults end_count : S → ℕ) (names : List (List ℕ))
     (table : Change (Option Table)) (opens : Change ℕ) (olds news : List S)
     (w : Wrote) (fault : JudgeFault) → length news ≡ length olds
@@ -105,7 +105,7 @@ ends_refused {S} left faults end_count names table opens olds news w fault same 
       (have, (judge.TooLarge file, refl, (until, told_of left olds (λ contents. IsCause contents (judge.TooLarge file)) cause)), unwritten)
   by judge.NoMemory cause until = ((let a = have.all in omega arith), until, refl, unwritten)
 
--- the same end in other words
+-- an end of equal sources, counts and faults
 pub ends_so : {S : Type 0} (faults end_count : S → ℕ) (left : S → Option (List ℕ)) (names : List (List ℕ)) (table : Change (Option Table)) (opens : Change ℕ)
     (w : Wrote) (got olds a b : List S) (read : ℕ) (x y : Option Fault) → got ≡ olds → a ≡ b → read ≡ 0 → x ≡ y
     → EndsJudged faults end_count left names olds (record { table = table; opens = opens; sources = b; read = 0 }) w y

@@ -8,8 +8,8 @@ use Rattle.scq_frames.specs.Trouble.{Trouble, LongPayload, ManyBytes}
 use Rattle.scq_frames.specs.declared.fault.FrameFault.{FrameFault}
 use Rattle.scq_frames.specs.declared.fault.FrameFault.TheVariants as frame
 use Rattle.scq_outside.specs.Counts.{Rose}
-use Rattle.scq_collect.specs.Judged.{file_trouble, Judges}
-use Rattle.scq_work.specs.Reading as reading
+use Rattle.scq_frames.specs.Judged.{file_trouble, Judges}
+use Rattle.scq_files.specs.Reading as reading
 use Rattle.scq_service.specs.Causes.{given_of, file_fault}
 use Rattle.scq_service.specs.declared.fault.Fault.{Fault}
 use Rattle.scq_service.specs.declared.fault.Fault.TheVariants.{ReadFault, TooLong, TooLarge, NoMemory}
@@ -62,7 +62,7 @@ module _ {S : Type 0} (size : ℕ) (faults end_count : S → ℕ) (left : S → 
   calm : (source : S) → faults source ≡ 0 → nat_lt 0 (faults source) ≡ false
   calm source none = ap (λ n. nat_lt 0 n) none
 
-  -- one that was read to its end has none
+  -- a source that was read to its end has no fault
   pub one-whole : (file : ℕ) (content : List ℕ) (old new : S) → left old ≡ Some content → faults old ≡ 0 → reading.IsWhole size faults end_count left old new
       → fault_of_one file content new ≡ None
   one-whole file content old new is fresh whole =
@@ -80,7 +80,7 @@ module _ {S : Type 0} (size : ℕ) (faults end_count : S → ℕ) (left : S → 
       let J : Option (List ℕ) → Type 0 = λ o. IfSome o (λ rest. Judges size judged.bytes rest (Some fault)) in
       record { rest = split.0; left = split.1; whole = split.2; judges = subst J split.1 judged.judges }
 
-  -- one whose reading stopped at a fault has it
+  -- a source whose reading stopped at a fault has that fault
   pub one-stopped : (file : ℕ) (content : List ℕ) (old new : S) (fault : FrameFault) → fault ≢ frame.NoMemory → left old ≡ Some content → faults old ≡ 0
       → reading.IsStopped size faults left old new fault
       → fault_of_one file content new ≡ Some (fault_of_file size file fault)

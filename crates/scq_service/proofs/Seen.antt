@@ -1,12 +1,12 @@
 -- What is seen of the queue of a run's workers, and that a run that was asked for doesn't end with refused words.
 use Rattle.std.proofs.Common.{◌≡◌, refl, subst, true, false, List, ℕ, Option, Some, None, Result, Ok, Err}
 use Rattle.std.specs.Prelude.{is_some}
-use Rattle.scq_words.specs.Asked.{Asked, run, generated, judged, whole}
+use Rattle.scq_words.specs.Asked.{Asked, run, generated, judged, whole, staged}
 use Rattle.scq_words.specs.declared.fault.WordsFault.{WordsFault}
 use Rattle.scq_words.specs.declared.text_request.TextCommand.{TextCommand}
 use Rattle.scq_words.specs.declared.text_request.TextCommand.TheVariants.{Check, Replay, Order}
 use Rattle.scq_service.specs.Answers.{IsSeenAt}
-use Rattle.scq_service.specs.Ends.{Left, Wrote, EndsAlone, EndsOver, EndsWhole}
+use Rattle.scq_service.specs.Ends.{Inputs, Wrote, EndsAlone, EndsOver, EndsWhole}
 use Rattle.scq_service.specs.declared.fault.Fault.{Fault}
 use Rattle.scq_service.specs.declared.fault.Fault.TheVariants.{Words, NoMemory}
 
@@ -17,23 +17,24 @@ unseen (Ok (run a)) = λ none. refl
 unseen (Ok (generated a)) = λ none. refl
 unseen (Ok (judged a)) = refl
 unseen (Ok (whole a)) = refl
+unseen (Ok (staged a)) = refl
 
--- what is not there
+-- an option that has no value is None
 pub none-seen : {X : Type 0} (o : Option X) → is_some o ≡ false → o ≡ None
 none-seen None none = refl
 none-seen (Some x) none = absurd (cc)
 
--- what has to be there
+-- an option that can't be None has a value
 pub some-seen : {X : Type 0} (o : Option X) → (o ≡ None → ⊥) → is_some o ≡ true
 some-seen None gone = absurd (gone refl)
 some-seen (Some x) gone = refl
 
--- nothing is both there and not
+-- an option doesn't both have a value and have none
 pub seen-once : {X : Type 0} (o : Option X) → is_some o ≡ true → is_some o ≡ false → ⊥
 seen-once o some none = absurd (cc)
 
 module _ {S : Type 0} (faults end_count : S → ℕ) (left : S → Option (List ℕ)) where
-  pub never-over : (size : ℕ) (text : List (List ℕ) → List ℕ) (names : List (List ℕ)) (got : List S) (r : Left S) (w : Wrote) (end : Option Fault)
+  pub never-over : (size : ℕ) (text : List (List ℕ) → List ℕ) (names : List (List ℕ)) (got : List S) (r : Inputs S) (w : Wrote) (end : Option Fault)
       (fault : WordsFault)
       → EndsOver size text faults end_count left names got r w end → end ≡ Some (Words fault) → ⊥
   never-over size text names got r w end fault ends is =
@@ -44,7 +45,7 @@ module _ {S : Type 0} (faults end_count : S → ℕ) (left : S → Option (List 
   pub never-alone : (text : List ℕ) (w : Wrote) (end : Option Fault) (fault : WordsFault) → EndsAlone text w end → end ≡ Some (Words fault) → ⊥
   never-alone text w end fault ends is = subst (EndsAlone text w) is ends
 
-  pub never-whole : (command : TextCommand) (name : List ℕ) (r : Left S) (w : Wrote) (end : Option Fault) (fault : WordsFault)
+  pub never-whole : (command : TextCommand) (name : List ℕ) (r : Inputs S) (w : Wrote) (end : Option Fault) (fault : WordsFault)
       → EndsWhole command faults left name r w end → end ≡ Some (Words fault) → ⊥
   never-whole Check name r w end fault ends is =
       let E : Option Fault → Type 0 = λ e. EndsWhole Check faults left name r w e in

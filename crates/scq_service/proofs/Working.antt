@@ -9,20 +9,21 @@ use Rattle.scq_frames.specs.Framing.{NothingLeft}
 use Rattle.scq_frames.specs.declared.fault.FrameFault.{FrameFault}
 use Rattle.scq_frames.specs.declared.fault.FrameFault.TheVariants as frame
 use Rattle.scq_outside.specs.Table.{Table}
-use Rattle.scq_work.specs.Ends.{HasCause, HasMoved, StopsAt, all_left}
-use Rattle.scq_work.specs.Reading as reading
+use Rattle.scq_files.specs.Ends.{HasMoved, StopsAt, all_left}
+use Rattle.scq_work.specs.Ends.{HasCause}
+use Rattle.scq_files.specs.Reading as reading
 use Rattle.scq_work.specs.declared.worked.WorkFault.{WorkFault}
 use Rattle.scq_work.specs.declared.worked.WorkFault.TheVariants as work
 use Rattle.scq_service.specs.Answers.{HaveAllCome, HaveCome}
 use Rattle.scq_service.specs.Causes.{given_of, first_file_fault, HaveRest}
 use Rattle.scq_service.specs.Contents.{IfVisible, IsMissing, without_names}
-use Rattle.scq_service.specs.Ends.{Change, HasGot, HasMissed, IfTold, IsRefused, IsUnchanged, ReadsOver}
+use Rattle.scq_service.specs.Ends.{Change, HasGotSources, HasMissed, IfTold, IsRefused, IsUnchanged, ReadsOver}
 use Rattle.scq_service.specs.Faults.{bytes_of_large, fault_of_work}
 use Rattle.scq_service.specs.declared.fault.Fault.TheVariants.{OpenFault}
 use Rattle.scq_service.proofs.Files.{no-contents, parts}
 use Rattle.scq_service.proofs.OneFile.{fault_of_file, given-is, large-of, long-of, one-stopped, one-whole, rose-above, split-visible}
 
--- what follows of a value is so where it is there
+-- what is so of each value that an option may have is so of the one that it has
 if-some : {X : Type 0} (o : Option X) (P : X → Type 0) → ((x : X) → o ≡ Some x → P x) → IfSome o P
 if-some None P more = tt
 if-some (Some x) P more = more x refl
@@ -102,7 +103,7 @@ module _ {S : Type 0} (size : ℕ) (faults end_count : S → ℕ) (left : S → 
       let c = content-at k olds p.1 d p.3 (omega (arith, within)) in
       (c.0, ap (λ (cs : List (List ℕ)). slice_get cs (suc k)) p.4 ∙ c.1, c.2)
 
-  -- what is said of as many first sources as were read to their ends
+  -- what is so of the source at each of the first k places is so of all of these
   front : (P : S → Type 0) (news : List S) (k : ℕ) → k ≤ length news → ((j : ℕ) (d : S) → j < k → P (slice_index_or news j d)) → All P (take k news)
   front P news k within each j d less =
       let below : j < k = omega (arith, less, length-take-le k news within) in
@@ -132,7 +133,7 @@ module _ {S : Type 0} (size : ℕ) (faults end_count : S → ℕ) (left : S → 
     missed-of false came less = came.1
 
     pub has-got : (read : ℕ) → ((k : ℕ) (d : S) → k < length olds → HasMoved faults left (slice_index_or olds k d) (slice_index_or news k d))
-        → (length olds ≡ length names → IsUnchanged opens) → HasGot faults left names olds
+        → (length olds ≡ length names → IsUnchanged opens) → HasGotSources faults left names olds
         (record { table = table; opens = opens; sources = news; read = read })
     has-got read moved kept =
         let T : ℕ → Type 0 = λ n. table.new ≡ option_map (without_names (take n names)) table.old in

@@ -11,34 +11,37 @@ use Rattle.scq_collect.specs.Collected.{messages_to}
 use Rattle.scq_collect.specs.Joined.{part_answers, without_way}
 use Rattle.scq_collect.specs.Merging.{members_in}
 use Rattle.scq_self.specs.Generated.{generated, self_topics}
+use Rattle.scq_stages.specs.AllStages as stages
+use Rattle.scq_stages.specs.Output as finished
+use Rattle.scq_stages.specs.declared.staged.Staged.{Staged}
 use Rattle.scq_topics.specs.declared.kind.Kind.{Kind}
 use Rattle.scq_words.specs.Asked.{Asked}
 use Rattle.scq_words.specs.Asked as asks
 use Rattle.scq_words.specs.declared.fault.WordsFault.{WordsFault}
 use Rattle.scq_work.specs.AllWorkers.{HasWorked, NothingIsStranded}
-use Rattle.scq_work.specs.Ends.{AreGiven, all_left, messages_in}
-use Rattle.scq_work.specs.Reading as reading
+use Rattle.scq_files.specs.Ends.{AreGiven, all_left, messages_in}
+use Rattle.scq_files.specs.Reading as reading
 use Rattle.scq_work.specs.Waiting.{HaveWaited}
 use Rattle.scq_work.specs.declared.worked.Worked.{Worked}
 use Rattle.scq_service.specs.Contents.{IfVisible, without_names}
-use Rattle.scq_service.specs.Ends.{Left, IsUnchanged, IfTold, HasMissed, most_payload}
+use Rattle.scq_service.specs.Ends.{Inputs, IsUnchanged, IfTold, HasMissed, most_payload}
 use Rattle.scq_service.specs.declared.fault.Fault.{Fault}
 use Rattle.scq_service.specs.declared.fault.Fault.TheVariants.{WriteFault, NoMemory}
 
 -- the sources of the first of these names were got, in order, and none was read
-pub record HaveCome {S : Type 0} (faults : S → ℕ) (left : S → Option (List ℕ)) (names : List (List ℕ)) (r : Left S) : Type 0 where
+pub record HaveCome {S : Type 0} (faults : S → ℕ) (left : S → Option (List ℕ)) (names : List (List ℕ)) (r : Inputs S) : Type 0 where
   pub within : length r.sources ≤ length names
   pub table : r.table.new ≡ option_map (without_names (take (length r.sources) names)) r.table.old
   pub fresh : All (λ source. faults source ≡ 0) r.sources
   pub unread : IfVisible r.table.old (take (length r.sources) names) (λ contents. all_left left r.sources ≡ Some contents)
 
 -- those of all names, or the next was not got
-abbrev pub HaveAllCome : {S : Type 0} → List (List ℕ) → Left S → Bool → Type 0
+abbrev pub HaveAllCome : {S : Type 0} → List (List ℕ) → Inputs S → Bool → Type 0
 HaveAllCome names r true = (length r.sources ≡ length names) × IsUnchanged r.opens
 HaveAllCome names r false = (length r.sources < length names) × HasMissed names r
 
--- there are answers exactly where the text of them was whole
-abbrev pub WorkedAt : Option Fault → Option Worked → Type 0
+-- what workers made is there exactly where the text of it was whole
+abbrev pub WorkedAt : {W : Type 0} → Option Fault → Option W → Type 0
 WorkedAt None worked = IsSome worked
 WorkedAt (Some WriteFault) worked = IsSome worked
 WorkedAt (Some fault) worked = worked ≡ None
@@ -51,7 +54,7 @@ IsWorkOf topics size workers left got worked =
 -- messages that the sources may have given, a list for each: each was read to its end since it was got, with no fault counted, and where it
 -- told its content had just these messages
 pub record HaveGiven {S : Type 0} (topics : List (List ℕ × Kind)) (size : ℕ) (faults end_count : S → ℕ) (left : S → Option (List ℕ)) (got : List S)
-    (r : Left S) (given : List (List Message)) : Type 0 where
+    (r : Inputs S) (given : List (List Message)) : Type 0 where
   pub count : length r.sources ≡ length got
   pub whole : (k : ℕ) (d : S) → k < length got
       → reading.IsWhole size faults end_count left (slice_index_or got k d) (slice_index_or r.sources k d)
@@ -59,7 +62,7 @@ pub record HaveGiven {S : Type 0} (topics : List (List ℕ × Kind)) (size : ℕ
 
 -- so many workers answered such messages, with payloads of at most `longest` bytes in parts of at most `size`, which are those of the contents where
 -- these were told
-abbrev pub IsWork : {S : Type 0} → List (List ℕ × Kind) → ℕ → ℕ → ℕ → (S → ℕ) → (S → ℕ) → (S → Option (List ℕ)) → List S → Left S → Option Worked → Type 0
+abbrev pub IsWork : {S : Type 0} → List (List ℕ × Kind) → ℕ → ℕ → ℕ → (S → ℕ) → (S → ℕ) → (S → Option (List ℕ)) → List S → Inputs S → Option Worked → Type 0
 IsWork topics size longest workers faults end_count left got r worked =
     IfSome worked (λ w. (given : List (List Message)) × HaveGiven topics longest faults end_count left got r given × HasWorked topics size workers given w)
 
@@ -70,13 +73,39 @@ AreOfParts topics size left got worked =
     IsPermutation (map without_way (members_in w.answered.items)) (part_answers topics size (messages_to topics 1 contents))))
 
 -- what workers answered in a run that is asked for this; another run has no workers. Parts of a generated file have at most 2^16 bytes.
-abbrev pub WorkedAs : {S : Type 0} → (S → ℕ) → (S → ℕ) → (S → Option (List ℕ)) → Result Asked WordsFault → List S → Left S → Option Fault → Option Worked
+abbrev pub WorkedAs : {S : Type 0} → (S → ℕ) → (S → ℕ) → (S → Option (List ℕ)) → Result Asked WordsFault → List S → Inputs S → Option Fault → Option Worked
     → Type 0
 WorkedAs faults end_count left (Ok (asks.run a)) got r end worked =
     WorkedAt end worked × IsWorkOf a.topics a.size a.workers left got worked × IsWork a.topics a.size most_payload a.workers faults end_count left got r worked
 WorkedAs faults end_count left (Ok (asks.generated a)) got r end worked =
     WorkedAt end worked × IfSome worked (λ w. HasWorked self_topics (2 ^ 16) a.workers (messages_in self_topics 1 (generated a.seed a.lines ∷ [])) w)
 WorkedAs faults end_count left asked got r end worked = worked ≡ None
+
+-- the workers of stages finished by so many: the contents, where each source told its own when it was got
+abbrev pub IsStagedOf : {S : Type 0} → ℕ → (S → Option (List ℕ)) → List S → Option Staged → Type 0
+IsStagedOf workers left got staged = IfSome staged (λ s. IfTold left got (λ contents. stages.HasStaged workers (messages_in [] 1 contents) s))
+
+-- so many workers finished such messages, with payloads of at most `size` bytes, which are those of the contents where these were told
+abbrev pub IsStaging : {S : Type 0} → ℕ → ℕ → (S → ℕ) → (S → ℕ) → (S → Option (List ℕ)) → List S → Inputs S → Option Staged → Type 0
+IsStaging size workers faults end_count left got r staged =
+    IfSome staged (λ s. (given : List (List Message)) × HaveGiven [] size faults end_count left got r given × stages.HasStaged workers given s)
+
+-- the members of all lists are what becomes of the messages of the contents, each once, where these were told
+abbrev pub AreResults : {S : Type 0} → (S → Option (List ℕ)) → List S → Option Staged → Type 0
+AreResults left got staged =
+    IfSome staged (λ s. IfTold left got (λ contents. IsPermutation (map finished.without_way (finished.finished_in s.done.items)) (finished.results_of 1 contents)))
+
+-- nothing is stranded in the queue of the workers of stages once it was closed, by their passes as they were then
+abbrev pub StrandsNothing : ℕ → ℕ → Option Staged → Type 0
+StrandsNothing order workers staged = IfSome staged (λ s. (left : List ℕ) × stages.NothingIsStranded order workers s.passes.value.items left)
+
+-- what the workers of stages finished in a run that is asked for this; another run has none
+abbrev pub StagedAs : {S : Type 0} → (S → ℕ) → (S → ℕ) → (S → Option (List ℕ)) → Result Asked WordsFault → List S → Inputs S → Option Fault → Option Staged
+    → Type 0
+StagedAs faults end_count left (Ok (asks.staged a)) got r end staged =
+    WorkedAt end staged × IsStagedOf a.workers left got staged × IsStaging a.size a.workers faults end_count left got r staged
+    × StrandsNothing a.order a.workers staged
+StagedAs faults end_count left asked got r end staged = staged ≡ None
 
 -- what is seen of the queue of a run's workers once it was closed: these passes, and this much left in its rings. Nothing is stranded in it. A
 -- generated file is answered through 2^6 buffers.

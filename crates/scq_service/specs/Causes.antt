@@ -3,7 +3,7 @@
 use Rattle.std.specs.Prelude.{◌≡◌, ℕ, ◌+◌, ◌-◌, ◌^◌, ◌++◌, Bool, false, nat_lt, List, [], ◌∷◌, length, take, Option, Some, None, IsSomeAnd, unwrap_or, slice_get, if◌then◌else◌}
 use Rattle.std.specs.Option.{option_or}
 use Rattle.scq_frames.specs.Trouble.{Trouble, LongPayload, ManyBytes}
-use Rattle.scq_collect.specs.Judged.{file_trouble}
+use Rattle.scq_frames.specs.Judged.{file_trouble}
 use Rattle.scq_service.specs.declared.fault.Fault.{Fault}
 use Rattle.scq_service.specs.declared.fault.Fault.TheVariants.{ReadFault, TooLong, TooLarge}
 

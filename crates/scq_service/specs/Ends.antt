@@ -7,17 +7,18 @@ use Rattle.scq_outside.specs.Counts.{Rose}
 use Rattle.scq_outside.specs.Table.{Table, without_name}
 use Rattle.scq_frames.specs.Framing.{NothingLeft}
 use Rattle.scq_frames.specs.Trouble.{LongPayload, ManyBytes}
-use Rattle.scq_collect.specs.Judged.{file_trouble}
+use Rattle.scq_frames.specs.Judged.{file_trouble}
 use Rattle.scq_collect.specs.Output.{one_thread_output}
 use Rattle.scq_lines.specs.Lines.{lines_of}
 use Rattle.scq_self.specs.Summary.{self_summary}
 use Rattle.scq_judge.specs.Judged.{IsJudged, IsCause}
 use Rattle.scq_judge.specs.Reads.{AreQuiet, AreReadUntil, AreReadWhole}
 use Rattle.scq_judge.specs.declared.judging.JudgeFault.{JudgeFault}
-use Rattle.scq_words.specs.Asked.{Asked, run, generated, judged, whole}
+use Rattle.scq_stages.specs.Output.{one_thread_text}
+use Rattle.scq_words.specs.Asked.{Asked, run, generated, judged, whole, staged}
 use Rattle.scq_words.specs.declared.fault.WordsFault.{WordsFault}
 use Rattle.scq_words.specs.declared.text_request.TextCommand.{TextCommand}
-use Rattle.scq_work.specs.Ends.{HasMoved, all_left}
+use Rattle.scq_files.specs.Ends.{HasMoved, all_left}
 use Rattle.scq_service.specs.Causes.{first_file_fault, IsTroubled, HaveRest}
 use Rattle.scq_service.specs.Faults.{fault_of_judge}
 use Rattle.scq_service.specs.Contents.{IfVisible, IsMissing, without_names}
@@ -31,18 +32,26 @@ pub record Change (A : Type 0) : Type 0 where
   pub old : A
   pub new : A
 
--- what a run left: the table of files, the count of faults of files, the sources that were got, and how
--- many bytes were read of a file that is too large
-pub record Left (S : Type 0) : Type 0 where
+-- what became of the inputs of a run: the table of files, the count of faults of files, the sources that were got, and how many bytes were
+-- read of a file that is too large
+pub record Inputs (S : Type 0) : Type 0 where
   pub table : Change (Option Table)
   pub opens : Change ℕ
   pub sources : List S
   pub read : ℕ
 
--- what out has, and its count of faults
+-- what is written to a sink, and its count of faults
 pub record Wrote : Type 0 where
   pub written : Change (Option (List ℕ))
   pub faults : Change ℕ
+
+-- these, by what is seen of files and of a sink before a call and after it
+abbrev pub inputs_of : {F S : Type 0} → (F → Option Table) → (F → ℕ) → F → F → List S → ℕ → Inputs S
+inputs_of table faults old new sources read =
+    record { table = record { old = table old; new = table new }; opens = record { old = faults old; new = faults new }; sources = sources; read = read }
+
+abbrev pub wrote_of : {K : Type 0} → (K → Option (List ℕ)) → (K → ℕ) → K → K → Wrote
+wrote_of written faults old new = record { written = record { old = written old; new = written new }; faults = record { old = faults old; new = faults new } }
 
 -- nothing changed
 abbrev pub IsUnchanged : {A : Type 0} → Change A → Type 0
@@ -58,7 +67,7 @@ IfTold left got P = IfSome (all_left left got) P
 
 -- sources were got in order, with no fault counted. Where the table is visible each told its name's content, and each has left what follows
 -- the bytes that it gave. Where all were got, the count of files was kept
-pub record HasGot {S : Type 0} (faults : S → ℕ) (left : S → Option (List ℕ)) (names : List (List ℕ)) (got : List S) (r : Left S) : Type 0 where
+pub record HasGotSources {S : Type 0} (faults : S → ℕ) (left : S → Option (List ℕ)) (names : List (List ℕ)) (got : List S) (r : Inputs S) : Type 0 where
   pub within : length r.sources ≤ length names
   pub count : length got ≡ length r.sources
   pub table : r.table.new ≡ option_map (without_names (take (length r.sources) names)) r.table.old
@@ -69,7 +78,7 @@ pub record HasGot {S : Type 0} (faults : S → ℕ) (left : S → Option (List �
   pub rest : IfTold left got (λ contents. HaveRest left contents r.sources)
 
 -- of the files that were got this is the first fault
-abbrev pub HasFault : {S : Type 0} → ℕ → (S → ℕ) → (S → Option (List ℕ)) → List S → Left S → Option Fault → Type 0
+abbrev pub HasFault : {S : Type 0} → ℕ → (S → ℕ) → (S → Option (List ℕ)) → List S → Inputs S → Option Fault → Type 0
 HasFault size faults left got r fault = IfTold left got (λ contents. first_file_fault size faults left 1 contents r.sources ≡ fault)
 
 -- how many bytes a payload may have
@@ -77,12 +86,12 @@ abbrev pub most_payload : ℕ
 most_payload = 2 ^ 20
 
 -- so many sources were read to their ends: each answered its end once since it was got, and just once
-abbrev pub AreReadOut : {S : Type 0} → (S → ℕ) → ℕ → List S → Left S → Type 0
+abbrev pub AreReadOut : {S : Type 0} → (S → ℕ) → ℕ → List S → Inputs S → Type 0
 AreReadOut {S} end_count count got r = (k : ℕ) (d : S) → k < count → Rose (end_count (slice_index_or got k d)) (end_count (slice_index_or r.sources k d))
 
 -- every source was got and read to its end, and there is no fault
 pub record IsAllRead {S : Type 0} (size : ℕ) (faults end_count : S → ℕ) (left : S → Option (List ℕ)) (names : List (List ℕ)) (got : List S)
-    (r : Left S) : Type 0 where
+    (r : Inputs S) : Type 0 where
   pub all : length r.sources ≡ length names
   pub quiet : All (λ source. faults source ≡ 0) r.sources
   pub ended : All (λ source. NothingLeft (left source)) r.sources
@@ -91,13 +100,13 @@ pub record IsAllRead {S : Type 0} (size : ℕ) (faults end_count : S → ℕ) (l
   pub read : r.read ≡ 0
 
 -- the next source was not got: its name is missing, and the count of files rose
-pub record HasMissed {S : Type 0} (names : List (List ℕ)) (r : Left S) : Type 0 where
+pub record HasMissed {S : Type 0} (names : List (List ℕ)) (r : Inputs S) : Type 0 where
   pub rose : Rose r.opens.old r.opens.new
   pub missing : IfSome r.table.old (λ files. IsMissing files names (length r.sources + 1))
 
 -- a source was not got, and those before it were read to their ends and have no fault
-pub record IsStopped {S : Type 0} (size : ℕ) (faults end_count : S → ℕ) (left : S → Option (List ℕ)) (names : List (List ℕ)) (got : List S)
-    (r : Left S) (file : ℕ) : Type 0 where
+pub record IsNotOpened {S : Type 0} (size : ℕ) (faults end_count : S → ℕ) (left : S → Option (List ℕ)) (names : List (List ℕ)) (got : List S)
+    (r : Inputs S) (file : ℕ) : Type 0 where
   pub next : file ≡ length r.sources + 1
   pub within : length r.sources < length names
   pub missed : HasMissed names r
@@ -110,7 +119,7 @@ pub record IsStopped {S : Type 0} (size : ℕ) (faults end_count : S → ℕ) (l
 -- this file has the first fault, and those before it were read to their ends; where not all sources were got,
 -- the next one was not
 pub record IsRefused {S : Type 0} (size : ℕ) (faults end_count : S → ℕ) (left : S → Option (List ℕ)) (names : List (List ℕ)) (got : List S)
-    (r : Left S) (file : ℕ) (fault : Fault) : Type 0 where
+    (r : Inputs S) (file : ℕ) (fault : Fault) : Type 0 where
   pub first : 0 < file
   pub last : file ≤ length r.sources
   pub stopped : length r.sources < length names → HasMissed names r
@@ -126,9 +135,9 @@ IsReadOf left read contents sources file =
     IsSomeAnd (slice_get sources (file - 1)) (λ source. Some (length content) ≡ option_map (λ bytes. read + length bytes) (left source)))
 
 -- how the reading of files of these names ends
-abbrev pub ReadsOver : {S : Type 0} → ℕ → (S → ℕ) → (S → ℕ) → (S → Option (List ℕ)) → List (List ℕ) → List S → Left S → Option Fault → Type 0
+abbrev pub ReadsOver : {S : Type 0} → ℕ → (S → ℕ) → (S → ℕ) → (S → Option (List ℕ)) → List (List ℕ) → List S → Inputs S → Option Fault → Type 0
 ReadsOver size faults end_count left names got r None = IsAllRead size faults end_count left names got r
-ReadsOver size faults end_count left names got r (Some (OpenFault file)) = IsStopped size faults end_count left names got r file
+ReadsOver size faults end_count left names got r (Some (OpenFault file)) = IsNotOpened size faults end_count left names got r file
 ReadsOver size faults end_count left names got r (Some (ReadFault file)) =
     IsRefused size faults end_count left names got r file (ReadFault file) × (r.read ≡ 0)
     × IsSomeAnd (slice_get r.sources (file - 1)) (λ source. 0 < faults source)
@@ -150,7 +159,7 @@ ReadsOver size faults end_count left names got r (Some (Words fault)) = ⊥
 
 -- how a run over files of these names ends: with the text written, with a front of it where out failed,
 -- or with nothing written
-abbrev pub EndsOver : {S : Type 0} → ℕ → (List (List ℕ) → List ℕ) → (S → ℕ) → (S → ℕ) → (S → Option (List ℕ)) → List (List ℕ) → List S → Left S → Wrote
+abbrev pub EndsOver : {S : Type 0} → ℕ → (List (List ℕ) → List ℕ) → (S → ℕ) → (S → ℕ) → (S → Option (List ℕ)) → List (List ℕ) → List S → Inputs S → Wrote
     → Option Fault → Type 0
 EndsOver size text faults end_count left names got r w None =
     IsAllRead size faults end_count left names got r × IsUnchanged w.faults
@@ -175,66 +184,66 @@ abbrev pub most_text : ℕ
 most_text = 2 ^ 24
 
 -- where the table was visible, the file was there, and its content meets P
-abbrev pub IfContent : {S : Type 0} → Left S → List ℕ → (List ℕ → Type 0) → Type 0
+abbrev pub IfContent : {S : Type 0} → Inputs S → List ℕ → (List ℕ → Type 0) → Type 0
 IfContent r name P = IfSome r.table.old (λ files. IsSomeAnd (files name) P)
 
 -- the file was got, and nothing else was asked for
-pub record IsOneGot {S : Type 0} (name : List ℕ) (r : Left S) : Type 0 where
+pub record IsOneGot {S : Type 0} (name : List ℕ) (r : Inputs S) : Type 0 where
   pub one : length r.sources ≡ 1
   pub opens : IsUnchanged r.opens
   pub table : r.table.new ≡ option_map (without_name name) r.table.old
 
--- it was read to its end, within the most bytes
-pub record IsWhole {S : Type 0} (faults : S → ℕ) (left : S → Option (List ℕ)) (name : List ℕ) (r : Left S) : Type 0 where
+-- the file was read to its end, and has no more than the most bytes
+pub record IsReadWhole {S : Type 0} (faults : S → ℕ) (left : S → Option (List ℕ)) (name : List ℕ) (r : Inputs S) : Type 0 where
   pub got : IsOneGot name r
   pub quiet : All (λ source. faults source ≡ 0) r.sources
   pub ended : All (λ source. NothingLeft (left source)) r.sources
   pub fits : IfContent r name (λ content. length content ≤ most_text)
   pub read : r.read ≡ 0
 
--- it was not got
-pub record IsNotGot {S : Type 0} (name : List ℕ) (r : Left S) : Type 0 where
+-- the file was not got, and nothing was read
+pub record IsNotGot {S : Type 0} (name : List ℕ) (r : Inputs S) : Type 0 where
   pub none : r.sources ≡ []
   pub rose : Rose r.opens.old r.opens.new
   pub missing : IfSome r.table.old (λ files. files name ≡ None)
   pub table : IsUnchanged r.table
   pub read : r.read ≡ 0
 
--- a read failed before the most bytes were passed
-pub record IsReadUntil {S : Type 0} (faults : S → ℕ) (left : S → Option (List ℕ)) (name : List ℕ) (r : Left S) : Type 0 where
+-- a read of the file failed, and no more than the most bytes were read before
+pub record IsReadUntil {S : Type 0} (faults : S → ℕ) (left : S → Option (List ℕ)) (name : List ℕ) (r : Inputs S) : Type 0 where
   pub got : IsOneGot name r
   pub failed : All (λ source. faults source ≡ 1) r.sources
   pub fits : IfContent r name (λ content. All (λ source. IsSomeAnd (left source) (λ rest. length content ≤ most_text + length rest)) r.sources)
   pub read : r.read ≡ 0
 
--- one byte more than the most was read
-pub record IsLarge {S : Type 0} (faults : S → ℕ) (left : S → Option (List ℕ)) (name : List ℕ) (r : Left S) : Type 0 where
+-- the file has more than the most bytes: one more was read
+pub record IsLarge {S : Type 0} (faults : S → ℕ) (left : S → Option (List ℕ)) (name : List ℕ) (r : Inputs S) : Type 0 where
   pub got : IsOneGot name r
   pub quiet : All (λ source. faults source ≡ 0) r.sources
   pub read : r.read ≡ most_text + 1
   pub bytes : IfContent r name (λ content. All (λ source. Some (length content) ≡ option_map (λ rest. r.read + length rest) (left source)) r.sources)
 
 -- what the file's lines tell meets P
-abbrev pub IsTold : {S : Type 0} → TextCommand → List ℕ → Left S → (List ℕ → Type 0) → Type 0
+abbrev pub IsTold : {S : Type 0} → TextCommand → List ℕ → Inputs S → (List ℕ → Type 0) → Type 0
 IsTold command name r P = IfContent r name (λ content. (text : List ℕ) × Tells command (lines_of content) (Ok text) × P text)
 
 -- how a run over the file of this name ends
-abbrev pub EndsWhole : {S : Type 0} → TextCommand → (S → ℕ) → (S → Option (List ℕ)) → List ℕ → Left S → Wrote → Option Fault → Type 0
+abbrev pub EndsWhole : {S : Type 0} → TextCommand → (S → ℕ) → (S → Option (List ℕ)) → List ℕ → Inputs S → Wrote → Option Fault → Type 0
 EndsWhole command faults left name r w None =
-    IsWhole faults left name r × IsUnchanged w.faults × IsTold command name r (λ text. w.written.new ≡ written_with w.written.old text)
+    IsReadWhole faults left name r × IsUnchanged w.faults × IsTold command name r (λ text. w.written.new ≡ written_with w.written.old text)
 EndsWhole command faults left name r w (Some WriteFault) =
-    IsWhole faults left name r × Rose w.faults.old w.faults.new × IsTold command name r (λ text. WrotePart w.written.old w.written.new text)
+    IsReadWhole faults left name r × Rose w.faults.old w.faults.new × IsTold command name r (λ text. WrotePart w.written.old w.written.new text)
 EndsWhole command faults left name r w (Some (OpenFault file)) = (file ≡ 1) × IsNotGot name r × IsUnwritten w
 EndsWhole command faults left name r w (Some (ReadFault file)) = (file ≡ 1) × IsReadUntil faults left name r × IsUnwritten w
 EndsWhole command faults left name r w (Some (TooLarge file limit)) = (file ≡ 1) × (limit ≡ most_text) × IsLarge faults left name r × IsUnwritten w
 EndsWhole command faults left name r w (Some NoMemory) = (length r.sources ≤ 1) × (r.read ≡ 0) × IsUnwritten w
 EndsWhole command faults left name r w (Some fault) =
-    IsOfText command fault × IsWhole faults left name r × IfContent r name (λ content. Tells command (lines_of content) (Err fault)) × IsUnwritten w
+    IsOfText command fault × IsReadWhole faults left name r × IfContent r name (λ content. Tells command (lines_of content) (Err fault)) × IsUnwritten w
 
 -- A run over recordings, whose texts are read in order and judged together
 
 -- the files of all names were got
-pub record HaveAll {S : Type 0} (names : List (List ℕ)) (r : Left S) : Type 0 where
+pub record HaveAll {S : Type 0} (names : List (List ℕ)) (r : Inputs S) : Type 0 where
   pub all : length r.sources ≡ length names
   pub opens : IsUnchanged r.opens
   pub table : r.table.new ≡ option_map (without_names names) r.table.old
@@ -245,13 +254,13 @@ abbrev pub IsReported : {S : Type 0} → (S → Option (List ℕ)) → List S �
 IsReported left got P = IfTold left got (λ contents. (text : List ℕ) × IsJudged contents text × P text)
 
 -- recordings were refused: sources were read so far, and this is at fault in what they told
-abbrev pub IsRefusedBy : {S : Type 0} → (S → ℕ) → (S → ℕ) → (S → Option (List ℕ)) → List S → Left S → JudgeFault → Type 0
+abbrev pub IsRefusedBy : {S : Type 0} → (S → ℕ) → (S → ℕ) → (S → Option (List ℕ)) → List S → Inputs S → JudgeFault → Type 0
 IsRefusedBy faults end_count left got r refused =
     AreReadUntil faults end_count left got r.sources refused × IfTold left got (λ contents. IsCause contents refused)
 
 -- how a run over recordings of these names ends. With its report every source was read to its end, and no read failed; none was read
 -- where one was not got
-abbrev pub EndsJudged : {S : Type 0} → (S → ℕ) → (S → ℕ) → (S → Option (List ℕ)) → List (List ℕ) → List S → Left S → Wrote → Option Fault → Type 0
+abbrev pub EndsJudged : {S : Type 0} → (S → ℕ) → (S → ℕ) → (S → Option (List ℕ)) → List (List ℕ) → List S → Inputs S → Wrote → Option Fault → Type 0
 EndsJudged faults end_count left names got r w None =
     HaveAll names r × AreReadWhole faults end_count left (length names) got r.sources × IsUnchanged w.faults
     × IsReported left got (λ text. w.written.new ≡ written_with w.written.old text)
@@ -266,22 +275,24 @@ EndsJudged faults end_count left names got r w (Some fault) =
     HaveAll names r × ((refused : JudgeFault) × (fault ≡ fault_of_judge refused) × IsRefusedBy faults end_count left got r refused) × IsUnwritten w
 
 -- no file was asked for
-abbrev pub IsClosed : {S : Type 0} → Left S → Type 0
+abbrev pub IsClosed : {S : Type 0} → Inputs S → Type 0
 IsClosed r = IsUnchanged r.table × IsUnchanged r.opens × (r.sources ≡ []) × (r.read ≡ 0)
 
--- how a run ends that is asked for this: refused words, files, a generated file, recordings, or one whole file. The sources of files are
--- told as they were when they were got
-abbrev pub EndsAs : {S : Type 0} → (S → ℕ) → (S → ℕ) → (S → Option (List ℕ)) → Result Asked WordsFault → List S → Left S → Wrote → Option Fault → Type 0
+-- how a run ends that is asked for this: refused words, files, a generated file, recordings, one whole file, or files that go through stages, whose
+-- payloads have at most as many bytes as the size that is asked for. The sources of files are told as they were when they were got
+abbrev pub EndsAs : {S : Type 0} → (S → ℕ) → (S → ℕ) → (S → Option (List ℕ)) → Result Asked WordsFault → List S → Inputs S → Wrote → Option Fault → Type 0
 EndsAs faults end_count left (Err fault) got r w end = IsClosed r × IsUnwritten w × ((end ≡ Some (Words fault)) ⊎ (end ≡ Some NoMemory))
 EndsAs faults end_count left (Ok (run a)) got r w end =
-    HasGot faults left a.files got r × EndsOver most_payload (one_thread_output a.topics) faults end_count left a.files got r w end
+    HasGotSources faults left a.files got r × EndsOver most_payload (one_thread_output a.topics) faults end_count left a.files got r w end
 EndsAs faults end_count left (Ok (generated a)) got r w end = IsClosed r × EndsAlone (self_summary a.seed a.lines) w end
 EndsAs faults end_count left (Ok (judged a)) got r w end =
-    HasGot faults left a.files got r × EndsJudged faults end_count left a.files got r w end
+    HasGotSources faults left a.files got r × EndsJudged faults end_count left a.files got r w end
 EndsAs faults end_count left (Ok (whole a)) got r w end = EndsWhole a.command faults left a.file r w end
+EndsAs faults end_count left (Ok (staged a)) got r w end =
+    HasGotSources faults left a.files got r × EndsOver a.size one_thread_text faults end_count left a.files got r w end
 
 -- nothing stood in the way of a run over these files: each was got, no count rose, each told its content, and none has trouble
-pub record IsCalm {S : Type 0} (size : ℕ) (faults : S → ℕ) (left : S → Option (List ℕ)) (names : List (List ℕ)) (got : List S) (r : Left S)
+pub record IsCalm {S : Type 0} (size : ℕ) (faults : S → ℕ) (left : S → Option (List ℕ)) (names : List (List ℕ)) (got : List S) (r : Inputs S)
     (w : Wrote) : Type 0 where
   pub all : length r.sources ≡ length names
   pub opens : ¬ Rose r.opens.old r.opens.new
@@ -291,7 +302,7 @@ pub record IsCalm {S : Type 0} (size : ℕ) (faults : S → ℕ) (left : S → O
   pub sound : IfTold left got (λ contents. All (λ content. file_trouble size false content ≡ None) contents)
 
 -- nothing stood in the way of a run over one whole file: it was got, no count rose, and its content is not too large
-pub record IsCalmText {S : Type 0} (faults : S → ℕ) (name : List ℕ) (r : Left S) (w : Wrote) : Type 0 where
+pub record IsCalmText {S : Type 0} (faults : S → ℕ) (name : List ℕ) (r : Inputs S) (w : Wrote) : Type 0 where
   pub opens : ¬ Rose r.opens.old r.opens.new
   pub writes : ¬ Rose w.faults.old w.faults.new
   pub quiet : All (λ source. faults source ≡ 0) r.sources

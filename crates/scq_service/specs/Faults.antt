@@ -6,6 +6,8 @@ use Rattle.scq_words.specs.declared.fault.WordsFault.{WordsFault}
 use Rattle.scq_words.specs.declared.fault.WordsFault.TheVariants.{NotUnderstood, Workers, Order, Size, Topics, TooManyFiles, NoName, Seed, Lines}
 use Rattle.scq_work.specs.declared.worked.WorkFault.{WorkFault}
 use Rattle.scq_work.specs.declared.worked.WorkFault.TheVariants as work
+use Rattle.scq_stages.specs.declared.staged.StageFault.{StageFault}
+use Rattle.scq_stages.specs.declared.staged.StageFault.TheVariants as stage
 use Rattle.scq_service.specs.declared.fault.Fault.{Fault}
 use Rattle.scq_service.specs.declared.fault.Fault.TheVariants.{Words, OpenFault, ReadFault, TooLong, TooLarge, WriteFault, BadLine, NotEnabled, Unlawful, Unfinished, BadLineOf, UnlawfulOf, NoMemory}
 use Rattle.scq_outside.specs.declared.read_all_fault.ReadAllFault.{ReadAllFault}
@@ -105,6 +107,13 @@ fault_of_work size (work.Read file) = ReadFault file
 fault_of_work size (work.TooLong file line len) = TooLong file line len size
 fault_of_work size (work.TooLarge file bytes) = TooLarge file (2 ^ 30)
 fault_of_work size work.NoMemory = NoMemory
+
+-- a fault of the workers of stages, as one of workers
+abbrev pub fault_of_stages : StageFault → WorkFault
+fault_of_stages (stage.Read file) = work.Read file
+fault_of_stages (stage.TooLong file line len) = work.TooLong file line len
+fault_of_stages (stage.TooLarge file bytes) = work.TooLarge file bytes
+fault_of_stages stage.NoMemory = work.NoMemory
 
 -- the number of bytes that were read of a file that is too large, and 0 at the workers' other faults
 abbrev pub bytes_of_large : WorkFault → ℕ

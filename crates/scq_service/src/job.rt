@@ -1,6 +1,8 @@
 ghost use Rattle.std.specs.Prelude.{◌≡◌, ◌^◌};
+ghost use Rattle.scq_stages.specs.Jobs.{IsStageJob};
 ghost use Rattle.scq_work.specs.Jobs.{IsJob};
 
+use scq_stages::StageJob;
 use scq_topics::Topics;
 use scq_work::Job;
 
@@ -14,6 +16,19 @@ pub fn job_of(order: u32, size: u32, workers: u32, topics: Topics) -> Job
     ensures topics { result.topics ≡ topics }
 {
     match Job::new(order, size, workers, topics) {
+        Some(job) => job,
+        None => unreachable!(),
+    }
+}
+
+/// The job of stages, likewise.
+pub fn stage_job_of(order: u32, size: u32, workers: u32) -> StageJob
+    requires { IsStageJob order size workers }
+    ensures order { result.order ≡ order }
+    ensures size { result.size ≡ size }
+    ensures workers { result.workers ≡ workers }
+{
+    match StageJob::new(order, size, workers) {
         Some(job) => job,
         None => unreachable!(),
     }

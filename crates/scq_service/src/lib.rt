@@ -1,21 +1,18 @@
 //! The service: what a command line asks for, answered and written. It stands on `scq_words` for what is
-//! asked, on `scq_work` for workers, on `scq_collect` for the text of answers, on `scq_self` for a
+//! asked, on `scq_work` and `scq_stages` for workers, on `scq_collect` for the text of answers, on `scq_self` for a
 //! generated file, on `scq_judge` for recordings, and on `scq_outside` for files and sinks. The program calls `serve`, whose contract is the promise of the
 //! whole: at status 0 the output is that of one thread, and each other status comes only where its cause
 //! holds.
 #![tactic(auto)]
 
+mod commands;
 mod fault;
-mod generated;
 mod job;
 mod outcome;
 mod reading;
-mod recordings;
 mod reporting;
-mod run;
 mod serving;
 mod serving_waiting;
-mod whole;
 mod worker_report;
 mod writing;
 

@@ -3,10 +3,11 @@ ghost use Rattle.scq_service.specs.Faults.{status_of_fault, fault_of_work, fault
 ghost use Rattle.scq_service.specs.Answers.{WorkedAt};
 
 use crate::Fault;
-use crate::whole::MOST_TEXT;
+use crate::commands::MOST_TEXT;
 use scq_block::Frame;
 use scq_outside::ReadAllFault;
 use scq_queue::Pass;
+use scq_stages::Staged;
 use scq_work::{Waited, WorkFault, Worked};
 use std::snapshot::Snapshot;
 
@@ -25,6 +26,8 @@ pub struct Outcome<S> {
     pub read: u64,
     /// What workers answered: there exactly where `run` or `self` ended with status 0 or 4.
     pub worked: Option<Worked>,
+    /// What workers finished: there exactly where `stages` ended with status 0 or 4.
+    pub staged: Option<Staged>,
     /// How many indices were left in each ring of the workers' queue when it was closed. Of `run` and `self` it is None only at status 2
     /// and 5, and of other commands always.
     pub left: Option<Vec<u64>>,
@@ -33,7 +36,7 @@ pub struct Outcome<S> {
     /// Where idle workers wait: of each worker, whether it saw that all had retired, and how often it rested and was woken. None only at
     /// status 2 and 5. Where they leave early it is None.
     pub waited: Option<Waited>,
-    /// For contracts alone, the sources of `run` and `judge` as they were when they were got.
+    /// For contracts alone, the sources of `run`, `stages` and `judge` as they were when they were got.
     pub got: Snapshot<Vec<S>>,
 }
 
@@ -44,6 +47,7 @@ impl<S> Outcome<S> {
         ensures sources { result.sources ≡ sources }
         ensures read { result.read ≡ 0 }
         ensures worked { result.worked ≡ None }
+        ensures staged { result.staged ≡ None }
         ensures left { (result.left ≡ None) × (result.passes ≡ None) }
         ensures waited { result.waited ≡ None }
     {
@@ -54,6 +58,7 @@ impl<S> Outcome<S> {
             sources,
             read: 0,
             worked: None,
+            staged: None,
             left: None,
             passes: None,
             waited: None,
@@ -68,9 +73,25 @@ impl<S> Outcome<S> {
         ensures sources { result.sources ≡ sources }
         ensures read { result.read ≡ 0 }
         ensures worked { result.worked ≡ Some worked }
+        ensures staged { result.staged ≡ None }
     {
         Outcome {
             worked: Some(worked),
+            ..Outcome::whole(sources)
+        }
+    }
+
+    /// The end once workers have finished all messages of these sources.
+    pub(crate) fn finished(sources: Vec<S>, staged: Staged) -> Outcome<S>
+        ensures status { result.status ≡ 0 }
+        ensures fault { result.fault ≡ None }
+        ensures sources { result.sources ≡ sources }
+        ensures read { result.read ≡ 0 }
+        ensures worked { result.worked ≡ None }
+        ensures staged { result.staged ≡ Some staged }
+    {
+        Outcome {
+            staged: Some(staged),
             ..Outcome::whole(sources)
         }
     }
@@ -82,6 +103,7 @@ impl<S> Outcome<S> {
         ensures sources { result.sources ≡ self.sources }
         ensures read { result.read ≡ self.read }
         ensures worked { result.worked ≡ self.worked }
+        ensures staged { result.staged ≡ self.staged }
         ensures left { (result.left ≡ self.left) × (result.passes ≡ self.passes) }
         ensures waited { result.waited ≡ self.waited }
         ensures got { result.got ≡ self.got }
@@ -100,6 +122,7 @@ impl<S> Outcome<S> {
         ensures sources { result.sources ≡ self.sources }
         ensures read { result.read ≡ 0 }
         ensures worked { result.worked ≡ None }
+        ensures staged { result.staged ≡ None }
         ensures left { (result.left ≡ self.left) × (result.passes ≡ self.passes) }
         ensures waited { result.waited ≡ self.waited }
         ensures got { result.got ≡ self.got }
@@ -109,6 +132,7 @@ impl<S> Outcome<S> {
             fault: Some(Fault::NoMemory),
             read: 0,
             worked: None,
+            staged: None,
             ..self
         }
     }
@@ -126,6 +150,7 @@ impl<S> Outcome<S> {
         ensures sources { result.sources ≡ self.sources }
         ensures read { result.read ≡ self.read }
         ensures worked { result.worked ≡ self.worked }
+        ensures staged { result.staged ≡ self.staged }
         ensures left { (result.left ≡ left) × (result.passes ≡ passes) }
         ensures waited { result.waited ≡ waited }
         ensures got { result.got ≡ got }
@@ -145,6 +170,7 @@ impl<S> Outcome<S> {
         ensures sources { result.sources ≡ sources }
         ensures read { result.read ≡ 0 }
         ensures worked { result.worked ≡ None }
+        ensures staged { result.staged ≡ None }
         ensures left { (result.left ≡ None) × (result.passes ≡ None) }
         ensures waited { result.waited ≡ None }
         ensures got { result.got.value ≡ sources }
@@ -156,6 +182,7 @@ impl<S> Outcome<S> {
             sources,
             read: 0,
             worked: None,
+            staged: None,
             left: None,
             passes: None,
             waited: None,
@@ -171,6 +198,8 @@ impl<S> Outcome<S> {
         ensures read { result.read ≡ bytes_of_large fault }
         ensures worked { WorkedAt result.fault result.worked }
         ensures none { result.worked ≡ None }
+        ensures staged { WorkedAt result.fault result.staged }
+        ensures unstaged { result.staged ≡ None }
     {
         match fault {
             WorkFault::Read { file } => Outcome::at(sources, Fault::ReadFault { file }),
@@ -207,6 +236,7 @@ impl<S> Outcome<S> {
         ensures sources { result.sources ≡ sources }
         ensures read { result.read ≡ bytes_of_large_text fault }
         ensures worked { result.worked ≡ None }
+        ensures staged { result.staged ≡ None }
         ensures left { result.left ≡ None }
         ensures waited { result.waited ≡ None }
     {

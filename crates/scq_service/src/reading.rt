@@ -7,11 +7,12 @@ ghost use Rattle.scq_collect.specs.Collected.{messages_to};
 ghost use Rattle.scq_collect.specs.Joined.{part_answers, without_way};
 ghost use Rattle.scq_collect.specs.Merging.{members_in};
 ghost use Rattle.scq_work.specs.AllWorkers.{HasWorked, NothingIsStranded};
-ghost use Rattle.scq_work.specs.Ends.{AreGiven, HasCause, HasMoved, all_left, messages_in};
-ghost use Rattle.scq_work.specs.Reading.{IsWhole};
+ghost use Rattle.scq_files.specs.Ends.{AreGiven, HasMoved, all_left, messages_in};
+ghost use Rattle.scq_work.specs.Ends.{HasCause};
+ghost use Rattle.scq_files.specs.Reading.{IsWhole};
 ghost use Rattle.scq_work.specs.Waiting.{HaveWaited};
 ghost use Rattle.scq_service.specs.Answers.{HaveCome, HaveAllCome, AreOfParts, IsWork, IsWorkOf, WorkedAt};
-ghost use Rattle.scq_service.specs.Ends.{HasGot, ReadsOver};
+ghost use Rattle.scq_service.specs.Ends.{HasGotSources, ReadsOver, inputs_of};
 ghost use Rattle.scq_service.specs.Faults.{status_of};
 
 use crate::{Fault, Outcome};
@@ -32,18 +33,8 @@ pub(crate) fn get_sources<F: Files>(
     requires none { (sources.old.items ≡ []) × (vec_len sources.old ≡ 0) }
     requires room { length names.now ≤ vec_capacity sources.old }
     ensures count { (vec_len sources.new ≡ length sources.new.items) × (vec_len sources.new ≤ length names.now) }
-    ensures come { HaveCome F.Src.faults F.Src.left (map string_bytes names.now) (record {
-      table = record { old = F.table files.old; new = F.table files.new };
-      opens = record { old = F.faults files.old; new = F.faults files.new };
-      sources = sources.new.items;
-      read = 0;
-    }) }
-    ensures all { HaveAllCome (map string_bytes names.now) (record {
-      table = record { old = F.table files.old; new = F.table files.new };
-      opens = record { old = F.faults files.old; new = F.faults files.new };
-      sources = sources.new.items;
-      read = 0;
-    }) result }
+    ensures come { HaveCome F.Src.faults F.Src.left (map string_bytes names.now) (inputs_of F.table F.faults files.old files.new sources.new.items 0) }
+    ensures all { HaveAllCome (map string_bytes names.now) (inputs_of F.table F.faults files.old files.new sources.new.items 0) result }
 {
     'files: for name in names {
         match files.source(name.as_str()) {
@@ -65,29 +56,18 @@ pub fn read_files<R: Threads + Sync, F: Files, G: Gate>(
     gate: &G,
 ) -> Outcome<F::Src>
     requires few { length names.now ≤ 64 }
-    ensures got { HasGot F.Src.faults F.Src.left (map string_bytes names.now) result.got.value.items (record {
-      table = record { old = F.table files.old; new = F.table files.new };
-      opens = record { old = F.faults files.old; new = F.faults files.new };
-      sources = result.sources.items;
-      read = result.read;
-    }) }
-    ensures ends { ReadsOver job.now.longest F.Src.faults F.Src.ends F.Src.left (map string_bytes names.now) result.got.value.items (record {
-      table = record { old = F.table files.old; new = F.table files.new };
-      opens = record { old = F.faults files.old; new = F.faults files.new };
-      sources = result.sources.items;
-      read = result.read;
-    }) result.fault }
+    ensures got { HasGotSources F.Src.faults F.Src.left (map string_bytes names.now) result.got.value.items
+        (inputs_of F.table F.faults files.old files.new result.sources.items result.read) }
+    ensures ends { ReadsOver job.now.longest F.Src.faults F.Src.ends F.Src.left (map string_bytes names.now) result.got.value.items
+        (inputs_of F.table F.faults files.old files.new result.sources.items result.read) result.fault }
     ensures status { result.status ≡ status_of result.fault }
     ensures worked { WorkedAt result.fault result.worked }
+    ensures unstaged { result.staged ≡ None }
     ensures known { IfSome result.worked (λ w. All (λ a. a.topic ≤ length job.now.topics) (members_in w.answered.items)) }
     ensures answers { AreOfParts job.now.topics job.now.size F.Src.left result.got.value.items result.worked }
     ensures told { IsWorkOf job.now.topics job.now.size job.now.workers F.Src.left result.got.value.items result.worked }
-    ensures work { IsWork job.now.topics job.now.size job.now.longest job.now.workers F.Src.faults F.Src.ends F.Src.left result.got.value.items (record {
-      table = record { old = F.table files.old; new = F.table files.new };
-      opens = record { old = F.faults files.old; new = F.faults files.new };
-      sources = result.sources.items;
-      read = result.read;
-    }) result.worked }
+    ensures work { IsWork job.now.topics job.now.size job.now.longest job.now.workers F.Src.faults F.Src.ends F.Src.left result.got.value.items
+        (inputs_of F.table F.faults files.old files.new result.sources.items result.read) result.worked }
     ensures left { IfSome result.left (λ left. IsSomeAnd result.passes (λ passes.
         NothingIsStranded job.now.order (length job.now.topics + 1) job.now.workers passes.value.items left.items)) }
     ensures there { OnSome result.worked (IsSome result.left) }
@@ -116,29 +96,18 @@ pub fn read_files_waiting<R: Threads + Wait + Sync, F: Files, G: Gate>(
     gate: &G,
 ) -> Outcome<F::Src>
     requires few { length names.now ≤ 64 }
-    ensures got { HasGot F.Src.faults F.Src.left (map string_bytes names.now) result.got.value.items (record {
-      table = record { old = F.table files.old; new = F.table files.new };
-      opens = record { old = F.faults files.old; new = F.faults files.new };
-      sources = result.sources.items;
-      read = result.read;
-    }) }
-    ensures ends { ReadsOver job.now.longest F.Src.faults F.Src.ends F.Src.left (map string_bytes names.now) result.got.value.items (record {
-      table = record { old = F.table files.old; new = F.table files.new };
-      opens = record { old = F.faults files.old; new = F.faults files.new };
-      sources = result.sources.items;
-      read = result.read;
-    }) result.fault }
+    ensures got { HasGotSources F.Src.faults F.Src.left (map string_bytes names.now) result.got.value.items
+        (inputs_of F.table F.faults files.old files.new result.sources.items result.read) }
+    ensures ends { ReadsOver job.now.longest F.Src.faults F.Src.ends F.Src.left (map string_bytes names.now) result.got.value.items
+        (inputs_of F.table F.faults files.old files.new result.sources.items result.read) result.fault }
     ensures status { result.status ≡ status_of result.fault }
     ensures worked { WorkedAt result.fault result.worked }
+    ensures unstaged { result.staged ≡ None }
     ensures known { IfSome result.worked (λ w. All (λ a. a.topic ≤ length job.now.topics) (members_in w.answered.items)) }
     ensures answers { AreOfParts job.now.topics job.now.size F.Src.left result.got.value.items result.worked }
     ensures told { IsWorkOf job.now.topics job.now.size job.now.workers F.Src.left result.got.value.items result.worked }
-    ensures work { IsWork job.now.topics job.now.size job.now.longest job.now.workers F.Src.faults F.Src.ends F.Src.left result.got.value.items (record {
-      table = record { old = F.table files.old; new = F.table files.new };
-      opens = record { old = F.faults files.old; new = F.faults files.new };
-      sources = result.sources.items;
-      read = result.read;
-    }) result.worked }
+    ensures work { IsWork job.now.topics job.now.size job.now.longest job.now.workers F.Src.faults F.Src.ends F.Src.left result.got.value.items
+        (inputs_of F.table F.faults files.old files.new result.sources.items result.read) result.worked }
     ensures left { IfSome result.left (λ left. IsSomeAnd result.passes (λ passes.
         NothingIsStranded job.now.order (length job.now.topics + 1) job.now.workers passes.value.items left.items)) }
     ensures there { OnSome result.worked (IsSome result.left) }
@@ -161,7 +130,7 @@ pub fn read_files_waiting<R: Threads + Wait + Sync, F: Files, G: Gate>(
     conclude(job, names, &was, files, all, count, got, end, waited)
 }
 
-/// How a run ends whose workers ended so. `was` is what the files were before any source was got, `got` the sources as they were then, and
+/// The end of a run, by the end of its workers. `was` is what the files were before any source was got, `got` the sources as they were then, and
 /// `all` says whether all were got.
 fn conclude<F: Files>(
     job: &Job,
@@ -176,18 +145,8 @@ fn conclude<F: Files>(
 ) -> Outcome<F::Src>
     requires few { count ≤ 64 }
     requires number { count ≡ length got.value.items }
-    requires come { HaveCome F.Src.faults F.Src.left (map string_bytes names.now) (record {
-      table = record { old = F.table was.now.value; new = F.table files.now };
-      opens = record { old = F.faults was.now.value; new = F.faults files.now };
-      sources = got.value.items;
-      read = 0;
-    }) }
-    requires all { HaveAllCome (map string_bytes names.now) (record {
-      table = record { old = F.table was.now.value; new = F.table files.now };
-      opens = record { old = F.faults was.now.value; new = F.faults files.now };
-      sources = got.value.items;
-      read = 0;
-    }) all }
+    requires come { HaveCome F.Src.faults F.Src.left (map string_bytes names.now) (inputs_of F.table F.faults was.now.value files.now got.value.items 0) }
+    requires all { HaveAllCome (map string_bytes names.now) (inputs_of F.table F.faults was.now.value files.now got.value.items 0) all }
     requires count { length end.sources.items ≡ length got.value.items }
     requires moved { (k : ℕ) (d : F.Src) → k < length got.value.items
         → HasMoved F.Src.faults F.Src.left (slice_index_or got.value.items k d) (slice_index_or end.sources.items k d) }
@@ -204,29 +163,18 @@ fn conclude<F: Files>(
     requires none { end.left ≡ None → IsErrOf end.result WorkFault.NoMemory }
     requires same { IfOk end.result (λ w. IsSomeAnd end.passes (λ passes. passes.value.items ≡ w.passes.value.items)) }
     requires cause { IfErr end.result (λ fault. HasCause job.now.longest F.Src.faults F.Src.ends F.Src.left got.value.items end.sources.items fault) }
-    ensures got { HasGot F.Src.faults F.Src.left (map string_bytes names.now) result.got.value.items (record {
-      table = record { old = F.table was.now.value; new = F.table files.now };
-      opens = record { old = F.faults was.now.value; new = F.faults files.now };
-      sources = result.sources.items;
-      read = result.read;
-    }) }
-    ensures ends { ReadsOver job.now.longest F.Src.faults F.Src.ends F.Src.left (map string_bytes names.now) result.got.value.items (record {
-      table = record { old = F.table was.now.value; new = F.table files.now };
-      opens = record { old = F.faults was.now.value; new = F.faults files.now };
-      sources = result.sources.items;
-      read = result.read;
-    }) result.fault }
+    ensures got { HasGotSources F.Src.faults F.Src.left (map string_bytes names.now) result.got.value.items
+        (inputs_of F.table F.faults was.now.value files.now result.sources.items result.read) }
+    ensures ends { ReadsOver job.now.longest F.Src.faults F.Src.ends F.Src.left (map string_bytes names.now) result.got.value.items
+        (inputs_of F.table F.faults was.now.value files.now result.sources.items result.read) result.fault }
     ensures status { result.status ≡ status_of result.fault }
     ensures worked { WorkedAt result.fault result.worked }
+    ensures unstaged { result.staged ≡ None }
     ensures known { IfSome result.worked (λ w. All (λ a. a.topic ≤ length job.now.topics) (members_in w.answered.items)) }
     ensures answers { AreOfParts job.now.topics job.now.size F.Src.left result.got.value.items result.worked }
     ensures told { IsWorkOf job.now.topics job.now.size job.now.workers F.Src.left result.got.value.items result.worked }
-    ensures work { IsWork job.now.topics job.now.size job.now.longest job.now.workers F.Src.faults F.Src.ends F.Src.left result.got.value.items (record {
-      table = record { old = F.table was.now.value; new = F.table files.now };
-      opens = record { old = F.faults was.now.value; new = F.faults files.now };
-      sources = result.sources.items;
-      read = result.read;
-    }) result.worked }
+    ensures work { IsWork job.now.topics job.now.size job.now.longest job.now.workers F.Src.faults F.Src.ends F.Src.left result.got.value.items
+        (inputs_of F.table F.faults was.now.value files.now result.sources.items result.read) result.worked }
     ensures left { IfSome result.left (λ left. IsSomeAnd result.passes (λ passes.
         NothingIsStranded job.now.order (length job.now.topics + 1) job.now.workers passes.value.items left.items)) }
     ensures there { OnSome result.worked (IsSome result.left) }

@@ -1,19 +1,16 @@
 ghost use Rattle.std.specs.Prelude.{◌≡◌, ◌⊎◌, Ok, None, Some, false, is_some, IfSome, IsSomeAnd, map, string_bytes};
 ghost use Rattle.scq_outside.specs.Counts.{Rose};
-ghost use Rattle.scq_words.specs.Asked.{asked, generated, run, whole, RunAsked, SelfAsked, TextAsked};
+ghost use Rattle.scq_words.specs.Asked.{asked, generated, run, staged, whole, RunAsked, SelfAsked, StagesAsked, TextAsked};
 ghost use Rattle.scq_words.specs.Ranges.{is_taken};
-ghost use Rattle.scq_service.specs.Answers.{IsSeenAt, LeavesNothing, WorkedAs};
-ghost use Rattle.scq_service.specs.Ends.{EndsAs, IsCalm, IsCalmText, IsOfTextAlone, most_payload};
+ghost use Rattle.scq_service.specs.Answers.{IsSeenAt, LeavesNothing, StagedAs, WorkedAs};
+ghost use Rattle.scq_service.specs.Ends.{EndsAs, IsCalm, IsCalmText, IsOfTextAlone, most_payload, inputs_of, wrote_of};
 ghost use Rattle.scq_service.specs.Faults.{status_of};
 ghost use Rattle.scq_service.specs.Reports.{asks_report, reported};
 ghost use Rattle.scq_service.specs.declared.fault.Fault.TheVariants.{NoMemory};
 ghost use Rattle.scq_service.specs.Writing.{written_with, WrotePart};
 
-use crate::generated::run_self;
-use crate::job::job_of;
-use crate::recordings::run_judge;
-use crate::run::run_files;
-use crate::whole::run_text;
+use crate::commands::{run_files, run_judge, run_self, run_stages, run_text};
+use crate::job::{job_of, stage_job_of};
 use crate::worker_report::report_run;
 use crate::{Fault, Outcome};
 use scq_outside::{Files, Sink};
@@ -23,7 +20,7 @@ use std::alloc::Global;
 use std::thread::Threads;
 
 /// Runs what the words ask for: gets the sources of the files that they name, up to the first that isn't
-/// got, answers their messages, or those of a generated file, by as many workers as they ask for, and
+/// got, answers their messages, or takes them through stages, or answers those of a generated file, by as many workers as they ask for, and
 /// writes the output, or the summary, once it is whole. At a fault it writes one line to `err`, in no
 /// memory; a failing `err` changes nothing. Workers call the gate, which has no meaning. They share a
 /// queue of buffers. Where it is asked for, what each worker sent, took and answered directly is reported to `err` too.
@@ -40,26 +37,17 @@ pub fn serve<R: Threads + Sync, F: Files, K: Sink, G: Gate>(
 
     // How it ended is one of the cases of `EndsAs`, each with what was got, read and written, and why.
     ensures end { EndsAs F.Src.faults F.Src.ends F.Src.left (asked (map string_bytes words.now)) result.got.value.items
-        (record {
-          table = record { old = F.table files.old; new = F.table files.new };
-          opens = record { old = F.faults files.old; new = F.faults files.new };
-          sources = result.sources.items;
-          read = result.read;
-        })
-        (record {
-          written = record { old = K.written out.old; new = K.written out.new };
-          faults = record { old = K.faults out.old; new = K.faults out.new };
-        }) result.fault }
+        (inputs_of F.table F.faults files.old files.new result.sources.items result.read)
+        (wrote_of K.written K.faults out.old out.new) result.fault }
 
     // What workers answered is there exactly where the text of it was whole. It answers such messages as `IsWork` says, which are those
     // of the contents where these are visible.
     ensures worked { WorkedAs F.Src.faults F.Src.ends F.Src.left (asked (map string_bytes words.now)) result.got.value.items
-        (record {
-          table = record { old = F.table files.old; new = F.table files.new };
-          opens = record { old = F.faults files.old; new = F.faults files.new };
-          sources = result.sources.items;
-          read = result.read;
-        }) result.fault result.worked }
+        (inputs_of F.table F.faults files.old files.new result.sources.items result.read) result.fault result.worked }
+
+    // What the workers of stages finished is there likewise, and is what becomes of such messages. Nothing is stranded in their queue.
+    ensures staged { StagedAs F.Src.faults F.Src.ends F.Src.left (asked (map string_bytes words.now)) result.got.value.items
+        (inputs_of F.table F.faults files.old files.new result.sources.items result.read) result.fault result.staged }
 
     // Whatever the answer is, where workers were at work nothing is stranded: their queue was closed with each buffer free, what was sent was taken,
     // each pass has retired, and no call met a ticket past the limit.
@@ -77,13 +65,15 @@ pub fn serve<R: Threads + Sync, F: Files, K: Sink, G: Gate>(
     // Where nothing stood in the way of a run over files, it ends with the output, or for want of memory.
     ensures complete { (a : RunAsked) → asked (map string_bytes words.now) ≡ Ok (run a)
         → IsCalm most_payload F.Src.faults F.Src.left a.files result.got.value.items
-        (record {
-          table = record { old = F.table files.old; new = F.table files.new };
-          opens = record { old = F.faults files.old; new = F.faults files.new };
-          sources = result.sources.items;
-          read = result.read;
-        })
-        (record { written = record { old = K.written out.old; new = K.written out.new }; faults = record { old = K.faults out.old; new = K.faults out.new } })
+        (inputs_of F.table F.faults files.old files.new result.sources.items result.read)
+        (wrote_of K.written K.faults out.old out.new)
+        → (result.fault ≡ None) ⊎ (result.fault ≡ Some NoMemory) }
+
+    // And so does one over files whose messages go through stages.
+    ensures complete_stages { (a : StagesAsked) → asked (map string_bytes words.now) ≡ Ok (staged a)
+        → IsCalm a.size F.Src.faults F.Src.left a.files result.got.value.items
+        (inputs_of F.table F.faults files.old files.new result.sources.items result.read)
+        (wrote_of K.written K.faults out.old out.new)
         → (result.fault ≡ None) ⊎ (result.fault ≡ Some NoMemory) }
 
     // Where no write failed a run of `self` ends with the summary, or for want of memory.
@@ -93,16 +83,11 @@ pub fn serve<R: Threads + Sync, F: Files, K: Sink, G: Gate>(
     // Where nothing stood in the way of a run over one whole file, it ends with what its text tells, or for want of memory.
     ensures complete_text { (a : TextAsked) → asked (map string_bytes words.now) ≡ Ok (whole a)
         → IsCalmText F.Src.faults a.file
-        (record {
-          table = record { old = F.table files.old; new = F.table files.new };
-          opens = record { old = F.faults files.old; new = F.faults files.new };
-          sources = result.sources.items;
-          read = result.read;
-        })
-        (record { written = record { old = K.written out.old; new = K.written out.new }; faults = record { old = K.faults out.old; new = K.faults out.new } })
+        (inputs_of F.table F.faults files.old files.new result.sources.items result.read)
+        (wrote_of K.written K.faults out.old out.new)
         → IsOfTextAlone a.command result.fault }
 
-    // Err has the fault's line, or at status 0 the lines of the workers where they are asked for: whole where it didn't fail.
+    // `err` gets the fault's line, or at status 0 the lines of the workers where they are asked for: the whole of it where no write failed.
     ensures reported { Rose (K.faults err.old) (K.faults err.new)
         ⊎ (K.written err.new ≡ written_with (K.written err.old) (reported (asks_report (asked (map string_bytes words.now))) result.fault result.worked)) }
     ensures reported_front { WrotePart (K.written err.old) (K.written err.new)
@@ -146,23 +131,12 @@ fn run<R: Threads + Sync, F: Files, K: Sink, G: Gate>(
 ) -> Ran<F::Src>
     ensures status { result.outcome.status ≡ status_of result.outcome.fault }
     ensures end { EndsAs F.Src.faults F.Src.ends F.Src.left (asked (map string_bytes words.now)) result.outcome.got.value.items
-        (record {
-          table = record { old = F.table files.old; new = F.table files.new };
-          opens = record { old = F.faults files.old; new = F.faults files.new };
-          sources = result.outcome.sources.items;
-          read = result.outcome.read;
-        })
-        (record {
-          written = record { old = K.written out.old; new = K.written out.new };
-          faults = record { old = K.faults out.old; new = K.faults out.new };
-        }) result.outcome.fault }
+        (inputs_of F.table F.faults files.old files.new result.outcome.sources.items result.outcome.read)
+        (wrote_of K.written K.faults out.old out.new) result.outcome.fault }
     ensures worked { WorkedAs F.Src.faults F.Src.ends F.Src.left (asked (map string_bytes words.now)) result.outcome.got.value.items
-        (record {
-          table = record { old = F.table files.old; new = F.table files.new };
-          opens = record { old = F.faults files.old; new = F.faults files.new };
-          sources = result.outcome.sources.items;
-          read = result.outcome.read;
-        }) result.outcome.fault result.outcome.worked }
+        (inputs_of F.table F.faults files.old files.new result.outcome.sources.items result.outcome.read) result.outcome.fault result.outcome.worked }
+    ensures staged { StagedAs F.Src.faults F.Src.ends F.Src.left (asked (map string_bytes words.now)) result.outcome.got.value.items
+        (inputs_of F.table F.faults files.old files.new result.outcome.sources.items result.outcome.read) result.outcome.fault result.outcome.staged }
     ensures left { IfSome result.outcome.left (λ left. IsSomeAnd result.outcome.passes (λ passes.
         LeavesNothing (asked (map string_bytes words.now)) passes.value.items left.items)) }
     ensures seen { IsSeenAt (asked (map string_bytes words.now)) result.outcome.fault (is_some result.outcome.left) }
@@ -195,6 +169,11 @@ fn run<R: Threads + Sync, F: Files, K: Sink, G: Gate>(
         Ok(Request::Text(asked)) => {
             let name = asked.file.as_str();
             Ran::quiet(run_text(alloc, asked.command, name, files, out))
+        }
+        Ok(Request::Stages(asked)) => {
+            let job = stage_job_of(asked.order, asked.size, asked.workers);
+            let names = asked.files.as_slice();
+            Ran::quiet(run_stages(rt, alloc, &job, names, files, out))
         }
         Err(WordsError::Refused(fault)) => {
             Ran::quiet(Outcome::at(Vec::new(alloc), Fault::Words(fault)))

@@ -4,14 +4,14 @@ ghost use Rattle.scq_outside.specs.Counts.{Rose};
 ghost use Rattle.scq_words.specs.Asked.{asked_for_run, run, RunAsked};
 ghost use Rattle.scq_words.specs.Ranges.{is_taken_for_run};
 ghost use Rattle.scq_service.specs.Answers.{IsSeenAt, LeavesNothing, WaitedAs, WorkedAs};
-ghost use Rattle.scq_service.specs.Ends.{EndsAs, IsCalm, most_payload};
+ghost use Rattle.scq_service.specs.Ends.{EndsAs, IsCalm, most_payload, inputs_of, wrote_of};
 ghost use Rattle.scq_service.specs.Faults.{status_of};
 ghost use Rattle.scq_service.specs.Reports.{asks_report, reported};
 ghost use Rattle.scq_service.specs.declared.fault.Fault.TheVariants.{NoMemory};
 ghost use Rattle.scq_service.specs.Writing.{written_with, WrotePart};
 
+use crate::commands::run_files_waiting;
 use crate::job::job_of;
-use crate::run::run_files_waiting;
 use crate::serving::Ran;
 use crate::worker_report::report_run;
 use crate::{Fault, Outcome};
@@ -37,26 +37,13 @@ pub fn serve_waiting<R: Threads + Wait + Sync, F: Files, K: Sink, G: Gate>(
 
     // How it ended is one of the cases of `EndsAs`, each with what was got, read and written, and why.
     ensures end { EndsAs F.Src.faults F.Src.ends F.Src.left (asked_for_run (map string_bytes words.now)) result.got.value.items
-        (record {
-          table = record { old = F.table files.old; new = F.table files.new };
-          opens = record { old = F.faults files.old; new = F.faults files.new };
-          sources = result.sources.items;
-          read = result.read;
-        })
-        (record {
-          written = record { old = K.written out.old; new = K.written out.new };
-          faults = record { old = K.faults out.old; new = K.faults out.new };
-        }) result.fault }
+        (inputs_of F.table F.faults files.old files.new result.sources.items result.read)
+        (wrote_of K.written K.faults out.old out.new) result.fault }
 
     // What workers answered is there exactly where the text of it was whole. It answers such messages as `IsWork` says, which are those
     // of the contents where these are visible.
     ensures worked { WorkedAs F.Src.faults F.Src.ends F.Src.left (asked_for_run (map string_bytes words.now)) result.got.value.items
-        (record {
-          table = record { old = F.table files.old; new = F.table files.new };
-          opens = record { old = F.faults files.old; new = F.faults files.new };
-          sources = result.sources.items;
-          read = result.read;
-        }) result.fault result.worked }
+        (inputs_of F.table F.faults files.old files.new result.sources.items result.read) result.fault result.worked }
 
     // Whatever the answer is, where workers were at work nothing is stranded: their queue was closed with each buffer free, what was sent was taken,
     // each pass has retired, and no call met a ticket past the limit.
@@ -72,22 +59,20 @@ pub fn serve_waiting<R: Threads + Wait + Sync, F: Files, K: Sink, G: Gate>(
     ensures attended { IsSeenAt (asked_for_run (map string_bytes words.now)) result.fault (is_some result.waited) }
     ensures both { OnSome result.waited (IsSome result.left) }
 
+    // No messages go through stages.
+    ensures unstaged { result.staged ≡ None }
+
     // `clap` refuses no words that it is said to take.
     ensures taken { result.fault ≡ Some (Fault.Words WordsFault.NotUnderstood) → is_taken_for_run (map string_bytes words.now) ≡ false }
 
     // Where nothing stood in the way of a run over files, it ends with the output, or for want of memory.
     ensures complete { (a : RunAsked) → asked_for_run (map string_bytes words.now) ≡ Ok (run a)
         → IsCalm most_payload F.Src.faults F.Src.left a.files result.got.value.items
-        (record {
-          table = record { old = F.table files.old; new = F.table files.new };
-          opens = record { old = F.faults files.old; new = F.faults files.new };
-          sources = result.sources.items;
-          read = result.read;
-        })
-        (record { written = record { old = K.written out.old; new = K.written out.new }; faults = record { old = K.faults out.old; new = K.faults out.new } })
+        (inputs_of F.table F.faults files.old files.new result.sources.items result.read)
+        (wrote_of K.written K.faults out.old out.new)
         → (result.fault ≡ None) ⊎ (result.fault ≡ Some NoMemory) }
 
-    // Err has the fault's line, or at status 0 the lines of the workers where they are asked for: whole where it didn't fail.
+    // `err` gets the fault's line, or at status 0 the lines of the workers where they are asked for: the whole of it where no write failed.
     ensures reported { Rose (K.faults err.old) (K.faults err.new)
         ⊎ (K.written err.new ≡ written_with (K.written err.old) (reported (asks_report (asked_for_run (map string_bytes words.now))) result.fault result.worked)) }
     ensures reported_front { WrotePart (K.written err.old) (K.written err.new)
@@ -109,23 +94,10 @@ fn run_waiting<R: Threads + Wait + Sync, F: Files, K: Sink, G: Gate>(
 ) -> Ran<F::Src>
     ensures status { result.outcome.status ≡ status_of result.outcome.fault }
     ensures end { EndsAs F.Src.faults F.Src.ends F.Src.left (asked_for_run (map string_bytes words.now)) result.outcome.got.value.items
-        (record {
-          table = record { old = F.table files.old; new = F.table files.new };
-          opens = record { old = F.faults files.old; new = F.faults files.new };
-          sources = result.outcome.sources.items;
-          read = result.outcome.read;
-        })
-        (record {
-          written = record { old = K.written out.old; new = K.written out.new };
-          faults = record { old = K.faults out.old; new = K.faults out.new };
-        }) result.outcome.fault }
+        (inputs_of F.table F.faults files.old files.new result.outcome.sources.items result.outcome.read)
+        (wrote_of K.written K.faults out.old out.new) result.outcome.fault }
     ensures worked { WorkedAs F.Src.faults F.Src.ends F.Src.left (asked_for_run (map string_bytes words.now)) result.outcome.got.value.items
-        (record {
-          table = record { old = F.table files.old; new = F.table files.new };
-          opens = record { old = F.faults files.old; new = F.faults files.new };
-          sources = result.outcome.sources.items;
-          read = result.outcome.read;
-        }) result.outcome.fault result.outcome.worked }
+        (inputs_of F.table F.faults files.old files.new result.outcome.sources.items result.outcome.read) result.outcome.fault result.outcome.worked }
     ensures left { IfSome result.outcome.left (λ left. IsSomeAnd result.outcome.passes (λ passes.
         LeavesNothing (asked_for_run (map string_bytes words.now)) passes.value.items left.items)) }
     ensures seen { IsSeenAt (asked_for_run (map string_bytes words.now)) result.outcome.fault (is_some result.outcome.left) }
@@ -134,6 +106,7 @@ fn run_waiting<R: Threads + Wait + Sync, F: Files, K: Sink, G: Gate>(
         WaitedAs (asked_for_run (map string_bytes words.now)) passes.value.items waited.saw.items waited.rested.items)) }
     ensures attended { IsSeenAt (asked_for_run (map string_bytes words.now)) result.outcome.fault (is_some result.outcome.waited) }
     ensures both { OnSome result.outcome.waited (IsSome result.outcome.left) }
+    ensures unstaged { result.outcome.staged ≡ None }
     ensures taken { result.outcome.fault ≡ Some (Fault.Words WordsFault.NotUnderstood) → is_taken_for_run (map string_bytes words.now) ≡ false }
     ensures report { result.outcome.fault ≡ None → result.report ≡ asks_report (asked_for_run (map string_bytes words.now)) }
 {

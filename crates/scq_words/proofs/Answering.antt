@@ -6,8 +6,8 @@ use Rattle.std.specs.Option.{option_or}
 use Rattle.clap.specs.Words.{App, Row, all_of, first_of, first_value, matched_of, matches_of, raw_values, rows_of, takes}
 use Rattle.clap.specs.declared.parser.matches.Found.{Found}
 use Rattle.clap.proofs.WalkLemmas.{first_value-rows, raw_values-rows}
-use Rattle.scq_words.specs.Commands.{run_app, self_app, judge_app, text_app}
-use Rattle.scq_words.specs.Asked.{Asked, RunTexts, SelfTexts, answered_by, asked_of_judge, judge_files, judge_tests, judged, asked_of_run, asked_of_self, asked_of_text, is_given, refused_names, text_command, text_file, whole, with_flag, first_of_tests, generated, refused_by_clap, run, run_asked, run_tests, run_texts, self_asked, self_tests, self_texts, texts_of_run, texts_of_self}
+use Rattle.scq_words.specs.Commands.{run_app, stages_app, self_app, judge_app, text_app}
+use Rattle.scq_words.specs.Asked.{Asked, RunTexts, SelfTexts, StagesTexts, answered_by, asked_of_judge, judge_files, judge_tests, judged, asked_of_run, asked_of_self, asked_of_stages, asked_of_text, is_given, refused_names, text_command, text_file, whole, with_flag, first_of_tests, generated, refused_by_clap, run, run_asked, run_tests, run_texts, self_asked, self_tests, self_texts, staged, stages_asked, stages_tests, stages_texts, texts_of_run, texts_of_self, texts_of_stages}
 use Rattle.scq_words.specs.declared.fault.WordsFault.{WordsFault}
 use Rattle.scq_words.specs.declared.fault.WordsFault.TheVariants.{NoName, NotUnderstood}
 use Rattle.scq_words.specs.declared.text_request.TextCommand.{TextCommand}
@@ -23,18 +23,29 @@ files-same : (f : Found) (rows : List Row) (name : List ℕ) (files : Option (Li
     → unwrap_or files [] ≡ unwrap_or (all_of name rows) []
 files-same f rows name files same got = ap (λ o. unwrap_or o []) (got ∙ raw_values-rows f name ∙ ap (all_of name) same)
 
-pub run-texts : (f : Found) (rows : List Row) (workers order size topics report : Option (List ℕ)) (files : Option (List (List ℕ))) → rows_of f ≡ rows
-    → workers ≡ first_value f (codes "workers") → order ≡ first_value f (codes "order") → size ≡ first_value f (codes "size")
+pub run-texts : (f : Found) (rows : List Row) (workers order size topics report : Option (List ℕ)) (files : Option (List (List ℕ))) (names : List (List ℕ))
+    → rows_of f ≡ rows → workers ≡ first_value f (codes "workers") → order ≡ first_value f (codes "order") → size ≡ first_value f (codes "size")
     → topics ≡ first_value f (codes "topics") → report ≡ first_value f (codes "report")
-    → files ≡ option_map raw_values (matched_of f (codes "files")) → texts_of_run workers order size topics report (unwrap_or files []) ≡ run_texts rows
-run-texts f rows workers order size topics report files same w o s t r fs =
+    → files ≡ option_map raw_values (matched_of f (codes "files")) → names ≡ unwrap_or files []
+    → texts_of_run workers order size topics report names ≡ run_texts rows
+run-texts f rows workers order size topics report files names same w o s t r fs is =
     let ew = text-same f rows (codes "workers") workers same w in
     let eo = text-same f rows (codes "order") order same o in
     let es = text-same f rows (codes "size") size same s in
     let et = text-same f rows (codes "topics") topics same t in
     let er = text-same f rows (codes "report") report same r in
-    let ef = files-same f rows (codes "files") files same fs in
+    let ef = is ∙ files-same f rows (codes "files") files same fs in
     λ i. texts_of_run (ew i) (eo i) (es i) (et i) (er i) (ef i)
+
+pub stages-texts : (f : Found) (rows : List Row) (workers order size : Option (List ℕ)) (files : Option (List (List ℕ))) (names : List (List ℕ))
+    → rows_of f ≡ rows → workers ≡ first_value f (codes "workers") → order ≡ first_value f (codes "order") → size ≡ first_value f (codes "size")
+    → files ≡ option_map raw_values (matched_of f (codes "files")) → names ≡ unwrap_or files [] → texts_of_stages workers order size names ≡ stages_texts rows
+stages-texts f rows workers order size files names same w o s fs is =
+    let ew = text-same f rows (codes "workers") workers same w in
+    let eo = text-same f rows (codes "order") order same o in
+    let es = text-same f rows (codes "size") size same s in
+    let ef = is ∙ files-same f rows (codes "files") files same fs in
+    λ i. texts_of_stages (ew i) (eo i) (es i) (ef i)
 
 pub self-texts : (f : Found) (rows : List Row) (seed lines workers : Option (List ℕ)) → rows_of f ≡ rows
     → seed ≡ first_value f (codes "seed") → lines ≡ first_value f (codes "lines") → workers ≡ first_value f (codes "workers")
@@ -45,9 +56,9 @@ self-texts f rows seed lines workers same s l w =
     let ew = text-same f rows (codes "workers") workers same w in
     λ i. texts_of_self (es i) (el i) (ew i)
 
-pub judge-texts : (f : Found) (rows : List Row) (files : Option (List (List ℕ))) → rows_of f ≡ rows
-    → files ≡ option_map raw_values (matched_of f (codes "files")) → unwrap_or files [] ≡ judge_files rows
-judge-texts f rows files same got = files-same f rows (codes "files") files same got
+pub judge-texts : (f : Found) (rows : List Row) (files : Option (List (List ℕ))) (names : List (List ℕ)) → rows_of f ≡ rows
+    → files ≡ option_map raw_values (matched_of f (codes "files")) → names ≡ unwrap_or files [] → names ≡ judge_files rows
+judge-texts f rows files names same got is = is ∙ files-same f rows (codes "files") files same got
 
 -- `clap` takes the words, and then the tests decide
 after_clap : (clap rest : Option WordsFault) (what : Asked) (said : Result Asked WordsFault) → clap ≡ None → answered_by rest what ≡ said
@@ -61,6 +72,14 @@ unfolding asked_of_run
 run-answer words t said passes is answer =
     after_clap (refused_by_clap run_app words) _ _ said passes
     (ap (λ (t : RunTexts). answered_by (first_of_tests (run_tests t)) (run (run_asked t))) (sym is) ∙ answer)
+
+pub stages-answer : (words : List (List ℕ)) (t : StagesTexts) (said : Result Asked WordsFault) → refused_by_clap stages_app words ≡ None
+    → t ≡ stages_texts (matches_of stages_app words)
+    → answered_by (first_of_tests (stages_tests t)) (staged (stages_asked t)) ≡ said → asked_of_stages words ≡ said
+unfolding asked_of_stages
+stages-answer words t said passes is answer =
+    after_clap (refused_by_clap stages_app words) _ _ said passes
+    (ap (λ (t : StagesTexts). answered_by (first_of_tests (stages_tests t)) (staged (stages_asked t))) (sym is) ∙ answer)
 
 pub self-answer : (words : List (List ℕ)) (t : SelfTexts) (said : Result Asked WordsFault) → refused_by_clap self_app words ≡ None
     → t ≡ self_texts (matches_of self_app words)
@@ -95,6 +114,13 @@ unfolding asked_of_run
 asked-refused-run words fault refused =
     let t = run_texts (matches_of run_app words) in
     ap (λ test. answered_by (option_or test (first_of_tests (run_tests t))) (run (run_asked t))) refused
+
+pub asked-refused-stages : (words : List (List ℕ)) (fault : WordsFault) → refused_by_clap stages_app words ≡ Some fault
+    → asked_of_stages words ≡ Err fault
+unfolding asked_of_stages
+asked-refused-stages words fault refused =
+    let t = stages_texts (matches_of stages_app words) in
+    ap (λ test. answered_by (option_or test (first_of_tests (stages_tests t))) (staged (stages_asked t))) refused
 
 pub asked-refused-self : (words : List (List ℕ)) (fault : WordsFault) → refused_by_clap self_app words ≡ Some fault → asked_of_self words ≡ Err fault
 unfolding asked_of_self
@@ -131,10 +157,10 @@ asked-refused-text command words fault refused =
     let what = whole (record { command = text_command command rows; file = text_file rows }) in
     ap (λ test. answered_by (option_or test (first_of_tests (refused_names (text_file rows ∷ []) ∷ []))) what) refused
 
--- a text or the empty one, behind a reference or not
-pub text_or_empty : {X : Type 0} (o : Option X) (d : X) (f : X → List ℕ) → f d ≡ [] → f (unwrap_or o d) ≡ unwrap_or (option_map f o) []
-text_or_empty None d f empty = empty
-text_or_empty (Some x) d f empty = refl
+-- what is given or nothing, behind references or not
+pub given_or_empty : {X A : Type 0} (o : Option X) (d : X) (f : X → List A) → f d ≡ [] → f (unwrap_or o d) ≡ unwrap_or (option_map f o) []
+given_or_empty None d f empty = empty
+given_or_empty (Some x) d f empty = refl
 
 pub name-missing : (name : List ℕ) → eqb (length name) 0 ≡ true → first_of_tests (refused_names (name ∷ []) ∷ []) ≡ Some (NoName 1)
 name-missing name is = rw is refl

@@ -3,7 +3,7 @@ use Rattle.std.proofs.Common.{◌≡◌, refl, true, false, [], ◌∷◌, Ok, E
 use Rattle.std.specs.Prelude.{codes}
 use Rattle.clap.specs.Faults.{walk_fault, defaults_fault}
 use Rattle.clap.specs.Walk.{walked}
-use Rattle.scq_words.specs.Asked.{asked, asked_of_run, asked_of_self, run, generated}
+use Rattle.scq_words.specs.Asked.{asked, asked_of_run, asked_of_self, asked_of_stages, run, generated, staged}
 use Rattle.scq_words.specs.declared.fault.WordsFault.TheVariants.{NotUnderstood, Workers, NoName, Seed}
 
 row-none : asked [] ≡ Err NotUnderstood
@@ -45,6 +45,15 @@ row-nameless = refl
 row-workers : asked (codes "run" ∷ codes "--workers" ∷ codes "0" ∷ codes "--order" ∷ codes "13" ∷ codes "f" ∷ []) ≡ Err Workers
 unfolding asked_of_run walk_fault walked defaults_fault
 row-workers = refl
+
+row-stages : asked (codes "stages" ∷ codes "--size=16" ∷ codes "f" ∷ [])
+    ≡ Ok (staged (record { workers = 4; order = 6; size = 16; files = codes "f" ∷ [] }))
+unfolding asked_of_stages walk_fault walked defaults_fault
+row-stages = refl
+
+row-stages_report : asked (codes "stages" ∷ codes "--report" ∷ codes "f" ∷ []) ≡ Err NotUnderstood
+unfolding asked_of_stages walk_fault walked defaults_fault
+row-stages_report = refl
 
 row-self : asked (codes "self" ∷ codes "--seed" ∷ codes "1" ∷ codes "--lines=3" ∷ []) ≡ Ok (generated (record { seed = 1; lines = 3; workers = 4 }))
 unfolding asked_of_self walk_fault walked defaults_fault

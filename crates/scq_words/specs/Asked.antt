@@ -7,15 +7,16 @@ use Rattle.clap.specs.Words.{App, Row, all_of, first_of, matches_of}
 use Rattle.clap.specs.Faults.{fault_of}
 use Rattle.scq_topics.specs.declared.kind.Kind.{Kind}
 use Rattle.scq_topics.specs.Topics.{declared_by, entries_of, first_fault}
-use Rattle.scq_words.specs.Commands.{run_app, self_app, judge_app, text_app}
+use Rattle.scq_words.specs.Commands.{run_app, stages_app, self_app, judge_app, text_app}
 use Rattle.scq_words.specs.Numbers.{number_or, refused_outside}
 use Rattle.scq_words.specs.declared.fault.WordsFault.{WordsFault}
 use Rattle.scq_words.specs.declared.fault.WordsFault.TheVariants.{NotUnderstood, Workers, Order, Size, Topics, TooManyFiles, NoName, Seed, Lines}
 use Rattle.scq_words.specs.declared.request.Request.{Request}
-use Rattle.scq_words.specs.declared.request.Request.TheVariants.{Run, SelfRun, Judge, Text}
+use Rattle.scq_words.specs.declared.request.Request.TheVariants.{Run, SelfRun, Judge, Text, Stages}
 use Rattle.scq_words.specs.declared.request.JudgeRequest.{JudgeRequest}
 use Rattle.scq_words.specs.declared.request.RunRequest.{RunRequest}
 use Rattle.scq_words.specs.declared.request.SelfRequest.{SelfRequest}
+use Rattle.scq_words.specs.declared.request.StagesRequest.{StagesRequest}
 use Rattle.scq_words.specs.declared.text_request.TextCommand.{TextCommand}
 use Rattle.scq_words.specs.declared.text_request.TextCommand.TheVariants.{Check, Replay, Order as Ordering}
 use Rattle.scq_words.specs.declared.text_request.TextRequest.{TextRequest}
@@ -64,6 +65,13 @@ pub record RunAsked : Type 0 where
   pub report : Bool
   pub files : List (List ℕ)
 
+-- what is asked of files whose messages go through two stages
+pub record StagesAsked : Type 0 where
+  pub workers : ℕ
+  pub order : ℕ
+  pub size : ℕ
+  pub files : List (List ℕ)
+
 -- what is asked of a generated file
 pub record SelfAsked : Type 0 where
   pub seed : ℕ
@@ -84,6 +92,7 @@ pub data Asked : Type 0 where
   generated : SelfAsked → Asked
   judged : JudgeAsked → Asked
   whole : TextAsked → Asked
+  staged : StagesAsked → Asked
 
 -- the texts of `run`'s arguments
 pub record RunTexts : Type 0 where
@@ -92,6 +101,13 @@ pub record RunTexts : Type 0 where
   pub size : Option (List ℕ)
   pub topics : Option (List ℕ)
   pub report : Option (List ℕ)
+  pub files : List (List ℕ)
+
+-- those of `stages`
+pub record StagesTexts : Type 0 where
+  pub workers : Option (List ℕ)
+  pub order : Option (List ℕ)
+  pub size : Option (List ℕ)
   pub files : List (List ℕ)
 
 -- those of `self`
@@ -104,6 +120,9 @@ abbrev pub texts_of_run : Option (List ℕ) → Option (List ℕ) → Option (Li
 texts_of_run workers order size topics report files =
     record { workers = workers; order = order; size = size; topics = topics; report = report; files = files }
 
+abbrev pub texts_of_stages : Option (List ℕ) → Option (List ℕ) → Option (List ℕ) → List (List ℕ) → StagesTexts
+texts_of_stages workers order size files = record { workers = workers; order = order; size = size; files = files }
+
 abbrev pub texts_of_self : Option (List ℕ) → Option (List ℕ) → Option (List ℕ) → SelfTexts
 texts_of_self seed lines workers = record { seed = seed; lines = lines; workers = workers }
 
@@ -111,6 +130,11 @@ abbrev pub run_texts : List Row → RunTexts
 run_texts rows =
     texts_of_run (first_of (codes "workers") rows) (first_of (codes "order") rows) (first_of (codes "size") rows)
     (first_of (codes "topics") rows) (first_of (codes "report") rows) (unwrap_or (all_of (codes "files") rows) [])
+
+abbrev pub stages_texts : List Row → StagesTexts
+stages_texts rows =
+    texts_of_stages (first_of (codes "workers") rows) (first_of (codes "order") rows) (first_of (codes "size") rows)
+    (unwrap_or (all_of (codes "files") rows) [])
 
 abbrev pub self_texts : List Row → SelfTexts
 self_texts rows = texts_of_self (first_of (codes "seed") rows) (first_of (codes "lines") rows) (first_of (codes "workers") rows)
@@ -122,6 +146,16 @@ run_tests t =
     ∷ refused_outside 1 12 Order t.order
     ∷ refused_outside 1 65536 Size t.size
     ∷ refused_topics t.topics
+    ∷ refused_if (nat_lt 64 (length t.files)) TooManyFiles
+    ∷ refused_names t.files
+    ∷ []
+
+-- those of `stages`: there are no topics to test
+abbrev pub stages_tests : StagesTexts → List (Option WordsFault)
+stages_tests t =
+    refused_outside 1 4096 Workers t.workers
+    ∷ refused_outside 1 12 Order t.order
+    ∷ refused_outside 1 65536 Size t.size
     ∷ refused_if (nat_lt 64 (length t.files)) TooManyFiles
     ∷ refused_names t.files
     ∷ []
@@ -145,6 +179,14 @@ run_asked t = record {
   files = t.files;
 }
 
+abbrev pub stages_asked : StagesTexts → StagesAsked
+stages_asked t = record {
+  workers = workers_or (number_or 6 t.order) t.workers;
+  order = number_or 6 t.order;
+  size = number_or 65536 t.size;
+  files = t.files;
+}
+
 abbrev pub self_asked : SelfTexts → SelfAsked
 self_asked t = record {
   seed = number_or 0 t.seed;
@@ -160,6 +202,10 @@ answered_by (Some fault) what = Err fault
 unfoldable pub asked_of_run : List (List ℕ) → Result Asked WordsFault
 asked_of_run words = let t = run_texts (matches_of run_app words) in
     answered_by (first_of_tests (refused_by_clap run_app words ∷ run_tests t)) (run (run_asked t))
+
+unfoldable pub asked_of_stages : List (List ℕ) → Result Asked WordsFault
+asked_of_stages words = let t = stages_texts (matches_of stages_app words) in
+    answered_by (first_of_tests (refused_by_clap stages_app words ∷ stages_tests t)) (staged (stages_asked t))
 
 unfoldable pub asked_of_self : List (List ℕ) → Result Asked WordsFault
 asked_of_self words = let t = self_texts (matches_of self_app words) in
@@ -201,6 +247,7 @@ asked (command ∷ words) =
     else if bytes_eq command (codes "judge") then asked_of_judge words
     else if bytes_eq command (codes "check") then asked_of_text Check words
     else if bytes_eq command (codes "replay") then asked_of_text Replay words
+    else if bytes_eq command (codes "stages") then asked_of_stages words
     else Err NotUnderstood
 
 -- the same of a program that understands `run` alone
@@ -219,6 +266,9 @@ run_of r = record {
   files = map string_bytes r.files.items;
 }
 
+abbrev pub stages_of : StagesRequest → StagesAsked
+stages_of r = record { workers = r.workers; order = r.order; size = r.size; files = map string_bytes r.files.items }
+
 abbrev pub self_of : SelfRequest → SelfAsked
 self_of r = record { seed = r.seed; lines = r.lines; workers = r.workers }
 
@@ -233,3 +283,4 @@ asked_by (Run r) = run (run_of r)
 asked_by (SelfRun r) = generated (self_of r)
 asked_by (Judge r) = judged (judge_of r)
 asked_by (Text r) = whole (text_of r)
+asked_by (Stages r) = staged (stages_of r)

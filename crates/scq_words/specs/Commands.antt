@@ -1,5 +1,5 @@
--- The commands as `clap` knows them: `run` and `self` with their options and files, `judge` with files, `check` and `replay` with one
--- file, and `replay` with a flag besides.
+-- The commands as `clap` knows them: `run` and `stages` with options and files, `self` with options, `judge` with files, `check` and `replay`
+-- with one file, and `replay` with a flag besides.
 use Rattle.std.specs.Prelude.{ℕ, List, Some, true, codes}
 use Rattle.clap.specs.Words.{App, Rule, new_app, new_rule, with_rule}
 use Rattle.scq_words.specs.declared.text_request.TextCommand.{TextCommand}
@@ -27,14 +27,17 @@ flag_rule name = record (option_rule name) { action = Some SetTrue }
 abbrev pub files_rule : Rule
 files_rule = record (new_rule (codes "files")) { required = true; action = Some Append }
 
--- `run` with the options that are numbers
-abbrev pub run_numbers_app : App
-run_numbers_app =
-    with_rule (with_rule (with_rule (plain_app (codes "run")) (option_rule (codes "workers")))
-    (option_rule (codes "order"))) (option_rule (codes "size"))
+-- a command with the options that are numbers of a run
+abbrev pub numbers_app : List ℕ → App
+numbers_app name =
+    with_rule (with_rule (with_rule (plain_app name) (option_rule (codes "workers"))) (option_rule (codes "order"))) (option_rule (codes "size"))
 
 abbrev pub run_app : App
-run_app = with_rule (with_rule (with_rule run_numbers_app (option_rule (codes "topics"))) (flag_rule (codes "report"))) files_rule
+run_app =
+    with_rule (with_rule (with_rule (numbers_app (codes "run")) (option_rule (codes "topics"))) (flag_rule (codes "report"))) files_rule
+
+abbrev pub stages_app : App
+stages_app = with_rule (numbers_app (codes "stages")) files_rule
 
 abbrev pub self_app : App
 self_app =

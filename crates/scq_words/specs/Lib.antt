@@ -1,4 +1,5 @@
 pub mod Numbers
 pub mod Commands
 pub mod Asked
+pub mod Parsing
 pub mod Ranges

@@ -3,8 +3,8 @@ use Rattle.std.specs.Prelude.{ℕ, ◌<◌, ◌≤◌, Bool, false, List, [], �
 use Rattle.std.specs.List.{All}
 use Rattle.std.specs.Str.{bytes_eq}
 use Rattle.clap.specs.Words.{takes}
-use Rattle.scq_words.specs.Commands.{run_app, self_app, judge_app, text_app}
-use Rattle.scq_words.specs.Asked.{Asked, RunAsked, SelfAsked, JudgeAsked, run, generated, judged, whole}
+use Rattle.scq_words.specs.Commands.{run_app, stages_app, self_app, judge_app, text_app}
+use Rattle.scq_words.specs.Asked.{Asked, RunAsked, StagesAsked, SelfAsked, JudgeAsked, run, generated, judged, whole, staged}
 use Rattle.scq_words.specs.declared.text_request.TextCommand.TheVariants.{Check, Replay}
 
 -- the first word is a command, and `clap` takes those after it as its arguments
@@ -16,6 +16,7 @@ is_taken (command ∷ words) =
     else if bytes_eq command (codes "judge") then takes judge_app words
     else if bytes_eq command (codes "check") then takes (text_app Check) words
     else if bytes_eq command (codes "replay") then takes (text_app Replay) words
+    else if bytes_eq command (codes "stages") then takes stages_app words
     else false
 
 -- the same where the command is `run`
@@ -29,6 +30,14 @@ pub record IsRunInRange (a : RunAsked) : Type 0 where
   pub workers : (1 ≤ a.workers) × (a.workers ≤ 4096)
   pub size : (1 ≤ a.size) × (a.size ≤ 65536)
   pub topics : length a.topics ≤ 16
+  pub files : length a.files ≤ 64
+  pub names : All (λ name. 0 < length name) a.files
+
+-- those of stages are in the same ranges
+pub record IsStagesInRange (a : StagesAsked) : Type 0 where
+  pub order : (1 ≤ a.order) × (a.order ≤ 12)
+  pub workers : (1 ≤ a.workers) × (a.workers ≤ 4096)
+  pub size : (1 ≤ a.size) × (a.size ≤ 65536)
   pub files : length a.files ≤ 64
   pub names : All (λ name. 0 < length name) a.files
 
@@ -48,3 +57,4 @@ IsInRange (run a) = IsRunInRange a
 IsInRange (generated a) = IsSelfInRange a
 IsInRange (judged a) = IsJudgeInRange a
 IsInRange (whole a) = 0 < length a.file
+IsInRange (staged a) = IsStagesInRange a

@@ -19,10 +19,8 @@ pub(crate) fn read_judge(alloc: Global, words: &[String]) -> Result<JudgeRequest
     ensures ranges { IfOk result (λ request. IsJudgeInRange (judge_of request)) }
 {
     let matches = judge_matches(alloc, words)?;
-    match matches.get_strs("files") {
-        Some(files) => check_judge(alloc, files),
-        None => check_judge(alloc, &[]),
-    }
+    let files = matches.get_strs("files").unwrap_or(&[]);
+    check_judge(alloc, files)
 }
 
 /// Makes the tests in their order.

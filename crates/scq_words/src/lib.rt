@@ -13,10 +13,11 @@ mod reading;
 mod request;
 mod run;
 mod self_words;
+mod stages_words;
 mod text_request;
 mod workers;
 
 pub use fault::{WordsError, WordsFault};
 pub use reading::{read_run_words, read_words};
-pub use request::{JudgeRequest, Request, RunRequest, SelfRequest};
+pub use request::{JudgeRequest, Request, RunRequest, SelfRequest, StagesRequest};
 pub use text_request::{TextCommand, TextRequest};

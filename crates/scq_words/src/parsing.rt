@@ -1,42 +1,45 @@
-ghost use Rattle.std.specs.Prelude.{◌≡◌, ◌≢◌, IfOk, IfErr, map, string_bytes, false};
-ghost use Rattle.clap.specs.Words.{app_of, found_of, kind_of, matches_of, rows_of, rule_of, takes};
-ghost use Rattle.scq_words.specs.Asked.{refused_by_clap};
-ghost use Rattle.scq_words.specs.Commands.{files_rule, flag_rule, judge_app, named_app, option_rule, plain_app, run_app, run_numbers_app, self_app, text_app};
+ghost use Rattle.std.specs.Prelude.{◌≡◌, ◌≢◌, IfOk, map, string_bytes, true, false};
+ghost use Rattle.clap.specs.Words.{app_of, is_simple_and_free, kind_of, rule_of};
+ghost use Rattle.scq_words.specs.Commands.{files_rule, flag_rule, judge_app, named_app, numbers_app, option_rule, plain_app, run_app, self_app, stages_app, text_app};
+ghost use Rattle.scq_words.specs.Parsing.{Parses};
 
 use crate::{TextCommand, WordsError, WordsFault};
 use clap::error::ErrorKind;
 use clap::{Arg, ArgAction, ArgMatches, Command, Error};
 use std::alloc::{AllocError, Global};
 
-/// The matches of `run`'s words, or the one fault of words that `clap` refuses.
-pub fn run_matches<'a>(alloc: Global, words: &'a [String]) -> Result<ArgMatches<'a>, WordsError>
-    ensures rows { IfOk result (λ m. rows_of (found_of m) ≡ matches_of run_app (map string_bytes words.entry.now)) }
-    ensures passes { IfOk result (λ m. refused_by_clap run_app (map string_bytes words.entry.now) ≡ None) }
-    ensures refused { IfErr result (λ error. (error ≢ WordsError.NoMemory) → (error ≡ WordsError.Refused WordsFault.NotUnderstood)
-        × (refused_by_clap run_app (map string_bytes words.entry.now) ≡ Some WordsFault.NotUnderstood)
-        × (takes run_app (map string_bytes words.entry.now) ≡ false)) }
+/// The matches of the words, or the one fault of words that this command refuses.
+fn parse<'a>(command: Command<'a>, words: &'a [String]) -> Result<ArgMatches<'a>, WordsError>
+    requires { is_simple_and_free (app_of command) ≡ true }
+    ensures { Parses (app_of command.entry) (map string_bytes words.entry.now) result }
 {
-    let command = run_command(alloc)?;
     match command.try_get_matches_from(words) {
         Ok(matches) => Ok(matches),
         Err(error) => Err(error_of(&error)),
     }
 }
 
+/// The matches of `run`'s words, or the one fault of words that `clap` refuses.
+pub fn run_matches<'a>(alloc: Global, words: &'a [String]) -> Result<ArgMatches<'a>, WordsError>
+    ensures { Parses run_app (map string_bytes words.entry.now) result }
+{
+    parse(run_command(alloc)?, words)
+}
+
 fn run_command<'a>(alloc: Global) -> Result<Command<'a>, AllocError>
     ensures { IfOk result (λ command. app_of command ≡ run_app) }
 {
-    run_options(alloc)?
+    numbers_command(alloc, "run")?
         .arg(option(alloc, "topics"))?
         .arg(flag(alloc, "report"))?
         .arg(files(alloc))
 }
 
-/// `run` with the options that are numbers.
-fn run_options<'a>(alloc: Global) -> Result<Command<'a>, AllocError>
-    ensures { IfOk result (λ command. app_of command ≡ run_numbers_app) }
+/// A command with the options that are numbers of a run.
+fn numbers_command<'a>(alloc: Global, name: &'a str) -> Result<Command<'a>, AllocError>
+    ensures { IfOk result (λ command. app_of command ≡ numbers_app name.entry.now) }
 {
-    plain_command(alloc, "run")
+    plain_command(alloc, name)
         .arg(option(alloc, "workers"))?
         .arg(option(alloc, "order"))?
         .arg(option(alloc, "size"))
@@ -51,19 +54,24 @@ fn files<'a>(alloc: Global) -> Arg<'a>
         .action(ArgAction::Append)
 }
 
+/// The matches of `stages`'s words, or the one fault of words that `clap` refuses.
+pub fn stages_matches<'a>(alloc: Global, words: &'a [String]) -> Result<ArgMatches<'a>, WordsError>
+    ensures { Parses stages_app (map string_bytes words.entry.now) result }
+{
+    parse(stages_command(alloc)?, words)
+}
+
+fn stages_command<'a>(alloc: Global) -> Result<Command<'a>, AllocError>
+    ensures { IfOk result (λ command. app_of command ≡ stages_app) }
+{
+    numbers_command(alloc, "stages")?.arg(files(alloc))
+}
+
 /// The matches of `self`'s words, or the one fault of words that `clap` refuses.
 pub fn self_matches<'a>(alloc: Global, words: &'a [String]) -> Result<ArgMatches<'a>, WordsError>
-    ensures rows { IfOk result (λ m. rows_of (found_of m) ≡ matches_of self_app (map string_bytes words.entry.now)) }
-    ensures passes { IfOk result (λ m. refused_by_clap self_app (map string_bytes words.entry.now) ≡ None) }
-    ensures refused { IfErr result (λ error. (error ≢ WordsError.NoMemory) → (error ≡ WordsError.Refused WordsFault.NotUnderstood)
-        × (refused_by_clap self_app (map string_bytes words.entry.now) ≡ Some WordsFault.NotUnderstood)
-        × (takes self_app (map string_bytes words.entry.now) ≡ false)) }
+    ensures { Parses self_app (map string_bytes words.entry.now) result }
 {
-    let command = self_command(alloc)?;
-    match command.try_get_matches_from(words) {
-        Ok(matches) => Ok(matches),
-        Err(error) => Err(error_of(&error)),
-    }
+    parse(self_command(alloc)?, words)
 }
 
 fn self_command<'a>(alloc: Global) -> Result<Command<'a>, AllocError>
@@ -77,17 +85,9 @@ fn self_command<'a>(alloc: Global) -> Result<Command<'a>, AllocError>
 
 /// The matches of `judge`'s words, or the one fault of words that `clap` refuses.
 pub fn judge_matches<'a>(alloc: Global, words: &'a [String]) -> Result<ArgMatches<'a>, WordsError>
-    ensures rows { IfOk result (λ m. rows_of (found_of m) ≡ matches_of judge_app (map string_bytes words.entry.now)) }
-    ensures passes { IfOk result (λ m. refused_by_clap judge_app (map string_bytes words.entry.now) ≡ None) }
-    ensures refused { IfErr result (λ error. (error ≢ WordsError.NoMemory) → (error ≡ WordsError.Refused WordsFault.NotUnderstood)
-        × (refused_by_clap judge_app (map string_bytes words.entry.now) ≡ Some WordsFault.NotUnderstood)
-        × (takes judge_app (map string_bytes words.entry.now) ≡ false)) }
+    ensures { Parses judge_app (map string_bytes words.entry.now) result }
 {
-    let command = judge_command(alloc)?;
-    match command.try_get_matches_from(words) {
-        Ok(matches) => Ok(matches),
-        Err(error) => Err(error_of(&error)),
-    }
+    parse(judge_command(alloc)?, words)
 }
 
 fn judge_command<'a>(alloc: Global) -> Result<Command<'a>, AllocError>
@@ -102,17 +102,9 @@ pub fn text_matches<'a>(
     command: TextCommand,
     words: &'a [String],
 ) -> Result<ArgMatches<'a>, WordsError>
-    ensures rows { IfOk result (λ m. rows_of (found_of m) ≡ matches_of (text_app command) (map string_bytes words.entry.now)) }
-    ensures passes { IfOk result (λ m. refused_by_clap (text_app command) (map string_bytes words.entry.now) ≡ None) }
-    ensures refused { IfErr result (λ error. (error ≢ WordsError.NoMemory) → (error ≡ WordsError.Refused WordsFault.NotUnderstood)
-        × (refused_by_clap (text_app command) (map string_bytes words.entry.now) ≡ Some WordsFault.NotUnderstood)
-        × (takes (text_app command) (map string_bytes words.entry.now) ≡ false)) }
+    ensures { Parses (text_app command) (map string_bytes words.entry.now) result }
 {
-    let command = text_command(alloc, command)?;
-    match command.try_get_matches_from(words) {
-        Ok(matches) => Ok(matches),
-        Err(error) => Err(error_of(&error)),
-    }
+    parse(text_command(alloc, command)?, words)
 }
 
 fn text_command<'a>(alloc: Global, command: TextCommand) -> Result<Command<'a>, AllocError>

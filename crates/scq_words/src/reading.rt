@@ -6,6 +6,7 @@ ghost use Rattle.scq_words.specs.Ranges.{IsInRange, IsRunInRange, is_taken, is_t
 use crate::judge_words::read_judge;
 use crate::run::read_run;
 use crate::self_words::read_self;
+use crate::stages_words::read_stages;
 use crate::text_request::read_text;
 use crate::{Request, RunRequest, TextCommand, WordsError, WordsFault};
 use std::alloc::Global;
@@ -28,6 +29,7 @@ pub fn read_words(alloc: Global, words: &[String]) -> Result<Request, WordsError
             "judge" => Ok(Request::Judge(read_judge(alloc, rest)?)),
             "check" => Ok(Request::Text(read_text(alloc, TextCommand::Check, rest)?)),
             "replay" => Ok(Request::Text(read_text(alloc, TextCommand::Replay, rest)?)),
+            "stages" => Ok(Request::Stages(read_stages(alloc, rest)?)),
             _ => Err(WordsError::Refused(WordsFault::NotUnderstood)),
         },
         [] => Err(WordsError::Refused(WordsFault::NotUnderstood)),

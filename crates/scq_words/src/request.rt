@@ -17,6 +17,16 @@ pub struct RunRequest {
     ghost few: { vec_len files ≤ 64 },
 }
 
+/// What is asked of files whose messages go through two stages. All is in the ranges of a run.
+#[derive(Debug, Drop)]
+pub struct StagesRequest {
+    pub workers: u32,
+    pub order: u32,
+    pub size: u32,
+    pub files: Vec<String>,
+    ghost few: { vec_len files ≤ 64 },
+}
+
 /// What is asked of a generated file: the seed is in `0..=2147483647`, the lines in `1..=1000000`, the
 /// workers in `1..=4096`.
 #[derive(Clone, Copy, Debug, PartialEq, Eq)]
@@ -41,4 +51,5 @@ pub enum Request {
     SelfRun(SelfRequest),
     Judge(JudgeRequest),
     Text(TextRequest),
+    Stages(StagesRequest),
 }

@@ -28,10 +28,8 @@ pub fn read_run(alloc: Global, words: &[String]) -> Result<RunRequest, WordsErro
     let size = matches.get_str("size");
     let topics = matches.get_str("topics");
     let report = matches.get_str("report");
-    match matches.get_strs("files") {
-        Some(files) => check_run(alloc, workers, order, size, topics, report, files),
-        None => check_run(alloc, workers, order, size, topics, report, &[]),
-    }
+    let files = matches.get_strs("files").unwrap_or(&[]);
+    check_run(alloc, workers, order, size, topics, report, files)
 }
 
 /// Makes the tests in their order.

@@ -16,18 +16,19 @@ use Rattle.scq_frames.proofs.PayloadParts.{few-parts}
 use Rattle.scq_word.specs.declared.setup.Setup.{Setup}
 use Rattle.scq_band.specs.Standing.{Identity}
 use Rattle.scq_work.specs.Dealings.{AreDealt}
-use Rattle.scq_work.specs.Desks.{HasRun, all_given, ids_of}
-use Rattle.scq_work.specs.Ends.{AreGiven, FileGave}
-use Rattle.scq_work.specs.Files.{files_of, own_of, OfEachFile}
-use Rattle.scq_work.specs.Given.{given_in}
+use Rattle.scq_files.specs.OwnFiles.{all_given, ids_of}
+use Rattle.scq_work.specs.Desks.{HasRun}
+use Rattle.scq_files.specs.Ends.{AreGiven, FileGave}
+use Rattle.scq_files.specs.Files.{files_of, own_of, OfEachFile}
+use Rattle.scq_files.specs.Given.{given_in}
 use Rattle.scq_work.specs.Passing.{parts_in}
-use Rattle.scq_work.specs.Reading.{IsRead, GaveAll, most_parts}
+use Rattle.scq_files.specs.Reading.{IsRead, GaveAll, most_parts}
 use Rattle.scq_work.specs.declared.desk.Desk.{Desk}
-use Rattle.scq_work.specs.declared.own_file.OwnFile.{OwnFile}
+use Rattle.scq_files.specs.declared.own_file.OwnFile.{OwnFile}
 use Rattle.scq_work.proofs.Cleared.{IsWholeFile, AllWhole}
-use Rattle.scq_work.proofs.Conclusion.{flat-of}
-use Rattle.scq_work.proofs.Dealt.{upto, seconds, all-dealt, collected}
-use Rattle.scq_work.proofs.Lists.{map-reverse}
+use Rattle.std.proofs.lemmas.List.Folds.{flat_map-map}
+use Rattle.scq_files.proofs.Dealt.{upto, seconds, all-dealt, collected}
+use Rattle.scq_files.proofs.Lists.{map-reverse}
 use Rattle.scq_work.proofs.MessageParts.{all-parts-in, flat-parts, own-parts}
 
 -- what a file gave, and that it is not much: all of its messages where W holds, which says that all files were read to their ends
@@ -60,7 +61,7 @@ files-gave {S} topics size faults end_count left W (f ∷ files) read whole =
 
 -- the lists of files, one behind the other
 flat-lists : {X A : Type 0} (f : X → List A) (xs : List X) → flat_map (λ l. l) (map f xs) ≡ flat_map f xs
-flat-lists f xs = flat-of (λ (l : List _). l) f xs
+flat-lists f xs = flat_map-map (λ (l : List _). l) f xs
 
 -- what is made of each of several by its number
 by-number : {X A : Type 0} (f : X → List A) (m : ℕ → List A) (xs : List X) (from : ℕ) → ((k : ℕ) (d : X) → k < length xs → f (get_or xs k d) ≡ m (from + k))

@@ -9,6 +9,7 @@ use Rattle.std.specs.List.Sorted.{IsPermutation}
 use Rattle.std.specs.Option.{option_map, option_to_list}
 use Rattle.std.proofs.lemmas.List.{length-map, get_or-map}
 use Rattle.std.proofs.lemmas.List.Elements.{All-map, All-append, All-nil}
+use Rattle.std.proofs.lemmas.List.Folds.{flat_map-map}
 use Rattle.std.proofs.lemmas.List.Sums.{sum_by-cons}
 use Rattle.std.proofs.lemmas.List.Sorted.{All-permutation, IsPermutation-sym, IsPermutation-reverse, IsPermutation-map, IsPermutation-trans}
 use Rattle.std.proofs.lemmas.Option.{slice_get-map, slice_get_within, slice_get_cases, get_or_from_slice_get}
@@ -26,26 +27,31 @@ use Rattle.scq_band.proofs.ClosedCounts.{sum_by-map}
 use Rattle.scq_queue.specs.Closing.{EachTakeIsASend, NoPlaceIsSentTwice, NoPlaceIsTakenTwice, IsBalance, EachSendPassedIsTaken, AllFullsStand, NoneIsKeptWithinTheLimit, IsAllThere, callers_of}
 use Rattle.scq_queue.specs.Lists.{sends_of, takes_of}
 use Rattle.scq_queue.specs.Passes.{PassStanding, HeldStanding}
-use Rattle.scq_work.specs.AllWorkers.{OfEachWorker, HaveAnswered, HaveShared}
-use Rattle.scq_work.specs.Ends.{AreGiven}
-use Rattle.scq_work.specs.Files.{own_of}
+use Rattle.scq_passes.specs.AllPasses.{OfEachWorker, HaveShared}
+use Rattle.scq_work.specs.AllWorkers.{HaveAnswered, HasHelped}
+use Rattle.scq_files.specs.Ends.{AreGiven}
+use Rattle.scq_files.specs.Files.{own_of}
 use Rattle.scq_work.specs.Members.{AnswersItsTakes, AnswersItsFulls}
 use Rattle.scq_work.specs.Passing.{parts_in, HasPassedOn, FollowsCalls}
-use Rattle.scq_work.specs.Reading.{IsRead}
-use Rattle.scq_work.specs.Records.{HoldsNothingAtEachFull, HelpsAfterEachFull, MeetsNoSpent}
-use Rattle.scq_work.specs.Together.{SendsAreTakes, NothingIsLeft, NoneSpent, IsBounded, HasRetired, HasSwept}
-use Rattle.scq_work.specs.Working.{IsThrifty, HasListed, index_of}
+use Rattle.scq_files.specs.Reading.{IsRead}
+use Rattle.scq_passes.specs.Records.{HoldsNothingAtEachFull, MeetsNoSpent}
+use Rattle.scq_passes.specs.Together.{SendsAreTakes, NothingIsLeft, NoneSpent, IsBounded, HasSwept}
+use Rattle.scq_passes.specs.Calls.{IsThrifty, index_of}
+use Rattle.scq_work.specs.Working.{HasListed}
 use Rattle.scq_work.specs.declared.desk.Desk.{Desk}
-use Rattle.scq_work.specs.declared.own_file.OwnFile.{OwnFile}
+use Rattle.scq_files.specs.declared.own_file.OwnFile.{OwnFile}
 use Rattle.scq_work.proofs.Cleared.{AllWhole}
 use Rattle.scq_work.proofs.AllGave.{given_of, worker_messages, AllRan, given, is-given, own-given, all-parts-passed, few-in-all}
-use Rattle.scq_work.proofs.Conclusion.{Work, IsWork, passes_in, messages_in, members_of, flat-of, all-taken, all-answered}
-use Rattle.scq_work.proofs.Lists.{map-map}
+use Rattle.std.proofs.lemmas.List.Folds.{flat_map-map}
+use Rattle.scq_work.proofs.Conclusion.{Work, IsWork, passes_in, messages_in, members_of, all-taken, all-answered}
+use Rattle.scq_files.proofs.Lists.{map-map}
 use Rattle.scq_work.proofs.MessageParts.{known-parts, flat-parts}
-use Rattle.scq_work.proofs.NoneSpent.{passes_of, messages_of, none-spent, all-bounded}
-use Rattle.scq_work.proofs.Orders.{of-known, given-known, members-whole}
+use Rattle.scq_passes.proofs.NoneSpent.{passes_of, messages_of, none-spent, all-bounded}
+use Rattle.scq_files.proofs.GivenLemmas.{of-known, given-known}
+use Rattle.scq_work.proofs.Orders.{members-whole}
 use Rattle.scq_work.proofs.PartMembers.{members-known, members-short}
-use Rattle.scq_work.proofs.SendsAndTakes.{stands-at, sends-are-takes, no-place-twice, nothing-is-left}
+use Rattle.scq_passes.proofs.ManyLists.{stands-at}
+use Rattle.scq_passes.proofs.SendsAndTakes.{sends-are-takes, no-place-twice, nothing-is-left}
 
 -- what `close` says of the passes
 pub record HasClosed {B : Type 0} (c : Setup) (passes : List (PassStanding B)) (held : List (HeldStanding B)) (left : List ℕ) : Type 0 where
@@ -149,12 +155,12 @@ module _ {B S : Type 0} where
           (subst (λ (ps : List (PassStanding B)). NoPlaceIsTakenTwice ps) (sym passes-same) closed.taken_once)
           (subst (λ (ps : List (PassStanding B)). NoneIsKeptWithinTheLimit c ps) (sym passes-same) closed.limits))
 
-      bounded : All IsBounded (passes_at desks)
-      bounded = All-map IsBounded (λ (d : Desk B S). d.worker.pass) desks (λ k d less.
+      bounded : All (IsBounded (2 ^ 36)) (passes_at desks)
+      bounded = All-map (IsBounded (2 ^ 36)) (λ (d : Desk B S). d.worker.pass) desks (λ k d less.
           let long : k < length works = subst (λ n. k < n) (sym (length-map desks (counted size))) less in
-          let its = all-bounded works few-messages all-thrifty (subst (λ (ps : List (PassStanding B)). EachTakeIsASend ps) (sym passes-same) closed.takes)
+          let its = all-bounded works (2 ^ 36) few-messages all-thrifty (subst (λ (ps : List (PassStanding B)). EachTakeIsASend ps) (sym passes-same) closed.takes)
           (subst (λ (ps : List (PassStanding B)). NoPlaceIsTakenTwice ps) (sym passes-same) closed.taken_once) k (counted size d) long in
-          subst (λ (w : ℕ × PassStanding B). IsBounded w.1) (get_or-map (counted size) desks k d (counted size d) less) its)
+          subst (λ (w : ℕ × PassStanding B). IsBounded (2 ^ 36) w.1) (get_or-map (counted size) desks k d (counted size d) less) its)
 
       spent-none : (k : ℕ) (d : Desk B S) → k < length desks → (get_or desks k d).worker.pass.spent ≡ None
       spent-none k d less =
@@ -213,7 +219,7 @@ module _ {B S : Type 0} where
       nothing : NothingIsLeft (length topics + 1) left_in
       nothing = nothing-is-left c (passes_at desks) (length topics + 1) left_in (omega (arith, ran.rings)) closed.balance same
 
-      pub have-shared : HaveShared (length topics + 1) c (passes_at desks) left_in
+      pub have-shared : HaveShared (HasHelped (length topics + 1)) (2 ^ 36) (length topics + 1) c (passes_at desks) left_in
       have-shared = record {
         one = (
           shared,
@@ -225,13 +231,12 @@ module _ {B S : Type 0} where
         run = closed.run;
         alone = All-map (λ (p : PassStanding B). HoldsNothingAtEachFull p.calls) (λ (d : Desk B S). d.worker.pass) desks
             (λ k d less. ((ran.run k d less).sweeping (spent-none k d less)).between.alone);
-        helps = All-map (λ (p : PassStanding B). HelpsAfterEachFull (length topics + 1) p.calls) (λ (d : Desk B S). d.worker.pass) desks
-            (λ k d less. ((ran.run k d less).sweeping (spent-none k d less)).helps);
+        each = All-map (HasHelped (length topics + 1)) (λ (d : Desk B S). d.worker.pass) desks (λ k d less.
+            record { helps = ((ran.run k d less).sweeping (spent-none k d less)).helps; retired = (ran.run k d less).ended (spent-none k d less) });
         fulls = closed.fulls;
         same = same;
         places = no-place-twice (passes_at desks) closed.sent_once;
         none_left = nothing;
-        retired = All-map (HasRetired (length topics + 1)) (λ (d : Desk B S). d.worker.pass) desks (λ k d less. (ran.run k d less).ended (spent-none k d less));
         no_spent = All-map (λ (p : PassStanding B). MeetsNoSpent p.calls) (λ (d : Desk B S). d.worker.pass) desks
             (λ k d less. ((ran.run k d less).sweeping (spent-none k d less)).between.unspent);
         balance = closed.balance;
@@ -272,10 +277,10 @@ module _ {B S : Type 0} where
             (subst (λ (ps : List (PassStanding B)). EachTakeIsASend ps) (sym work-passes) closed.takes)
             (subst (λ (ps : List (PassStanding B)). SendsAreTakes ps) (sym work-passes) same) in
             let members : members_of (map (work_of size) desks) ≡ members_in (lists_at desks) =
-            flat-of (λ (w : Work B). w.members) (work_of size) desks ∙ sym
-            (flat-of (λ (l : Vec Answered Global). l.items) (λ (d : Desk B S). d.worker.members) desks) in
+            flat_map-map (λ (w : Work B). w.members) (work_of size) desks ∙ sym
+            (flat_map-map (λ (l : Vec Answered Global). l.items) (λ (d : Desk B S). d.worker.members) desks) in
             let parts : messages_in (map (work_of size) desks) ≡ parts_in size (flat_map worker_messages desks) =
-            flat-of (λ (w : Work B). w.messages) (work_of size) desks ∙ flat-parts size worker_messages desks in
+            flat_map-map (λ (w : Work B). w.messages) (work_of size) desks ∙ flat-parts size worker_messages desks in
             let passed : List Part = parts_in size (flat_map worker_messages desks) in
             let given_parts : List Part = parts_in size (flat_map (λ own. own) messages_given) in
             let back : IsPermutation (map (part_answer topics) passed) (map (part_answer topics) given_parts) =

@@ -8,11 +8,11 @@ use Rattle.std.proofs.lemmas.List.{length-set, length-map, get_or_default}
 use Rattle.std.proofs.lemmas.List.Elements.{All-push}
 use Rattle.scq_frames.specs.declared.fault.FrameFault.{FrameFault}
 use Rattle.scq_work.specs.Dealings.{AreDealt}
-use Rattle.scq_work.specs.Ends.{end_fault}
+use Rattle.scq_files.specs.Ends.{end_fault}
 use Rattle.scq_work.specs.declared.desk.Desk.{Desk}
-use Rattle.scq_work.specs.declared.own_file.FileEnd.{FileEnd}
-use Rattle.scq_work.specs.declared.own_file.FileEnd.TheVariants.{Unread, Whole, Stopped}
-use Rattle.scq_work.specs.declared.own_file.OwnFile.{OwnFile}
+use Rattle.scq_files.specs.declared.own_file.FileEnd.{FileEnd}
+use Rattle.scq_files.specs.declared.own_file.FileEnd.TheVariants.{Unread, Whole, Stopped}
+use Rattle.scq_files.specs.declared.own_file.OwnFile.{OwnFile}
 
 abbrev pub IsWholeFile : {S : Type 0} → OwnFile S → Type 0
 IsWholeFile f = f.end ≡ Whole

@@ -1,12 +1,13 @@
 -- All workers together, once the queue is closed. Plan: each take is a send of some worker, so its bytes are those of a part; so each
 -- worker's list is its takes as they are read and its direct answers, and its parts, answered, are its sends as they are read and its
 -- direct answers. Over all workers the takes are the sends.
-use Rattle.std.proofs.Common.{◌≡◌, refl, sym, ◌∙◌, ap, subst, arith, ℕ, ◌≤◌, List, [], ◌∷◌, ◌++◌, length, map, ⊎_elim}
+use Rattle.std.proofs.Common.{◌≡◌, refl, sym, ◌∙◌, ap, subst, ℕ, ◌≤◌, List, ◌++◌, length, map}
 use Rattle.std.specs.Prelude.{filter, flat_map}
 use Rattle.std.specs.List.{All, Contains}
 use Rattle.std.specs.List.Sorted.{IsPermutation}
 use Rattle.std.proofs.lemmas.List.{map-append}
-use Rattle.std.proofs.lemmas.List.Elements.{All-contains, Contains-push_cases}
+use Rattle.std.proofs.lemmas.List.Elements.{All-contains}
+use Rattle.std.proofs.lemmas.List.Folds.{flat_map-map}
 use Rattle.std.proofs.lemmas.List.Sorted.{IsPermutation-sym, IsPermutation-trans, IsPermutation-append_left, IsPermutation-map, IsPermutation-filter_both}
 use Rattle.scq_topics.specs.declared.kind.Kind.{Kind}
 use Rattle.scq_frames.specs.Parts.{Part}
@@ -17,34 +18,25 @@ use Rattle.scq_queue.specs.Passes.{PassStanding}
 use Rattle.scq_queue.specs.Closing.{EachTakeIsASend}
 use Rattle.scq_work.specs.Members.{is_taken, is_direct, AnswersItsTakes}
 use Rattle.scq_work.specs.Passing.{ArePassedOn}
-use Rattle.scq_work.specs.Passing as passing
-use Rattle.scq_work.specs.Together.{all_sends, all_takes, SendsAreTakes}
+use Rattle.scq_passes.proofs.PassedOn.{passed-send}
+use Rattle.scq_passes.specs.Together.{all_sends, all_takes, SendsAreTakes}
 use Rattle.scq_work.specs.Working.{HasListed}
-use Rattle.scq_work.proofs.AllAnswered.{answer_at, together, passed-answers, IsPart, taken-answers}
-use Rattle.scq_work.proofs.Lists.{all-front, all-last}
-use Rattle.scq_work.proofs.SendsAndTakes.{take-was-sent, in-all, from-all, found-at, stands-at}
-
--- of lists made of the members of a list
-pub flat-map : {W A C : Type 0} (h : A → C) (f : W → List A) (ws : List W) → flat_map (λ w. map h (f w)) ws ≡ map h (flat_map f ws)
-flat-map h f [] = refl
-flat-map h f (w ∷ ws) = ap (λ l. map h (f w) ++ l) (flat-map h f ws) ∙ sym (map-append h (f w) (flat_map f ws))
-
-pub flat-of : {V W A : Type 0} (f : W → List A) (g : V → W) (vs : List V) → flat_map f (map g vs) ≡ flat_map (λ v. f (g v)) vs
-flat-of f g [] = refl
-flat-of f g (v ∷ vs) = ap (λ l. f (g v) ++ l) (flat-of f g vs)
+use Rattle.scq_work.proofs.AllAnswered.{answer_at, passed-answers, IsPart, taken-answers}
+use Rattle.scq_passes.proofs.ManyLists.{flat-map, found-at, from-all, in-all, stands-at, together}
+use Rattle.scq_passes.proofs.SendsAndTakes.{take-was-sent}
 
 -- a send of parts on known topics is that of one of them
 send-message : (topics : List (List ℕ × Kind)) (messages : List Part) (sends : List Placed) (directs : List Answered)
     → ArePassedOn topics messages sends directs
     → All (λ m. m.topic ≤ length topics) messages → (s : Placed) → Contains sends s → IsPart (length topics) s
-send-message topics messages sends directs passing.none known s has = absurd (omega (arith, has.1))
-send-message topics messages sends directs (passing.and_sent {ps = ms} {sends = before} {directs = ds} m send more is) known s has =
-    ⊎_elim (λ (h : Contains before s). send-message topics ms before directs more (all-front (λ m. m.topic ≤ length topics) ms m known) s h)
-    (λ (e : send ≡ s). subst (IsPart (length topics)) e
-    (record { part = m; fits = is.fits; begins = is.bytes; low = all-last (λ m. m.topic ≤ length topics) ms m known }))
-    (Contains-push_cases before send s has)
-send-message topics messages sends directs (passing.and_answered {ps = ms} {sends = before} {directs = ds} m a more is) known s has =
-    send-message topics ms sends ds more (all-front (λ m. m.topic ≤ length topics) ms m known) s has
+send-message topics messages sends directs passed known s has =
+    let its = passed-send messages sends directs passed s has in
+    record {
+      part = its.0;
+      fits = its.2.fits;
+      begins = its.2.bytes;
+      low = All-contains (λ (m : Part). m.topic ≤ length topics) messages its.0 known its.1;
+    }
 
 -- what a worker did: its pass, its list, and the parts of the messages of its files
 pub record Work (B : Type 0) : Type 0 where
@@ -71,7 +63,7 @@ module _ {B : Type 0} where
   take-message : (topics : List (List ℕ × Kind)) (works : List (Work B)) → All (IsWork topics) works → EachTakeIsASend (passes_in works)
       → (t : Placed) → Contains (all_takes (passes_in works)) t → IsPart (length topics) t
   take-message topics works each sent t has =
-      let was = subst (λ (l : List Placed). Contains l t) (flat-of (λ (p : PassStanding B). sends_of p.calls) (λ (w : Work B). w.pass) works)
+      let was = subst (λ (l : List Placed). Contains l t) (flat_map-map (λ (p : PassStanding B). sends_of p.calls) (λ (w : Work B). w.pass) works)
       (take-was-sent (passes_in works) sent t has) in
       let where_ = from-all (λ (w : Work B). sends_of w.pass.calls) works t was in
       let its = All-contains (IsWork topics) works where_.1 each (stands-at works where_.1 where_.0 where_.2) in
@@ -87,7 +79,7 @@ module _ {B : Type 0} where
       let at = found-at works w has in
       taken-answers topics (takes_of w.pass.calls) (filter is_taken w.members) its.listed.takes (λ t stands.
       take-message topics works each sent t
-      (subst (λ (l : List Placed). Contains l t) (sym (flat-of (λ (p : PassStanding B). takes_of p.calls) (λ (w : Work B). w.pass) works))
+      (subst (λ (l : List Placed). Contains l t) (sym (flat_map-map (λ (p : PassStanding B). takes_of p.calls) (λ (w : Work B). w.pass) works))
       (in-all (λ (w : Work B). takes_of w.pass.calls) works at.0 w t at.1 stands)))
 
   -- a worker's list is its takes, as they are read, and its direct answers
@@ -115,10 +107,10 @@ module _ {B : Type 0} where
       passed-answers topics w.messages (sends_of w.pass.calls) (filter is_direct w.members) (All-contains (IsWork topics) works w each has).listed.passed) in
       let takes_are : flat_map reads works ≡ map (answer_at topics) (all_takes (passes_in works)) =
       flat-map (answer_at topics) (λ (w : Work B). takes_of w.pass.calls) works
-      ∙ ap (map (answer_at topics)) (sym (flat-of (λ (p : PassStanding B). takes_of p.calls) (λ (w : Work B). w.pass) works)) in
+      ∙ ap (map (answer_at topics)) (sym (flat_map-map (λ (p : PassStanding B). takes_of p.calls) (λ (w : Work B). w.pass) works)) in
       let sends_are : flat_map sent_reads works ≡ map (answer_at topics) (all_sends (passes_in works)) =
       flat-map (answer_at topics) (λ (w : Work B). sends_of w.pass.calls) works
-      ∙ ap (map (answer_at topics)) (sym (flat-of (λ (p : PassStanding B). sends_of p.calls) (λ (w : Work B). w.pass) works)) in
+      ∙ ap (map (answer_at topics)) (sym (flat_map-map (λ (p : PassStanding B). sends_of p.calls) (λ (w : Work B). w.pass) works)) in
       let back : IsPermutation (flat_map reads works) (flat_map sent_reads works) =
       subst (λ (l : List PartAnswer). IsPermutation l (flat_map sent_reads works)) (sym takes_are)
       (subst (IsPermutation (map (answer_at topics) (all_takes (passes_in works)))) (sym sends_are)

@@ -2,11 +2,11 @@
 use Rattle.std.proofs.Common.{◌≡◌, ◌≢◌, ◌∙◌, refl, sym, ap, subst, arith, true, false, ℕ, ◌+◌, ◌-◌, ◌%◌, ◌<◌, ◌≤◌, List, [], ◌∷◌, ◌++◌, length, reverse, take, drop, get_or, drop-cons, add-one}
 use Rattle.std.specs.Prelude.{slice_index_or}
 use Rattle.std.proofs.lemmas.List.{map-append, reverse-append, length-append, length-take-le, take-append-le, take_all, take-take, get_or-take, get_or_push}
-use Rattle.scq_work.specs.Files.{is_of, files_of}
+use Rattle.scq_files.specs.Files.{is_of, files_of}
 use Rattle.scq_work.specs.Dealings.{AreDealt, without_files}
-use Rattle.scq_work.specs.Desks.{ids_of}
+use Rattle.scq_files.specs.OwnFiles.{ids_of}
 use Rattle.scq_work.specs.declared.desk.Desk.{Desk}
-use Rattle.scq_work.specs.declared.own_file.OwnFile.{OwnFile}
+use Rattle.scq_files.specs.declared.own_file.OwnFile.{OwnFile}
 
 -- one file in front of others: it is this worker's, or another's
 pub own-first : {A : Type 0} (workers w at : ℕ) (x : A) (xs : List A) → at % workers ≡ w

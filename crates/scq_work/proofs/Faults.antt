@@ -1,9 +1,9 @@
 -- The fault of several workers: its cause, and that want of memory comes first.
-use Rattle.std.proofs.Common.{◌≡◌, ◌≢◌, refl, subst, true, false, ℕ, Bool, List, Option, Some, None, Result, Ok, Err}
-use Rattle.std.specs.Prelude.{IfErr}
+use Rattle.std.proofs.Common.{◌≡◌, ◌≢◌, refl, subst, true, false, ℕ, Bool, List, Option, Some, None}
 use Rattle.scq_frames.specs.declared.fault.FrameFault.{FrameFault}
 use Rattle.scq_frames.specs.declared.fault.FrameFault.TheVariants as frame
-use Rattle.scq_work.specs.Ends.{fault_of_workers, AllEndFed, HasCause, MemoryIsFirst, StopsAt}
+use Rattle.scq_files.specs.Ends.{AllEndFed, StopsAt}
+use Rattle.scq_work.specs.Ends.{fault_of_workers, HasCause, MemoryIsFirst}
 use Rattle.scq_work.specs.declared.worked.WorkFault.{WorkFault}
 use Rattle.scq_work.specs.declared.worked.WorkFault.TheVariants.{Read, TooLong, TooLarge, NoMemory}
 
@@ -45,8 +45,3 @@ memory-first {S} size faults end_count left olds news false first fault e fed = 
   by (TooLong file line len) = fed refl
   by (TooLarge file bytes) = fed refl
   by NoMemory = tt
-
--- what follows of the error of an answer
-pub err-then : {X E : Type 0} (r : Result X E) (P Q : E → Type 0) → ((e : E) → P e → Q e) → IfErr r P → IfErr r Q
-err-then (Ok x) P Q f p = tt
-err-then (Err e) P Q f p = f e p

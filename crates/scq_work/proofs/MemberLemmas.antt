@@ -8,7 +8,8 @@ use Rattle.scq_frames.specs.Encoded.{IsEncodable, BeginsWith}
 use Rattle.scq_collect.specs.declared.answered.Answered.{Answered}
 use Rattle.scq_collect.specs.declared.answered.Way.TheVariants.{Taken}
 use Rattle.scq_queue.specs.Lists.{Placed}
-use Rattle.scq_work.specs.Members.{answered, is_taken, AnswersSoFar, and_answered, AnswersTake}
+use Rattle.scq_passes.specs.Becoming.{and_became}
+use Rattle.scq_work.specs.Members.{answered, is_taken, AnswersSoFar, AnswersTake}
 
 pub so-far-answered : (topics : List (List ℕ × Kind)) (takes : List Placed) (was is : List Answered) (take : Placed) (p : Part) → p.topic ≤ length topics
     → IsNumbered p.part p.parts → p.parts < 2 ^ 32 → BeginsWith take.bytes p → ((other : Part) → IsEncodable other → BeginsWith take.bytes other → p ≡ other)
@@ -23,4 +24,4 @@ so-far-answered topics takes was is take p known numbered few begins only grown 
       known = known;
       answer = refl;
     } in
-    subst (AnswersSoFar topics (takes ++ take ∷ [])) (sym list) (and_answered take a before answers)
+    subst (AnswersSoFar topics (takes ++ take ∷ [])) (sym list) (and_became take a before answers)

@@ -1,14 +1,13 @@
 -- The messages of files, one file behind the other: on known topics, with parts in order of file, line and number. So the answers of workers, which are
 -- those to the parts in some order, are whole messages, on known topics.
 use Rattle.std.proofs.Common.{◌≡◌, ◌∙◌, refl, sym, ap, subst, inl, inr, arith, zero, suc, true, false, Bool, ℕ, ◌+◌, ◌-◌, ◌<◌, ◌≤◌, List, [], ◌∷◌, ◌++◌, length, map, get_or, Option, Some, None}
-use Rattle.std.specs.Prelude.{slice_index_or, IfSome, option_and_then, flat_map}
-use Rattle.std.specs.List.{All, Contains, IsDistinct, range_with_len}
+use Rattle.std.specs.Prelude.{slice_index_or, IfSome, flat_map}
+use Rattle.std.specs.List.{Contains, IsDistinct, range_with_len}
 use Rattle.std.specs.List.Sorted.{IsPermutation}
-use Rattle.std.specs.Option.{option_map}
 use Rattle.std.proofs.lemmas.Bool.Decides.{nat_tests}
 use Rattle.std.proofs.lemmas.Grind.{flat_map-append}
 use Rattle.std.proofs.lemmas.List.{append_assoc, get_or-map, length-map}
-use Rattle.std.proofs.lemmas.List.Elements.{All-nil, All-append, Contains-get_or}
+use Rattle.std.proofs.lemmas.List.Elements.{Contains-get_or}
 use Rattle.std.proofs.lemmas.List.Sorted.{IsPermutation-sym}
 use Rattle.std.proofs.lemmas.Map.Keys.{IsDistinct-IsPermutation, apart_from_distinct}
 use Rattle.scq_topics.specs.declared.kind.Kind.{Kind}
@@ -22,11 +21,12 @@ use Rattle.scq_collect.specs.Collected.{messages_to}
 use Rattle.scq_collect.specs.Joined.{AreWhole, PartAnswer, part_answer, part_answers, without_way}
 use Rattle.scq_collect.specs.Merging.{AreApart, IsBefore, IsInOrder, place_of_part}
 use Rattle.scq_collect.proofs.Orders.{is_place, is_place-flip, ascends, ascends-distinct}
-use Rattle.scq_work.specs.Reading.{AreOf}
-use Rattle.scq_work.specs.Ends.{AreGiven, all_left, messages_in}
+use Rattle.scq_files.specs.Reading.{AreOf}
+use Rattle.scq_files.specs.Ends.{AreGiven, all_left, messages_in}
+use Rattle.scq_files.proofs.GivenLemmas.{given-told}
 use Rattle.scq_work.specs.Passing.{parts_in}
 use Rattle.scq_work.proofs.PartMembers.{IsPartOf, has-part, same-place, part-of-member, member-of-part}
-use Rattle.scq_work.proofs.SendsAndTakes.{found-at, in-all}
+use Rattle.scq_passes.proofs.ManyLists.{found-at, in-all}
 
 -- a place is itself
 is_place-itself : (p : ℕ × ℕ × ℕ) → is_place p p ≡ true
@@ -122,38 +122,6 @@ given-in-order : {S : Type 0} (topics : List (List ℕ × Kind)) (size longest :
 unfolding RisesPast
 given-in-order topics size longest left was given gave =
     in-order (0, 0, 0) (parts_in size (all_of given)) (given-past topics size longest left 0 was given gave (0, 0, 0) (omega arith))
-
--- they are on known topics
-pub of-known : (known file line : ℕ) (ms : List Message) → AreOf known file line ms → All (λ m. m.topic ≤ known) ms
-of-known known file line [] of k d less = absurd (omega arith)
-of-known known file line (m ∷ ms) of zero d less = of.2
-of-known known file line (m ∷ ms) of (suc k) d less = of-known known file m.line ms of.3 k d (omega arith)
-
-pub given-known : {S : Type 0} (topics : List (List ℕ × Kind)) (size : ℕ) (left : S → Option (List ℕ)) (file : ℕ) (was : List S)
-    (given : List (List Message)) → AreGiven topics size left file was given
-    → All (λ m. m.topic ≤ length topics) (all_of given)
-given-known topics size left file [] [] none = All-nil (λ (m : Message). m.topic ≤ length topics)
-given-known topics size left file [] (own ∷ more) none = absurd none
-given-known topics size left file (x ∷ xs) [] none = absurd none
-given-known topics size left file (x ∷ xs) (own ∷ more) gave =
-    All-append (λ m. m.topic ≤ length topics) own (all_of more) (of-known (length topics) file 0 own gave.0.of)
-    (given-known topics size left (file + 1) xs more gave.1)
-
--- where the bytes of all files are visible, they are those of the contents
-pub given-told : {S : Type 0} (topics : List (List ℕ × Kind)) (size : ℕ) (left : S → Option (List ℕ)) (file : ℕ) (was : List S)
-    (given : List (List Message)) → AreGiven topics size left file was given
-    → IfSome (all_left left was) (λ contents. given ≡ messages_in topics file contents)
-given-told topics size left file [] [] none = refl
-given-told topics size left file [] (own ∷ more) none = absurd none
-given-told topics size left file (x ∷ xs) [] none = absurd none
-given-told topics size left file (x ∷ xs) (own ∷ more) gave =
-    both (left x) (all_left left xs) gave.0.all (given-told topics size left (file + 1) xs more gave.1) where
-      both : (first : Option (List ℕ)) (rest : Option (List (List ℕ))) → IfSome first (λ bytes. own ≡ map (numbered file (topic_of topics)) (messages_of bytes))
-          → IfSome rest (λ contents. more ≡ messages_in topics (file + 1) contents)
-          → IfSome (option_and_then (λ content. option_map (λ more. content ∷ more) rest) first) (λ contents. own ∷ more ≡ messages_in topics file contents)
-      both None rest is others = tt
-      both (Some bytes) None is others = tt
-      both (Some bytes) (Some contents) is others = ap (λ l. l ∷ more) is ∙ ap (λ l. map (numbered file (topic_of topics)) (messages_of bytes) ∷ l) others
 
 -- one file behind the other
 told-messages : (topics : List (List ℕ × Kind)) (file : ℕ) (contents : List (List ℕ))

@@ -14,7 +14,7 @@ use Rattle.scq_collect.specs.Joined.{PartAnswer, part_answer, part_answers, with
 use Rattle.scq_collect.specs.Merging.{IsBefore}
 use Rattle.scq_collect.proofs.Orders.{Ascends, contains-cases, contains-first, contains-more, not-before-itself}
 use Rattle.scq_work.specs.Passing.{parts_in}
-use Rattle.scq_work.proofs.SendsAndTakes.{found-at, stands-at, from-all, in-all}
+use Rattle.scq_passes.proofs.ManyLists.{found-at, stands-at, from-all, in-all}
 
 -- what stands in a mapped list
 contains-map : {X Y : Type 0} (f : X → Y) (xs : List X) (x : X) → Contains xs x → Contains (map f xs) (f x)

@@ -1,7 +1,6 @@
 -- A worker that goes on after one part more, or stops at a ticket past the limit.
-use Rattle.std.proofs.Common.{◌≡◌, sym, ◌∙◌, ap, subst, arith, suc, ℕ, ◌+◌, ◌<◌, ◌≤◌, List, [], ◌∷◌, ◌++◌, length, Option, Some, None, Bool, false, inl, inr, rules}
-use Rattle.std.specs.Prelude.{count_by, IfSome, IsSome, All, slice_get}
-use Rattle.std.proofs.lemmas.Option.{slice_get_cases}
+use Rattle.std.proofs.Common.{◌≡◌, sym, ◌∙◌, ap, subst, arith, suc, ℕ, ◌+◌, ◌<◌, ◌≤◌, List, [], ◌∷◌, ◌++◌, length, Option, Some, None, Bool, false, rules}
+use Rattle.std.specs.Prelude.{count_by, IfSome, IsSome}
 use Rattle.std.proofs.lemmas.List.{length-append}
 use Rattle.scq_topics.specs.declared.kind.Kind.{Kind}
 use Rattle.scq_frames.specs.Parts.{Part}
@@ -9,21 +8,13 @@ use Rattle.scq_collect.specs.declared.answered.Answered.{Answered}
 use Rattle.scq_collect.specs.declared.answered.Way.TheVariants.{Direct}
 use Rattle.scq_band.specs.Standing.{Identity}
 use Rattle.scq_queue.specs.Passes.{PassStanding, HeldStanding, WasLent, after_spent_put, having_seen}
-use Rattle.scq_work.specs.Records.{is_take}
+use Rattle.scq_passes.specs.Records.{is_take}
 use Rattle.scq_work.specs.Members.{answered}
-use Rattle.scq_work.specs.Working.{Suits, HasTaken, HasSent, HasFoundFull, HasAnswered, HasListed, HasLeft, IsThrifty, IsAtWork, HasStopped, index_of}
-use Rattle.scq_work.proofs.LeftLemmas.{left-at-send}
-use Rattle.scq_work.proofs.WorkerSteps.{producing-sent, producing-helped, thrifty-sent, thrifty-full, thrifty-taken, listed-sent, listed-full, listed-taken}
-
--- what holds of all holds of the one at an index
-pub one-of-all : {X : Type 0} (P : X → Type 0) (xs : List X) (i : ℕ) (x : X) → All P xs → slice_get xs i ≡ Some x → P x
-one-of-all P xs i x all is =
-    elim (slice_get_cases xs i).1 [
-      | inl at ↦
-          let same : at.0 ≡ x = let first = at.2 in cc in
-          subst P (at.3 ∙ same) (all i at.0 at.1)
-      | inr past ↦ let none = past.1 in absurd (cc)
-    ]
+use Rattle.scq_passes.specs.Calls.{Suits, HasTaken, HasFoundFull, HasLeft, IsThrifty, index_of}
+use Rattle.scq_work.specs.Working.{HasSent, HasAnswered, HasListed, IsAtWork, HasStopped}
+use Rattle.scq_passes.proofs.LeftLemmas.{left-at-send}
+use Rattle.scq_passes.proofs.Kept.{thrifty-full, thrifty-taken}
+use Rattle.scq_work.proofs.WorkerSteps.{producing-sent, producing-helped, thrifty-sent, listed-sent, listed-full, listed-taken}
 
 module _ {B : Type 0} where
   -- the pass still suits

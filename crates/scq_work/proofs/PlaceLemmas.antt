@@ -6,22 +6,22 @@ use Rattle.std.proofs.Math.Seq.{map-set_same}
 use Rattle.atomic_table.specs.Seated.{TableId}
 use Rattle.scq_block.specs.declared.frame.Frame.{Frame}
 use Rattle.scq_band.specs.Standing.{Identity}
-use Rattle.scq_work.specs.Threads.{Task, task, EndsSo}
+use Rattle.scq_work.specs.Threads.{Task, task, HandsBack}
 use Rattle.scq_work.specs.Places.{Begins}
 use Rattle.scq_work.specs.declared.job.Job.{Job}
-use Rattle.scq_work.specs.declared.threads.End.{End}
+use Rattle.scq_work.specs.declared.threads.HandedBack.{HandedBack}
 use Rattle.scq_work.specs.declared.threads.WorksOn.{WorksOn}
-use Rattle.scq_work.proofs.Parting.{turned}
+use Rattle.scq_passes.proofs.Parting.{turned}
 
 -- a started worker's end, as its place tells it
 pub ends-here : {S : Type 0} (q : Identity Frame) (j : Job) (crew : List TableId) (faults end_count : S → ℕ) (left : S → Option (List ℕ)) (w : WorksOn S)
-    (end : End S) → Begins q j crew faults end_count left w
-    → EndsSo (task w.queue.value w.job.value w.crew.value faults end_count left) w.work.value end
-    → EndsSo (task q j crew faults end_count left) w.work.value end
+    (end : HandedBack S) → Begins q j crew faults end_count left w
+    → HandsBack (task w.queue.value w.job.value w.crew.value faults end_count left) w.work.value end
+    → HandsBack (task q j crew faults end_count left) w.work.value end
 ends-here q j crew faults end_count left w end was so =
     let same : task w.queue.value w.job.value w.crew.value faults end_count left ≡ task q j crew faults end_count left =
     λ i. task (was.queue i) (was.job i) (was.of i) faults end_count left in
-    subst (λ (t : Task _). EndsSo t w.work.value end) same so
+    subst (λ (t : Task _). HandsBack t w.work.value end) same so
 
 -- lists in which one element after the other is replaced by one that f can't tell from what it was
 pub record Replaced {X Y : Type 0} (P Q : X → Type 0) (f : X → Y) (all : List Y) (xs : List X) (i : ℕ) : Type 0 where

@@ -4,13 +4,16 @@ use Rattle.scq_topics.specs.declared.kind.Kind.{Kind}
 use Rattle.scq_collect.specs.declared.answered.Answered.{Answered}
 use Rattle.scq_band.specs.Standing.{Identity}
 use Rattle.scq_queue.specs.Passes.{PassStanding, HeldStanding, first_pass, known_on}
-use Rattle.scq_work.specs.Desks.{all_given, IsToSweep, HasProduced, HasRun}
+use Rattle.scq_files.specs.OwnFiles.{all_given}
+use Rattle.scq_work.specs.Desks.{IsToSweep, HasProduced, HasRun}
 use Rattle.scq_work.specs.Passing.{parts_in}
-use Rattle.scq_work.specs.Waiting.{HelpsInVain, SweepsInVain, HasWaited}
-use Rattle.scq_work.specs.Working.{Suits, HasTaken, HasAnswered, HasLeft, IsAtWork, HasStopped, after_retire}
-use Rattle.scq_work.specs.declared.own_file.OwnFile.{OwnFile}
+use Rattle.scq_passes.specs.Waiting.{HelpsInVain, SweepsInVain}
+use Rattle.scq_work.specs.Waiting.{HasWaited}
+use Rattle.scq_passes.specs.Calls.{Suits, HasTaken, HasLeft, after_retire}
+use Rattle.scq_work.specs.Working.{HasAnswered, IsAtWork, HasStopped}
+use Rattle.scq_files.specs.declared.own_file.OwnFile.{OwnFile}
 use Rattle.scq_work.proofs.RunLemmas.{AllRead, run-left, run-late, run-stopped}
-use Rattle.scq_work.proofs.Vain.{sweeps-begin}
+use Rattle.scq_passes.proofs.Vain.{sweeps-begin}
 
 -- no ticket is kept, or this one
 pub none-or : (o : Option ℕ) (ticket : ℕ) → o ≡ Some ticket → o ≡ None → ⊥

@@ -1,9 +1,7 @@
 -- A worker's whole work: how it begins, and what its end is, by how it left.
-use Rattle.std.proofs.Common.{◌≡◌, refl, sym, ◌∙◌, ap, subst, arith, ℕ, ◌+◌, ◌<◌, List, [], ◌∷◌, ◌++◌, length, take, drop, Option, Some, None, Bool, false, rules}
+use Rattle.std.proofs.Common.{◌≡◌, refl, sym, ◌∙◌, ap, subst, arith, ℕ, ◌+◌, ◌<◌, List, [], ◌∷◌, ◌++◌, length, Option, Some, None, Bool, false, rules}
 use Rattle.std.specs.Prelude.{IfSome}
-use Rattle.std.specs.List.{All, list_any}
-use Rattle.std.proofs.lemmas.List.{length-append}
-use Rattle.std.proofs.Math.Seq.{take-append_seam, drop-append_seam}
+use Rattle.std.specs.List.{All}
 use Rattle.scq_core.specs.declared.ended.Ended.{Ended}
 use Rattle.scq_core.specs.declared.ended.Ended.TheVariants.{Nothing}
 use Rattle.scq_topics.specs.declared.kind.Kind.{Kind}
@@ -11,19 +9,21 @@ use Rattle.scq_collect.specs.declared.answered.Answered.{Answered}
 use Rattle.scq_band.specs.Standing.{Identity}
 use Rattle.scq_band.proofs.Opening.{numbers_length}
 use Rattle.scq_queue.specs.Passes.{PassStanding, HeldStanding, first_pass, known_on}
-use Rattle.scq_work.specs.Desks.{all_given, HasRun}
-use Rattle.scq_work.specs.Given.{given_in}
-use Rattle.scq_work.specs.Members.{none}
-use Rattle.scq_work.specs.Passing as passing
+use Rattle.scq_files.specs.OwnFiles.{all_given}
+use Rattle.scq_work.specs.Desks.{HasRun}
+use Rattle.scq_files.specs.Given.{given_in}
+use Rattle.scq_passes.specs.Becoming.{none}
+use Rattle.scq_passes.specs.PassedOn as passing
 use Rattle.scq_work.specs.Passing.{no_call, parts_in}
-use Rattle.scq_work.specs.Records.{is_lend, HelpsOnceAfterEachFull}
-use Rattle.scq_work.specs.Together.{HasRetired}
-use Rattle.scq_queue.specs.Lists.{sends_of}
-use Rattle.scq_work.proofs.Blocks.{takes-no_lend, takes-no_send}
-use Rattle.scq_work.specs.Reading.{IsRead}
-use Rattle.scq_work.specs.Working.{Suits, HasTaken, HasAnswered, HasLeft, IsSweeping, IsThrifty, IsAtWork, HasStopped, index_of, after_retire}
-use Rattle.scq_work.specs.declared.own_file.OwnFile.{OwnFile}
-use Rattle.scq_work.proofs.WorkerSteps.{taken-calls, sweeping-first, sweeping-taken, swept, thrifty-taken, listed-taken}
+use Rattle.scq_passes.specs.Records.{HelpsOnceAfterEachFull}
+use Rattle.scq_passes.proofs.Blocks.{returns}
+use Rattle.scq_passes.proofs.Retired.{retired-taken}
+use Rattle.scq_files.specs.Reading.{IsRead}
+use Rattle.scq_passes.specs.Calls.{Suits, HasTaken, HasLeft, IsThrifty, index_of, after_retire}
+use Rattle.scq_work.specs.Working.{HasAnswered, IsSweeping, IsAtWork, HasStopped}
+use Rattle.scq_files.specs.declared.own_file.OwnFile.{OwnFile}
+use Rattle.scq_passes.proofs.Kept.{swept, thrifty-taken}
+use Rattle.scq_work.proofs.WorkerSteps.{sweeping-first, sweeping-taken, listed-taken}
 
 -- of no calls each is nowhere
 no-call : (before after : List Ended) (call : Ended) → [] ≡ before ++ call ∷ after → ⊥
@@ -51,7 +51,7 @@ module _ {B : Type 0} where
       (subst (λ (l : List Answered). IsAtWork topics [] (first_pass shared number) l starved) (sym new)
       (record {
         producing = record {
-          helps = λ before after topic at low. absurd (no-call before after (Nothing 0) at);
+          helps = λ before after at topic low. absurd (no-call before after (Nothing 0) at);
           between = record {
             alone = λ before after at. absurd (no-call before after (Nothing 0) at);
             even = refl;
@@ -90,22 +90,6 @@ module _ {B : Type 0} where
         returns = let low = was.returns in omega arith;
       }
 
-  -- it retired, and then only took
-  retired-taken : (topics : List (List ℕ × Kind)) (p q : PassStanding B) → HelpsOnceAfterEachFull (length topics + 1) p.calls → HasTaken (after_retire p) q
-      → HasRetired (length topics + 1) q
-  retired-taken topics p q helps taken =
-      let calls : q.calls ≡ p.calls ++ taken.block = taken-calls (after_retire p) q taken in
-      let front : take (length p.calls) q.calls ≡ p.calls = ap (take (length p.calls)) calls ∙ take-append_seam p.calls taken.block in
-      let rest : drop (length p.calls) q.calls ≡ taken.block = ap (drop (length p.calls)) calls ∙ drop-append_seam p.calls taken.block in
-      record {
-        calls = length p.calls;
-        retired = ap (λ (x : PassStanding B). x.retired) taken.pass;
-        within = omega (arith, ap length calls, length-append p.calls taken.block);
-        helps = subst (HelpsOnceAfterEachFull (length topics + 1)) (sym front) helps;
-        lends = ap (list_any is_lend) rest ∙ takes-no_lend taken.block taken.are;
-        sends = ap sends_of rest ∙ takes-no_send taken.block taken.are;
-      }
-
   -- it has read its files, swept and left
   pub run-left : {S : Type 0} (shared : Identity B) (topics : List (List ℕ × Kind)) (size longest : ℕ) (faults end_count : S → ℕ) (left : S → Option (List ℕ))
       (files : List (OwnFile S))
@@ -128,7 +112,7 @@ module _ {B : Type 0} where
         held = sweeping.between.none ∙ ap index_of (sym nothing);
         its = subst (λ (k : Option (HeldStanding B)). IfSome k (λ h. h.queue ≡ shared)) (sym nothing) tt;
         sweeping = λ awake. sweeping;
-        ended = λ awake. retired-taken topics p q work.producing.helps taken;
+        ended = λ awake. retired-taken (HelpsOnceAfterEachFull (length topics + 1)) returns p q work.producing.helps taken;
         swept = λ awake. swept q sweeping.between.knows (λ t low. empty t (omega arith));
         listed = λ awake fed.
             let old = work.listed (fed_before fed) in

@@ -1,46 +1,34 @@
 -- Desks whose files were taken off are as they were otherwise; and what is held at all desks together.
-use Rattle.std.proofs.Common.{◌≡◌, refl, sym, ◌∙◌, ap, subst, arith, false, zero, suc, ℕ, ◌+◌, ◌-◌, ◌^◌, ◌<◌, ◌≤◌, List, [], ◌∷◌, length, map, get_or, Option, Some, None, Result, Ok, Err}
-use Rattle.std.specs.Prelude.{slice_index_or, flat_map, sum_by, min, IfOk, OnOk, IfSome}
+use Rattle.std.proofs.Common.{◌≡◌, refl, sym, ◌∙◌, ap, subst, arith, false, zero, suc, ℕ, ◌+◌, ◌<◌, List, [], ◌∷◌, length, map, get_or, Option, Some, None}
+use Rattle.std.specs.Prelude.{slice_index_or, flat_map, sum_by, IfSome}
 use Rattle.std.specs.List.{All}
 use Rattle.std.specs.Option.{option_to_list}
 use Rattle.std.proofs.lemmas.List.{length-map, get_or-map, map-append}
 use Rattle.std.proofs.lemmas.List.Elements.{All-map, All-nil, All-cons, All-append}
+use Rattle.std.proofs.lemmas.List.Folds.{flat_map-map}
 use Rattle.std.proofs.lemmas.List.Sums.{sum_by-cons}
 use Rattle.std.proofs.lemmas.Option.{slice_get_within, get_or_from_slice_get}
 use Rattle.scq_law.specs.Hands.{times}
 use Rattle.scq_band.specs.Standing.{Identity}
 use Rattle.scq_band.proofs.Slots.{times-append}
 use Rattle.scq_queue.specs.Closing.{AreTheHeld}
-use Rattle.scq_queue.specs.Lists.{counts_of}
-use Rattle.scq_queue.specs.Passes.{PassStanding, HeldStanding, first_pass, first_passes, lists_of}
-use Rattle.scq_queue.specs.declared.counts.Counts.{Counts}
+use Rattle.scq_queue.specs.Passes.{PassStanding, HeldStanding, first_pass, first_passes}
 use Rattle.scq_topics.specs.declared.kind.Kind.{Kind}
 use Rattle.scq_frames.specs.declared.message.Message.{Message}
-use Rattle.scq_work.specs.AllWorkers.{HasWorked, lengths_of}
-use Rattle.scq_work.specs.Ends.{messages_in}
+use Rattle.scq_work.specs.AllWorkers.{HasWorked}
+use Rattle.scq_files.specs.Ends.{messages_in}
 use Rattle.scq_work.specs.declared.worked.Worked.{Worked}
 use Rattle.scq_work.specs.Dealings.{IsFresh, without_files}
-use Rattle.scq_work.specs.Together.{IsBounded}
-use Rattle.scq_work.specs.Working.{index_of}
+use Rattle.scq_passes.specs.Calls.{index_of}
 use Rattle.scq_work.specs.declared.desk.Desk.{Desk}
 use Rattle.scq_work.specs.declared.worker.Worker.{Worker}
 use Rattle.scq_work.proofs.AllRun.{passes_at, lists_at, held_at}
-use Rattle.scq_work.proofs.Conclusion.{flat-of}
-use Rattle.scq_work.proofs.FirstPasses.{first-length, first-at}
-use Rattle.scq_work.proofs.Lists.{map-map}
-
--- what holds of an answer that is Ok, by what is known of it
-pub ok-more : {X E : Type 0} (r : Result X E) (P Q : X → Type 0) → IfOk r P → ((x : X) → P x → Q x) → IfOk r Q
-ok-more (Ok x) P Q p f = f x p
-ok-more (Err e) P Q p f = tt
+use Rattle.scq_passes.proofs.FirstPasses.{first-length, first-at}
+use Rattle.scq_files.proofs.Lists.{map-map}
 
 -- a worker and the value that it kept
 abbrev Kept : Type 0 → Type 0
 Kept B = Worker B × Option (HeldStanding B)
-
-pub ok-on : {X E : Type 0} (r : Result X E) (P : X → Type 0) (Q : Type 0) → IfOk r P → ((x : X) → P x → Q) → OnOk r Q
-ok-on (Ok x) P Q p f = f x p
-ok-on (Err e) P Q p f = tt
 
 module _ {B S : Type 0} where
   pub same-passes : (new old : List (Desk B S)) → map without_files new ≡ map without_files old → passes_at new ≡ passes_at old
@@ -56,7 +44,7 @@ module _ {B S : Type 0} where
   pub same-held : (new old : List (Desk B S)) → map without_files new ≡ map without_files old → held_at new ≡ held_at old
   same-held new old same =
       let f : Kept B → List (HeldStanding B) = λ k. option_to_list k.1 in
-      sym (flat-of f without_files new) ∙ ap (flat_map f) same ∙ flat-of f without_files old
+      sym (flat_map-map f without_files new) ∙ ap (flat_map f) same ∙ flat_map-map f without_files old
 
   -- what holds of desks without their files
   all-same : (P : Kept B → Type 0) (new old : List (Desk B S)) → map without_files new ≡ map without_files old → All (λ d. P (without_files d)) new
@@ -122,20 +110,6 @@ module _ {B S : Type 0} where
         (held-own shared desks own k h (slice_get_within (held_at desks) k h is));
     all = λ i. held-times i desks held;
   }
-
--- counts of few calls are the lengths of the lists
-few-counted : (n : ℕ) → n ≤ 2 ^ 36 → min n (2 ^ 64 - 1) ≡ n
-few-counted n few = omega arith
-
-pub counts-exact : {B : Type 0} (passes : List (PassStanding B)) → All IsBounded passes
-    → map (λ (p : PassStanding B). counts_of (lists_of p)) passes ≡ map lengths_of passes
-counts-exact [] few = refl
-counts-exact {B} (p ∷ ps) few =
-    let b = few zero p (omega arith) in
-    let here : counts_of (lists_of p) ≡ lengths_of p =
-    λ i. record { sent = few-counted _ b.sends i; taken = few-counted _ b.takes i; full = few-counted _ b.fulls i } in
-    let rest = counts-exact ps (λ k q less. few (suc k) q (omega arith)) in
-    ap (λ (c : Counts). c ∷ map (λ (q : PassStanding B). counts_of (lists_of q)) ps) here ∙ ap (λ (l : List Counts). lengths_of p ∷ l) rest
 
 -- where the bytes of all files are visible, the work is done on their contents
 pub told-worked : (topics : List (List ℕ × Kind)) (size workers : ℕ) (given : List (List Message)) (w : Worked) (o : Option (List (List ℕ)))

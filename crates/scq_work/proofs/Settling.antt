@@ -11,11 +11,12 @@ use Rattle.scq_queue.specs.Passes.{PassStanding, was_told}
 use Rattle.scq_park.specs.declared.rested.Rested.{Rested}
 use Rattle.scq_park.specs.Crews.{Post, AreInOrder, AreAll, counted, plus, woken, ended, rested_of, no_wakes}
 use Rattle.scq_work.specs.Dealings.{IsFresh}
-use Rattle.scq_work.specs.Desks.{IsNew, ids_of}
+use Rattle.scq_files.specs.OwnFiles.{IsNew, ids_of}
 use Rattle.scq_work.specs.Resting.{AreSettled}
 use Rattle.scq_work.specs.Threads.{Task, IsGiven, HasDone}
-use Rattle.scq_work.specs.Together.{NoneSpent}
-use Rattle.scq_work.specs.Waiting.{SweepsInVain, HasWaited, EachWaited, HaveWaited}
+use Rattle.scq_passes.specs.Together.{NoneSpent}
+use Rattle.scq_passes.specs.Waiting.{SweepsInVain}
+use Rattle.scq_work.specs.Waiting.{HasWaited, EachWaited, HaveWaited}
 use Rattle.scq_work.specs.declared.desk.Desk.{Desk}
 use Rattle.scq_work.specs.declared.threads.Work.{Work}
 

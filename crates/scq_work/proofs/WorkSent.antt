@@ -16,13 +16,13 @@ use Rattle.scq_park.proofs.Crossing.{stand_sent}
 use Rattle.scq_queue.specs.contracts.held.Held as held
 use Rattle.scq_queue.specs.contracts.held.Held.TheInside as held_inside
 use Rattle.scq_queue.proofs.PassesSent.{pass_sent}
-use Rattle.scq_work.specs.contracts.given.Given as given
-use Rattle.scq_work.proofs.own_file.FileEnd.TheSendSync as file_ends
-use Rattle.scq_work.specs.contracts.own_file.OwnFile as own_file
+use Rattle.scq_files.specs.contracts.given.Given as given
+use Rattle.scq_files.proofs.own_file.FileEnd.TheSendSync as file_ends
+use Rattle.scq_files.specs.contracts.own_file.OwnFile as own_file
 use Rattle.scq_work.specs.contracts.worker.Worker as worker
 use Rattle.scq_work.specs.contracts.desk.Desk as desk
 use Rattle.scq_work.specs.contracts.threads.Work as work
-use Rattle.scq_work.specs.contracts.threads.End as end
+use Rattle.scq_work.specs.contracts.threads.HandedBack as end
 
 bool_sent : IsSend bool
 bool_sent = search sendable

@@ -1,10 +1,10 @@
 -- What is kept of a worker's pass and of its list: one message more was passed on, or topics were taken from.
-use Rattle.std.proofs.Common.{◌≡◌, refl, sym, ◌∙◌, ap, subst, arith, suc, ℕ, ◌+◌, ◌<◌, ◌≤◌, List, [], ◌∷◌, ◌++◌, length, ⊎_elim, Bool, true, false}
-use Rattle.std.specs.Prelude.{count_by, filter, ◌==◌, if◌then◌else◌}
-use Rattle.std.specs.List.{AllZip, Contains}
+use Rattle.std.proofs.Common.{◌≡◌, refl, sym, ◌∙◌, ap, subst, arith, suc, ℕ, ◌+◌, ◌<◌, ◌≤◌, List, [], ◌∷◌, ◌++◌, length, false}
+use Rattle.std.specs.Prelude.{count_by, filter, ◌==◌}
+use Rattle.std.specs.List.{AllZip}
 use Rattle.std.proofs.lemmas.Bool.{ne_eqb}
 use Rattle.std.proofs.lemmas.List.{append-nil, length-append}
-use Rattle.std.proofs.lemmas.List.Elements.{filter-append, Contains-push_cases}
+use Rattle.std.proofs.lemmas.List.Elements.{filter-append}
 use Rattle.std.proofs.lemmas.List.Sums.{sum_by-append}
 use Rattle.std.proofs.lemmas.Slice.Zip.{all_zipped_more}
 use Rattle.scq_core.specs.declared.ended.Ended.{Ended}
@@ -15,109 +15,28 @@ use Rattle.scq_topics.specs.declared.kind.Kind.{Kind}
 use Rattle.scq_frames.specs.Parts.{Part}
 use Rattle.scq_collect.specs.declared.answered.Answered.{Answered}
 use Rattle.scq_collect.specs.declared.answered.Way.TheVariants.{Direct}
-use Rattle.scq_queue.specs.Lists.{Placed, sends_of, takes_of}
-use Rattle.scq_queue.specs.Passes.{PassStanding, known_on}
-use Rattle.scq_work.specs.Records.{is_got, is_put, is_take, HoldsNothingAtEachFull, HelpsAfterEachFull, HelpsOnceAfterEachFull, MeetsNoSpent}
+use Rattle.scq_queue.specs.Lists.{sends_of, takes_of}
+use Rattle.scq_queue.specs.Passes.{PassStanding}
+use Rattle.scq_passes.specs.Records.{is_take, HelpsAfterEachFull, HelpsOnceAfterEachFull}
 use Rattle.scq_work.specs.Members.{answered, is_taken, is_direct, AnswersSoFar, AnswersItsFulls, AnswersFull}
-use Rattle.scq_work.specs.Passing.{ArePassedOn, and_sent, and_answered, FollowsCalls, by_full}
-use Rattle.scq_work.specs.Together.{HasSwept}
-use Rattle.scq_work.specs.Working.{KnowsMore, HasTaken, HasSent, HasFoundFull, KnowsItsSends, IsProducing, IsSweeping, IsThrifty, HasListed, HasAnswered}
-use Rattle.scq_queue.proofs.Records.{sends-append, takes-append}
-use Rattle.scq_work.proofs.Blocks.{takes-no_send, takes-puts, takes-returns}
-use Rattle.scq_work.proofs.RecordSteps.{helps-sent, alone-sent, even-sent, helps-helped, alone-helped, even-helped, even-taken, alone-taken, helps-taken, helps-once, unspent-sent, unspent-full, unspent-taken, follows-sent, follows-taken}
-
--- one put is at most one on a ring
-pub at_most : (b : Bool) → (if b then 1 else 0) + 0 ≤ 1
-at_most true = omega arith
-at_most false = omega arith
+use Rattle.scq_passes.specs.PassedOn.{and_sent, and_made}
+use Rattle.scq_work.specs.Passing.{ArePassedOn, Sends, FollowsCalls, by_full}
+use Rattle.scq_passes.specs.Calls.{HasTaken, HasFoundFull, IsThrifty}
+use Rattle.scq_work.specs.Working.{HasSent, IsProducing, IsSweeping, HasListed, HasAnswered}
+use Rattle.scq_passes.proofs.Kept.{at_most, taken-calls, taken-sends, sent-calls, sent-sends, sent-takes, placed, full-calls, full-sends, full-takes}
+use Rattle.scq_passes.proofs.Between.{between-sent, between-full, between-taken}
+use Rattle.scq_work.proofs.Following.{follows-sent, follows-taken}
+use Rattle.scq_passes.proofs.RecordSteps.{helps-sent, helps-helped, helps-taken, helps-once}
 
 module _ {B : Type 0} where
-  -- the record, the sends and the takes of a pass that has taken
-  pub taken-calls : (p q : PassStanding B) (h : HasTaken p q) → q.calls ≡ p.calls ++ h.block
-  taken-calls p q h = ap (λ (x : PassStanding B). x.calls) h.pass
-
-  pub taken-sends : (p q : PassStanding B) → HasTaken p q → sends_of q.calls ≡ sends_of p.calls
-  taken-sends p q h =
-      ap sends_of (taken-calls p q h) ∙ sends-append p.calls h.block ∙ ap (λ l. sends_of p.calls ++ l) (takes-no_send h.block h.are)
-      ∙ append-nil (sends_of p.calls)
-
-  taken-takes : (p q : PassStanding B) (h : HasTaken p q) → takes_of q.calls ≡ takes_of p.calls ++ takes_of h.block
-  taken-takes p q h = ap takes_of (taken-calls p q h) ∙ takes-append p.calls h.block
-
-  -- those of one that has sent a message
-  sent-calls : (m : Part) (p q : PassStanding B) (h : HasSent m p q)
-      → q.calls ≡ (p.calls ++ Got 0 h.from h.over ∷ []) ++ Done (suc m.topic) h.place h.bytes ∷ []
-  sent-calls m p q h = ap (λ (x : PassStanding B). x.calls) h.pass
-
-  abbrev placed : (m : Part) (p q : PassStanding B) → HasSent m p q → Placed
-  placed m p q h = record { topic = m.topic; place = h.place; bytes = h.bytes }
-
-  sent-sends : (m : Part) (p q : PassStanding B) (h : HasSent m p q) → sends_of q.calls ≡ sends_of p.calls ++ placed m p q h ∷ []
-  sent-sends m p q h =
-      let got : List Ended = Got 0 h.from h.over ∷ [] in
-      let put : List Ended = Done (suc m.topic) h.place h.bytes ∷ [] in
-      ap sends_of (sent-calls m p q h) ∙ sends-append (p.calls ++ got) put
-      ∙ ap (λ l. l ++ placed m p q h ∷ []) (sends-append p.calls got ∙ append-nil (sends_of p.calls))
-
-  sent-takes : (m : Part) (p q : PassStanding B) → HasSent m p q → takes_of q.calls ≡ takes_of p.calls
-  sent-takes m p q h =
-      let got : List Ended = Got 0 h.from h.over ∷ [] in
-      let put : List Ended = Done (suc m.topic) h.place h.bytes ∷ [] in
-      ap takes_of (sent-calls m p q h) ∙ takes-append (p.calls ++ got) put ∙ append-nil (takes_of (p.calls ++ got)) ∙ takes-append p.calls got
-      ∙ append-nil (takes_of p.calls)
-
-  -- those of one that found no buffer free
-  full-calls : (head : ℕ) (p q : PassStanding B) → HasFoundFull head p q → q.calls ≡ p.calls ++ Nothing 0 ∷ []
-  full-calls head p q h = ap (λ (x : PassStanding B). x.calls) h.pass
-
-  full-sends : (head : ℕ) (p q : PassStanding B) → HasFoundFull head p q → sends_of q.calls ≡ sends_of p.calls
-  full-sends head p q h = ap sends_of (full-calls head p q h) ∙ sends-append p.calls (Nothing 0 ∷ []) ∙ append-nil (sends_of p.calls)
-
-  full-takes : (head : ℕ) (p q : PassStanding B) → HasFoundFull head p q → takes_of q.calls ≡ takes_of p.calls
-  full-takes head p q h = ap takes_of (full-calls head p q h) ∙ takes-append p.calls (Nothing 0 ∷ []) ∙ append-nil (takes_of p.calls)
-
-  -- what a pass knows of its sends, it goes on knowing
-  knows-still : (p q : PassStanding B) → KnowsMore p q → sends_of q.calls ≡ sends_of p.calls → KnowsItsSends p → KnowsItsSends q
-  knows-still p q more same knows =
-      record {
-        sends = λ m has.
-            let old = knows.sends m (subst (λ l. Contains l m) same has) in
-            let low = more.finished m.topic in
-            let first = old.0 in
-            let place = old.1 in
-            let long = more.rings in
-            (omega arith, omega arith);
-      }
-
   -- a message was sent
   pub producing-sent : (topics : ℕ) (m : Part) (p q : PassStanding B) → IsProducing topics p → suc m.topic < length p.numbers → HasSent m p q
       → IsProducing topics q
   producing-sent topics m p q was within h =
-      let calls = sent-calls m p q h in
       record {
-        helps = subst (HelpsOnceAfterEachFull topics) (sym calls) (helps-sent topics p.calls h.from (suc m.topic) h.place h.over h.bytes was.helps);
-        between = record {
-          alone = subst HoldsNothingAtEachFull (sym calls) (alone-sent p.calls h.from (suc m.topic) h.place h.over h.bytes was.between.alone);
-          even = subst (λ (l : List Ended). count_by is_got l ≡ count_by is_put l) (sym calls)
-              (even-sent p.calls h.from (suc m.topic) h.place h.over h.bytes was.between.even);
-          none = ap (λ (x : PassStanding B). x.held) h.pass ∙ was.between.none;
-          unspent = subst MeetsNoSpent (sym calls) (unspent-sent p.calls h.from (suc m.topic) h.place h.over h.bytes was.between.unspent);
-          knows = record {
-            sends = λ n has.
-                ⊎_elim (λ (old : Contains (sends_of p.calls) n).
-                let its = was.between.knows.sends n old in
-                let low = h.knows.finished n.topic in
-                let first = its.0 in
-                let place = its.1 in
-                let long = h.knows.rings in
-                (omega arith, omega arith))
-                (λ (new : placed m p q h ≡ n).
-                let P : Placed → Type 0 = λ x. (suc x.topic < length q.numbers) × (x.place ≤ (known_on x.topic q).finished) in
-                let long = h.knows.rings in
-                subst P new (omega arith, h.finished))
-                (Contains-push_cases (sends_of p.calls) (placed m p q h) n (subst (λ l. Contains l n) (sent-sends m p q h) has));
-          };
-        };
+        helps = subst (HelpsOnceAfterEachFull topics) (sym (sent-calls m.topic (Sends m) p q h))
+            (helps-sent topics p.calls h.from (suc m.topic) h.place h.over h.bytes was.helps);
+        between = between-sent m.topic (Sends m) p q was.between within h;
       }
 
   -- no buffer was free, and a take of each topic was made
@@ -132,13 +51,7 @@ module _ {B : Type 0} where
       omega arith in
       record {
         helps = subst (HelpsOnceAfterEachFull topics) (sym calls) (helps-helped topics p.calls h.block h.are one was.helps);
-        between = record {
-          alone = subst HoldsNothingAtEachFull (sym calls) (alone-helped p.calls h.block h.are was.between.even was.between.alone);
-          even = subst (λ (l : List Ended). count_by is_got l ≡ count_by is_put l) (sym calls) (even-helped p.calls h.block h.are was.between.even);
-          none = ap (λ (x : PassStanding B). x.held) h.pass ∙ ap (λ (x : PassStanding B). x.held) full.pass ∙ was.between.none;
-          unspent = subst MeetsNoSpent (sym calls) (unspent-taken (p.calls ++ Nothing 0 ∷ []) h.block h.are (unspent-full p.calls was.between.unspent));
-          knows = knows-still q r h.knows (taken-sends q r h) (knows-still p q full.knows (full-sends head p q full) was.between.knows);
-        };
+        between = between-taken q r (between-full head p q was.between full) h;
       }
 
   -- the files are read
@@ -151,32 +64,17 @@ module _ {B : Type 0} where
       let calls = taken-calls p q h in
       record {
         helps = subst (HelpsAfterEachFull topics) (sym calls) (helps-taken topics p.calls h.block h.are was.helps);
-        between = record {
-          alone = subst HoldsNothingAtEachFull (sym calls) (alone-taken p.calls h.block h.are was.between.alone);
-          even = subst (λ (l : List Ended). count_by is_got l ≡ count_by is_put l) (sym calls) (even-taken p.calls h.block h.are was.between.even);
-          none = ap (λ (x : PassStanding B). x.held) h.pass ∙ was.between.none;
-          unspent = subst MeetsNoSpent (sym calls) (unspent-taken p.calls h.block h.are was.between.unspent);
-          knows = knows-still p q h.knows (taken-sends p q h) was.between.knows;
-        };
+        between = between-taken p q was.between h;
       }
-
-  -- where each topic was found empty after the last send there, each send is passed
-  pub swept : (p : PassStanding B) → KnowsItsSends p → ((topic : ℕ) → suc topic < length p.numbers → (known_on topic p).finished < (known_on topic p).head)
-      → HasSwept p
-  swept p knows empty m has =
-      let its = knows.sends m has in
-      let past = empty m.topic its.0 in
-      let place = its.1 in
-      omega arith
 
   -- how much was begun
   pub thrifty-sent : (messages : ℕ) (m : Part) (p q : PassStanding B) → IsThrifty 0 messages p → HasSent m p q → IsThrifty 0 (messages + 1) q
   thrifty-sent messages m p q was h =
       let got : List Ended = Got 0 h.from h.over ∷ [] in
       let put : List Ended = Done (suc m.topic) h.place h.bytes ∷ [] in
-      let calls = sent-calls m p q h in
+      let calls = sent-calls m.topic (Sends m) p q h in
       let sends : length (sends_of q.calls) ≡ length (sends_of p.calls) + 1 =
-      ap length (sent-sends m p q h) ∙ length-append (sends_of p.calls) (placed m p q h ∷ []) in
+      ap length (sent-sends m.topic (Sends m) p q h) ∙ length-append (sends_of p.calls) (placed m.topic (Sends m) p q h ∷ []) in
       let fulls : q.fulls ≡ p.fulls = ap (λ (x : PassStanding B). x.fulls) h.pass in
       let all : (r : ℕ) → tally (was_put r) q.calls ≡ tally (was_put r) p.calls + tally (was_put r) put = λ r.
       ap (tally (was_put r)) calls ∙ tally-append (was_put r) (p.calls ++ got) put
@@ -187,31 +85,7 @@ module _ {B : Type 0} where
         sends = let low = was.sends in omega arith;
         fulls = let low = was.fulls in omega (arith, ap length fulls);
         puts = λ topic. let low = was.puts topic in let one = few (suc topic) in omega (arith, all (suc topic));
-        returns = let low = was.returns in omega (arith, all 0, ap length (sent-takes m p q h));
-      }
-
-  pub thrifty-full : (messages head : ℕ) (p q : PassStanding B) → IsThrifty 0 messages p → HasFoundFull head p q → IsThrifty 0 (messages + 1) q
-  thrifty-full messages head p q was h =
-      let fulls : length q.fulls ≡ length p.fulls + 1 = ap (λ (x : PassStanding B). length x.fulls) h.pass ∙ length-append p.fulls (head ∷ []) in
-      let all : (r : ℕ) → tally (was_put r) q.calls ≡ tally (was_put r) p.calls + 0 = λ r.
-      ap (tally (was_put r)) (full-calls head p q h) ∙ tally-append (was_put r) p.calls (Nothing 0 ∷ []) in
-      record {
-        sends = let low = was.sends in omega (arith, ap length (full-sends head p q h));
-        fulls = let low = was.fulls in omega arith;
-        puts = λ topic. let low = was.puts topic in omega (arith, all (suc topic));
-        returns = let low = was.returns in omega (arith, all 0, ap length (full-takes head p q h));
-      }
-
-  pub thrifty-taken : (messages : ℕ) (p q : PassStanding B) → IsThrifty 0 messages p → HasTaken p q → IsThrifty 0 messages q
-  thrifty-taken messages p q was h =
-      let all : (r : ℕ) → tally (was_put r) q.calls ≡ tally (was_put r) p.calls + tally (was_put r) h.block = λ r.
-      ap (tally (was_put r)) (taken-calls p q h) ∙ tally-append (was_put r) p.calls h.block in
-      record {
-        sends = let low = was.sends in omega (arith, ap length (taken-sends p q h));
-        fulls = let low = was.fulls in omega (arith, ap (λ (x : PassStanding B). length x.fulls) h.pass);
-        puts = λ topic. let low = was.puts topic in omega (arith, all (suc topic), takes-puts h.block topic h.are);
-        returns = let low = was.returns in
-            omega (arith, all 0, takes-returns h.block h.are, ap length (taken-takes p q h), length-append (takes_of p.calls) (takes_of h.block));
+        returns = let low = was.returns in omega (arith, all 0, ap length (sent-takes m.topic (Sends m) p q h));
       }
 
   -- the list
@@ -219,11 +93,11 @@ module _ {B : Type 0} where
       → HasListed topics messages p members → HasSent m p q → HasListed topics (messages ++ m ∷ []) q members
   listed-sent topics messages m p q members was h =
       record {
-        passed = subst (λ sends. ArePassedOn topics (messages ++ m ∷ []) sends (filter is_direct members)) (sym (sent-sends m p q h))
-            (and_sent m (placed m p q h) was.passed h.sends);
-        follows = subst (FollowsCalls (messages ++ m ∷ [])) (sym (sent-calls m p q h))
+        passed = subst (λ sends. ArePassedOn topics (messages ++ m ∷ []) sends (filter is_direct members)) (sym (sent-sends m.topic (Sends m) p q h))
+            (and_sent m (placed m.topic (Sends m) p q h) was.passed h.sends);
+        follows = subst (FollowsCalls (messages ++ m ∷ [])) (sym (sent-calls m.topic (Sends m) p q h))
             (follows-sent messages m p.calls h.from h.place h.over h.bytes was.follows h.sends);
-        takes = subst (λ takes. AnswersSoFar topics takes (filter is_taken members)) (sym (sent-takes m p q h)) was.takes;
+        takes = subst (λ takes. AnswersSoFar topics takes (filter is_taken members)) (sym (sent-takes m.topic (Sends m) p q h)) was.takes;
         fulls = subst (λ fulls. AnswersItsFulls fulls members) (sym (ap (λ (x : PassStanding B). x.fulls) h.pass)) was.fulls;
       }
 
@@ -235,7 +109,7 @@ module _ {B : Type 0} where
       let takens : filter is_taken (members ++ a ∷ []) ≡ filter is_taken members =
       filter-append is_taken members (a ∷ []) ∙ append-nil (filter is_taken members) in
       let passed : ArePassedOn topics (messages ++ m ∷ []) (sends_of p.calls) (filter is_direct members ++ a ∷ []) =
-      and_answered m a was.passed (record { head = head; answer = refl }) in
+      and_made m a was.passed (record { head = head; answer = refl }) in
       let fulls : AllZip AnswersFull (p.fulls ++ head ∷ []) (filter is_direct members ++ a ∷ []) =
       all_zipped_more AnswersFull p.fulls (filter is_direct members) head a was.fulls refl in
       record {

@@ -1,6 +1,6 @@
 -- What all workers did with the messages of files. `given` has the messages of each file, in the order of the files. A worker is told by
 -- its number, from 0: by it stand its pass among the passes, and its list among the lists.
-use Rattle.std.specs.Prelude.{◌≡◌, ℕ, ◌+◌, ◌^◌, ◌≤◌, List, length, map, flat_map, Some, slice_get, slice_index, All, Vec}
+use Rattle.std.specs.Prelude.{◌≡◌, ℕ, ◌^◌, ◌≤◌, List, length, map, flat_map, All, Vec}
 use Rattle.std.specs.Global.{Global}
 use Rattle.std.specs.List.Sorted.{IsPermutation}
 use Rattle.scq_topics.specs.declared.kind.Kind.{Kind}
@@ -9,33 +9,17 @@ use Rattle.scq_collect.specs.Joined.{AreWhole, part_answers, without_way}
 use Rattle.scq_collect.specs.Merging.{members_in}
 use Rattle.scq_collect.specs.declared.answered.Answered.{Answered}
 use Rattle.scq_word.specs.declared.setup.Setup.{Setup}
-use Rattle.scq_word.specs.Sizes.{n_of}
-use Rattle.scq_band.specs.Closing.{IsOneRun}
-use Rattle.scq_band.specs.Standing.{Identity}
-use Rattle.scq_queue.specs.Closing.{AllFullsStand, IsBalance, callers_of}
 use Rattle.scq_queue.specs.Lists.{sends_of, takes_of}
 use Rattle.scq_queue.specs.Passes.{PassStanding}
-use Rattle.scq_queue.specs.declared.counts.Counts.{Counts}
-use Rattle.scq_work.specs.Files.{own_of}
+use Rattle.scq_files.specs.Files.{own_of}
 use Rattle.scq_work.specs.declared.worked.Worked.{Worked}
 use Rattle.scq_work.specs.Members.{AnswersItsTakes, AnswersItsFulls}
 use Rattle.scq_work.specs.Passing.{parts_in, HasPassedOn, FollowsCalls}
-use Rattle.scq_work.specs.Records.{HoldsNothingAtEachFull, HelpsAfterEachFull, MeetsNoSpent}
-use Rattle.scq_work.specs.Together.{SendsAreTakes, NoPlaceStandsTwice, NothingIsLeft, HasRetired, NoneSpent, IsBounded}
-
--- the setup of a queue for a job: a ring for each of so many topics, one for the buffers that nobody holds, and a seat for each worker
-pub record IsSetup (order topics workers : ℕ) (c : Setup) : Type 0 where
-  pub buffers : c.order ≡ order
-  pub rings : c.rings ≡ topics + 1
-  pub seats : c.seats ≡ workers
-  pub limit : c.limit ≡ 2 ^ 60
+use Rattle.scq_passes.specs.Records.{HelpsAfterEachFull, HelpsOnceAfterEachFull}
+use Rattle.scq_passes.specs.Together.{HasRetired}
+use Rattle.scq_passes.specs.AllPasses.{IsSetup, OfEachWorker, HaveShared, lengths_of}
 
 module _ {B : Type 0} where
-  -- P holds of each worker's number, pass and list
-  abbrev pub OfEachWorker : (ℕ → PassStanding B → List Answered → Type 0) → List (PassStanding B) → List (Vec Answered Global) → Type 0
-  OfEachWorker P passes lists =
-      (w : ℕ) (p : PassStanding B) (list : Vec Answered Global) → slice_get passes w ≡ Some p → slice_get lists w ≡ Some list → P w p list.items
-
   -- the workers' lists, against the messages of files and the workers' passes, where a part has at most `size` bytes
   pub record HaveAnswered (topics : List (List ℕ × Kind)) (size workers : ℕ) (given : List (List Message)) (passes : List (PassStanding B))
       (lists : List (Vec Answered Global)) : Type 0 where
@@ -57,42 +41,18 @@ module _ {B : Type 0} where
     -- and they stand so in its record: each is its next send or its next Full
     pub follows : OfEachWorker (λ w p list. FollowsCalls (parts_in size (own_of workers w 1 given)) p.calls) passes lists
 
-  -- what the passes of a queue of this setup did, each and together, and what was left in its rings. It has so many topics.
-  pub record HaveShared (topics : ℕ) (c : Setup) (passes : List (PassStanding B)) (left : List ℕ) : Type 0 where
-    -- they are the passes of one queue, in the order of their numbers
-    pub one : (queue : Identity B) × (queue.setup ≡ c) × All (λ p. p.queue ≡ queue) passes
-    pub numbers : (w : ℕ) (p : PassStanding B) → slice_get passes w ≡ Some p → p.number ≡ w
-    -- one run of the rings' steps stands behind all their calls: its history has the four aspects, and the calls of each ring stand in
-    -- one order, in which every reply is a plain queue's
-    pub run : (opening : List (List ℕ)) × IsOneRun c opening (callers_of passes)
-    -- each Full stands where the pass held nothing. After it, before the next lend, comes one take of each topic. The record has as many
-    -- Fulls as the list.
-    pub alone : All (λ p. HoldsNothingAtEachFull p.calls) passes
-    pub helps : All (λ p. HelpsAfterEachFull topics p.calls) passes
-    pub fulls : AllFullsStand passes
-    -- each has retired, and no call met a ticket past the limit
-    pub retired : All (HasRetired topics) passes
-    pub unspent : NoneSpent passes
-    pub no_spent : All (λ p. MeetsNoSpent p.calls) passes
-    -- the takes are the sends, and no place of a topic stands twice
-    pub same : SendsAreTakes passes
-    pub places : NoPlaceStandsTwice passes
-    -- on each topic the sends less the takes are what is left: nothing. The ring of free buffers has all of them.
-    pub balance : IsBalance c passes left
-    pub none_left : NothingIsLeft topics left
-    pub free : slice_index left 0 ≡ n_of c.order
-    pub bounded : All IsBounded passes
+  -- a pass has helped: after each Full, before the next lend, comes one take of each topic. And it has retired; up to there it took just once
+  -- from each topic after each Full
+  pub record HasHelped (topics : ℕ) (p : PassStanding B) : Type 0 where
+    pub helps : HelpsAfterEachFull topics p.calls
+    pub retired : HasRetired (HelpsOnceAfterEachFull topics) p
 
   -- the queue of a job with so many topics is closed, and nothing is stranded in it, whatever its workers met: they have retired and swept, and
   -- all buffers are free
   pub record NothingIsStranded (order topics workers : ℕ) (passes : List (PassStanding B)) (left : List ℕ) : Type 0 where
     pub setup : Setup
     pub of_job : IsSetup order topics workers setup
-    pub shared : HaveShared topics setup passes left
-
-  -- how many sends, takes and Full replies a pass has. A queue's count of them stands still at the last value of 64 bits; these are few.
-  abbrev pub lengths_of : PassStanding B → Counts
-  lengths_of p = record { sent = length (sends_of p.calls); taken = length (takes_of p.calls); full = length p.fulls }
+    pub shared : HaveShared (HasHelped topics) (2 ^ 36) topics setup passes left
 
 -- so many workers answered files that gave these messages: what they answered, by their passes, and the lengths of the passes' lists
 pub record HasWorked (topics : List (List ℕ × Kind)) (size workers : ℕ) (given : List (List Message)) (w : Worked) : Type 0 where

@@ -2,8 +2,8 @@
 use Rattle.std.specs.Prelude.{◌≡◌, ℕ, ◌<◌, List, [], reverse, length, Option, None, slice_index_or}
 use Rattle.scq_band.specs.Standing.{Identity}
 use Rattle.scq_queue.specs.Passes.{HeldStanding, first_pass}
-use Rattle.scq_work.specs.Desks.{ids_of}
-use Rattle.scq_work.specs.Files.{files_of}
+use Rattle.scq_files.specs.OwnFiles.{ids_of}
+use Rattle.scq_files.specs.Files.{files_of}
 use Rattle.scq_work.specs.declared.desk.Desk.{Desk}
 use Rattle.scq_work.specs.declared.worker.Worker.{Worker}
 

@@ -1,13 +1,7 @@
 pub mod Jobs
-pub mod Files
-pub mod Records
 pub mod Members
 pub mod Passing
-pub mod Together
 pub mod Working
-pub mod Leaving
-pub mod Given
-pub mod Reading
 pub mod Desks
 pub mod Dealings
 pub mod Ends

@@ -1,5 +1,5 @@
 -- A worker's list of answers, against what its pass did. `topics` has the names and kinds of the declared topics.
-use Rattle.std.specs.Prelude.{◌≡◌, ℕ, ◌^◌, ◌<◌, ◌≤◌, Bool, true, false, not, List, [], ◌∷◌, ◌++◌, length, filter}
+use Rattle.std.specs.Prelude.{◌≡◌, ℕ, ◌^◌, ◌<◌, ◌≤◌, Bool, true, false, not, List, length, filter}
 use Rattle.std.specs.List.{AllZip}
 use Rattle.scq_topics.specs.declared.kind.Kind.{Kind}
 use Rattle.scq_frames.specs.Parts.{Part, IsNumbered}
@@ -9,6 +9,7 @@ use Rattle.scq_collect.specs.declared.answered.Answered.{Answered}
 use Rattle.scq_collect.specs.declared.answered.Way.{Way}
 use Rattle.scq_collect.specs.declared.answered.Way.TheVariants.{Taken, Direct}
 use Rattle.scq_queue.specs.Lists.{Placed}
+use Rattle.scq_passes.specs.Becoming.{BecomeSoFar}
 
 -- the answer to this part, come by in this way
 abbrev pub answered : List (List ℕ × Kind) → Way → Part → Answered
@@ -59,11 +60,10 @@ AnswersItsTakes topics takes members = AllZip (AnswersTake topics) takes (filter
 abbrev pub AnswersItsFulls : List ℕ → List Answered → Type 0
 AnswersItsFulls fulls members = AllZip AnswersFull fulls (filter is_direct members)
 
+-- the bytes of a take decode to no part on a known topic
+abbrev pub IsPassedOver : List (List ℕ × Kind) → Placed → Type 0
+IsPassedOver topics take = (p : Part) → IsEncodable p → BeginsWith take.bytes p → p.topic ≤ length topics → ⊥
+
 -- what was taken so far is answered: each take whose bytes decode to a part on a known topic has its member, and there are no others
-pub data AnswersSoFar (topics : List (List ℕ × Kind)) : List Placed → List Answered → Type 0 where
-  none : AnswersSoFar topics [] []
-  and_answered : {takes : List Placed} {members : List Answered} (take : Placed) (a : Answered)
-      → AnswersSoFar topics takes members → AnswersTake topics take a → AnswersSoFar topics (takes ++ take ∷ []) (members ++ a ∷ [])
-  and_passed_over : {takes : List Placed} {members : List Answered} (take : Placed)
-      → AnswersSoFar topics takes members → ((p : Part) → IsEncodable p → BeginsWith take.bytes p → p.topic ≤ length topics → ⊥)
-      → AnswersSoFar topics (takes ++ take ∷ []) members
+abbrev pub AnswersSoFar : List (List ℕ × Kind) → List Placed → List Answered → Type 0
+AnswersSoFar topics takes members = BecomeSoFar (IsPassedOver topics) (AnswersTake topics) takes members

@@ -9,6 +9,7 @@ use Rattle.scq_frames.specs.Encoded.{IsEncodable, BeginsWith}
 use Rattle.scq_collect.specs.declared.answered.Answered.{Answered}
 use Rattle.scq_collect.specs.declared.answered.Way.TheVariants.{Direct}
 use Rattle.scq_queue.specs.Lists.{Placed, sent_by, was_full}
+use Rattle.scq_passes.specs.PassedOn as passed
 use Rattle.scq_work.specs.Members.{answered, is_direct}
 
 -- all parts of messages, in order, where a part has at most so many bytes
@@ -27,12 +28,8 @@ pub record AnswersDirectly (topics : List (List ℕ × Kind)) (p : Part) (a : An
   pub answer : a ≡ answered topics (Direct head) p
 
 -- parts, in order, are each the next send or the next direct answer, and there are no other sends and direct answers
-pub data ArePassedOn (topics : List (List ℕ × Kind)) : List Part → List Placed → List Answered → Type 0 where
-  none : ArePassedOn topics [] [] []
-  and_sent : {ps : List Part} {sends : List Placed} {directs : List Answered} (p : Part) (send : Placed)
-      → ArePassedOn topics ps sends directs → Sends p send → ArePassedOn topics (ps ++ p ∷ []) (sends ++ send ∷ []) directs
-  and_answered : {ps : List Part} {sends : List Placed} {directs : List Answered} (p : Part) (a : Answered)
-      → ArePassedOn topics ps sends directs → AnswersDirectly topics p a → ArePassedOn topics (ps ++ p ∷ []) sends (directs ++ a ∷ [])
+abbrev pub ArePassedOn : List (List ℕ × Kind) → List Part → List Placed → List Answered → Type 0
+ArePassedOn topics parts sends directs = passed.ArePassedOn Sends (AnswersDirectly topics) parts sends directs
 
 -- a worker has passed on these parts, with these sends and this list
 abbrev pub HasPassedOn : List (List ℕ × Kind) → List Part → List Placed → List Answered → Type 0

@@ -5,14 +5,14 @@ use Rattle.scq_block.specs.declared.frame.Frame.{Frame}
 use Rattle.scq_band.specs.Standing.{Identity}
 use Rattle.scq_work.specs.Threads.{task, IsGiven, HasDone}
 use Rattle.scq_work.specs.declared.job.Job.{Job}
-use Rattle.scq_work.specs.declared.places.Place.{Place}
-use Rattle.scq_work.specs.declared.places.Place.TheVariants.{Started, Here, Done}
+use Rattle.scq_work.specs.declared.places.Runner.{Runner}
+use Rattle.scq_work.specs.declared.places.Runner.TheVariants.{Started, Here, Done}
 use Rattle.scq_work.specs.declared.threads.Work.{Work}
 use Rattle.scq_work.specs.declared.threads.WorksOn.{WorksOn}
 
 module _ {S : Type 0} where
   -- what the worker of a place was given
-  abbrev pub given_to : Place S → Work S
+  abbrev pub given_to : Runner S → Work S
   given_to (Started h) = h.promise.work.value
   given_to (Here was work) = was.work.value
   given_to (Done was work) = was.work.value
@@ -26,10 +26,10 @@ module _ {S : Type 0} where
 
   -- so stands the worker of a place: where it has a thread of its own, that will tell; where the caller runs it, R holds of what it was given
   -- and what it has
-  abbrev pub Stands : (Work S → Work S → Type 0) → Identity Frame → Job → List TableId → (S → ℕ) → (S → ℕ) → (S → Option (List ℕ)) → Place S → Type 0
-  Stands R q j crew faults end_count left (Started h) = Begins q j crew faults end_count left h.promise
-  Stands R q j crew faults end_count left (Here was work) = Begins q j crew faults end_count left was × R was.work.value work
-  Stands R q j crew faults end_count left (Done was work) = HasDone (task q j crew faults end_count left) was.work.value work
+  abbrev pub HasWork : (Work S → Work S → Type 0) → Identity Frame → Job → List TableId → (S → ℕ) → (S → ℕ) → (S → Option (List ℕ)) → Runner S → Type 0
+  HasWork R q j crew faults end_count left (Started h) = Begins q j crew faults end_count left h.promise
+  HasWork R q j crew faults end_count left (Here was work) = Begins q j crew faults end_count left was × R was.work.value work
+  HasWork R q j crew faults end_count left (Done was work) = HasDone (task q j crew faults end_count left) was.work.value work
 
   abbrev pub IsUntouched : Work S → Work S → Type 0
   IsUntouched given work = work ≡ given

@@ -4,10 +4,10 @@ use Rattle.atomic_table.specs.Seated.{TableId}
 use Rattle.scq_park.specs.Crews.{Post, AreAll}
 use Rattle.scq_queue.specs.Passes.{PassStanding}
 use Rattle.scq_work.specs.Waiting.{EachWaited}
-use Rattle.scq_work.specs.declared.resting.Berths.{Berths}
+use Rattle.scq_work.specs.declared.resting.RestingRoom.{RestingRoom}
 
 -- empty lists with room for so many workers
-pub record HasRoom {S : Type 0} (workers : ℕ) (b : Berths S) : Type 0 where
+pub record HasRoom {S : Type 0} (workers : ℕ) (b : RestingRoom S) : Type 0 where
   pub flags : length b.flags.items ≡ workers
   pub none : (b.given.items ≡ []) × (b.places.items ≡ []) × (b.ends.items ≡ [])
   pub all : (workers ≤ vec_capacity b.given) × (workers ≤ vec_capacity b.places) × (workers ≤ vec_capacity b.ends)

@@ -5,12 +5,13 @@ use Rattle.scq_block.specs.declared.frame.Frame.{Frame}
 use Rattle.scq_topics.specs.declared.kind.Kind.{Kind}
 use Rattle.scq_band.specs.Standing.{Identity}
 use Rattle.scq_work.specs.Dealings.{IsFresh}
-use Rattle.scq_work.specs.Desks.{IsNew, HasProduced, HasRun, ids_of}
+use Rattle.scq_files.specs.OwnFiles.{IsNew, ids_of}
+use Rattle.scq_work.specs.Desks.{HasProduced, HasRun}
 use Rattle.scq_work.specs.Waiting.{HasWaited, but_wakes}
 use Rattle.scq_work.specs.declared.job.Job.{Job}
 use Rattle.scq_work.specs.declared.threads.Work.{Work}
-use Rattle.scq_work.specs.declared.threads.End.{End}
-use Rattle.scq_work.specs.declared.threads.End.TheVariants.{Worked, Unbegun}
+use Rattle.scq_work.specs.declared.threads.HandedBack.{HandedBack}
+use Rattle.scq_work.specs.declared.threads.HandedBack.TheVariants.{Worked, Unbegun}
 
 -- what all workers share: their queue, what they are to do, their crew, and what sources tell
 pub record Task (S : Type 0) : Type 0 where
@@ -81,6 +82,6 @@ module _ {S : Type 0} where
     pub worker : new.stand.worker ≡ old.stand.worker
 
   -- how the thread of a worker ends: it did all, or nothing
-  abbrev pub EndsSo : Task S → Work S → End S → Type 0
-  EndsSo t given (Worked w) = HasDone t given w
-  EndsSo t given (Unbegun w) = w ≡ given
+  abbrev pub HandsBack : Task S → Work S → HandedBack S → Type 0
+  HandsBack t given (Worked w) = HasDone t given w
+  HandsBack t given (Unbegun w) = w ≡ given

@@ -2,7 +2,8 @@
 ghost use Rattle.std.specs.Prelude.{◌≡◌, ℕ, ◌+◌, ◌<◌, ◌≤◌, length, slice_index_or};
 ghost use Rattle.std.specs.List.{All};
 ghost use Rattle.scq_work.specs.Dealings.{IsFresh};
-ghost use Rattle.scq_work.specs.Desks.{IsNew, HasRun, ids_of};
+ghost use Rattle.scq_files.specs.OwnFiles.{IsNew, ids_of};
+ghost use Rattle.scq_work.specs.Desks.{HasRun};
 
 use crate::desk::Desk;
 use crate::{Gate, Job};

@@ -26,16 +26,16 @@ pub trait Bell<T> {
 
 /// Nobody rests.
 #[derive(Clone, Copy)]
-pub struct Silent;
+pub struct NoBell;
 
-impl Bell<Silent> for Silent {
+impl Bell<NoBell> for NoBell {
     ghost kept = { λ _. post [] 0 [] 0 };
 
     ghost fits = { λ _ _ _. Unit {0} };
 
-    fn after_send(&self, _stand: &mut Silent, _number: u32, _workers: u32) {}
+    fn after_send(&self, _stand: &mut NoBell, _number: u32, _workers: u32) {}
 
-    fn after_retire(&self, _stand: &mut Silent, _number: u32, _workers: u32) {}
+    fn after_retire(&self, _stand: &mut NoBell, _number: u32, _workers: u32) {}
 }
 
 /// After a send it wakes the next worker, and after it retired all others.

@@ -3,11 +3,11 @@ ghost use Rattle.std.specs.Prelude.{◌≡◌, ◌+◌, ◌^◌, ◌<◌, ◌≤
 ghost use Rattle.std.specs.List.{All};
 ghost use Rattle.scq_queue.specs.Passes.{first_passes};
 ghost use Rattle.scq_work.specs.Dealings.{AreDealt, IsFresh, without_files};
-ghost use Rattle.scq_work.specs.Desks.{IsNew};
+ghost use Rattle.scq_files.specs.OwnFiles.{IsNew};
 
 use crate::desk::Desk;
-use crate::own_file::OwnFile;
 use crate::worker::Worker;
+use scq_files::OwnFile;
 use scq_outside::Source;
 use scq_queue::{Pass, Queue};
 use scq_word::Buffer;

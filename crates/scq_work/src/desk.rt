@@ -1,15 +1,17 @@
 //! A worker with its files: all that one thread has.
 ghost use Rattle.std.specs.Prelude.{◌≡◌, ◌≤◌, ◌<◌, ◌+◌, ◌++◌, ◌∷◌, List, false, true, [], length, Some, None, IfNone, IfSome, All, vec_len, vec_capacity};
 ghost use Rattle.scq_queue.specs.Passes.{first_pass};
-ghost use Rattle.scq_work.specs.Desks.{IsNew, ids_of, HasProduced, IsToSweep, HasRun};
+ghost use Rattle.scq_files.specs.OwnFiles.{IsNew, ids_of};
+ghost use Rattle.scq_work.specs.Desks.{HasProduced, IsToSweep, HasRun};
 ghost use Rattle.scq_work.specs.Waiting.{HasWaited};
 
-use crate::bell::{Bell, Silent};
-use crate::own_file::OwnFile;
-use crate::worker::{AtLimit, Worker};
+use crate::bell::{Bell, NoBell};
+use crate::worker::Worker;
 use crate::{Gate, Job};
+use scq_files::OwnFile;
 use scq_outside::Source;
 use scq_park::{Crew, Stand};
+use scq_passes::AtLimit;
 use scq_queue::{Held, Queue};
 use scq_word::Buffer;
 use std::alloc::Global;
@@ -95,8 +97,8 @@ impl<B: Buffer, S: Source> Desk<B, S> {
             self.new.worker.members.items self.new.worker.starved self.new.kept }
         ensures number { (self.new.worker.number ≡ self.old.worker.number) × (self.new.worker.pass.number ≡ self.old.worker.number) }
     {
-        let mut nobody = Silent;
-        self.produce(alloc, job, queue, gate, &Silent, &mut nobody);
+        let mut nobody = NoBell;
+        self.produce(alloc, job, queue, gate, &NoBell, &mut nobody);
         match self.worker.pass.spent() {
             Some(_) => {}
             None => self.sweep_out(alloc, job, queue, gate),

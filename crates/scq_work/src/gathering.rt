@@ -4,15 +4,15 @@ ghost use Rattle.std.specs.List.{All};
 ghost use Rattle.std.specs.Option.{option_to_list};
 ghost use Rattle.scq_frames.specs.declared.fault.FrameFault.{FrameFault as TheFault};
 ghost use Rattle.scq_work.specs.Dealings.{AreDealt, without_files};
-ghost use Rattle.scq_work.specs.Ends.{AllEndFed, HasMoved, StopsAt, end_fault, wanted_memory};
-ghost use Rattle.scq_work.specs.Given.{given_in};
-ghost use Rattle.scq_work.specs.Reading.{IsRead, IsWhole};
+ghost use Rattle.scq_files.specs.Ends.{AllEndFed, HasMoved, StopsAt, end_fault, wanted_memory};
+ghost use Rattle.scq_files.specs.Given.{given_in};
+ghost use Rattle.scq_files.specs.Reading.{IsRead, IsWhole};
 
 use crate::Job;
 use crate::desk::Desk;
-use crate::own_file::{FileEnd, OwnFile};
 use crate::worker::Worker;
 use scq_collect::Answered;
+use scq_files::{FileEnd, OwnFile};
 use scq_frames::FrameFault;
 use scq_outside::Source;
 use scq_queue::{Held, Pass};
@@ -104,22 +104,22 @@ pub fn gather<B: Buffer, S: Source>(
 
 /// What workers leave behind, in the order of their numbers: their passes, the values that they kept, their lists, and whether any wanted
 /// memory.
-pub struct Left<B: Buffer> {
+pub struct LeftBehind<B: Buffer> {
     pub passes: Vec<Pass<B>>,
     pub held: Vec<Held<B>>,
     pub lists: Vec<Vec<Answered>>,
     pub starved: bool,
 }
 
-impl<B: Buffer> Left<B> {
+impl<B: Buffer> LeftBehind<B> {
     ghost use Rattle.std.specs.Prelude.{◌≡◌, ◌+◌, ◌<◌, ◌≤◌, ◌++◌, ◌∷◌, [], false, vec_len, vec_capacity};
     ghost use Rattle.std.specs.Option.{option_to_list};
 
-    /// Ends it where nothing was left behind.
+    /// Lets go of the lists, which hold no value.
     pub fn destroy_empty(self)
         requires { self.held.items ≡ [] }
     {
-        let Left {
+        let LeftBehind {
             passes: _,
             held,
             lists: _,
@@ -162,7 +162,7 @@ impl<B: Buffer> Left<B> {
 }
 
 /// Takes the desks apart. What the workers leave behind is put into empty lists with room.
-pub fn clear<B: Buffer, S: Source>(mut desks: Vec<Desk<B, S>>, left: &mut Left<B>)
+pub fn clear<B: Buffer, S: Source>(mut desks: Vec<Desk<B, S>>, left: &mut LeftBehind<B>)
     requires empty { (left.old.passes.items ≡ []) × (left.old.held.items ≡ []) × (left.old.lists.items ≡ []) }
     requires room { (vec_len desks ≤ vec_capacity left.old.passes) × (vec_len desks ≤ vec_capacity left.old.held)
         × (vec_len desks ≤ vec_capacity left.old.lists) }

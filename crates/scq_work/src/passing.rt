@@ -1,13 +1,15 @@
 //! What a worker does with each message of its files: it passes it on part by part.
 ghost use Rattle.std.specs.Prelude.{◌≡◌, ◌≤◌, ◌+◌, ◌++◌, ◌∷◌, List, false, [], length, None, IfErr, OnOk, All};
 ghost use Rattle.scq_frames.specs.Parts.{Part as ThePart, IsNumbered, all_parts, parts_of as the_parts_of, part_of};
-ghost use Rattle.scq_work.specs.Waiting.{HelpsInVain};
-ghost use Rattle.scq_work.specs.Working.{Suits, IsAtWork, HasStopped};
+ghost use Rattle.scq_passes.specs.Waiting.{HelpsInVain};
+ghost use Rattle.scq_passes.specs.Calls.{Suits};
+ghost use Rattle.scq_work.specs.Working.{IsAtWork, HasStopped};
 
 use crate::bell::Bell;
-use crate::worker::{AtLimit, Worker};
+use crate::worker::Worker;
 use crate::{Gate, Job, Point};
 use scq_frames::{Message, parts_of};
+use scq_passes::AtLimit;
 use scq_queue::{LendRefusal, Queue};
 use scq_word::Buffer;
 use std::alloc::Global;

@@ -2,9 +2,9 @@
 ghost use Rattle.std.specs.Prelude.{◌≡◌, ◌≤◌, [], length, map, All, vec_len, vec_capacity};
 ghost use Rattle.std.specs.List.{AllZip};
 ghost use Rattle.scq_work.specs.Threads.{task, IsReady, IsGiven, HasBegun, HasDone};
-ghost use Rattle.scq_work.specs.Places.{given_to, Stands, IsUntouched};
+ghost use Rattle.scq_work.specs.Places.{given_to, HasWork, IsUntouched};
 
-use crate::threads::{End, Work, WorksOn, start};
+use crate::threads::{HandedBack, Work, WorksOn, start};
 use crate::{Gate, Job};
 use scq_block::Frame;
 use scq_outside::Source;
@@ -18,8 +18,8 @@ use std::thread::{PromisedHandle, Scope, Threads};
 
 /// A worker in a thread of its own; one whose thread could not be made, and which the caller runs; and one that has done its work.
 #[derive(Drop)]
-pub enum Place<S: Source> {
-    Started(PromisedHandle<End<S>, WorksOn<S>>),
+pub enum Runner<S: Source> {
+    Started(PromisedHandle<HandedBack<S>, WorksOn<S>>),
     Here { was: WorksOn<S>, work: Work<S> },
     Done { was: WorksOn<S>, work: Work<S> },
 }
@@ -35,21 +35,21 @@ fn begin<'s, E, R: Threads + Wait + Sync + 's, S: Source + 's, G: Gate + 's>(
     crew: &'s Crew,
     held_back: &'s AtomicBool,
     given: Work<S>,
-) -> Place<S>
+) -> Runner<S>
     requires ready { IsReady (task queue.now job.now crew.now S.faults S.ends S.left) }
     requires given { IsGiven (task queue.now job.now crew.now S.faults S.ends S.left) given }
     ensures given { given_to result ≡ given }
-    ensures stands { Stands IsUntouched queue.now job.now crew.now S.faults S.ends S.left result }
+    ensures stands { HasWork IsUntouched queue.now job.now crew.now S.faults S.ends S.left result }
 {
     let was = WorksOn::of(job, queue, crew, &given);
     match start(rt, scope, alloc, job, queue, gate, crew, held_back, given) {
-        Ok(handle) => Place::Started(handle),
-        Err(End::Unbegun(work)) => Place::Here { was, work },
-        Err(End::Worked(work)) => Place::Done { was, work },
+        Ok(handle) => Runner::Started(handle),
+        Err(HandedBack::Unbegun(work)) => Runner::Here { was, work },
+        Err(HandedBack::Worked(work)) => Runner::Done { was, work },
     }
 }
 
-impl<S: Source> Place<S> {
+impl<S: Source> Runner<S> {
     /// Reads its files and retires, where the caller runs it.
     fn produce<G: Gate>(
         &mut self,
@@ -60,15 +60,15 @@ impl<S: Source> Place<S> {
         crew: &Crew,
     )
         requires ready { IsReady (task queue.now job.now crew.now S.faults S.ends S.left) }
-        requires stands { Stands IsUntouched queue.now job.now crew.now S.faults S.ends S.left self.old }
+        requires stands { HasWork IsUntouched queue.now job.now crew.now S.faults S.ends S.left self.old }
         ensures given { given_to self.new ≡ given_to self.old }
-        ensures stands { Stands (HasBegun (task queue.now job.now crew.now S.faults S.ends S.left)) queue.now job.now crew.now S.faults S.ends S.left
+        ensures stands { HasWork (HasBegun (task queue.now job.now crew.now S.faults S.ends S.left)) queue.now job.now crew.now S.faults S.ends S.left
             self.new }
     {
         match self {
-            Place::Started(_) => {}
-            Place::Here { work, .. } => work.produce(alloc, job, queue, gate, crew),
-            Place::Done { .. } => {}
+            Runner::Started(_) => {}
+            Runner::Here { work, .. } => work.produce(alloc, job, queue, gate, crew),
+            Runner::Done { .. } => {}
         }
     }
 
@@ -82,16 +82,16 @@ impl<S: Source> Place<S> {
         gate: &G,
         crew: &Crew,
     )
-        requires stands { Stands (HasBegun (task queue.now job.now crew.now S.faults S.ends S.left)) queue.now job.now crew.now S.faults S.ends S.left
+        requires stands { HasWork (HasBegun (task queue.now job.now crew.now S.faults S.ends S.left)) queue.now job.now crew.now S.faults S.ends S.left
             self.old }
         ensures given { given_to self.new ≡ given_to self.old }
-        ensures stands { Stands (HasDone (task queue.now job.now crew.now S.faults S.ends S.left)) queue.now job.now crew.now S.faults S.ends S.left
+        ensures stands { HasWork (HasDone (task queue.now job.now crew.now S.faults S.ends S.left)) queue.now job.now crew.now S.faults S.ends S.left
             self.new }
     {
         match self {
-            Place::Started(_) => {}
-            Place::Here { work, .. } => work.finish(rt, alloc, job, queue, gate, crew),
-            Place::Done { .. } => {}
+            Runner::Started(_) => {}
+            Runner::Here { work, .. } => work.finish(rt, alloc, job, queue, gate, crew),
+            Runner::Done { .. } => {}
         }
     }
 
@@ -106,28 +106,28 @@ impl<S: Source> Place<S> {
         crew: &Crew,
     ) -> Work<S>
         requires ready { IsReady (task queue.now job.now crew.now S.faults S.ends S.left) }
-        requires stands { Stands (HasDone (task queue.now job.now crew.now S.faults S.ends S.left)) queue.now job.now crew.now S.faults S.ends S.left
+        requires stands { HasWork (HasDone (task queue.now job.now crew.now S.faults S.ends S.left)) queue.now job.now crew.now S.faults S.ends S.left
             self }
         ensures { HasDone (task queue.now job.now crew.now S.faults S.ends S.left) (given_to self) result }
     {
         match self {
-            Place::Started(handle) => match handle.join(rt) {
-                End::Worked(work) => work,
-                End::Unbegun(given) => {
+            Runner::Started(handle) => match handle.join(rt) {
+                HandedBack::Worked(work) => work,
+                HandedBack::Unbegun(given) => {
                     let mut work = given;
                     work.produce(alloc, job, queue, gate, crew);
                     work.finish(rt, alloc, job, queue, gate, crew);
                     work
                 }
             },
-            Place::Here { work, .. } => work,
-            Place::Done { work, .. } => work,
+            Runner::Here { work, .. } => work,
+            Runner::Done { work, .. } => work,
         }
     }
 }
 
 fn produce_all<S: Source, G: Gate>(
-    places: &mut [Place<S>],
+    places: &mut [Runner<S>],
     alloc: Global,
     job: &Job,
     queue: &Queue<Frame>,
@@ -135,9 +135,9 @@ fn produce_all<S: Source, G: Gate>(
     crew: &Crew,
 )
     requires ready { IsReady (task queue.now job.now crew.now S.faults S.ends S.left) }
-    requires stands { All (Stands IsUntouched queue.now job.now crew.now S.faults S.ends S.left) places.old }
+    requires stands { All (HasWork IsUntouched queue.now job.now crew.now S.faults S.ends S.left) places.old }
     ensures given { map given_to places.new ≡ map given_to places.old }
-    ensures stands { All (Stands (HasBegun (task queue.now job.now crew.now S.faults S.ends S.left)) queue.now job.now crew.now S.faults S.ends S.left)
+    ensures stands { All (HasWork (HasBegun (task queue.now job.now crew.now S.faults S.ends S.left)) queue.now job.now crew.now S.faults S.ends S.left)
         places.new }
 {
     'places: for place in places.iter_mut() {
@@ -146,7 +146,7 @@ fn produce_all<S: Source, G: Gate>(
 }
 
 fn finish_all<S: Source, G: Gate, R: Wait>(
-    places: &mut [Place<S>],
+    places: &mut [Runner<S>],
     rt: &R,
     alloc: Global,
     job: &Job,
@@ -154,10 +154,10 @@ fn finish_all<S: Source, G: Gate, R: Wait>(
     gate: &G,
     crew: &Crew,
 )
-    requires stands { All (Stands (HasBegun (task queue.now job.now crew.now S.faults S.ends S.left)) queue.now job.now crew.now S.faults S.ends S.left)
+    requires stands { All (HasWork (HasBegun (task queue.now job.now crew.now S.faults S.ends S.left)) queue.now job.now crew.now S.faults S.ends S.left)
         places.old }
     ensures given { map given_to places.new ≡ map given_to places.old }
-    ensures stands { All (Stands (HasDone (task queue.now job.now crew.now S.faults S.ends S.left)) queue.now job.now crew.now S.faults S.ends S.left)
+    ensures stands { All (HasWork (HasDone (task queue.now job.now crew.now S.faults S.ends S.left)) queue.now job.now crew.now S.faults S.ends S.left)
         places.new }
 {
     'places: for place in places.iter_mut() {
@@ -176,7 +176,7 @@ fn begin_all<'s, E, R: Threads + Wait + Sync + 's, S: Source + 's, G: Gate + 's>
     crew: &'s Crew,
     flags: &'s [AtomicBool],
     mut given: Vec<Work<S>>,
-    places: &mut Vec<Place<S>>,
+    places: &mut Vec<Runner<S>>,
 )
     requires ready { IsReady (task queue.now job.now crew.now S.faults S.ends S.left) }
     requires given { All (IsGiven (task queue.now job.now crew.now S.faults S.ends S.left)) given.items }
@@ -184,7 +184,7 @@ fn begin_all<'s, E, R: Threads + Wait + Sync + 's, S: Source + 's, G: Gate + 's>
     requires empty { places.old.items ≡ [] }
     requires room { vec_len given ≤ vec_capacity places.old }
     ensures given { map given_to places.new.items ≡ given.items }
-    ensures stands { All (Stands IsUntouched queue.now job.now crew.now S.faults S.ends S.left) places.new.items }
+    ensures stands { All (HasWork IsUntouched queue.now job.now crew.now S.faults S.ends S.left) places.new.items }
 {
     given.reverse();
     'starts: while let Some(work) = given.pop() {
@@ -195,7 +195,7 @@ fn begin_all<'s, E, R: Threads + Wait + Sync + 's, S: Source + 's, G: Gate + 's>
 
 /// Ends all, in their order: what they have is put into an empty list with room.
 fn end_all<S: Source, G: Gate, R: Threads + Wait>(
-    mut places: Vec<Place<S>>,
+    mut places: Vec<Runner<S>>,
     rt: &R,
     alloc: Global,
     job: &Job,
@@ -205,7 +205,7 @@ fn end_all<S: Source, G: Gate, R: Threads + Wait>(
     ends: &mut Vec<Work<S>>,
 )
     requires ready { IsReady (task queue.now job.now crew.now S.faults S.ends S.left) }
-    requires stands { All (Stands (HasDone (task queue.now job.now crew.now S.faults S.ends S.left)) queue.now job.now crew.now S.faults S.ends S.left)
+    requires stands { All (HasWork (HasDone (task queue.now job.now crew.now S.faults S.ends S.left)) queue.now job.now crew.now S.faults S.ends S.left)
         places.items }
     requires empty { ends.old.items ≡ [] }
     requires room { vec_len places ≤ vec_capacity ends.old }
@@ -230,7 +230,7 @@ fn all_in<'s, E, R: Threads + Wait + Sync + 's, S: Source + 's, G: Gate + 's>(
     flags: &'s [AtomicBool],
     mut first: Work<S>,
     given: Vec<Work<S>>,
-    mut places: Vec<Place<S>>,
+    mut places: Vec<Runner<S>>,
     mut ends: Vec<Work<S>>,
 ) -> (Work<S>, Vec<Work<S>>)
     requires ready { IsReady (task queue.now job.now crew.now S.faults S.ends S.left) }
@@ -273,7 +273,7 @@ pub fn run_all<R: Threads + Wait + Sync, S: Source, G: Gate>(
     flags: &[AtomicBool],
     first: Work<S>,
     given: Vec<Work<S>>,
-    places: Vec<Place<S>>,
+    places: Vec<Runner<S>>,
     ends: Vec<Work<S>>,
 ) -> (Work<S>, Vec<Work<S>>)
     requires ready { IsReady (task queue.now job.now crew.now S.faults S.ends S.left) }

@@ -1,20 +1,21 @@
 //! How a worker reads its files.
 ghost use Rattle.std.specs.Prelude.{◌≡◌, ◌≤◌, ◌+◌, ◌++◌, List, false, [], length, None, IfErr, OnOk, All};
 ghost use Rattle.scq_frames.specs.Parts.{Part as ThePart};
-ghost use Rattle.scq_work.specs.Desks.{IsNew, StopsAtAFault, ids_of, all_given};
-ghost use Rattle.scq_work.specs.Given.{given_in};
+ghost use Rattle.scq_files.specs.OwnFiles.{IsNew, StopsAtAFault, ids_of, all_given};
+ghost use Rattle.scq_files.specs.Given.{given_in};
 ghost use Rattle.scq_work.specs.Passing.{parts_in};
-ghost use Rattle.scq_work.specs.Reading.{IsRead};
-ghost use Rattle.scq_work.specs.Waiting.{HelpsInVain};
-ghost use Rattle.scq_work.specs.Working.{Suits, IsAtWork, HasStopped};
+ghost use Rattle.scq_files.specs.Reading.{IsRead};
+ghost use Rattle.scq_passes.specs.Waiting.{HelpsInVain};
+ghost use Rattle.scq_passes.specs.Calls.{Suits};
+ghost use Rattle.scq_work.specs.Working.{IsAtWork, HasStopped};
 
 use crate::bell::Bell;
-use crate::given::{Given, give};
-use crate::own_file::{FileEnd, OwnFile};
-use crate::worker::{AtLimit, Worker};
+use crate::worker::Worker;
 use crate::{Gate, Job};
+use scq_files::{FileEnd, Given, OwnFile, give};
 use scq_frames::{FrameFault, Framer};
 use scq_outside::Source;
+use scq_passes::AtLimit;
 use scq_queue::Queue;
 use scq_word::Buffer;
 use std::alloc::Global;

@@ -3,11 +3,12 @@ ghost use Rattle.std.specs.Prelude.{◌≡◌, ℕ, ◌+◌, ◌<◌, ◌≤◌,
 ghost use Rattle.std.specs.List.{All};
 ghost use Rattle.scq_park.specs.Crews.{first_posts};
 ghost use Rattle.scq_work.specs.Dealings.{IsFresh};
-ghost use Rattle.scq_work.specs.Desks.{IsNew, HasRun, ids_of};
+ghost use Rattle.scq_files.specs.OwnFiles.{IsNew, ids_of};
+ghost use Rattle.scq_work.specs.Desks.{HasRun};
 ghost use Rattle.scq_work.specs.Resting.{HasRoom, AreSettled};
 
 use crate::desk::Desk;
-use crate::places::{Place, run_all};
+use crate::places::{Runner, run_all};
 use crate::threads::Work;
 use crate::{Gate, Job};
 use scq_block::Frame;
@@ -22,23 +23,23 @@ use std::thread::Threads;
 
 /// Room for what the threads of workers are given and hand back: empty lists, and a flag for each worker.
 #[derive(Drop)]
-pub struct Berths<S: Source> {
+pub struct RestingRoom<S: Source> {
     pub flags: Vec<AtomicBool>,
     pub given: Vec<Work<S>>,
-    pub places: Vec<Place<S>>,
+    pub places: Vec<Runner<S>>,
     pub ends: Vec<Work<S>>,
 }
 
 /// Room for so many workers.
-pub fn make_berths<S: Source>(alloc: Global, workers: u32) -> Result<Berths<S>, NoMemory>
-    ensures { IfOk result (λ berths. HasRoom workers berths) }
+pub fn make_resting_room<S: Source>(alloc: Global, workers: u32) -> Result<RestingRoom<S>, NoMemory>
+    ensures { IfOk result (λ resting_room. HasRoom workers resting_room) }
 {
     let count = workers as usize;
     let flags = make_flags(alloc, count)?;
     let given = Vec::with_capacity(alloc, count)?;
     let places = Vec::with_capacity(alloc, count)?;
     let ends = Vec::with_capacity(alloc, count)?;
-    Ok(Berths {
+    Ok(RestingRoom {
         flags,
         given,
         places,
@@ -65,12 +66,12 @@ pub fn run_resting<R: Threads + Wait + Sync, S: Source, G: Gate>(
     gate: &G,
     crew: &Crew,
     stands: Vec<Stand>,
-    berths: Berths<S>,
+    resting_room: RestingRoom<S>,
     desks: Vec<Desk<Frame, S>>,
 ) -> (Vec<Desk<Frame, S>>, Vec<Stand>)
     requires workers { (length desks.items ≡ job.now.workers) × (length crew.now ≡ job.now.workers) }
     requires stands { stands.items ≡ first_posts crew.now job.now.workers }
-    requires berths { HasRoom job.now.workers berths }
+    requires resting_room { HasRoom job.now.workers resting_room }
     requires rings { queue.now.setup.rings ≡ length job.now.topics + 2 }
     requires room { All (λ b. job.now.size + 24 ≤ length b.bytes.items) queue.now.given }
     requires fresh { All (IsFresh queue.now) desks.items }
@@ -86,12 +87,12 @@ pub fn run_resting<R: Threads + Wait + Sync, S: Source, G: Gate>(
         result.0.items }
     ensures settled { AreSettled crew.now (length job.now.topics + 1) result.1.items (map (λ d. d.worker.pass) result.0.items) }
 {
-    let Berths {
+    let RestingRoom {
         flags,
         given,
         places,
         ends,
-    } = berths;
+    } = resting_room;
     let mut desks = desks;
     let mut stands = stands;
     let mut given = given;
@@ -109,7 +110,7 @@ pub fn run_resting<R: Threads + Wait + Sync, S: Source, G: Gate>(
         places,
         ends,
     );
-    part(first, ends, &mut desks, &mut stands);
+    take_apart(first, ends, &mut desks, &mut stands);
     (desks, stands)
 }
 
@@ -177,7 +178,7 @@ fn pair_all<S: Source>(
 }
 
 /// Takes desks and stands apart again, in order: the first, and the others. They are put into empty lists with room.
-fn part<S: Source>(
+fn take_apart<S: Source>(
     first: Work<S>,
     ends: Vec<Work<S>>,
     desks: &mut Vec<Desk<Frame, S>>,
@@ -189,7 +190,7 @@ fn part<S: Source>(
     ensures stands { stands.new.items ≡ map (λ w. w.stand) (first ∷ ends.items) }
 {
     put_apart(first, desks, stands);
-    part_all(ends, desks, stands);
+    take_all_apart(ends, desks, stands);
 }
 
 /// Puts a desk and its stand behind others.
@@ -206,7 +207,11 @@ fn put_apart<S: Source>(work: Work<S>, desks: &mut Vec<Desk<Frame, S>>, stands: 
 }
 
 /// Puts all desks and their stands behind others, in order.
-fn part_all<S: Source>(ends: Vec<Work<S>>, desks: &mut Vec<Desk<Frame, S>>, stands: &mut Vec<Stand>)
+fn take_all_apart<S: Source>(
+    ends: Vec<Work<S>>,
+    desks: &mut Vec<Desk<Frame, S>>,
+    stands: &mut Vec<Stand>,
+)
     requires room { (vec_len desks.old + vec_len ends ≤ vec_capacity desks.old) × (vec_len stands.old + vec_len ends ≤ vec_capacity stands.old) }
     ensures desks { desks.new.items ≡ desks.old.items ++ map (λ w. w.desk) ends.items }
     ensures stands { stands.new.items ≡ stands.old.items ++ map (λ w. w.stand) ends.items }

@@ -1,6 +1,6 @@
 //! The threads of workers that may rest: what each is given, and hands back.
 ghost use Rattle.std.specs.Prelude.{◌≡◌, IfOk, IfErr};
-ghost use Rattle.scq_work.specs.Threads.{task, CanBegin, EndsSo};
+ghost use Rattle.scq_work.specs.Threads.{task, CanBegin, HandsBack};
 
 use crate::desk::Desk;
 use crate::{Gate, Job};
@@ -89,7 +89,7 @@ impl<S: Source> Work<S> {
 
 /// How the thread of a worker ends: it did its work, or nothing.
 #[derive(Drop)]
-pub enum End<S: Source> {
+pub enum HandedBack<S: Source> {
     Worked(Work<S>),
     Unbegun(Work<S>),
 }
@@ -103,8 +103,8 @@ pub struct WorksOn<S: Source> {
     pub work: Snapshot<Work<S>>,
 }
 
-impl<S: Source> Promise<End<S>> for WorksOn<S> {
-    ghost kept_by = { λ p end. EndsSo (task p.queue.value p.job.value p.crew.value S.faults S.ends S.left) p.work.value end };
+impl<S: Source> Promise<HandedBack<S>> for WorksOn<S> {
+    ghost kept_by = { λ p end. HandsBack (task p.queue.value p.job.value p.crew.value S.faults S.ends S.left) p.work.value end };
 }
 
 impl<S: Source> WorksOn<S> {
@@ -134,17 +134,17 @@ fn work_there<R: Wait, S: Source, G: Gate>(
     crew: &Crew,
     held_back: &AtomicBool,
     given: Work<S>,
-) -> End<S>
+) -> HandedBack<S>
     requires begins { CanBegin (task queue.now job.now crew.now S.faults S.ends S.left) given }
-    ensures { EndsSo (task queue.now job.now crew.now S.faults S.ends S.left) given result }
+    ensures { HandsBack (task queue.now job.now crew.now S.faults S.ends S.left) given result }
 {
     if held_back.load(Ordering::SeqCst) {
-        return End::Unbegun(given);
+        return HandedBack::Unbegun(given);
     }
     let mut work = given;
     work.produce(alloc, job, queue, gate, crew);
     work.finish(rt, alloc, job, queue, gate, crew);
-    End::Worked(work)
+    HandedBack::Worked(work)
 }
 
 /// Starts a worker in a thread of its own. Where no thread can be made, what it was given comes back: the thread's closure is then called here, held back.
@@ -158,16 +158,16 @@ pub fn start<'s, E, R: Threads + Wait + Sync + 's, S: Source + 's, G: Gate + 's>
     crew: &'s Crew,
     held_back: &'s AtomicBool,
     given: Work<S>,
-) -> Result<PromisedHandle<End<S>, WorksOn<S>>, End<S>>
+) -> Result<PromisedHandle<HandedBack<S>, WorksOn<S>>, HandedBack<S>>
     requires begins { CanBegin (task queue.now job.now crew.now S.faults S.ends S.left) given }
     ensures shared { IfOk result (λ h. (h.promise.queue.value ≡ queue.now) × (h.promise.job.value ≡ job.now) × (h.promise.crew.value ≡ crew.now)) }
     ensures own { IfOk result (λ h. h.promise.work.value ≡ given) }
-    ensures back { IfErr result (EndsSo (task queue.now job.now crew.now S.faults S.ends S.left) given) }
+    ensures back { IfErr result (HandsBack (task queue.now job.now crew.now S.faults S.ends S.left) given) }
 {
     let promise = WorksOn::of(job, queue, crew, &given);
-    let job_there = move || -> End<S>
+    let job_there = move || -> HandedBack<S>
         requires { CanBegin (task queue.now job.now crew.now S.faults S.ends S.left) given }
-        ensures { EndsSo (task queue.entry.now job.entry.now crew.entry.now S.faults S.ends S.left) given result }
+        ensures { HandsBack (task queue.entry.now job.entry.now crew.entry.now S.faults S.ends S.left) given result }
     { work_there(rt, alloc, job, queue, gate, crew, held_back, given) };
     match scope.spawn_with(promise, job_there) {
         Ok(handle) => Ok(handle),

@@ -9,18 +9,20 @@ ghost use Rattle.scq_collect.specs.Joined.{part_answers, without_way};
 ghost use Rattle.scq_collect.specs.Merging.{members_in};
 ghost use Rattle.scq_queue.specs.Passes.{first_passes};
 ghost use Rattle.scq_work.specs.AllWorkers.{HasWorked, NothingIsStranded};
-ghost use Rattle.scq_work.specs.Ends.{AreGiven, HasCause, HasMoved, MemoryIsFirst, all_left, messages_in};
-ghost use Rattle.scq_work.specs.Reading.{IsWhole};
+ghost use Rattle.scq_files.specs.Ends.{AreGiven, HasMoved, all_left, messages_in};
+ghost use Rattle.scq_work.specs.Ends.{HasCause, MemoryIsFirst};
+ghost use Rattle.scq_files.specs.Reading.{IsWhole};
 ghost use Rattle.scq_park.specs.Crews.{first_posts};
 ghost use Rattle.scq_work.specs.Resting.{HasRoom};
 ghost use Rattle.scq_work.specs.Waiting.{HaveWaited};
 
-use crate::resting::{Berths, make_berths, run_resting};
-use crate::working::{Room, lay_out, make_queue, make_room, wind_up};
+use crate::resting::{RestingRoom, make_resting_room, run_resting};
+use crate::working::{WorkRoom, lay_out, make_room, setup_of, wind_up};
 use crate::{Gate, Job, WorkEnd, WorkFault};
 use scq_block::{Block, Frame};
 use scq_outside::Source;
 use scq_park::{Crew, Rested, Stand};
+use scq_passes::make_queue;
 use scq_queue::{Pass, Queue};
 use scq_word::NoMemory;
 use std::alloc::Global;
@@ -60,8 +62,8 @@ impl<S> WaitEnd<S> {
 
 /// What the work needs beside its crew: room, and a queue over the frames of one block with a pass for each worker.
 struct Made<S: Source> {
-    berths: Berths<S>,
-    room: Room<S>,
+    resting_room: RestingRoom<S>,
+    room: WorkRoom<S>,
     block: Block,
     queue: Queue<Frame>,
     passes: Vec<Pass<Frame>>,
@@ -79,13 +81,13 @@ fn make_all<S: Source>(alloc: Global, job: &Job, files: usize) -> Result<Made<S>
     ensures left { IfOk result (λ made. (made.room.left.passes.items ≡ []) × (made.room.left.held.items ≡ []) × (made.room.left.lists.items ≡ [])) }
     ensures room { IfOk result (λ made. (job.now.workers ≤ vec_capacity made.room.left.passes) × (job.now.workers ≤ vec_capacity made.room.left.held)
         × (job.now.workers ≤ vec_capacity made.room.left.lists)) }
-    ensures berths { IfOk result (λ made. HasRoom job.now.workers made.berths) }
+    ensures resting_room { IfOk result (λ made. HasRoom job.now.workers made.resting_room) }
 {
-    let berths = make_berths(alloc, job.workers)?;
+    let resting_room = make_resting_room(alloc, job.workers)?;
     let room = make_room(alloc, job, files)?;
-    match make_queue(alloc, job) {
+    match make_queue(alloc, setup_of(job), job.size) {
         Ok((block, queue, passes)) => Ok(Made {
-            berths,
+            resting_room,
             room,
             block,
             queue,
@@ -179,7 +181,7 @@ fn wait_in<R: Threads + Wait + Sync, S: Source, G: Gate>(
     requires left { (made.room.left.passes.items ≡ []) × (made.room.left.held.items ≡ []) × (made.room.left.lists.items ≡ []) }
     requires room { (job.now.workers ≤ vec_capacity made.room.left.passes) × (job.now.workers ≤ vec_capacity made.room.left.held)
         × (job.now.workers ≤ vec_capacity made.room.left.lists) }
-    requires berths { HasRoom job.now.workers made.berths }
+    requires resting_room { HasRoom job.now.workers made.resting_room }
     requires crew { length crew ≡ job.now.workers }
     requires stands { stands.items ≡ first_posts crew job.now.workers }
     ensures count { length result.end.sources.items ≡ length sources.items }
@@ -205,14 +207,24 @@ fn wait_in<R: Threads + Wait + Sync, S: Source, G: Gate>(
     ensures closed { IsSome result.end.left }
 {
     let Made {
-        berths,
+        resting_room,
         room,
         block,
         queue,
         passes,
     } = made;
     let (laid, desks) = lay_out(alloc, job, &queue, passes, sources, room);
-    let (desks, stands) = run_resting(rt, alloc, job, &queue, gate, &crew, stands, berths, desks);
+    let (desks, stands) = run_resting(
+        rt,
+        alloc,
+        job,
+        &queue,
+        gate,
+        &crew,
+        stands,
+        resting_room,
+        desks,
+    );
     let (end, saw) = wind_up(job, laid, block, queue, desks);
     let rested = crew.close(stands);
     WaitEnd {

@@ -1,12 +1,15 @@
 //! How a worker waits in place of leaving early.
 ghost use Rattle.std.specs.Prelude.{◌≡◌, ℕ, ◌+◌, ◌<◌, false, length, Some, IfErr, OnOk};
 ghost use Rattle.scq_queue.specs.Passes.{known_on};
-ghost use Rattle.scq_work.specs.Waiting.{SweepsInVain, HasSweptTold};
-ghost use Rattle.scq_work.specs.Working.{Suits, HasTaken, HasAnswered, HasLeft};
+ghost use Rattle.scq_passes.specs.Records.{IsReturn};
+ghost use Rattle.scq_passes.specs.Waiting.{SweepsInVain, HasSweptTold};
+ghost use Rattle.scq_passes.specs.Calls.{Suits, HasTaken, HasLeft};
+ghost use Rattle.scq_work.specs.Working.{HasAnswered};
 
-use crate::worker::{AtLimit, Worker};
+use crate::worker::Worker;
 use crate::{Gate, Job, Point};
 use scq_park::{Crew, Stand};
+use scq_passes::AtLimit;
 use scq_queue::Queue;
 use scq_word::Buffer;
 use std::alloc::Global;
@@ -30,7 +33,7 @@ impl<B: Buffer> Worker<B> {
         ensures taken { OnOk result (HasTaken self.old.pass self.new.pass) }
         ensures empty { OnOk result ((t : ℕ) → t < length job.now.topics + 1
             → (known_on t self.new.pass).finished < (known_on t self.new.pass).head) }
-        ensures swept { OnOk result (HasSweptTold (length job.now.topics + 1) self.old.pass self.new.pass) }
+        ensures swept { OnOk result (HasSweptTold IsReturn (length job.now.topics + 1) self.old.pass self.new.pass) }
         ensures told { OnOk result (self.new.pass.gate ≡ Some 0) }
         ensures vain { OnOk result (SweepsInVain (length job.now.topics + 1) 0 stand.old.rests self.old.pass
             → SweepsInVain (length job.now.topics + 1) 1 stand.new.rests self.new.pass) }

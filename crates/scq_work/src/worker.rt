@@ -5,17 +5,19 @@ ghost use Rattle.scq_frames.specs.Parts.{IsNumbered, parts_of, part_of};
 ghost use Rattle.scq_frames.specs.Views.{part_of_view};
 ghost use Rattle.scq_queue.specs.Lists.{Placed};
 ghost use Rattle.scq_queue.specs.Passes.{known_on, IsHeldBy, after_put, after_spent_put, having_seen};
-ghost use Rattle.scq_work.specs.Records.{is_take};
+ghost use Rattle.scq_passes.specs.Records.{IsReturn, is_take};
 ghost use Rattle.scq_work.specs.Members.{answered, is_taken, is_direct, AnswersSoFar};
 ghost use Rattle.scq_work.specs.Passing.{Sends};
-ghost use Rattle.scq_work.specs.Leaving.{FoundTopicEmpty, HasSweptLast, TookNothing};
-ghost use Rattle.scq_work.specs.Waiting.{TookInVain, TookMore};
-ghost use Rattle.scq_work.specs.Working.{Suits, HasTaken, HasAnswered, HasLeft, takes_left, after_retire};
+ghost use Rattle.scq_passes.specs.Leaving.{FoundTopicEmpty, HasSweptLast, TookNothing};
+ghost use Rattle.scq_passes.specs.Waiting.{TookInVain, TookMore};
+ghost use Rattle.scq_passes.specs.Calls.{Suits, HasTaken, HasLeft, takes_left, after_retire};
+ghost use Rattle.scq_work.specs.Working.{HasAnswered};
 
 use crate::bell::Bell;
 use crate::{Gate, Job, Point};
 use scq_collect::{Answered, Way};
 use scq_frames::{Message, View, decode, encode, view_of};
+use scq_passes::AtLimit;
 use scq_queue::{Held, Pass, Queue, TakeRefusal};
 use scq_topics::{ReplyBytes, reply};
 use scq_word::{Buffer, NoMemory};
@@ -31,11 +33,6 @@ pub struct Worker<B: Buffer> {
     pub pass: Pass<B>,
     pub members: Vec<Answered>,
     pub starved: bool,
-}
-
-/// Why a worker leaves at once: a ticket at or past the limit was drawn. It has the value that came back, where there is one.
-pub struct AtLimit<B: Buffer> {
-    pub held: Option<Held<B>>,
 }
 
 /// The text of a part: the reply to it where it is its whole message, else its bytes.
@@ -317,7 +314,7 @@ impl<B: Buffer> Worker<B> {
         ensures taken { OnOk result (HasTaken self.old.pass self.new.pass) }
         ensures empty { OnOk result ((t : ℕ) → t < length job.now.topics + 1
             → (known_on t self.new.pass).finished < (known_on t self.new.pass).head) }
-        ensures swept { OnOk result (HasSweptLast (length job.now.topics + 1) 64 self.old.pass self.new.pass) }
+        ensures swept { OnOk result (HasSweptLast IsReturn (length job.now.topics + 1) 64 self.old.pass self.new.pass) }
         ensures answered { OnOk result (self.new.starved ≡ false
             → HasAnswered job.now.topics self.old.pass self.new.pass self.old.members.items self.new.members.items) }
         ensures left { IfErr result (λ l. (parts : ℕ) → HasLeft parts parts self.old.pass self.new.pass l.held) }

@@ -10,19 +10,22 @@ ghost use Rattle.scq_collect.specs.Merging.{members_in};
 ghost use Rattle.scq_queue.specs.Passes.{first_passes, was_told};
 ghost use Rattle.scq_work.specs.AllWorkers.{HasWorked, NothingIsStranded};
 ghost use Rattle.scq_work.specs.Dealings.{AreDealt, IsFresh};
-ghost use Rattle.scq_work.specs.Desks.{IsNew, HasRun};
-ghost use Rattle.scq_work.specs.Ends.{AreGiven, HasCause, HasMoved, MemoryIsFirst, all_left, fault_of_workers, messages_in};
-ghost use Rattle.scq_work.specs.Reading.{IsWhole};
+ghost use Rattle.scq_files.specs.OwnFiles.{IsNew};
+ghost use Rattle.scq_work.specs.Desks.{HasRun};
+ghost use Rattle.scq_files.specs.Ends.{AreGiven, HasMoved, all_left, messages_in};
+ghost use Rattle.scq_work.specs.Ends.{HasCause, MemoryIsFirst, fault_of_workers};
+ghost use Rattle.scq_files.specs.Reading.{IsWhole};
 
 use crate::apart::run_apart;
 use crate::dealing::{deal, make_desks};
 use crate::desk::Desk;
-use crate::gathering::{Gathered, Left, clear, gather};
-use crate::own_file::OwnFile;
+use crate::gathering::{Gathered, LeftBehind, clear, gather};
 use crate::{Gate, Job, WorkEnd, WorkFault, Worked};
 use scq_block::{Block, Frame};
+use scq_files::{OwnFile, make_lists};
 use scq_frames::FrameFault;
 use scq_outside::Source;
+use scq_passes::make_queue;
 use scq_queue::{Closed, Pass, Queue};
 use scq_word::{NoMemory, Setup};
 use std::alloc::Global;
@@ -32,24 +35,21 @@ use std::thread::Threads;
 /// The limit of the queue's tickets, which no work comes near.
 const LIMIT: u64 = 1 << 60;
 
-/// How many bytes stand in front of a part.
-const HEADER: u32 = 24;
-
 /// What the work needs room for, beside its queue: the lists of each worker's files, the desks, and what the workers leave behind.
-pub(crate) struct Room<S: Source> {
+pub(crate) struct WorkRoom<S: Source> {
     files: Vec<Vec<OwnFile<S>>>,
     desks: Vec<Desk<Frame, S>>,
-    left: Left<Frame>,
+    left: LeftBehind<Frame>,
 }
 
-impl<S: Source> Room<S> {
+impl<S: Source> WorkRoom<S> {
     ghost use Rattle.std.specs.Prelude.{◌≡◌, []};
 
-    /// Ends it where nothing was put into it.
+    /// Lets go of the lists and desks, of which there are none yet.
     pub(crate) fn destroy_empty(self)
         requires { (self.desks.items ≡ []) × (self.left.held.items ≡ []) }
     {
-        let Room {
+        let WorkRoom {
             files: _,
             desks,
             left,
@@ -59,30 +59,14 @@ impl<S: Source> Room<S> {
     }
 }
 
-/// A list for each worker, with room for so many files.
-fn make_lists<S: Source>(
-    alloc: Global,
-    workers: u32,
-    files: usize,
-) -> Result<Vec<Vec<OwnFile<S>>>, NoMemory>
-    ensures { IfOk result (λ lists. (vec_len lists ≡ workers)
-        × All (λ list. (list.items ≡ []) × (vec_len list ≡ 0) × (files ≤ vec_capacity list)) lists.items) }
-{
-    let mut lists = Vec::with_capacity(alloc, workers as usize)?;
-    'lists: for _number in 0..workers {
-        lists.push_reserved(Vec::with_capacity(alloc, files)?);
-    }
-    Ok(lists)
-}
-
-fn make_left(alloc: Global, workers: usize) -> Result<Left<Frame>, NoMemory>
+fn make_left(alloc: Global, workers: usize) -> Result<LeftBehind<Frame>, NoMemory>
     ensures empty { IfOk result (λ left. (left.passes.items ≡ []) × (left.held.items ≡ []) × (left.lists.items ≡ [])) }
     ensures room { IfOk result (λ left. (workers ≤ vec_capacity left.passes) × (workers ≤ vec_capacity left.held) × (workers ≤ vec_capacity left.lists)) }
 {
     let passes = Vec::with_capacity(alloc, workers)?;
     let lists = Vec::with_capacity(alloc, workers)?;
     let held = Vec::with_capacity(alloc, workers)?;
-    Ok(Left {
+    Ok(LeftBehind {
         passes,
         held,
         lists,
@@ -94,7 +78,7 @@ pub(crate) fn make_room<S: Source>(
     alloc: Global,
     job: &Job,
     files: usize,
-) -> Result<Room<S>, NoMemory>
+) -> Result<WorkRoom<S>, NoMemory>
     ensures files { IfOk result (λ room. (vec_len room.files ≡ job.now.workers)
         × All (λ list. (list.items ≡ []) × (vec_len list ≡ 0) × (files ≤ vec_capacity list)) room.files.items) }
     ensures desks { IfOk result (λ room. (room.desks.items ≡ []) × (job.now.workers ≤ vec_capacity room.desks)) }
@@ -109,41 +93,11 @@ pub(crate) fn make_room<S: Source>(
         left.destroy_empty();
         return Err(NoMemory);
     };
-    Ok(Room { files, desks, left })
+    Ok(WorkRoom { files, desks, left })
 }
 
-/// The frames of a queue for a job, with the block that they are carved from: each has room for a part.
-fn make_frames(alloc: Global, job: &Job) -> Result<(Block, Vec<Frame>), NoMemory>
-    ensures count { IfOk result (λ made. vec_len made.1 ≡ 2 ^ job.now.order) }
-    ensures room { IfOk result (λ made. All (λ f. job.now.size + 24 ≤ length f.bytes.items) made.1.items) }
-    ensures all { IfOk result (λ made. AreAllOf made.0 made.1.items) }
-{
-    Block::carve(alloc, 1 << job.order, job.size + HEADER)
-}
-
-/// The queue of a job, over the frames of one block, with a pass for each worker: a topic for each declared one, and one for all others.
-pub(crate) fn make_queue(
-    alloc: Global,
-    job: &Job,
-) -> Result<(Block, Queue<Frame>, Vec<Pass<Frame>>), NoMemory>
-    ensures setup { IfOk result (λ made. (made.1.setup.order ≡ job.now.order) × (made.1.setup.rings ≡ length job.now.topics + 2)
-        × (made.1.setup.seats ≡ job.now.workers) × (made.1.setup.limit ≡ 2 ^ 60)) }
-    ensures passes { IfOk result (λ made. made.2.items ≡ first_passes made.1 made.1.setup.seats) }
-    ensures room { IfOk result (λ made. All (λ f. job.now.size + 24 ≤ length f.bytes.items) made.1.given) }
-    ensures all { IfOk result (λ made. AreAllOf made.0 made.1.given) }
-{
-    let (block, frames) = make_frames(alloc, job)?;
-    let setup = setup_of(job);
-    match Queue::make(alloc, setup, frames) {
-        Ok((queue, passes)) => Ok((block, queue, passes)),
-        Err((frames, NoMemory)) => {
-            block.merge(frames);
-            Err(NoMemory)
-        }
-    }
-}
-
-fn setup_of(job: &Job) -> Setup
+/// The setup of the queue of a job: a topic for each declared one, and one for all others.
+pub(crate) fn setup_of(job: &Job) -> Setup
     ensures order { result.order ≡ job.now.order }
     ensures rings { result.rings ≡ length job.now.topics + 2 }
     ensures seats { result.seats ≡ job.now.workers }
@@ -213,7 +167,7 @@ pub fn work<R: Threads + Sync, S: Source, G: Gate>(
     let Ok(room) = make_room(alloc, job, sources.len()) else {
         return WorkEnd::starved(sources);
     };
-    match make_queue(alloc, job) {
+    match make_queue(alloc, setup_of(job), job.size) {
         Ok((block, queue, passes)) => {
             let (laid, desks) = lay_out(alloc, job, &queue, passes, sources, room);
             let desks = run_apart(rt, alloc, job, &queue, gate, desks);
@@ -229,11 +183,11 @@ pub fn work<R: Threads + Sync, S: Source, G: Gate>(
 
 /// What waits on the work of all workers: what the sources were, their list, now empty, how many there are, and room for what the workers
 /// leave behind.
-pub(crate) struct Laid<S: Source> {
+pub(crate) struct LaidOut<S: Source> {
     was: Snapshot<Vec<S>>,
     sources: Vec<S>,
     count: usize,
-    left: Left<Frame>,
+    left: LeftBehind<Frame>,
 }
 
 /// Makes the desks of the workers, and deals the files to them.
@@ -243,8 +197,8 @@ pub(crate) fn lay_out<S: Source>(
     queue: &Queue<Frame>,
     passes: Vec<Pass<Frame>>,
     sources: Vec<S>,
-    room: Room<S>,
-) -> (Laid<S>, Vec<Desk<Frame, S>>)
+    room: WorkRoom<S>,
+) -> (LaidOut<S>, Vec<Desk<Frame, S>>)
     requires few { vec_len sources ≤ 64 }
     requires seats { queue.now.setup.seats ≡ job.now.workers }
     requires passes { passes.items ≡ first_passes queue.now queue.now.setup.seats }
@@ -267,7 +221,7 @@ pub(crate) fn lay_out<S: Source>(
     ensures dealt { AreDealt 1 result.0.was.value.items result.1.items }
     ensures numbers { (w : ℕ) (d : _) → w < length result.1.items → (slice_index_or result.1.items w d).worker.pass.number ≡ w }
 {
-    let Room {
+    let WorkRoom {
         files,
         mut desks,
         left,
@@ -277,7 +231,7 @@ pub(crate) fn lay_out<S: Source>(
     let mut sources = sources;
     make_desks(alloc, queue, passes, files, count, &mut desks);
     deal(&was, &mut sources, desks.as_mut_slice());
-    let laid = Laid {
+    let laid = LaidOut {
         was,
         sources,
         count,
@@ -290,7 +244,7 @@ pub(crate) fn lay_out<S: Source>(
 /// the end comes, of each worker, whether it saw that all had retired.
 pub(crate) fn wind_up<S: Source>(
     job: &Job,
-    laid: Laid<S>,
+    laid: LaidOut<S>,
     block: Block,
     queue: Queue<Frame>,
     desks: Vec<Desk<Frame, S>>,
@@ -333,7 +287,7 @@ pub(crate) fn wind_up<S: Source>(
     ensures there { IsSome result.0.passes }
     ensures closed { IsSome result.0.left }
 {
-    let Laid {
+    let LaidOut {
         was,
         sources,
         count,
@@ -347,7 +301,7 @@ pub(crate) fn wind_up<S: Source>(
     };
     gather(job, &was, desks.as_mut_slice(), count, &mut gathered);
     clear(desks, &mut left);
-    let Left {
+    let LeftBehind {
         passes,
         held,
         lists,

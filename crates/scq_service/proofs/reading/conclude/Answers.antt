@@ -3,8 +3,9 @@ use Rattle.std.specs.Prelude.{string_bytes, slice_index_or, OnOk, IfOk, IfErr, I
 use Rattle.scq_outside.specs.Table.{Table}
 use Rattle.scq_frames.specs.declared.message.Message.{Message}
 use Rattle.scq_work.specs.AllWorkers.{HasWorked}
-use Rattle.scq_work.specs.Ends.{AreGiven, HasCause}
-use Rattle.scq_work.specs.Reading.{IsWhole}
+use Rattle.scq_files.specs.Ends.{AreGiven}
+use Rattle.scq_work.specs.Ends.{HasCause}
+use Rattle.scq_files.specs.Reading.{IsWhole}
 use Rattle.scq_work.specs.declared.worked.Worked.{Worked}
 use Rattle.scq_work.specs.declared.worked.WorkFault.{WorkFault}
 use Rattle.scq_work.specs.declared.worked.WorkFault.TheVariants.{NoMemory}

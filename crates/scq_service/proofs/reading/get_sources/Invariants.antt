@@ -1,6 +1,7 @@
 use Rattle.std.proofs.Common.{◌≡◌, ◌≤◌, length, map}
 use Rattle.std.specs.Prelude.{string_bytes, vec_len, vec_capacity}
 use Rattle.scq_service.specs.Answers.{HaveCome}
+use Rattle.scq_service.specs.Ends.{inputs_of}
 use Rattle.scq_service.proofs.reading.get_sources.Given as goal
 
 -- the sources so far have come
@@ -10,10 +11,5 @@ invariant-files g l = record {
   len : vec_len l.sources ≡ l.name-index;
   room : length l.names ≤ vec_capacity l.sources;
   kept : g.F.Files.faults l.files ≡ g.F.Files.faults l.fn.files;
-  come : HaveCome g.F.Src.Source.faults g.F.Src.Source.left (map string_bytes l.names) (record {
-    table = record { old = g.F.Files.table l.fn.files; new = g.F.Files.table l.files };
-    opens = record { old = g.F.Files.faults l.fn.files; new = g.F.Files.faults l.files };
-    sources = l.sources.items;
-    read = 0;
-  });
+  come : HaveCome g.F.Src.Source.faults g.F.Src.Source.left (map string_bytes l.names) (inputs_of g.F.Files.table g.F.Files.faults l.fn.files l.files l.sources.items 0);
 }

@@ -39,3 +39,14 @@ returns-in-Ok-SelfRun-clause-leaves g c = rw c.quiet.ensures.outcome c.run_self.
 
 pub returns-in-Ok-Text-clause-leaves : goal.returns-in-Ok-Text-clause-leaves
 returns-in-Ok-Text-clause-leaves g c = rw c.quiet-in-Ok-Text.ensures.outcome c.run_text.ensures.leaves
+
+-- of the queue of stages nothing is seen beside what was finished
+pub returns-in-Ok-Stages-clause-left : goal.returns-in-Ok-Stages-clause-left
+returns-in-Ok-Stages-clause-left g c = rw (c.quiet-in-Ok-Stages.ensures.outcome, c.run_stages.ensures.left) tt
+
+pub returns-in-Ok-Stages-clause-seen : goal.returns-in-Ok-Stages-clause-seen
+returns-in-Ok-Stages-clause-seen g c =
+    rw (c.in-Ok-Stages.ensures.request, c.in-Ok-Stages.field-0-is, c.quiet-in-Ok-Stages.ensures.outcome, c.run_stages.ensures.left) refl
+
+pub returns-in-Ok-Stages-clause-leaves : goal.returns-in-Ok-Stages-clause-leaves
+returns-in-Ok-Stages-clause-leaves g c = rw c.quiet-in-Ok-Stages.ensures.outcome c.run_stages.ensures.leaves

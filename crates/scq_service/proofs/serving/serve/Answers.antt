@@ -1,9 +1,10 @@
 use Rattle.std.proofs.Common.{subst, Result}
 use Rattle.scq_collect.specs.Output.{one_thread_output}
 use Rattle.scq_self.specs.Summary.{self_summary}
+use Rattle.scq_stages.specs.Output.{one_thread_text}
 use Rattle.scq_words.specs.Asked.{Asked}
 use Rattle.scq_words.specs.declared.fault.WordsFault.{WordsFault}
-use Rattle.scq_service.specs.Ends.{EndsAs, Left, Wrote, most_payload}
+use Rattle.scq_service.specs.Ends.{EndsAs, inputs_of, most_payload, wrote_of}
 use Rattle.scq_service.proofs.Completeness.{complete, complete-alone, complete-text}
 use Rattle.scq_service.proofs.serving.serve.Goals as goal
 
@@ -13,18 +14,22 @@ returns-clause-complete g c = λ a is calm.
     let end_count = g.F.Src.Source.ends in
     let left = g.F.Src.Source.left in
     let outcome = c.run-outcome.result.outcome in
-    let r : Left _ = record {
-      table = record { old = g.F.Files.table c.args.files.now; new = g.F.Files.table c.run-outcome.new.files };
-      opens = record { old = g.F.Files.faults c.args.files.now; new = g.F.Files.faults c.run-outcome.new.files };
-      sources = outcome.sources.items;
-      read = outcome.read;
-    } in
-    let w : Wrote = record {
-      written = record { old = g.K.Sink.written c.args.out.now; new = g.K.Sink.written c.run-outcome.new.out };
-      faults = record { old = g.K.Sink.faults c.args.out.now; new = g.K.Sink.faults c.run-outcome.new.out };
-    } in
+    let r = inputs_of g.F.Files.table g.F.Files.faults c.args.files.now c.run-outcome.new.files outcome.sources.items outcome.read in
+    let w = wrote_of g.K.Sink.written g.K.Sink.faults c.args.out.now c.run-outcome.new.out in
     let E : Result Asked WordsFault → Type 0 = λ asked. EndsAs faults end_count left asked outcome.got.value.items r w outcome.fault in
     complete most_payload (one_thread_output a.topics) faults end_count left a.files outcome.got.value.items r w outcome.fault
+    (subst E is c.run-outcome.ensures.end).1 calm
+
+pub returns-clause-complete_stages : goal.returns-clause-complete_stages
+returns-clause-complete_stages g c = λ a is calm.
+    let faults = g.F.Src.Source.faults in
+    let end_count = g.F.Src.Source.ends in
+    let left = g.F.Src.Source.left in
+    let outcome = c.run-outcome.result.outcome in
+    let r = inputs_of g.F.Files.table g.F.Files.faults c.args.files.now c.run-outcome.new.files outcome.sources.items outcome.read in
+    let w = wrote_of g.K.Sink.written g.K.Sink.faults c.args.out.now c.run-outcome.new.out in
+    let E : Result Asked WordsFault → Type 0 = λ asked. EndsAs faults end_count left asked outcome.got.value.items r w outcome.fault in
+    complete a.size one_thread_text faults end_count left a.files outcome.got.value.items r w outcome.fault
     (subst E is c.run-outcome.ensures.end).1 calm
 
 pub returns-clause-complete_self : goal.returns-clause-complete_self
@@ -33,16 +38,8 @@ returns-clause-complete_self g c = λ a is calm.
     let end_count = g.F.Src.Source.ends in
     let left = g.F.Src.Source.left in
     let outcome = c.run-outcome.result.outcome in
-    let r : Left _ = record {
-      table = record { old = g.F.Files.table c.args.files.now; new = g.F.Files.table c.run-outcome.new.files };
-      opens = record { old = g.F.Files.faults c.args.files.now; new = g.F.Files.faults c.run-outcome.new.files };
-      sources = outcome.sources.items;
-      read = outcome.read;
-    } in
-    let w : Wrote = record {
-      written = record { old = g.K.Sink.written c.args.out.now; new = g.K.Sink.written c.run-outcome.new.out };
-      faults = record { old = g.K.Sink.faults c.args.out.now; new = g.K.Sink.faults c.run-outcome.new.out };
-    } in
+    let r = inputs_of g.F.Files.table g.F.Files.faults c.args.files.now c.run-outcome.new.files outcome.sources.items outcome.read in
+    let w = wrote_of g.K.Sink.written g.K.Sink.faults c.args.out.now c.run-outcome.new.out in
     let E : Result Asked WordsFault → Type 0 = λ asked. EndsAs faults end_count left asked outcome.got.value.items r w outcome.fault in
     complete-alone (self_summary a.seed a.lines) w outcome.fault (subst E is c.run-outcome.ensures.end).1 calm
 
@@ -52,15 +49,7 @@ returns-clause-complete_text g c = λ a is calm.
     let end_count = g.F.Src.Source.ends in
     let left = g.F.Src.Source.left in
     let outcome = c.run-outcome.result.outcome in
-    let r : Left _ = record {
-      table = record { old = g.F.Files.table c.args.files.now; new = g.F.Files.table c.run-outcome.new.files };
-      opens = record { old = g.F.Files.faults c.args.files.now; new = g.F.Files.faults c.run-outcome.new.files };
-      sources = outcome.sources.items;
-      read = outcome.read;
-    } in
-    let w : Wrote = record {
-      written = record { old = g.K.Sink.written c.args.out.now; new = g.K.Sink.written c.run-outcome.new.out };
-      faults = record { old = g.K.Sink.faults c.args.out.now; new = g.K.Sink.faults c.run-outcome.new.out };
-    } in
+    let r = inputs_of g.F.Files.table g.F.Files.faults c.args.files.now c.run-outcome.new.files outcome.sources.items outcome.read in
+    let w = wrote_of g.K.Sink.written g.K.Sink.faults c.args.out.now c.run-outcome.new.out in
     let E : Result Asked WordsFault → Type 0 = λ asked. EndsAs faults end_count left asked outcome.got.value.items r w outcome.fault in
     complete-text a.command faults left a.file r w outcome.fault (subst E is c.run-outcome.ensures.end) calm

@@ -1,43 +1,31 @@
-use Rattle.std.proofs.Common.{◌≡◌, ap, map, [], ℕ, List, Some, None, Ok, Err}
+use Rattle.std.proofs.Common.{◌≡◌, ◌∙◌, refl, ap, map, ℕ, List, Ok, Err}
 use Rattle.std.specs.Prelude.{string_bytes}
 use Rattle.std.proofs.lemmas.Result.{IfOk-weaker}
 use Rattle.clap.specs.Words.{found_of, matches_of}
 use Rattle.scq_words.specs.Commands.{judge_app}
 use Rattle.scq_words.specs.Asked.{asked_of_judge, judge_of, judged}
 use Rattle.scq_words.specs.declared.fault.WordsFault.TheVariants.{NotUnderstood}
-use Rattle.scq_words.proofs.Answering.{judge-texts, judge-answer, answer-ok, answer-err, asked-refused-judge, refused-on}
+use Rattle.scq_words.proofs.Answering.{given_or_empty, judge-texts, judge-answer, answer-ok, answer-err, asked-refused-judge, refused-on}
 use Rattle.scq_words.proofs.InRange.{judge-other}
 use Rattle.scq_words.proofs.judge_words.read_judge.Goals as goal
-
-pub returns-in-Some-clause-request : goal.returns-in-Some-clause-request
-returns-in-Some-clause-request c =
-    let words = map string_bytes c.args.words.now in
-    let files = judge-texts (found_of c.in_ok-matches.matches) (matches_of judge_app words) (Some (map (λ name. name.now) c.in-Some.files.now))
-    c.in_ok-matches.ensures.rows c.in-Some.ensures in
-    IfOk-weaker c.check_judge.result _ (λ request. asked_of_judge words ≡ Ok (judged (judge_of request)))
-    (λ request h. judge-answer words _ (Ok (judged (judge_of request))) c.in_ok-matches.ensures.passes files
-    (answer-ok _ _ (judged (judge_of request)) h.0 (ap (λ (files : List (List ℕ)). judged (record { files = files })) h.1))) c.check_judge.ensures.request
-
-pub returns-in-Some-clause-refused : goal.returns-in-Some-clause-refused
-returns-in-Some-clause-refused c = λ fault is.
-    let words = map string_bytes c.args.words.now in
-    let files = judge-texts (found_of c.in_ok-matches.matches) (matches_of judge_app words) (Some (map (λ name. name.now) c.in-Some.files.now))
-    c.in_ok-matches.ensures.rows c.in-Some.ensures in
-    judge-answer words _ (Err fault) c.in_ok-matches.ensures.passes files (answer-err _ _ fault (c.check_judge.ensures.refused fault is))
 
 pub returns-clause-request : goal.returns-clause-request
 returns-clause-request c =
     let words = map string_bytes c.args.words.now in
-    let files = judge-texts (found_of c.in_ok-matches.matches) (matches_of judge_app words) None c.in_ok-matches.ensures.rows c.in-None.ensures in
-    IfOk-weaker c.check_judge-in-None.result _ (λ request. asked_of_judge words ≡ Ok (judged (judge_of request)))
+    let names = ap (λ s. map (λ v. v.now) s.now) c.unwrap_or-files.ensures
+    ∙ given_or_empty c.get_strs.result _ (λ s. map (λ v. v.now) s.now) refl in
+    let files = judge-texts (found_of c.in_ok-matches.matches) (matches_of judge_app words) _ _ c.in_ok-matches.ensures.rows c.get_strs.ensures names in
+    IfOk-weaker c.check_judge.result _ (λ request. asked_of_judge words ≡ Ok (judged (judge_of request)))
     (λ request h. judge-answer words _ (Ok (judged (judge_of request))) c.in_ok-matches.ensures.passes files
-    (answer-ok _ _ (judged (judge_of request)) h.0 (ap (λ (files : List (List ℕ)). judged (record { files = files })) h.1))) c.check_judge-in-None.ensures.request
+    (answer-ok _ _ (judged (judge_of request)) h.0 (ap (λ (files : List (List ℕ)). judged (record { files = files })) h.1))) c.check_judge.ensures.request
 
 pub returns-clause-refused : goal.returns-clause-refused
 returns-clause-refused c = λ fault is.
     let words = map string_bytes c.args.words.now in
-    let files = judge-texts (found_of c.in_ok-matches.matches) (matches_of judge_app words) None c.in_ok-matches.ensures.rows c.in-None.ensures in
-    judge-answer words _ (Err fault) c.in_ok-matches.ensures.passes files (answer-err _ _ fault (c.check_judge-in-None.ensures.refused fault is))
+    let names = ap (λ s. map (λ v. v.now) s.now) c.unwrap_or-files.ensures
+    ∙ given_or_empty c.get_strs.result _ (λ s. map (λ v. v.now) s.now) refl in
+    let files = judge-texts (found_of c.in_ok-matches.matches) (matches_of judge_app words) _ _ c.in_ok-matches.ensures.rows c.get_strs.ensures names in
+    judge-answer words _ (Err fault) c.in_ok-matches.ensures.passes files (answer-err _ _ fault (c.check_judge.ensures.refused fault is))
 
 pub returns-in_err-matches-clause-refused : goal.returns-in_err-matches-clause-refused
 returns-in_err-matches-clause-refused c = λ fault is.
@@ -45,9 +33,6 @@ returns-in_err-matches-clause-refused c = λ fault is.
     asked-refused-judge words fault
     (refused-on judge_app words c.from_residual.result c.in_err-matches.field-0.0 fault c.in_err-matches.ensures.refused c.from_residual.ensures.1 is)
 
-pub returns-in-Some-clause-taken : goal.returns-in-Some-clause-taken
-returns-in-Some-clause-taken c = λ is.
-    absurd (judge-other (map (λ name. name.now) c.in-Some.files.now) (c.check_judge.ensures.refused NotUnderstood is))
-
 pub returns-clause-taken : goal.returns-clause-taken
-returns-clause-taken c = λ is. absurd (judge-other [] (c.check_judge-in-None.ensures.refused NotUnderstood is))
+returns-clause-taken c = λ is.
+    absurd (judge-other (map (λ name. name.now) c.unwrap_or-files.result.now) (c.check_judge.ensures.refused NotUnderstood is))

@@ -3,9 +3,10 @@ use Rattle.std.proofs.Common.{◌≡◌, ◌∙◌, sym, ap, subst, arith, List,
 use Rattle.std.specs.Prelude.{slice_index_or}
 use Rattle.std.specs.List.{All}
 use Rattle.scq_block.specs.declared.frame.Frame.{Frame}
-use Rattle.scq_work.specs.Desks.{HasRun, ids_of}
+use Rattle.scq_files.specs.OwnFiles.{ids_of}
+use Rattle.scq_work.specs.Desks.{HasRun}
 use Rattle.scq_work.specs.declared.desk.Desk.{Desk}
-use Rattle.scq_work.proofs.Lists.{written-back}
+use Rattle.scq_files.proofs.Lists.{written-back}
 use Rattle.scq_work.proofs.apart.run_apart.Goals as goal
 use Rattle.scq_work.proofs.apart.run_apart.Goals.{After-run_each}
 

@@ -3,12 +3,12 @@ use Rattle.std.specs.Prelude.{slice_index_or, vec_len, vec_capacity}
 use Rattle.std.specs.List.{All}
 use Rattle.std.proofs.lemmas.List.{length-set, get_or_default}
 use Rattle.std.proofs.lemmas.List.Elements.{All-push}
-use Rattle.scq_work.specs.Files.{files_of}
+use Rattle.scq_files.specs.Files.{files_of}
 use Rattle.scq_work.specs.Dealings.{AreDealt, without_files}
-use Rattle.scq_work.specs.Desks.{IsNew, ids_of}
+use Rattle.scq_files.specs.OwnFiles.{IsNew, ids_of}
 use Rattle.scq_work.specs.declared.desk.Desk.{Desk}
-use Rattle.scq_work.specs.declared.own_file.OwnFile.{OwnFile}
-use Rattle.scq_work.proofs.Lists.{set-each, set-unseen}
+use Rattle.scq_files.specs.declared.own_file.OwnFile.{OwnFile}
+use Rattle.scq_files.proofs.Lists.{set-each, set-unseen}
 use Rattle.scq_work.proofs.DeskLemmas.{same-without, laid, other-first, taken-apart}
 use Rattle.scq_work.proofs.dealing.deal.Goals as goal
 

@@ -2,7 +2,7 @@ use Rattle.std.proofs.Common.{◌≡◌, ◌+◌, ◌≤◌, length, map, take, 
 use Rattle.std.specs.Prelude.{vec_len, vec_capacity}
 use Rattle.std.specs.List.{All}
 use Rattle.scq_work.specs.Dealings.{AreDealt, without_files}
-use Rattle.scq_work.specs.Desks.{IsNew}
+use Rattle.scq_files.specs.OwnFiles.{IsNew}
 use Rattle.scq_work.proofs.dealing.deal.Given as goal
 
 -- the files behind those that are left are dealt

@@ -6,9 +6,9 @@ use Rattle.std.proofs.lemmas.List.Elements.{All-nil, All-push}
 use Rattle.scq_queue.specs.Passes.{PassStanding, first_pass}
 use Rattle.scq_work.specs.Dealings.{IsFresh}
 use Rattle.scq_work.specs.declared.desk.Desk.{Desk}
-use Rattle.scq_work.proofs.FirstPasses.{first-length, pass-at}
-use Rattle.scq_work.proofs.Lists.{all-front, all-last}
-use Rattle.scq_work.proofs.Parting.{turned}
+use Rattle.scq_passes.proofs.FirstPasses.{first-length, pass-at}
+use Rattle.scq_files.proofs.Lists.{all-front, all-last}
+use Rattle.scq_passes.proofs.Parting.{turned}
 use Rattle.scq_work.proofs.dealing.make_desks.Goals as goal
 
 pub passes-init : goal.passes-init

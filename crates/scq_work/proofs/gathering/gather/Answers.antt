@@ -2,17 +2,17 @@ use Rattle.std.proofs.Common.{◌≡◌, ◌∙◌, sym, ap, subst, refl, arith,
 use Rattle.std.specs.Prelude.{slice_index_or}
 use Rattle.std.specs.List.{All}
 use Rattle.std.proofs.lemmas.List.{drop_all, length-set, length-drop, get_or_default, map-append}
-use Rattle.scq_work.specs.Files.{files_of}
+use Rattle.scq_files.specs.Files.{files_of}
 use Rattle.scq_work.specs.Dealings.{AreDealt, without_files}
-use Rattle.scq_work.specs.Desks.{ids_of}
-use Rattle.scq_work.specs.Given.{given_in}
-use Rattle.scq_work.specs.Reading.{IsRead}
+use Rattle.scq_files.specs.OwnFiles.{ids_of}
+use Rattle.scq_files.specs.Given.{given_in}
+use Rattle.scq_files.specs.Reading.{IsRead}
 use Rattle.scq_work.specs.declared.desk.Desk.{Desk}
-use Rattle.scq_work.specs.declared.own_file.OwnFile.{OwnFile}
+use Rattle.scq_files.specs.declared.own_file.OwnFile.{OwnFile}
 use Rattle.scq_work.proofs.Cleared.{whole-more, none-left}
-use Rattle.scq_work.proofs.Lists.{all-front, all-last, set-each, set-unseen}
+use Rattle.scq_files.proofs.Lists.{all-front, all-last, set-each, set-unseen}
 use Rattle.scq_work.proofs.DeskLemmas.{same-without, desk-empty, drop-at, other-first, own-first}
-use Rattle.scq_work.proofs.SoFar.{snoc-parts, so-far-more}
+use Rattle.scq_files.proofs.SoFar.{snoc-parts, so-far-more}
 use Rattle.scq_work.proofs.gathering.gather.Goals as goal
 use Rattle.scq_work.proofs.gathering.gather.Goals.{in-Some, in_default}
 

@@ -2,9 +2,9 @@ use Rattle.std.proofs.Common.{◌≡◌, ◌+◌, None, length, map, drop}
 use Rattle.std.specs.Prelude.{vec_len, vec_capacity}
 use Rattle.std.specs.List.{All}
 use Rattle.scq_work.specs.Dealings.{AreDealt, without_files}
-use Rattle.scq_work.specs.Given.{given_in}
-use Rattle.scq_work.specs.Reading.{IsRead}
-use Rattle.scq_work.proofs.SoFar.{SoFar}
+use Rattle.scq_files.specs.Given.{given_in}
+use Rattle.scq_files.specs.Reading.{IsRead}
+use Rattle.scq_files.proofs.SoFar.{SoFar}
 use Rattle.scq_work.proofs.Cleared.{AllWhole}
 use Rattle.scq_work.proofs.gathering.gather.Given as goal
 

@@ -2,9 +2,9 @@ use Rattle.std.proofs.Common.{◌≡◌, ◌∙◌, ap, subst, List, ◌++◌, l
 use Rattle.std.specs.List.{AllZip}
 use Rattle.scq_work.specs.Threads.{task, HasDone}
 use Rattle.scq_work.specs.Places.{given_to}
-use Rattle.scq_work.specs.declared.places.Place.{Place}
+use Rattle.scq_work.specs.declared.places.Runner.{Runner}
 use Rattle.scq_work.specs.declared.threads.Work.{Work}
-use Rattle.scq_work.proofs.Lists.{written-back}
+use Rattle.scq_files.proofs.Lists.{written-back}
 use Rattle.scq_work.proofs.places.all_in.Goals as goal
 
 pub finish-requires-clause-begun : goal.finish-requires-clause-begun
@@ -18,9 +18,9 @@ returns-clause-others g c =
     let S = g.row.S.Denot in
     let R : Work S → Work S → Type 0 =
     HasDone (task c.args.queue.now c.args.job.now c.args.crew.now g.S.Source.faults g.S.Source.ends g.S.Source.left) in
-    let first : List (Place S) = c.begin_all.new.places.items in
-    let second : List (Place S) = c.produce_all.new.places in
-    let third : List (Place S) = c.finish_all.new.places in
+    let first : List (Runner S) = c.begin_all.new.places.items in
+    let second : List (Runner S) = c.produce_all.new.places in
+    let third : List (Runner S) = c.finish_all.new.places in
     let n = c.begin_all.new.places.len in
     let is = c.as_mut_slice.ensures.value in
     let long : length second ≡ n = c.produce_all.auto.places ∙ c.as_mut_slice.ensures.len in

@@ -3,10 +3,10 @@ use Rattle.std.specs.List.{All}
 use Rattle.std.proofs.lemmas.List.{reverse-reverse, map-append}
 use Rattle.std.proofs.lemmas.List.Elements.{All-nil, All-push, All-head, All-tail}
 use Rattle.scq_work.specs.Threads.{task, IsGiven}
-use Rattle.scq_work.specs.Places.{given_to, Stands, IsUntouched}
-use Rattle.scq_work.specs.declared.places.Place.{Place}
+use Rattle.scq_work.specs.Places.{given_to, HasWork, IsUntouched}
+use Rattle.scq_work.specs.declared.places.Runner.{Runner}
 use Rattle.scq_work.specs.declared.threads.Work.{Work}
-use Rattle.scq_work.proofs.Parting.{turned}
+use Rattle.scq_passes.proofs.Parting.{turned}
 use Rattle.scq_work.proofs.places.begin_all.Goals as goal
 
 pub starts-init : goal.starts-init
@@ -17,10 +17,10 @@ starts-init g c =
     let back : reverse c.reverse.new.self.items ≡ all = ap reverse c.reverse.ensures.items ∙ reverse-reverse all in
     let Fresh : Work S → Type 0 =
     IsGiven (task c.args.queue.now c.args.job.now c.args.crew.now g.S.Source.faults g.S.Source.ends g.S.Source.left) in
-    let Held : Place S → Type 0 =
-    Stands IsUntouched c.args.queue.now c.args.job.now c.args.crew.now g.S.Source.faults g.S.Source.ends g.S.Source.left in
+    let Held : Runner S → Type 0 =
+    HasWork IsUntouched c.args.queue.now c.args.job.now c.args.crew.now g.S.Source.faults g.S.Source.ends g.S.Source.left in
     record {
-      given = ap (λ (ps : List (Place S)). map given_to ps ++ reverse c.reverse.new.self.items) none ∙ back;
+      given = ap (λ (ps : List (Runner S)). map given_to ps ++ reverse c.reverse.new.self.items) none ∙ back;
       rest = subst (All Fresh) (sym back) c.requires.given;
       flags = omega (arith, c.reverse.ensures.len, c.requires.flags);
       room = omega (arith, c.reverse.ensures.len, c.requires.room, ap length none, c.args.places.now.ok.0);
@@ -42,14 +42,14 @@ starts-preserved g c =
     let inv = c.starts.invariant in
     let Fresh : Work S → Type 0 =
     IsGiven (task c.args.queue.now c.args.job.now c.args.crew.now g.S.Source.faults g.S.Source.ends g.S.Source.left) in
-    let Held : Place S → Type 0 =
-    Stands IsUntouched c.args.queue.now c.args.job.now c.args.crew.now g.S.Source.faults g.S.Source.ends g.S.Source.left in
+    let Held : Runner S → Type 0 =
+    HasWork IsUntouched c.args.queue.now c.args.job.now c.args.crew.now g.S.Source.faults g.S.Source.ends g.S.Source.left in
     let places = c.starts.places.items in
     let rest = c.pop.new.self.items in
     let one = c.in-Some.work in
     let place = c.begin.result in
     record {
-      given = ap (λ (ps : List (Place S)). map given_to ps ++ reverse rest) c.push_reserved.ensures.items
+      given = ap (λ (ps : List (Runner S)). map given_to ps ++ reverse rest) c.push_reserved.ensures.items
           ∙ ap (λ l. l ++ reverse rest) (map-append given_to places (place ∷ []))
           ∙ append_assoc (map given_to places) (given_to place ∷ []) (reverse rest)
           ∙ ap (λ w. map given_to places ++ w ∷ reverse rest) c.begin.ensures.given

@@ -2,7 +2,7 @@ use Rattle.std.proofs.Common.{◌≡◌, ◌+◌, ◌≤◌, ◌++◌, length, m
 use Rattle.std.specs.Prelude.{vec_len, vec_capacity, reverse}
 use Rattle.std.specs.List.{All}
 use Rattle.scq_work.specs.Threads.{task, IsGiven}
-use Rattle.scq_work.specs.Places.{given_to, Stands, IsUntouched}
+use Rattle.scq_work.specs.Places.{given_to, HasWork, IsUntouched}
 use Rattle.scq_work.proofs.places.begin_all.Given as goal
 
 -- what was given so far stands at the places, in order, and the rest is left
@@ -12,7 +12,7 @@ invariant-starts g l = record {
   rest : All (IsGiven (task l.queue l.job l.crew g.S.Source.faults g.S.Source.ends g.S.Source.left)) (reverse l.given.items);
   flags : vec_len l.given ≤ length l.flags;
   room : vec_len l.places + vec_len l.given ≤ vec_capacity l.places;
-  stands : All (Stands IsUntouched l.queue l.job l.crew g.S.Source.faults g.S.Source.ends g.S.Source.left) l.places.items;
+  stands : All (HasWork IsUntouched l.queue l.job l.crew g.S.Source.faults g.S.Source.ends g.S.Source.left) l.places.items;
 }
 
 abbrev pub decreases-starts : goal.decreases-starts

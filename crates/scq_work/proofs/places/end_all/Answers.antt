@@ -3,10 +3,10 @@ use Rattle.std.specs.List.{All, AllZip}
 use Rattle.std.proofs.lemmas.List.{reverse-reverse, append-nil, nil_from_length}
 use Rattle.std.proofs.lemmas.List.Elements.{All-head, All-tail}
 use Rattle.scq_work.specs.Threads.{task, HasDone}
-use Rattle.scq_work.specs.Places.{given_to, Stands}
-use Rattle.scq_work.specs.declared.places.Place.{Place}
+use Rattle.scq_work.specs.Places.{given_to, HasWork}
+use Rattle.scq_work.specs.declared.places.Runner.{Runner}
 use Rattle.scq_work.specs.declared.threads.Work.{Work}
-use Rattle.scq_work.proofs.Parting.{turned}
+use Rattle.scq_passes.proofs.Parting.{turned}
 use Rattle.scq_work.proofs.PlaceLemmas.{zipped-next}
 use Rattle.scq_work.proofs.places.end_all.Goals as goal
 
@@ -18,8 +18,8 @@ ends-init g c =
     let back : reverse c.reverse.new.self.items ≡ all = ap reverse c.reverse.ensures.items ∙ reverse-reverse all in
     let R : Work S → Work S → Type 0 =
     HasDone (task c.args.queue.now c.args.job.now c.args.crew.now g.S.Source.faults g.S.Source.ends g.S.Source.left) in
-    let Held : Place S → Type 0 =
-    Stands R c.args.queue.now c.args.job.now c.args.crew.now g.S.Source.faults g.S.Source.ends g.S.Source.left in
+    let Held : Runner S → Type 0 =
+    HasWork R c.args.queue.now c.args.job.now c.args.crew.now g.S.Source.faults g.S.Source.ends g.S.Source.left in
     record {
       ended = λ more so. subst (λ es. AllZip R (map given_to all) (es ++ more)) (sym none) (subst (λ ps. AllZip R (map given_to ps) more) back so);
       stands = subst (All Held) (sym back) c.requires.stands;
@@ -31,8 +31,8 @@ end-requires-clause-stands g c κs within =
     let S = g.row.S.Denot in
     let R : Work S → Work S → Type 0 =
     HasDone (task c.args.queue.now c.args.job.now c.args.crew.now g.S.Source.faults g.S.Source.ends g.S.Source.left) in
-    let Held : Place S → Type 0 =
-    Stands R c.args.queue.now c.args.job.now c.args.crew.now g.S.Source.faults g.S.Source.ends g.S.Source.left in
+    let Held : Runner S → Type 0 =
+    HasWork R c.args.queue.now c.args.job.now c.args.crew.now g.S.Source.faults g.S.Source.ends g.S.Source.left in
     let rest = c.pop.new.self.items in
     let place = c.in-Some.place in
     All-head Held place (reverse rest) (subst (All Held) (turned c.ends.places.items rest place c.in-Some.ensures.items) c.ends.invariant.stands)
@@ -45,8 +45,8 @@ ends-preserved g c =
     let place = c.in-Some.place in
     let R : Work S → Work S → Type 0 =
     HasDone (task c.args.queue.now c.args.job.now c.args.crew.now g.S.Source.faults g.S.Source.ends g.S.Source.left) in
-    let Held : Place S → Type 0 =
-    Stands R c.args.queue.now c.args.job.now c.args.crew.now g.S.Source.faults g.S.Source.ends g.S.Source.left in
+    let Held : Runner S → Type 0 =
+    HasWork R c.args.queue.now c.args.job.now c.args.crew.now g.S.Source.faults g.S.Source.ends g.S.Source.left in
     record {
       ended = λ more so. subst (λ es. AllZip R (map given_to c.args.places.items) (es ++ more)) (sym c.push_reserved.ensures.items)
           (zipped-next R given_to (map given_to c.args.places.items) c.ends.places.items rest place c.ends.ends.items c.end.result inv.ended

@@ -1,11 +1,11 @@
 use Rattle.std.proofs.Common.{map}
 use Rattle.scq_work.specs.Threads.{task, HasBegun}
-use Rattle.scq_work.specs.Places.{given_to, Stands, IsUntouched}
+use Rattle.scq_work.specs.Places.{given_to, HasWork, IsUntouched}
 use Rattle.scq_work.proofs.PlaceLemmas.{Replaced}
 use Rattle.scq_work.proofs.places.produce_all.Given as goal
 
 abbrev pub invariant-places : goal.invariant-places
 invariant-places g l =
-    Replaced (Stands IsUntouched l.queue l.job l.crew g.S.Source.faults g.S.Source.ends g.S.Source.left)
-    (Stands (HasBegun (task l.queue l.job l.crew g.S.Source.faults g.S.Source.ends g.S.Source.left)) l.queue l.job l.crew g.S.Source.faults g.S.Source.ends g.S.Source.left) given_to
+    Replaced (HasWork IsUntouched l.queue l.job l.crew g.S.Source.faults g.S.Source.ends g.S.Source.left)
+    (HasWork (HasBegun (task l.queue l.job l.crew g.S.Source.faults g.S.Source.ends g.S.Source.left)) l.queue l.job l.crew g.S.Source.faults g.S.Source.ends g.S.Source.left) given_to
     (map given_to l.fn.places) l.places l.place-index

@@ -1,6 +1,6 @@
 use Rattle.std.proofs.Common.{◌≡◌, ◌∙◌, sym, ap, List, ◌∷◌, ◌++◌, [], reverse}
 use Rattle.std.proofs.lemmas.List.{reverse-reverse}
-use Rattle.scq_work.proofs.Parting.{turned}
+use Rattle.scq_passes.proofs.Parting.{turned}
 use Rattle.scq_work.proofs.resting.pair.Goals as goal
 
 -- the reverse of a list, taken apart at its last element

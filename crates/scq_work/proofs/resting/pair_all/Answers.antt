@@ -1,7 +1,7 @@
 use Rattle.std.proofs.Common.{◌≡◌, ◌∙◌, sym, ap, refl, arith, List, ◌∷◌, ◌++◌, [], length, map, reverse, append_assoc}
 use Rattle.std.proofs.lemmas.List.{append-nil, nil_from_length, map-append}
 use Rattle.scq_work.specs.declared.threads.Work.{Work}
-use Rattle.scq_work.proofs.Parting.{turned}
+use Rattle.scq_passes.proofs.Parting.{turned}
 use Rattle.scq_work.proofs.Settling.{desk_of, stand_of}
 use Rattle.scq_work.proofs.resting.pair_all.Goals as goal
 

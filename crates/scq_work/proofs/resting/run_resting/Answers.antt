@@ -8,7 +8,8 @@ use Rattle.scq_block.specs.declared.frame.Frame.{Frame}
 use Rattle.scq_park.specs.Crews.{Post, AreAll, first_posts}
 use Rattle.scq_park.proofs.Firsts.{firsts_all}
 use Rattle.scq_work.specs.Dealings.{IsFresh}
-use Rattle.scq_work.specs.Desks.{HasRun, IsNew}
+use Rattle.scq_files.specs.OwnFiles.{IsNew}
+use Rattle.scq_work.specs.Desks.{HasRun}
 use Rattle.scq_work.specs.Resting.{AreSettled}
 use Rattle.scq_work.specs.Threads.{Task, task, IsGiven, HasDone}
 use Rattle.scq_work.specs.declared.desk.Desk.{Desk}
@@ -57,17 +58,17 @@ run_all-first-requires-clause-given g c κs within =
 pub run_all-first-requires-clause-flags : goal.run_all-first-requires-clause-flags
 run_all-first-requires-clause-flags g c κs within =
     let few = few-given c.args.desks.items c.pair-first.result c.pair-first.new.given.items c.pair-first.ensures.desks in
-    omega (arith, few, c.pair-first.new.given.ok.0, c.requires.workers.0, c.requires.berths.flags, ap length c.as_slice.ensures.value)
+    omega (arith, few, c.pair-first.new.given.ok.0, c.requires.workers.0, c.requires.resting_room.flags, ap length c.as_slice.ensures.value)
 
 pub run_all-first-requires-clause-room : goal.run_all-first-requires-clause-room
 run_all-first-requires-clause-room g c κs within =
     let few = few-given c.args.desks.items c.pair-first.result c.pair-first.new.given.items c.pair-first.ensures.desks in (
-      omega (arith, few, c.pair-first.new.given.ok.0, c.requires.workers.0, c.requires.berths.all.1),
-      omega (arith, few, c.pair-first.new.given.ok.0, c.requires.workers.0, c.requires.berths.all.2),
+      omega (arith, few, c.pair-first.new.given.ok.0, c.requires.workers.0, c.requires.resting_room.all.1),
+      omega (arith, few, c.pair-first.new.given.ok.0, c.requires.workers.0, c.requires.resting_room.all.2),
     )
 
-pub part-requires-clause-room : goal.part-requires-clause-room
-part-requires-clause-room g c κs within =
+pub take_apart-requires-clause-room : goal.take_apart-requires-clause-room
+take_apart-requires-clause-room g c κs within =
     let t = task c.args.queue.now c.args.job.now c.args.crew.now g.S.Source.faults g.S.Source.ends g.S.Source.left in
     let few = few-given c.args.desks.items c.pair-first.result c.pair-first.new.given.items c.pair-first.ensures.desks in
     let all = all-of c.args.crew.now c.args.job.now.workers c.args.stands.items c.requires.stands c.requires.workers.1 in
@@ -94,7 +95,7 @@ returns-clause-count g c =
     let xs = c.pair-first.result ∷ c.pair-first.new.given.items in
     let ys = c.run_all-first.result.0 ∷ c.run_all-first.result.1.items in
     let z : AllZip (HasDone t) xs ys = (c.run_all-first.ensures.first, c.run_all-first.ensures.others) in
-    ap length c.part.ensures.desks ∙ length-map ys desk_of ∙ zip-length (HasDone t) xs ys z ∙ sym (length-map xs desk_of)
+    ap length c.take_apart.ensures.desks ∙ length-map ys desk_of ∙ zip-length (HasDone t) xs ys z ∙ sym (length-map xs desk_of)
     ∙ sym (ap length c.pair-first.ensures.desks)
 
 pub returns-clause-same : goal.returns-clause-same
@@ -102,16 +103,16 @@ returns-clause-same g c w d less =
     let t = task c.args.queue.now c.args.job.now c.args.crew.now g.S.Source.faults g.S.Source.ends g.S.Source.left in
     let x = c.pair-first.result in
     let y = c.run_all-first.result.0 in
-    (desks-same t (x ∷ c.pair-first.new.given.items) (y ∷ c.run_all-first.result.1.items) x y c.args.desks.items c.part.new.desks.items
-    (c.run_all-first.ensures.first, c.run_all-first.ensures.others) c.pair-first.ensures.desks c.part.ensures.desks w d less).0
+    (desks-same t (x ∷ c.pair-first.new.given.items) (y ∷ c.run_all-first.result.1.items) x y c.args.desks.items c.take_apart.new.desks.items
+    (c.run_all-first.ensures.first, c.run_all-first.ensures.others) c.pair-first.ensures.desks c.take_apart.ensures.desks w d less).0
 
 pub returns-clause-numbers : goal.returns-clause-numbers
 returns-clause-numbers g c w d less =
     let t = task c.args.queue.now c.args.job.now c.args.crew.now g.S.Source.faults g.S.Source.ends g.S.Source.left in
     let x = c.pair-first.result in
     let y = c.run_all-first.result.0 in
-    (desks-same t (x ∷ c.pair-first.new.given.items) (y ∷ c.run_all-first.result.1.items) x y c.args.desks.items c.part.new.desks.items
-    (c.run_all-first.ensures.first, c.run_all-first.ensures.others) c.pair-first.ensures.desks c.part.ensures.desks w d less).1
+    (desks-same t (x ∷ c.pair-first.new.given.items) (y ∷ c.run_all-first.result.1.items) x y c.args.desks.items c.take_apart.new.desks.items
+    (c.run_all-first.ensures.first, c.run_all-first.ensures.others) c.pair-first.ensures.desks c.take_apart.ensures.desks w d less).1
 
 pub returns-clause-run : goal.returns-clause-run
 returns-clause-run g c =
@@ -122,7 +123,7 @@ returns-clause-run g c =
     let ys = c.run_all-first.result.0 ∷ c.run_all-first.result.1.items in
     let P : Desk Frame S → Type 0 = λ d. HasRun c.args.queue.now job.topics job.size job.longest g.S.Source.faults g.S.Source.ends g.S.Source.left
     d.files.items d.worker.pass d.worker.members.items d.worker.starved d.kept in
-    subst (All P) (sym c.part.ensures.desks)
+    subst (All P) (sym c.take_apart.ensures.desks)
     (All-map P desk_of ys (each-done t (λ (w : Work S). P w.desk) xs ys (c.run_all-first.ensures.first, c.run_all-first.ensures.others) (λ x y done. done.run)))
 
 pub returns-clause-settled : goal.returns-clause-settled
@@ -134,6 +135,6 @@ returns-clause-settled g c =
     let xs = c.pair-first.result ∷ c.pair-first.new.given.items in
     let ys = c.run_all-first.result.0 ∷ c.run_all-first.result.1.items in
     let all = subst (AreAll crew) c.pair-first.ensures.stands (all-of crew c.args.job.now.workers c.args.stands.items c.requires.stands c.requires.workers.1) in
-    subst (λ (ps : List Post). AreSettled crew topics ps (map (λ (d : Desk Frame S). d.worker.pass) c.part.new.desks.items)) (sym c.part.ensures.stands)
+    subst (λ (ps : List Post). AreSettled crew topics ps (map (λ (d : Desk Frame S). d.worker.pass) c.take_apart.new.desks.items)) (sym c.take_apart.ensures.stands)
     (subst (λ (ds : List (Desk Frame S)). AreSettled crew topics (map stand_of ys) (map (λ (d : Desk Frame S). d.worker.pass) ds))
-    (sym c.part.ensures.desks) (settled t xs ys (c.run_all-first.ensures.first, c.run_all-first.ensures.others) all))
+    (sym c.take_apart.ensures.desks) (settled t xs ys (c.run_all-first.ensures.first, c.run_all-first.ensures.others) all))

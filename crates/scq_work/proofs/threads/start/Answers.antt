@@ -18,7 +18,7 @@ use Rattle.scq_queue.specs.contracts.queue.Queue as queue
 use Rattle.scq_queue.proofs.QueuesShared.{queue_sync}
 use Rattle.scq_work.specs.contracts.job.Job as job
 use Rattle.scq_work.specs.contracts.threads.Work as work
-use Rattle.scq_work.specs.contracts.threads.End as end
+use Rattle.scq_work.specs.contracts.threads.HandedBack as end
 use Rattle.scq_work.proofs.job.Job.TheSendSync as jobs
 use Rattle.scq_work.proofs.WorkSent.{work_sent, end_sent}
 use Rattle.scq_work.proofs.threads.start.Lts.{arg-1-2, arg-1-3}

@@ -3,10 +3,10 @@ use Rattle.std.proofs.Common.{◌≡◌, ◌∙◌, sym, ap, subst, ◌++◌, Li
 use Rattle.std.specs.List.{All}
 use Rattle.scq_block.specs.declared.frame.Frame.{Frame}
 use Rattle.scq_work.specs.Dealings.{AreDealt, IsFresh, without_files}
-use Rattle.scq_work.specs.Desks.{IsNew}
+use Rattle.scq_files.specs.OwnFiles.{IsNew}
 use Rattle.scq_work.specs.declared.desk.Desk.{Desk}
 use Rattle.scq_work.proofs.AllRun.{passes_at}
-use Rattle.scq_work.proofs.Lists.{written-back}
+use Rattle.scq_files.proofs.Lists.{written-back}
 use Rattle.scq_work.proofs.Settled.{same-passes, still-fresh, place-numbers}
 use Rattle.scq_work.proofs.working.lay_out.Goals as goal
 use Rattle.scq_work.proofs.working.lay_out.Goals.{After-deal}

@@ -1,5 +1,5 @@
 -- The end of the work of all workers. A slice of the desks is lent, and written back whole.
-use Rattle.std.proofs.Common.{◌≡◌, ◌∙◌, refl, sym, ap, subst, arith, false, ℕ, ◌+◌, List, Option, None, length, map}
+use Rattle.std.proofs.Common.{◌≡◌, ◌∙◌, refl, sym, ap, subst, arith, false, ℕ, ◌+◌, ◌^◌, List, Option, None, length, map}
 use Rattle.std.specs.Prelude.{slice_index_or, flat_map, Vec, ◌||◌}
 use Rattle.std.specs.Global.{Global}
 use Rattle.std.specs.List.{All}
@@ -17,21 +17,26 @@ use Rattle.scq_queue.specs.Closing.{AreTheHeld}
 use Rattle.scq_queue.specs.Lists.{counts_of}
 use Rattle.scq_queue.specs.Passes.{PassStanding, HeldStanding, lists_of, was_told}
 use Rattle.scq_collect.specs.Merging.{members_in}
-use Rattle.scq_work.specs.AllWorkers.{HaveAnswered, HasWorked, IsSetup, lengths_of}
+use Rattle.scq_passes.specs.AllPasses.{IsSetup, lengths_of}
+use Rattle.scq_work.specs.AllWorkers.{HaveAnswered, HasWorked}
 use Rattle.scq_work.specs.Dealings.{AreDealt, without_files}
-use Rattle.scq_work.specs.Ends.{AreGiven, all_left}
-use Rattle.scq_work.specs.Given.{given_in}
-use Rattle.scq_work.specs.Reading.{IsRead}
+use Rattle.scq_files.specs.Ends.{AreGiven, all_left}
+use Rattle.scq_files.specs.Given.{given_in}
+use Rattle.scq_files.specs.Reading.{IsRead}
 use Rattle.scq_work.specs.declared.desk.Desk.{Desk}
 use Rattle.scq_work.specs.declared.worked.WorkFault.{WorkFault}
 use Rattle.scq_work.specs.declared.worked.Worked.{Worked}
 use Rattle.scq_work.proofs.AllGave.{AllRan, given, is-given}
 use Rattle.scq_work.proofs.AllRun.{HasClosed, have-answered, have-shared, passes_at, lists_at, held_at}
 use Rattle.scq_work.proofs.Cleared.{AllWhole}
-use Rattle.scq_work.proofs.Faults.{caused, memory-first, err-then}
-use Rattle.scq_work.proofs.Lists.{written-back}
-use Rattle.scq_work.proofs.Orders.{members-told, given-told}
-use Rattle.scq_work.proofs.Settled.{told-worked, ok-more, ok-on, same-passes, same-lists, same-held, same-fed, are-held, counts-exact}
+use Rattle.scq_passes.proofs.Results.{err-then}
+use Rattle.scq_work.proofs.Faults.{caused, memory-first}
+use Rattle.scq_files.proofs.Lists.{written-back}
+use Rattle.scq_files.proofs.GivenLemmas.{given-told}
+use Rattle.scq_work.proofs.Orders.{members-told}
+use Rattle.scq_passes.proofs.Counted.{counts-exact}
+use Rattle.scq_passes.proofs.Results.{ok-more, ok-on}
+use Rattle.scq_work.proofs.Settled.{told-worked, same-passes, same-lists, same-held, same-fed, are-held}
 use Rattle.scq_work.proofs.working.wind_up.Goals as goal
 use Rattle.scq_work.proofs.working.wind_up.Goals.{After-conclude}
 
@@ -249,7 +254,7 @@ returns-clause-worked g c =
             (subst (λ (ls : List (Vec Answered Global)). Are (passes_at ran) ls c.args.job.now.workers) (sym f.lists)
             (subst (λ n. Are (passes_at ran) (lists_at ran) n) f.count answered));
         counts = c.close-buffers.ensures.counts ∙ ap (map (λ (p : PassStanding Frame). counts_of (lists_of p))) f.passes
-            ∙ counts-exact (passes_at ran) shared.bounded ∙ ap (map lengths_of) (sym its_passes);
+            ∙ counts-exact (2 ^ 36) (omega arith) (passes_at ran) shared.bounded ∙ ap (map lengths_of) (sym its_passes);
       },
     ))
 

@@ -2,9 +2,9 @@ use Rattle.std.proofs.Common.{◌≡◌, ◌+◌, ◌∙◌, ap, sym, subst, ari
 use Rattle.scq_queue.specs.Passes.{PassStanding}
 use Rattle.scq_work.specs.Desks.{HasProduced}
 use Rattle.scq_work.specs.Working.{IsAtWork}
-use Rattle.scq_work.specs.declared.own_file.OwnFile.{OwnFile}
+use Rattle.scq_files.specs.declared.own_file.OwnFile.{OwnFile}
 use Rattle.scq_work.specs.declared.worker.Worker.{Worker}
-use Rattle.scq_work.proofs.Lists.{written-back}
+use Rattle.scq_files.proofs.Lists.{written-back}
 use Rattle.scq_work.proofs.Produced.{vain-first, produced-awake, produced-stopped}
 use Rattle.scq_work.proofs.RunLemmas.{suits-first, work-first}
 use Rattle.scq_work.proofs.desk.Desk.produce.Goals as goal

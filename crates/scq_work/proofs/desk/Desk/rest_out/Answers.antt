@@ -2,7 +2,7 @@ use Rattle.std.proofs.Common.{◌+◌, ◌∙◌, ap, sym, subst, List, length}
 use Rattle.scq_queue.specs.Passes.{PassStanding}
 use Rattle.scq_work.specs.Desks.{HasRun}
 use Rattle.scq_work.specs.Waiting.{HasWaited}
-use Rattle.scq_work.specs.declared.own_file.OwnFile.{OwnFile}
+use Rattle.scq_files.specs.declared.own_file.OwnFile.{OwnFile}
 use Rattle.scq_work.specs.declared.worker.Worker.{Worker}
 use Rattle.scq_work.proofs.Produced.{sweep-suits, swept-out, late-out, waited-told, waited-spent}
 use Rattle.scq_work.proofs.desk.Desk.rest_out.Goals as goal

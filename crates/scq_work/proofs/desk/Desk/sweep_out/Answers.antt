@@ -1,7 +1,7 @@
 use Rattle.std.proofs.Common.{◌∙◌, ap, sym, subst, List}
 use Rattle.scq_queue.specs.Passes.{PassStanding}
 use Rattle.scq_work.specs.Desks.{HasRun}
-use Rattle.scq_work.specs.declared.own_file.OwnFile.{OwnFile}
+use Rattle.scq_files.specs.declared.own_file.OwnFile.{OwnFile}
 use Rattle.scq_work.specs.declared.worker.Worker.{Worker}
 use Rattle.scq_work.proofs.Produced.{sweep-suits, swept-out, late-out}
 use Rattle.scq_work.proofs.desk.Desk.sweep_out.Goals as goal

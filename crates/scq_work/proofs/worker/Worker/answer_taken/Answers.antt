@@ -1,7 +1,7 @@
 use Rattle.std.proofs.Common.{rules, ◌≡◌, ap, arith, Some}
 use Rattle.scq_frames.specs.Parts.{Part}
 use Rattle.scq_frames.specs.Views.{part_of_view}
-use Rattle.scq_work.specs.Members.{and_passed_over}
+use Rattle.scq_passes.specs.Becoming.{and_passed_over}
 use Rattle.scq_work.proofs.MemberLemmas.{so-far-answered}
 use Rattle.scq_work.proofs.worker.Worker.answer_taken.Goals as goal
 

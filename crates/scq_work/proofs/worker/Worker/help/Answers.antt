@@ -1,9 +1,9 @@
 use Rattle.std.proofs.Common.{rules, ◌≡◌, ◌∙◌, sym, subst, arith, refl, ℕ}
 use Rattle.std.specs.Prelude.{count_by, IfErr, Result, Err}
-use Rattle.scq_work.specs.Records.{is_take}
-use Rattle.scq_work.specs.Working.{HasLeft}
-use Rattle.scq_work.proofs.PassLemmas.{taken-nothing, taken-along, counted-below, counted-above}
-use Rattle.scq_work.proofs.LeftLemmas.{left-taken}
+use Rattle.scq_passes.specs.Records.{is_take}
+use Rattle.scq_passes.specs.Calls.{HasLeft}
+use Rattle.scq_passes.proofs.PassLemmas.{taken-nothing, taken-along, counted-below, counted-above}
+use Rattle.scq_passes.proofs.LeftLemmas.{left-taken}
 use Rattle.scq_work.proofs.WorkerSteps.{answered-along, answered-nothing}
 use Rattle.scq_work.proofs.worker.Worker.help.Goals as goal
 

@@ -1,8 +1,9 @@
 use Rattle.std.proofs.Common.{◌≡◌, ◌≤◌, ◌<◌, ◌+◌, ℕ, false}
 use Rattle.std.specs.Prelude.{count_by}
-use Rattle.scq_work.specs.Records.{is_take}
-use Rattle.scq_work.specs.Waiting.{TookInVain}
-use Rattle.scq_work.specs.Working.{HasTaken, HasAnswered}
+use Rattle.scq_passes.specs.Records.{is_take}
+use Rattle.scq_passes.specs.Waiting.{TookInVain}
+use Rattle.scq_passes.specs.Calls.{HasTaken}
+use Rattle.scq_work.specs.Working.{HasAnswered}
 use Rattle.scq_work.proofs.worker.Worker.help.Given as goal
 
 -- each topic so far was taken from once

@@ -1,8 +1,9 @@
 use Rattle.std.proofs.Common.{◌≡◌, ◌+◌, ◌++◌, List, map, false, length, None}
 use Rattle.std.specs.List.{range_with_len}
 use Rattle.scq_frames.specs.Parts.{Part, part_of}
-use Rattle.scq_work.specs.Waiting.{HelpsInVain}
-use Rattle.scq_work.specs.Working.{Suits, IsAtWork}
+use Rattle.scq_passes.specs.Waiting.{HelpsInVain}
+use Rattle.scq_passes.specs.Calls.{Suits}
+use Rattle.scq_work.specs.Working.{IsAtWork}
 use Rattle.scq_work.proofs.worker.Worker.pass_on.Given as goal
 
 -- so many parts are passed on

@@ -1,15 +1,19 @@
 use Rattle.std.proofs.Common.{rules, ◌≡◌, ◌≤◌, ◌<◌, ◌+◌, ◌++◌, ◌∷◌, ◌∙◌, ap, sym, subst, arith, suc, List, [], length, None, Err, Result}
 use Rattle.std.specs.Prelude.{IfErr, count_by, Bool}
 use Rattle.scq_collect.specs.declared.answered.Answered.{Answered}
-use Rattle.scq_work.specs.Records.{is_take}
+use Rattle.scq_passes.specs.Records.{is_take}
 use Rattle.scq_frames.specs.Parts.{Part, part_of}
 use Rattle.scq_queue.specs.Passes.{PassStanding}
-use Rattle.scq_work.specs.Waiting.{TookInVain}
-use Rattle.scq_work.specs.Working.{Suits, HasTaken, HasSent, HasFoundFull, HasLeft, HasAnswered, IsAtWork, HasStopped}
-use Rattle.scq_work.proofs.PassLemmas.{found-full, lent-and-sent, suits-taken}
-use Rattle.scq_work.proofs.LeftLemmas.{left-at-get, left-full, left-more}
-use Rattle.scq_work.proofs.PassedOn.{one-of-all, left-sent, suits-full, work-sent, work-helped, work-stopped}
-use Rattle.scq_work.proofs.Vain.{vain-sent, vain-helped}
+use Rattle.scq_passes.specs.Waiting.{TookInVain}
+use Rattle.scq_passes.specs.Calls.{Suits, HasTaken, HasFoundFull, HasLeft}
+use Rattle.scq_work.specs.Passing.{Sends}
+use Rattle.scq_work.specs.Working.{HasSent, HasAnswered, IsAtWork, HasStopped}
+use Rattle.scq_passes.proofs.PassLemmas.{found-full, lent-and-sent, suits-taken}
+use Rattle.scq_passes.proofs.LeftLemmas.{left-at-get, left-full, left-more}
+use Rattle.scq_passes.proofs.ManyLists.{one-of-all}
+use Rattle.scq_work.proofs.PassedOn.{left-sent, suits-full, work-sent, work-helped, work-stopped}
+use Rattle.scq_passes.proofs.Vain.{vain-helped}
+use Rattle.scq_work.proofs.Vain.{vain-sent}
 use Rattle.scq_work.proofs.worker.Worker.pass_part.Goals as goal
 use Rattle.scq_work.proofs.worker.Worker.pass_part.Goals.{After-answer_directly}
 
@@ -49,7 +53,7 @@ returns-in_ok-send_in-in-Ok-clause-work g c messages was =
     let said = c.in_ok-send_in-in-Ok.ensures.sent in
     let within : suc m.topic < length p.numbers = let n = c.requires.suits.numbers in let low = c.requires.topic in omega arith in
     let sent : HasSent m p c.send_in.new.self.pass =
-    lent-and-sent g.B.Buffer.contents m said.0 said.1 p c.lend.new.pass c.send_in.new.self.pass c.in-Ok.held within c.in-Ok.ensures.lent said.2 said.3 in
+    lent-and-sent g.B.Buffer.contents m.topic (Sends m) said.0 said.1 p c.lend.new.pass c.send_in.new.self.pass c.in-Ok.held within c.in-Ok.ensures.lent said.2 said.3 in
     let same = c.in_ok-send_in-in-Ok.ensures.same in
     let now = c.send_in.new.self in
     subst (λ (starved : Bool). IsAtWork c.args.job.now.topics (messages ++ m ∷ []) now.pass now.members.items starved) (sym same.1)
@@ -147,7 +151,7 @@ returns-in_ok-send_in-in-Ok-clause-vain g c was =
     let said = c.in_ok-send_in-in-Ok.ensures.sent in
     let within : suc m.topic < length p.numbers = let n = c.requires.suits.numbers in let low = c.requires.topic in omega arith in
     vain-sent (length c.args.job.now.topics + 1) m p c.send_in.new.self.pass
-    (lent-and-sent g.B.Buffer.contents m said.0 said.1 p c.lend.new.pass c.send_in.new.self.pass c.in-Ok.held within c.in-Ok.ensures.lent said.2 said.3) was
+    (lent-and-sent g.B.Buffer.contents m.topic (Sends m) said.0 said.1 p c.lend.new.pass c.send_in.new.self.pass c.in-Ok.held within c.in-Ok.ensures.lent said.2 said.3) was
 
 pub returns-in_ok-help-in-Err-Full-clause-vain : goal.returns-in_ok-help-in-Err-Full-clause-vain
 returns-in_ok-help-in-Err-Full-clause-vain g c was =

@@ -4,16 +4,16 @@ use Rattle.std.proofs.lemmas.Bool.{cases_lt}
 use Rattle.std.proofs.lemmas.Grind.{flat_map-append}
 use Rattle.std.proofs.lemmas.List.{length-set}
 use Rattle.scq_frames.specs.Parts.{all_parts}
-use Rattle.scq_work.specs.Desks.{IsNew, StopsAtAFault, ids_of, all_given}
-use Rattle.scq_work.specs.Given.{given_in}
+use Rattle.scq_files.specs.OwnFiles.{IsNew, StopsAtAFault, ids_of, all_given}
+use Rattle.scq_files.specs.Given.{given_in}
 use Rattle.scq_work.specs.Passing.{parts_in}
-use Rattle.scq_work.specs.Reading.{IsRead}
+use Rattle.scq_files.specs.Reading.{IsRead}
 use Rattle.scq_work.specs.Working.{IsAtWork, HasStopped}
-use Rattle.scq_work.specs.declared.own_file.FileEnd.TheVariants.{Stopped}
-use Rattle.scq_work.specs.declared.own_file.OwnFile.{OwnFile}
-use Rattle.scq_work.proofs.FileLists.{given-set, ids-set, given-none}
-use Rattle.scq_work.proofs.Lists.{set-each}
-use Rattle.scq_work.proofs.ReadLemmas.{reading-unread}
+use Rattle.scq_files.specs.declared.own_file.FileEnd.TheVariants.{Stopped}
+use Rattle.scq_files.specs.declared.own_file.OwnFile.{OwnFile}
+use Rattle.scq_files.proofs.FileLists.{given-set, ids-set, given-none}
+use Rattle.scq_files.proofs.Lists.{set-each}
+use Rattle.scq_files.proofs.ReadLemmas.{reading-unread}
 use Rattle.scq_work.proofs.worker.Worker.read_files.Goals as goal
 use Rattle.scq_work.proofs.worker.Worker.read_files.Goals.{After-read_file}
 

@@ -1,12 +1,13 @@
 use Rattle.std.proofs.Common.{◌≡◌, ◌+◌, ◌<◌, ◌≤◌, ℕ, [], false, length, None}
 use Rattle.std.specs.Prelude.{All, slice_index_or}
-use Rattle.scq_work.specs.Desks.{IsNew, ids_of, all_given}
-use Rattle.scq_work.specs.Given.{given_in}
+use Rattle.scq_files.specs.OwnFiles.{IsNew, ids_of, all_given}
+use Rattle.scq_files.specs.Given.{given_in}
 use Rattle.scq_work.specs.Passing.{parts_in}
-use Rattle.scq_work.specs.Reading.{IsRead}
-use Rattle.scq_work.specs.Waiting.{HelpsInVain}
-use Rattle.scq_work.specs.Working.{Suits, IsAtWork}
-use Rattle.scq_work.specs.declared.own_file.FileEnd.TheVariants.{Stopped}
+use Rattle.scq_files.specs.Reading.{IsRead}
+use Rattle.scq_passes.specs.Waiting.{HelpsInVain}
+use Rattle.scq_passes.specs.Calls.{Suits}
+use Rattle.scq_work.specs.Working.{IsAtWork}
+use Rattle.scq_files.specs.declared.own_file.FileEnd.TheVariants.{Stopped}
 use Rattle.scq_work.proofs.worker.Worker.read_files.Given as goal
 
 -- the files in front of this place are unread, those behind it have no fault, and what is known of each is what was read of it

@@ -6,12 +6,13 @@ use Rattle.scq_frames.specs.Coming.{Found}
 use Rattle.scq_frames.specs.Framing.{IsNext, visible_ahead}
 use Rattle.scq_frames.specs.declared.message.Message.{Message}
 use Rattle.scq_frames.specs.Parts.{Part}
-use Rattle.scq_work.specs.Given.{given_in}
+use Rattle.scq_files.specs.Given.{given_in}
 use Rattle.scq_work.specs.Passing.{parts_in}
-use Rattle.scq_work.specs.Reading.{IsRead}
+use Rattle.scq_files.specs.Reading.{IsRead}
 use Rattle.scq_work.specs.Working.{IsAtWork, HasStopped}
-use Rattle.scq_work.specs.declared.own_file.FileEnd.{FileEnd}
-use Rattle.scq_work.proofs.ReadLemmas.{IsReading, Answers, reading-next, reading-whole, reading-fault, reading-left, parts-behind}
+use Rattle.scq_files.specs.declared.own_file.FileEnd.{FileEnd}
+use Rattle.scq_work.proofs.MessageParts.{parts-behind}
+use Rattle.scq_files.proofs.ReadLemmas.{IsReading, Answers, reading-next, reading-whole, reading-fault, reading-left}
 use Rattle.scq_work.proofs.worker.Worker.read_messages.Goals as goal
 use Rattle.scq_work.proofs.worker.Worker.read_messages.Goals.{After-next, After-pass_on}
 

@@ -1,12 +1,13 @@
 use Rattle.std.proofs.Common.{◌≡◌, ◌+◌, ◌-◌, ◌^◌, ◌++◌, List, false, length, None}
 use Rattle.scq_frames.specs.declared.fault.FrameFault.TheVariants.{NoMemory}
 use Rattle.scq_frames.specs.Parts.{Part}
-use Rattle.scq_work.specs.Given.{given_in}
+use Rattle.scq_files.specs.Given.{given_in}
 use Rattle.scq_work.specs.Passing.{parts_in}
-use Rattle.scq_work.specs.Waiting.{HelpsInVain}
-use Rattle.scq_work.specs.Working.{Suits, IsAtWork}
-use Rattle.scq_work.specs.declared.own_file.FileEnd.TheVariants.{Stopped}
-use Rattle.scq_work.proofs.ReadLemmas.{IsReading}
+use Rattle.scq_passes.specs.Waiting.{HelpsInVain}
+use Rattle.scq_passes.specs.Calls.{Suits}
+use Rattle.scq_work.specs.Working.{IsAtWork}
+use Rattle.scq_files.specs.declared.own_file.FileEnd.TheVariants.{Stopped}
+use Rattle.scq_files.proofs.ReadLemmas.{IsReading}
 use Rattle.scq_work.proofs.worker.Worker.read_messages.Given as goal
 
 -- what the framer gave so far is passed on, and where the worker leaves now, the file counts as stopped for want of memory

@@ -1,11 +1,12 @@
 use Rattle.std.proofs.Common.{rules, ◌≡◌, ◌+◌, ◌∙◌, ap, sym, subst, arith, refl, inl, inr, ℕ, true, false, length, Ok}
 use Rattle.std.proofs.lemmas.Bool.{cases_lt, cases_Bool}
 use Rattle.std.specs.Prelude.{IfErr, Result, Err}
-use Rattle.scq_work.specs.Leaving.{FoundTopicEmpty}
-use Rattle.scq_work.specs.Working.{HasLeft}
-use Rattle.scq_work.proofs.PassLemmas.{taken-nothing, taken-along, left-falls, left-falls-at, empty-more}
-use Rattle.scq_work.proofs.LeftLemmas.{left-taken}
-use Rattle.scq_work.proofs.Sweeps.{found-earlier, found-later}
+use Rattle.scq_passes.specs.Leaving.{FoundTopicEmpty}
+use Rattle.scq_passes.specs.Calls.{HasLeft}
+use Rattle.scq_passes.proofs.Blocks.{returns}
+use Rattle.scq_passes.proofs.PassLemmas.{taken-nothing, taken-along, left-falls, left-falls-at, empty-more}
+use Rattle.scq_passes.proofs.LeftLemmas.{left-taken}
+use Rattle.scq_passes.proofs.Sweeps.{found-earlier, found-later}
 use Rattle.scq_work.proofs.WorkerSteps.{answered-along, answered-nothing}
 use Rattle.scq_work.proofs.worker.Worker.sweep.Goals as goal
 use Rattle.scq_work.proofs.worker.Worker.sweep.Goals.{then-some, else-some}
@@ -39,7 +40,7 @@ swept-preserved g c =
           (c.in_ok-more.ensures.answered fed);
       starved = λ fed. inv.starved (c.sweep_topic.ensures.starved fed);
       number = c.sweep_topic.ensures.number ∙ inv.number;
-      empty = empty-more c.swept.topic c.swept.self.pass c.sweep_topic.new.self.pass more inv.empty c.in_ok-more.ensures.empty;
+      empty = empty-more returns c.swept.topic c.swept.self.pass c.sweep_topic.new.self.pass more inv.empty c.in_ok-more.ensures.empty;
       found = λ t low. elim (cases_lt t c.swept.topic) [
         | inl before ↦ found-later t c.args.self.now.pass c.swept.self.pass c.sweep_topic.new.self.pass (inv.found t before) more
         | inr from ↦

@@ -1,9 +1,10 @@
 use Rattle.std.proofs.Common.{◌≡◌, ◌<◌, ◌≤◌, ◌+◌, ℕ, true, false, length}
 use Rattle.scq_queue.specs.Lists.{takes_of}
 use Rattle.scq_queue.specs.Passes.{known_on}
-use Rattle.scq_work.specs.Leaving.{FoundTopicEmpty, TookNothing}
-use Rattle.scq_work.specs.Waiting.{TookInVain, TookMore}
-use Rattle.scq_work.specs.Working.{HasTaken, HasAnswered, takes_left}
+use Rattle.scq_passes.specs.Leaving.{FoundTopicEmpty, TookNothing}
+use Rattle.scq_passes.specs.Waiting.{TookInVain, TookMore}
+use Rattle.scq_passes.specs.Calls.{HasTaken, takes_left}
+use Rattle.scq_work.specs.Working.{HasAnswered}
 use Rattle.scq_work.proofs.worker.Worker.sweep.Given as goal
 
 -- each topic so far was found empty, and once anything was taken there is less left to take

@@ -4,12 +4,14 @@ use Rattle.std.proofs.lemmas.Bool.{eqb-true}
 use Rattle.scq_park.specs.Crews.{Post}
 use Rattle.scq_queue.specs.Lists.{takes_of}
 use Rattle.scq_queue.specs.Passes.{PassStanding}
-use Rattle.scq_work.specs.Leaving.{IsSweep}
-use Rattle.scq_work.specs.Working.{HasTaken, HasAnswered, HasLeft}
-use Rattle.scq_work.proofs.PassLemmas.{taken-nothing, taken-along, looked}
-use Rattle.scq_work.proofs.LeftLemmas.{left-taken}
-use Rattle.scq_work.proofs.Sweeps.{sweep-of}
-use Rattle.scq_work.proofs.Vain.{vain-swept, takes-rise}
+use Rattle.scq_passes.specs.Records.{IsReturn}
+use Rattle.scq_passes.specs.Leaving.{IsSweep}
+use Rattle.scq_passes.specs.Calls.{HasTaken, HasLeft}
+use Rattle.scq_work.specs.Working.{HasAnswered}
+use Rattle.scq_passes.proofs.PassLemmas.{taken-nothing, taken-along, looked}
+use Rattle.scq_passes.proofs.LeftLemmas.{left-taken}
+use Rattle.scq_passes.proofs.Sweeps.{sweep-of}
+use Rattle.scq_passes.proofs.Vain.{vain-swept, takes-rise}
 use Rattle.scq_work.proofs.WorkerSteps.{answered-along, answered-nothing}
 use Rattle.scq_work.proofs.worker.Worker.sweep_and_rest.Goals as goal
 
@@ -56,7 +58,7 @@ returns-then-over-clause-swept g c =
     record {
       begun = at;
       before = c.sweeps.invariant.taken;
-      sweep = subst (λ n. IsSweep all n at now) none (sweep-of all said.0 at c.closed-over.new.pass now said.1 c.in_ok-some.ensures.taken c.in_ok-some.ensures.found);
+      sweep = subst (λ n. IsSweep IsReturn all n at now) none (sweep-of all said.0 at c.closed-over.new.pass now said.1 c.in_ok-some.ensures.taken c.in_ok-some.ensures.found);
     }
 
 pub returns-then-over-clause-vain : goal.returns-then-over-clause-vain

@@ -1,6 +1,7 @@
 use Rattle.std.proofs.Common.{◌≡◌, ◌+◌, false, length}
-use Rattle.scq_work.specs.Waiting.{SweepsInVain}
-use Rattle.scq_work.specs.Working.{HasTaken, HasAnswered}
+use Rattle.scq_passes.specs.Waiting.{SweepsInVain}
+use Rattle.scq_passes.specs.Calls.{HasTaken}
+use Rattle.scq_work.specs.Working.{HasAnswered}
 use Rattle.scq_work.proofs.worker.Worker.sweep_and_rest.Given as goal
 
 -- each sweep so far got something or was followed by a rest

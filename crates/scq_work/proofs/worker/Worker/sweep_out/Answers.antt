@@ -2,11 +2,13 @@ use Rattle.std.proofs.Common.{rules, ◌≡◌, ◌+◌, ◌∙◌, ap, sym, sub
 use Rattle.std.specs.Prelude.{IfErr, Result, Err}
 use Rattle.std.proofs.lemmas.Bool.{eqb-true}
 use Rattle.scq_queue.specs.Passes.{PassStanding}
-use Rattle.scq_work.specs.Leaving.{HasIdled}
-use Rattle.scq_work.specs.Working.{HasTaken, HasAnswered, HasLeft}
-use Rattle.scq_work.proofs.PassLemmas.{taken-nothing, taken-along, left-falls, looked}
-use Rattle.scq_work.proofs.LeftLemmas.{left-taken}
-use Rattle.scq_work.proofs.Sweeps.{sweep-of, idle-more, idle-none}
+use Rattle.scq_passes.specs.Records.{IsReturn}
+use Rattle.scq_passes.specs.Leaving.{HasIdled}
+use Rattle.scq_passes.specs.Calls.{HasTaken, HasLeft}
+use Rattle.scq_work.specs.Working.{HasAnswered}
+use Rattle.scq_passes.proofs.PassLemmas.{taken-nothing, taken-along, left-falls, looked}
+use Rattle.scq_passes.proofs.LeftLemmas.{left-taken}
+use Rattle.scq_passes.proofs.Sweeps.{sweep-of, idle-more, idle-none}
 use Rattle.scq_work.proofs.WorkerSteps.{answered-along, answered-nothing}
 use Rattle.scq_work.proofs.worker.Worker.sweep_out.Goals as goal
 use Rattle.scq_work.proofs.worker.Worker.sweep_out.Goals.{then-some, else-some}
@@ -78,8 +80,8 @@ sweeps-preserved g c =
       number = c.sweep.ensures.number ∙ inv.number;
       idle = elim c.if-some.branch [ then-some w ↦ omega arith | else-some w ↦ omega arith ];
       idling = elim c.if-some.branch [
-        | then-some w ↦ subst (λ n. HasIdled all n p now) (sym w.idle-is) (idle-none all p now taken)
-        | else-some w ↦ subst (λ n. HasIdled all n p now) (sym w.idle-is)
+        | then-some w ↦ subst (λ n. HasIdled IsReturn all n p now) (sym w.idle-is) (idle-none all p now taken)
+        | else-some w ↦ subst (λ n. HasIdled IsReturn all n p now) (sym w.idle-is)
             (idle-more all c.sweeps.idle said.0 p at c.closed-over.new.pass now inv.idling said.1 sweep
             (c.in_ok-some.ensures.nothing (ap Ok w.if-some.false)))
       ];
@@ -113,7 +115,7 @@ returns-clause-swept g c =
         | inr (going, full) ↦ inr (elim c.if-some.branch [
           | then-some w ↦ let none : c.if-some.idle ≡ 0 = w.idle-is in absurd (omega (arith, none, full))
           | else-some w ↦
-              subst (λ n. HasIdled all n p now) (sym w.idle-is ∙ full)
+              subst (λ n. HasIdled IsReturn all n p now) (sym w.idle-is ∙ full)
               (idle-more all c.sweeps.idle said.0 p at c.closed-over.new.pass now c.sweeps.invariant.idling said.1 sweep
               (c.in_ok-some.ensures.nothing (ap Ok w.if-some.false)))
         ])

@@ -1,9 +1,9 @@
 use Rattle.std.proofs.Common.{rules, ◌≡◌, ◌∙◌, ap, sym, subst, arith, refl, ℕ, length}
 use Rattle.std.specs.Prelude.{IfErr, Result, Err}
-use Rattle.scq_work.specs.Working.{HasLeft}
-use Rattle.scq_work.proofs.PassLemmas.{taken-nothing, taken-along}
-use Rattle.scq_work.proofs.LeftLemmas.{left-taken}
-use Rattle.scq_work.proofs.Sweeps.{found-earlier}
+use Rattle.scq_passes.specs.Calls.{HasLeft}
+use Rattle.scq_passes.proofs.PassLemmas.{taken-nothing, taken-along}
+use Rattle.scq_passes.proofs.LeftLemmas.{left-taken}
+use Rattle.scq_passes.proofs.Sweeps.{found-earlier}
 use Rattle.scq_work.proofs.WorkerSteps.{answered-along, answered-nothing}
 use Rattle.scq_work.proofs.worker.Worker.sweep_topic.Goals as goal
 

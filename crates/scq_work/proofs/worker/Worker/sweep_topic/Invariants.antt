@@ -1,9 +1,10 @@
 use Rattle.std.proofs.Common.{◌≡◌, ◌<◌, ◌≤◌, ◌-◌, true, false, length}
 use Rattle.scq_queue.specs.Lists.{takes_of}
 use Rattle.scq_queue.specs.Passes.{known_on}
-use Rattle.scq_work.specs.Leaving.{TookNothing}
-use Rattle.scq_work.specs.Waiting.{TookInVain, TookMore}
-use Rattle.scq_work.specs.Working.{HasTaken, HasAnswered}
+use Rattle.scq_passes.specs.Leaving.{TookNothing}
+use Rattle.scq_passes.specs.Waiting.{TookInVain, TookMore}
+use Rattle.scq_passes.specs.Calls.{HasTaken}
+use Rattle.scq_work.specs.Working.{HasAnswered}
 use Rattle.scq_work.proofs.worker.Worker.sweep_topic.Given as goal
 
 -- once anything was taken, it is known that more was passed

@@ -3,12 +3,12 @@ use Rattle.std.specs.Prelude.{count_by}
 use Rattle.std.proofs.lemmas.List.Sums.{sum_by-append}
 use Rattle.scq_core.specs.declared.ended.Ended.TheVariants.{Nothing}
 use Rattle.scq_queue.specs.Passes.{PassStanding, WasGivenBack, having_seen, after_spent_put}
-use Rattle.scq_work.specs.Records.{is_take}
-use Rattle.scq_work.specs.Waiting.{TookInVain, TookMore}
-use Rattle.scq_work.proofs.PassLemmas.{took-one, found-none}
-use Rattle.scq_work.proofs.Sweeps.{found-now, found-takes}
-use Rattle.scq_work.proofs.Vain.{vain-none, vain-got}
-use Rattle.scq_work.proofs.LeftLemmas.{left-at-get, left-at-return}
+use Rattle.scq_passes.specs.Records.{is_take}
+use Rattle.scq_passes.specs.Waiting.{TookInVain, TookMore}
+use Rattle.scq_passes.proofs.PassLemmas.{took-one, found-none, found-past}
+use Rattle.scq_passes.proofs.Sweeps.{found-now, found-takes}
+use Rattle.scq_passes.proofs.Vain.{vain-none, vain-got}
+use Rattle.scq_passes.proofs.LeftLemmas.{left-at-get, left-at-return}
 use Rattle.scq_work.proofs.worker.Worker.take_one.Goals as goal
 
 pub returns-in-Ok-give_back-clause-taken : goal.returns-in-Ok-give_back-clause-taken
@@ -32,7 +32,7 @@ returns-in-Err-clause-left g c messages =
 pub returns-in-Err-Empty-clause-taken : goal.returns-in-Err-Empty-clause-taken
 returns-in-Err-Empty-clause-taken g c =
     let low : suc c.args.topic < length c.args.self.now.pass.numbers = let n = c.requires.suits.numbers in omega arith in
-    (found-none c.args.topic c.in-Err-Empty.field-0-0 c.args.self.now.pass c.take.new.pass low (c.in-Err-Empty.ensures.empty c.in-Err-Empty.field-0-0 (cc))).0
+    found-none c.args.topic c.in-Err-Empty.field-0-0 c.args.self.now.pass c.take.new.pass low (c.in-Err-Empty.ensures.empty c.in-Err-Empty.field-0-0 (cc))
 
 pub returns-in-Err-Empty-clause-one : goal.returns-in-Err-Empty-clause-one
 returns-in-Err-Empty-clause-one g c t =
@@ -43,7 +43,7 @@ returns-in-Err-Empty-clause-one g c t =
 pub returns-in-Err-Empty-clause-empty : goal.returns-in-Err-Empty-clause-empty
 returns-in-Err-Empty-clause-empty g c is =
     let low : suc c.args.topic < length c.args.self.now.pass.numbers = let n = c.requires.suits.numbers in omega arith in
-    (found-none c.args.topic c.in-Err-Empty.field-0-0 c.args.self.now.pass c.take.new.pass low (c.in-Err-Empty.ensures.empty c.in-Err-Empty.field-0-0 (cc))).1
+    found-past c.args.topic c.in-Err-Empty.field-0-0 c.args.self.now.pass c.take.new.pass low (c.in-Err-Empty.ensures.empty c.in-Err-Empty.field-0-0 (cc))
 
 pub returns-in-Err-Empty-clause-found : goal.returns-in-Err-Empty-clause-found
 returns-in-Err-Empty-clause-found g c is =

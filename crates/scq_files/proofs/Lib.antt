@@ -1,0 +1,9 @@
+pub mod Lists
+pub mod Dealt
+pub mod FileLists
+pub mod SoFar
+pub mod ReadLemmas
+pub mod GivenLemmas
+pub mod DeskLemmas
+pub mod Cleared
+pub mod AllGave

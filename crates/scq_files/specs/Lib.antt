@@ -1,0 +1,6 @@
+pub mod Given
+pub mod Files
+pub mod Reading
+pub mod Ends
+pub mod OwnFiles
+pub mod Desks

@@ -1,0 +1,41 @@
+-- Workers that wait in place of leaving early: how often they take in vain, and when they leave. `topics` is the number of topic rings.
+use Rattle.std.specs.Prelude.{ℕ, suc, ◌+◌, ◌*◌, ◌<◌, ◌≤◌, Bool, true, false, List, length, count_by}
+use Rattle.scq_core.specs.declared.ended.Ended.{Ended}
+use Rattle.scq_core.specs.declared.ended.Ended.TheVariants.{Nothing}
+use Rattle.scq_queue.specs.Lists.{takes_of}
+use Rattle.scq_queue.specs.Passes.{PassStanding}
+use Rattle.scq_passes.specs.Records.{Puts}
+use Rattle.scq_passes.specs.Leaving.{IsSweep}
+use Rattle.scq_passes.specs.Calls.{HasTakenFollowed}
+
+-- whether a call is a take of a topic that found nothing, and how many of a record are
+abbrev pub is_vain : Ended → Bool
+is_vain (Nothing (suc topic)) = true
+is_vain call = false
+
+abbrev pub vain_takes : List Ended → ℕ
+vain_takes calls = count_by is_vain calls
+
+module _ {B : Type 0} where
+  -- the pass took in vain at most so many times meanwhile
+  abbrev pub TookInVain : ℕ → PassStanding B → PassStanding B → Type 0
+  TookInVain most old new = vain_takes new.calls ≤ vain_takes old.calls + most
+
+  -- it took something meanwhile
+  abbrev pub TookMore : PassStanding B → PassStanding B → Type 0
+  TookMore old new = length (takes_of old.calls) < length (takes_of new.calls)
+
+  -- a worker that reads its files: it takes in vain only where it helps, and that once from each topic after each Full
+  abbrev pub HelpsInVain : ℕ → PassStanding B → Type 0
+  HelpsInVain topics p = vain_takes p.calls ≤ topics * length p.fulls
+
+  -- a worker that sweeps: each sweep takes in vain once from each topic, and each but the last got something or was followed by a rest.
+  -- `begun` is 1 once its last sweep has begun, and 0 before it
+  abbrev pub SweepsInVain : ℕ → ℕ → ℕ → PassStanding B → Type 0
+  SweepsInVain topics begun rests p = vain_takes p.calls ≤ topics * (begun + rests + length (takes_of p.calls) + length p.fulls)
+
+  -- it has left after a sweep before which all had retired. There is no other way to leave
+  pub record HasSweptTold (By : Puts) (topics : ℕ) (old new : PassStanding B) : Type 0 where
+    pub begun : PassStanding B
+    pub before : HasTakenFollowed By old begun
+    pub sweep : IsSweep By topics 0 begun new

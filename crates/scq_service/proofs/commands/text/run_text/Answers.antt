@@ -1,0 +1,5 @@
+use Rattle.std.proofs.Common.{refl}
+use Rattle.scq_service.proofs.commands.text.run_text.Goals as goal
+
+pub returns-clause-ends : goal.returns-clause-ends
+returns-clause-ends g c = c.in-Err.ensures.ends c.args.command _ (refl, refl)

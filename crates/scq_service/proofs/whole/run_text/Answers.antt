@@ -1,5 +1,0 @@
-use Rattle.std.proofs.Common.{refl}
-use Rattle.scq_service.proofs.whole.run_text.Goals as goal
-
-pub returns-clause-ends : goal.returns-clause-ends
-returns-clause-ends g c = c.in-Err.ensures.ends c.args.command _ (refl, refl)

@@ -1,0 +1,108 @@
+//! The commands that read one whole file, `check` and `replay`.
+ghost use Rattle.std.specs.Prelude.{◌≡◌, ◌⊎◌, ◌≤◌, None, Ok, Err, IfOk, IfErr, length};
+ghost use Rattle.scq_lines.specs.Lines.{lines_of};
+ghost use Rattle.scq_words.specs.declared.text_request.TextCommand.{TextCommand as TheCommand};
+ghost use Rattle.scq_service.specs.Ends.{Wrote, IsUnwritten, EndsWhole, IfContent, IsReadWhole, inputs_of, wrote_of};
+ghost use Rattle.scq_service.specs.Faults.{status_of};
+ghost use Rattle.scq_service.specs.Telling.{Tells, IsOfText};
+
+use crate::writing::write_all;
+use crate::{Fault, Outcome};
+use scq_check::{HistoryFault, judge, read_history, verdict_text};
+use scq_outside::{Failed, Files, ReadAllFault, Sink, read_all};
+use scq_replay::{ScheduleFault, order_text, schedule_text};
+use scq_word::Bytes;
+use scq_words::TextCommand;
+use std::alloc::Global;
+
+/// The greatest number of bytes of the file.
+pub(crate) const MOST_TEXT: u64 = 1 << 24;
+
+/// Gets the file, reads it whole, and writes what its text tells.
+pub fn run_text<F: Files, K: Sink>(
+    alloc: Global,
+    command: TextCommand,
+    name: &str,
+    files: &mut F,
+    out: &mut K,
+) -> Outcome<F::Src>
+    ensures status { result.status ≡ status_of result.fault }
+    ensures ends { EndsWhole command F.Src.faults F.Src.left name.now (inputs_of F.table F.faults files.old files.new result.sources.items result.read)
+        (wrote_of K.written K.faults out.old out.new) result.fault }
+    ensures worked { result.worked ≡ None }
+    ensures unstaged { result.staged ≡ None }
+    ensures left { result.left ≡ None }
+    ensures leaves { result.waited ≡ None }
+{
+    match read_one(alloc, name, files) {
+        Ok(whole) => match tell(alloc, command, whole.text.bytes()) {
+            Ok(told) => match write_all(out, told.bytes()) {
+                Ok(()) => Outcome::whole(whole.sources),
+                Err(Failed) => Outcome::at(whole.sources, Fault::WriteFault),
+            },
+            Err(fault) => Outcome::at(whole.sources, fault),
+        },
+        Err(outcome) => outcome,
+    }
+}
+
+/// The source of the file, in a list, and all that it gave.
+#[derive(Drop)]
+struct Whole<S> {
+    sources: Vec<S>,
+    text: Bytes,
+}
+
+/// Gets the file and reads it to its end, or says how the run ends.
+fn read_one<F: Files>(
+    alloc: Global,
+    name: &str,
+    files: &mut F,
+) -> Result<Whole<F::Src>, Outcome<F::Src>>
+    ensures whole { IfOk result (λ whole. IsReadWhole F.Src.faults F.Src.left name.now (inputs_of F.table F.faults files.old files.new whole.sources.items 0)) }
+    ensures text { IfOk result (λ whole. IfContent
+        (inputs_of F.table F.faults files.old files.new whole.sources.items 0) name.now (λ content. content ≡ whole.text)) }
+    ensures status { IfErr result (λ outcome. outcome.status ≡ status_of outcome.fault) }
+    ensures worked { IfErr result (λ outcome. outcome.worked ≡ None) }
+    ensures unstaged { IfErr result (λ outcome. outcome.staged ≡ None) }
+    ensures left { IfErr result (λ outcome. outcome.left ≡ None) }
+    ensures leaves { IfErr result (λ outcome. outcome.waited ≡ None) }
+    ensures ends { IfErr result (λ outcome. (command : TheCommand) (w : Wrote) → IsUnwritten w → EndsWhole command F.Src.faults F.Src.left name.now
+        (inputs_of F.table F.faults files.old files.new outcome.sources.items outcome.read) w outcome.fault) }
+{
+    let Ok(mut sources) = Vec::with_capacity(alloc, 1) else {
+        return Err(Outcome::at(Vec::new(alloc), Fault::NoMemory));
+    };
+    let Ok(mut source) = files.source(name) else {
+        return Err(Outcome::at(sources, Fault::OpenFault { file: 1 }));
+    };
+    let text = read_all(alloc, &mut source, MOST_TEXT);
+    sources.push_reserved(source);
+    match text {
+        Ok(text) => Ok(Whole { sources, text }),
+        Err(fault) => Err(Outcome::of_text(sources, fault)),
+    }
+}
+
+/// What the text tells the command, or its first line with a fault.
+fn tell(alloc: Global, command: TextCommand, text: &[u8]) -> Result<Bytes, Fault>
+    ensures told { IfOk result (λ told. Tells command (lines_of text.now) (Ok told)) }
+    ensures refused { IfErr result (λ fault. (fault ≡ Fault.NoMemory) ⊎ (Tells command (lines_of text.now) (Err fault) × IsOfText command fault)) }
+{
+    match command {
+        TextCommand::Check => judged(alloc, text),
+        TextCommand::Replay => Ok(schedule_text(alloc, text)?),
+        TextCommand::Order => Ok(order_text(alloc, text)?),
+    }
+}
+
+/// The text of a history's verdict.
+fn judged(alloc: Global, text: &[u8]) -> Result<Bytes, Fault>
+    ensures told { IfOk result (λ told. Tells TextCommand.Check (lines_of text.now) (Ok told)) }
+    ensures refused { IfErr result (λ fault. (fault ≡ Fault.NoMemory)
+        ⊎ (Tells TextCommand.Check (lines_of text.now) (Err fault) × IsOfText TextCommand.Check fault)) }
+{
+    let history = read_history(alloc, text)?;
+    let verdict = judge(alloc, history.opening.as_slice(), history.events.as_slice())?;
+    Ok(verdict_text(alloc, &verdict)?)
+}

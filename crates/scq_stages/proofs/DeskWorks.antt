@@ -1,0 +1,148 @@
+-- All desks once their workers have left: what each worker's run says, as what `AllStaged` asks of all workers.
+use Rattle.std.proofs.Common.{◌≡◌, refl, sym, ◌∙◌, ap, subst, inl, inr, arith, false, ℕ, ◌^◌, ◌<◌, ◌≤◌, List, [], length, map, get_or, Option, Some, None}
+use Rattle.std.specs.Prelude.{flat_map, slice_get, slice_index_or, Vec}
+use Rattle.std.specs.Global.{Global}
+use Rattle.std.specs.List.{All}
+use Rattle.std.specs.List.Sorted.{IsPermutation}
+use Rattle.std.specs.Option.{option_map, option_to_list}
+use Rattle.std.proofs.lemmas.List.{get_or-map, length-map}
+use Rattle.std.proofs.lemmas.List.Elements.{All-map}
+use Rattle.std.proofs.lemmas.List.Folds.{flat_map-map}
+use Rattle.std.proofs.lemmas.Option.{slice_get-map, slice_get_cases}
+use Rattle.scq_word.specs.declared.setup.Setup.{Setup}
+use Rattle.scq_band.specs.Standing.{Identity}
+use Rattle.scq_band.proofs.ClosedCounts.{sum_by-map}
+use Rattle.scq_frames.specs.declared.message.Message.{Message}
+use Rattle.scq_queue.specs.Passes.{PassStanding, HeldStanding}
+use Rattle.scq_files.specs.Desks.{AllEnded, AllWhole, AreDealt}
+use Rattle.scq_files.specs.Ends.{AreGiven}
+use Rattle.scq_files.specs.Files.{own_of}
+use Rattle.scq_files.specs.declared.desk.Desk.{Desk}
+use Rattle.scq_files.proofs.AllGave.{AllRead, all-messages, few-in-all, given, is-given, own-given, worker_messages}
+use Rattle.scq_files.proofs.Lists.{map-map}
+use Rattle.scq_passes.specs.AllPasses.{HaveShared}
+use Rattle.scq_stages.specs.declared.finished.Finished.{Finished}
+use Rattle.scq_stages.specs.declared.seating.Seated.{Seated}
+use Rattle.scq_stages.specs.AllStages.{HaveFinished, KeepsStages}
+use Rattle.scq_stages.specs.Working.{HasRun}
+use Rattle.scq_stages.proofs.AllStaged.{AllDone, HasDone, all-shared, have-staged, held_in}
+use Rattle.scq_stages.proofs.Closed.{HasClosed}
+use Rattle.scq_stages.proofs.Conclusion.{Work, lists_in, messages_in, passes_in}
+
+module _ {B S : Type 0} where
+  abbrev work_of : Desk (Seated B) S → Work B
+  work_of d = record {
+    pass = d.worker.worker.pass;
+    list = d.worker.worker.members;
+    messages = worker_messages d;
+    starved = d.worker.worker.starved;
+    kept = d.worker.kept;
+  }
+
+  abbrev pub passes_at : List (Desk (Seated B) S) → List (PassStanding B)
+  passes_at desks = map (λ (d : Desk (Seated B) S). d.worker.worker.pass) desks
+
+  abbrev pub lists_at : List (Desk (Seated B) S) → List (Vec Finished Global)
+  lists_at desks = map (λ (d : Desk (Seated B) S). d.worker.worker.members) desks
+
+  abbrev pub held_at : List (Desk (Seated B) S) → List (HeldStanding B)
+  held_at desks = flat_map (λ (d : Desk (Seated B) S). option_to_list d.worker.kept) desks
+
+  -- the workers of a queue have left: each had its own of the files, and did what `HasRun` says, however the reading of these ended
+  pub record AllRan (c : Setup) (shared : Identity B) (size : ℕ) (faults end_count : S → ℕ) (left : S → Option (List ℕ)) (sources : List S)
+      (desks : List (Desk (Seated B) S)) : Type 0 where
+    pub some : 0 < length desks
+    pub few : length sources ≤ 64
+    pub dealt : AreDealt 1 sources desks
+    pub run : All (λ d. HasRun shared size faults end_count left d.files.items d.worker.worker.pass d.worker.worker.members.items
+        d.worker.worker.starved d.worker.kept) desks
+    pub setup : shared.setup ≡ c
+    pub numbers : (w : ℕ) (d : Desk (Seated B) S) → w < length desks → (slice_index_or desks w d).worker.worker.pass.number ≡ w
+    pub rings : c.rings ≡ 3
+    pub seats : c.seats ≡ length desks
+    pub limit : c.limit ≡ 2 ^ 60
+
+  module _ (c : Setup) (shared : Identity B) (size : ℕ) (faults end_count : S → ℕ) (left : S → Option (List ℕ)) (sources : List S)
+      (desks : List (Desk (Seated B) S)) (ran : AllRan c shared size faults end_count left sources desks) where
+    pub all-read : AllRead [] size faults end_count left sources desks
+    all-read = record { some = ran.some; few = ran.few; dealt = ran.dealt; read = λ k d less. (ran.run k d less).read }
+
+    -- the reading of each file ended so
+    pub all-ended : AllEnded size faults end_count left desks
+    all-ended k d less j f inside = ((ran.run k d less).read j f inside).ends
+
+    abbrev works : List (Work B)
+    works = map work_of desks
+
+    works-passes : passes_in works ≡ passes_at desks
+    works-passes = map-map (λ (w : Work B). w.pass) work_of desks
+
+    works-lists : lists_in works ≡ lists_at desks
+    works-lists = map-map (λ (w : Work B). w.list) work_of desks
+
+    works-held : held_in works ≡ held_at desks
+    works-held = flat_map-map (λ (w : Work B). option_to_list w.kept) work_of desks
+
+    numbers-so : (k : ℕ) (d : Work B) → k < length desks → (get_or works k d).pass.number ≡ k
+    numbers-so k d within = elim (slice_get_cases desks k).1 [
+      | inl (e, less, found, here) ↦
+          let at = get_or-map work_of desks k e d within in
+          subst (λ (w : Work B). w.pass.number ≡ k) (sym at) (ran.numbers k e within)
+      | inr (past, none) ↦ absurd (omega arith)
+    ]
+
+    all-done : AllDone c shared works
+    all-done = record {
+      each = All-map (HasDone shared) work_of desks (λ k d less.
+          let its = ran.run k d less in
+          record { thrifty = its.thrifty; queue = its.queue; held = its.held; ended = its.ended });
+      setup = ran.setup;
+      numbers = λ k d less. numbers-so k d (omega (arith, less, length-map desks work_of));
+      rings = ran.rings;
+      seats = ran.seats ∙ sym (length-map desks work_of);
+      limit = ran.limit;
+      few = omega (arith, sum_by-map (λ (w : Work B). length w.messages) work_of desks, few-in-all [] size faults end_count left sources desks all-read);
+    }
+
+    module _ (left_in : List ℕ) (closed : HasClosed c (passes_at desks) (held_at desks) left_in) where
+      closed-so : HasClosed c (passes_in works) (held_in works) left_in
+      closed-so =
+          subst (λ (hs : List (HeldStanding B)). HasClosed c (passes_in works) hs left_in) (sym works-held)
+          (subst (λ (ps : List (PassStanding B)). HasClosed c ps (held_at desks) left_in) (sym works-passes) closed)
+
+      -- whatever the workers met
+      pub desks-shared : HaveShared KeepsStages (2 ^ 37) 2 c (passes_at desks) left_in
+      desks-shared =
+          subst (λ (ps : List (PassStanding B)). HaveShared KeepsStages (2 ^ 37) 2 c ps left_in) works-passes
+          (all-shared c shared works all-done left_in closed-so)
+
+      -- where each file was read to its end and no worker wanted memory
+      module _ (whole : AllWhole desks) (fed : All (λ (d : Desk (Seated B) S). d.worker.worker.starved ≡ false) desks) where
+        abbrev pub messages_given : List (List Message)
+        messages_given = given [] size faults end_count left sources desks all-read
+
+        pub desks-gave : AreGiven [] size left 1 sources messages_given
+        desks-gave = is-given [] size faults end_count left sources desks all-read whole
+
+        own-so : (w : ℕ) (v : Work B) → slice_get works w ≡ Some v → v.messages ≡ own_of (length works) w 1 messages_given
+        own-so w v is = by (slice_get desks w) refl where
+          by : (o : Option (Desk (Seated B) S)) → slice_get desks w ≡ o → v.messages ≡ own_of (length works) w 1 messages_given
+          by None at = absurd (cc (slice_get-map work_of desks w, is, at))
+          by (Some d) at =
+              let first : Some (work_of d) ≡ Some v = sym (slice_get-map work_of desks w ∙ ap (option_map work_of) at) ∙ is in
+              let its : work_of d ≡ v = cc in
+              ap (λ (x : Work B). x.messages) (sym its) ∙ own-given [] size faults end_count left sources desks all-read w d at
+              ∙ ap (λ n. own_of n w 1 messages_given) (sym (length-map desks work_of))
+
+        all-so : IsPermutation (flat_map (λ own. own) messages_given) (messages_in works)
+        all-so =
+            subst (IsPermutation (flat_map (λ own. own) messages_given)) (sym (flat_map-map (λ (w : Work B). w.messages) work_of desks))
+            (all-messages [] size faults end_count left sources desks all-read)
+
+        pub desks-staged : HaveFinished (length desks) messages_given (passes_at desks) (lists_at desks)
+        desks-staged =
+            let all = have-staged c shared works all-done left_in closed-so size left sources messages_given desks-gave own-so all-so
+            (All-map (λ (w : Work B). w.starved ≡ false) work_of desks fed) in
+            subst (λ n. HaveFinished n messages_given (passes_at desks) (lists_at desks)) (length-map desks work_of)
+            (subst (λ (ls : List (Vec Finished Global)). HaveFinished (length works) messages_given (passes_at desks) ls) works-lists
+            (subst (λ (ps : List (PassStanding B)). HaveFinished (length works) messages_given ps (lists_in works)) works-passes all))

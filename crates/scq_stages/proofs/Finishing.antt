@@ -1,0 +1,253 @@
+-- What one take makes of a worker's list and of its moves, and what several make of them, one behind the other.
+use Rattle.std.proofs.Common.{◌≡◌, refl, sym, ◌∙◌, ap, subst, suc, ℕ, List, [], ◌∷◌, ◌++◌, append_assoc, Option, Some, None, Bool, inl}
+use Rattle.std.specs.Prelude.{filter, IfSome, IsSomeAnd, ◌⊎◌}
+use Rattle.std.specs.List.{filter_map}
+use Rattle.std.proofs.lemmas.List.{append-nil}
+use Rattle.std.proofs.lemmas.List.Elements.{filter-append, filter_map-append}
+use Rattle.scq_core.specs.declared.ended.Ended.TheVariants.{Done, Got, Nothing}
+use Rattle.scq_frames.specs.Parts.{Part}
+use Rattle.scq_frames.specs.Encoded.{BeginsWith, part_at}
+use Rattle.scq_queue.specs.Lists.{Placed, sends_of, takes_of}
+use Rattle.scq_queue.specs.Passes.{PassStanding, HeldStanding, HasGot, FoundEmpty, having_seen, after_put, after_spent_put, after_spent_get}
+use Rattle.scq_queue.proofs.Records.{sends-append}
+use Rattle.scq_passes.specs.Records.{on}
+use Rattle.scq_passes.specs.Becoming.{BecomeSoFar, and_became, and_passed_over}
+use Rattle.scq_passes.specs.Calls.{HasLeftSo, since, taken_since}
+use Rattle.scq_passes.proofs.OnTopics.{on-append}
+use Rattle.scq_passes.proofs.PassLemmas.{got-and-put}
+use Rattle.scq_passes.proofs.Since.{since-of, since-taken_on}
+use Rattle.scq_passes.proofs.LeftLemmas.{left-so-at-get, left-so-at-put}
+use Rattle.scq_stages.specs.declared.finished.Finished.{Finished}
+use Rattle.scq_stages.specs.declared.finished.StageWay.{StageWay}
+use Rattle.scq_stages.specs.declared.finished.StageWay.TheVariants.{Second, First}
+use Rattle.scq_stages.specs.Stages.{redacted, squeezed, both}
+use Rattle.scq_stages.specs.Handling.{after}
+use Rattle.scq_stages.specs.Members.{is_second, is_first, is_direct, finished}
+use Rattle.scq_stages.specs.Moves.{first, second, take_topic}
+use Rattle.scq_stages.specs.Steps.{SecondsSoFar, FirstsSoFar, MovesSoFar, GotNo, HasMovedIts, HasFinishedSeconds, HasFinishedFirsts, HasFinished, HasHelped}
+use Rattle.scq_stages.specs.Working.{IsThrifty}
+use Rattle.scq_stages.proofs.Thrift.{thrifty-at_get, thrifty-at_put}
+
+-- one list behind two
+longer : {A : Type 0} (xs ys zs whole : List A) → whole ≡ ys ++ zs → xs ++ whole ≡ (xs ++ ys) ++ zs
+longer xs ys zs whole is = ap (λ l. xs ++ l) is ∙ sym (append_assoc xs ys zs)
+
+-- a take that was finished so, or whose bytes are no part's
+abbrev WasListed : (ℕ → StageWay) → (List ℕ → List ℕ) → ℕ → Option Part → List Finished → List Finished → Type 0
+WasListed way stage place o was is = IfSome o (λ part. is ≡ was ++ finished (way place) stage part ∷ []) × (o ≡ None → is ≡ was)
+
+seconds-one : (place : ℕ) (bytes : List ℕ) (was is : List Finished) (takes : List Placed) (o : Option Part) → part_at bytes ≡ o
+    → WasListed Second squeezed place o was is → SecondsSoFar takes (filter is_second was)
+    → SecondsSoFar (takes ++ record { topic = second; place = place; bytes = bytes } ∷ []) (filter is_second is)
+seconds-one place bytes was is takes None none listed before =
+    let take : Placed = record { topic = second; place = place; bytes = bytes } in
+    subst (SecondsSoFar (takes ++ take ∷ [])) (sym (ap (filter is_second) (listed.1 refl))) (and_passed_over take before none)
+seconds-one place bytes was is takes (Some part) some listed before =
+    let take : Placed = record { topic = second; place = place; bytes = bytes } in
+    let f = finished (Second place) squeezed part in
+    let grown : filter is_second is ≡ filter is_second was ++ f ∷ [] = ap (filter is_second) listed.0 ∙ filter-append is_second was (f ∷ []) in
+    subst (SecondsSoFar (takes ++ take ∷ [])) (sym grown) (and_became take f before (record { part = part; decodes = some; is = refl }))
+
+firsts-one : (place : ℕ) (bytes : List ℕ) (was is : List Finished) (takes : List Placed) (o : Option Part) → part_at bytes ≡ o
+    → WasListed First both place o was is → FirstsSoFar takes (filter is_first was)
+    → FirstsSoFar (takes ++ record { topic = first; place = place; bytes = bytes } ∷ []) (filter is_first is)
+firsts-one place bytes was is takes None none listed before =
+    let take : Placed = record { topic = first; place = place; bytes = bytes } in
+    subst (FirstsSoFar (takes ++ take ∷ [])) (sym (ap (filter is_first) (listed.1 refl))) (and_passed_over take before none)
+firsts-one place bytes was is takes (Some part) some listed before =
+    let take : Placed = record { topic = first; place = place; bytes = bytes } in
+    let f = finished (First place) both part in
+    let grown : filter is_first is ≡ filter is_first was ++ f ∷ [] = ap (filter is_first) listed.0 ∙ filter-append is_first was (f ∷ []) in
+    subst (FirstsSoFar (takes ++ take ∷ [])) (sym grown) (and_became take f before (record { part = part; decodes = some; is = refl }))
+
+-- of another kind there is none more
+other-kind : (kind : Finished → Bool) (way : ℕ → StageWay) (stage : List ℕ → List ℕ) (place : ℕ) (was is : List Finished) (o : Option Part)
+    → ((part : Part) → filter kind (finished (way place) stage part ∷ []) ≡ []) → WasListed way stage place o was is → GotNo kind was is
+other-kind kind way stage place was is None other listed = ap (filter kind) (listed.1 refl)
+other-kind kind way stage place was is (Some part) other listed =
+    let f = finished (way place) stage part in
+    ap (filter kind) listed.0 ∙ filter-append kind was (f ∷ []) ∙ ap (λ l. filter kind was ++ l) (other part) ∙ append-nil (filter kind was)
+
+module _ {B : Type 0} where
+  -- the calls of a take that got something and put it, and of one that found nothing
+  pub since-took : (contents : B → List ℕ) (from place to put : ℕ) (later : List ℕ) (p q r : PassStanding B) (h : HeldStanding B)
+      → HasGot contents from place p q h → r ≡ having_seen r.seen (after_put to h.index put later q)
+      → since p r ≡ Got from place (contents h.buffer) ∷ Done to put later ∷ []
+  since-took contents from place to put later p q r h got is =
+      let block = Got from place (contents h.buffer) ∷ Done to put later ∷ [] in
+      since-of p r block
+      (ap (λ (x : PassStanding B). x.calls) (got-and-put contents from place to put later p q r h got is)
+      ∙ append_assoc p.calls (Got from place (contents h.buffer) ∷ []) (Done to put later ∷ []))
+
+  pub since-found : (topic head : ℕ) (p q : PassStanding B) → FoundEmpty topic head p q → since p q ≡ Nothing (suc topic) ∷ []
+  since-found topic head p q found = since-of p q (Nothing (suc topic) ∷ []) (ap (λ (x : PassStanding B). x.calls) found.pass)
+
+  -- where nothing was taken from the topic, nothing more became of it
+  still : {M : Type 0} {Over : Placed → Type 0} {Becomes : Placed → M → Type 0} (topic : ℕ) (p q : PassStanding B) (takes : List Placed) (was is : List M)
+      → taken_since topic p q ≡ [] → is ≡ was → BecomeSoFar Over Becomes takes was → BecomeSoFar Over Becomes (takes ++ taken_since topic p q) is
+  still {M} {Over} {Becomes} topic p q takes was is none same before =
+      let all : takes ++ taken_since topic p q ≡ takes = ap (λ l. takes ++ l) none ∙ append-nil takes in
+      subst (λ l. BecomeSoFar Over Becomes l is) (sym all) (subst (BecomeSoFar Over Becomes takes) (sym same) before)
+
+  -- a take of second that was finished
+  pub finished-second : (place back : ℕ) (bytes later : List ℕ) (p r : PassStanding B) (was is : List Finished)
+      → since p r ≡ Got (suc second) place bytes ∷ Done 0 back later ∷ [] → WasListed Second squeezed place (part_at bytes) was is → HasFinished p r was is
+  finished-second place back bytes later p r was is calls listed =
+      let seconds : taken_since second p r ≡ record { topic = second; place = place; bytes = bytes } ∷ [] = ap (λ l. on second (takes_of l)) calls in
+      let firsts : taken_since first p r ≡ [] = ap (λ l. on first (takes_of l)) calls in
+      record {
+        seconds = λ takes before. subst (λ l. SecondsSoFar (takes ++ l) (filter is_second is)) (sym seconds)
+            (seconds-one place bytes was is takes (part_at bytes) refl listed before);
+        firsts = λ takes before. still first p r takes (filter is_first was) (filter is_first is) firsts
+            (other-kind is_first Second squeezed place was is (part_at bytes) (λ part. refl) listed) before;
+        directs = other-kind is_direct Second squeezed place was is (part_at bytes) (λ part. refl) listed;
+      }
+
+  pub helped-second : (place back : ℕ) (bytes later : List ℕ) (p r : PassStanding B) (was is : List Finished)
+      → since p r ≡ Got (suc second) place bytes ∷ Done 0 back later ∷ [] → WasListed Second squeezed place (part_at bytes) was is → HasHelped p r was is
+  helped-second place back bytes later p r was is calls listed =
+      let all = finished-second place back bytes later p r was is calls listed in
+      record {
+        seconds = all.seconds;
+        firsts = other-kind is_first Second squeezed place was is (part_at bytes) (λ part. refl) listed;
+        directs = all.directs;
+      }
+
+  -- a take of first that was finished
+  pub finished-first : (place back : ℕ) (bytes later : List ℕ) (p r : PassStanding B) (was is : List Finished)
+      → since p r ≡ Got (suc first) place bytes ∷ Done 0 back later ∷ [] → WasListed First both place (part_at bytes) was is → HasFinished p r was is
+  finished-first place back bytes later p r was is calls listed =
+      let firsts : taken_since first p r ≡ record { topic = first; place = place; bytes = bytes } ∷ [] = ap (λ l. on first (takes_of l)) calls in
+      let seconds : taken_since second p r ≡ [] = ap (λ l. on second (takes_of l)) calls in
+      record {
+        seconds = λ takes before. still second p r takes (filter is_second was) (filter is_second is) seconds
+            (other-kind is_second First both place was is (part_at bytes) (λ part. refl) listed) before;
+        firsts = λ takes before. subst (λ l. FirstsSoFar (takes ++ l) (filter is_first is)) (sym firsts)
+            (firsts-one place bytes was is takes (part_at bytes) refl listed before);
+        directs = other-kind is_direct First both place was is (part_at bytes) (λ part. refl) listed;
+      }
+
+  -- where nothing was taken, the list is as it was
+  pub finished-nothing : (p q : PassStanding B) (was : List Finished) → takes_of (since p q) ≡ [] → HasFinished p q was was
+  finished-nothing p q was none = record {
+    seconds = λ takes before. still second p q takes (filter is_second was) (filter is_second was) (ap (on second) none) refl before;
+    firsts = λ takes before. still first p q takes (filter is_first was) (filter is_first was) (ap (on first) none) refl before;
+    directs = refl;
+  }
+
+  -- nor where nothing was taken from second
+  pub helped-nothing : (p q : PassStanding B) (was is : List Finished) → taken_since second p q ≡ [] → is ≡ was → HasHelped p q was is
+  helped-nothing p q was is none same = record {
+    seconds = λ takes before. still second p q takes (filter is_second was) (filter is_second is) none (ap (filter is_second) same) before;
+    firsts = ap (filter is_first) same;
+    directs = ap (filter is_direct) same;
+  }
+
+  -- one step behind the other
+  seconds-along : (p q r : PassStanding B) (xs ys zs : List Finished) → since p r ≡ since p q ++ since q r → HasFinishedSeconds p q xs ys
+      → HasFinishedSeconds q r ys zs
+      → HasFinishedSeconds p r xs zs
+  seconds-along p q r xs ys zs split one more takes before =
+      subst (λ l. SecondsSoFar l (filter is_second zs))
+      (sym (longer takes (taken_since second p q) (taken_since second q r) (taken_since second p r) (since-taken_on second p q r split)))
+      (more (takes ++ taken_since second p q) (one takes before))
+
+  firsts-along : (p q r : PassStanding B) (xs ys zs : List Finished) → since p r ≡ since p q ++ since q r → HasFinishedFirsts p q xs ys
+      → HasFinishedFirsts q r ys zs
+      → HasFinishedFirsts p r xs zs
+  firsts-along p q r xs ys zs split one more takes before =
+      subst (λ l. FirstsSoFar l (filter is_first zs))
+      (sym (longer takes (taken_since first p q) (taken_since first q r) (taken_since first p r) (since-taken_on first p q r split)))
+      (more (takes ++ taken_since first p q) (one takes before))
+
+  pub finished-along : (p q r : PassStanding B) (xs ys zs : List Finished) → since p r ≡ since p q ++ since q r → HasFinished p q xs ys → HasFinished q r ys zs
+      → HasFinished p r xs zs
+  finished-along p q r xs ys zs split one more = record {
+    seconds = seconds-along p q r xs ys zs split one.seconds more.seconds;
+    firsts = firsts-along p q r xs ys zs split one.firsts more.firsts;
+    directs = more.directs ∙ one.directs;
+  }
+
+  pub helped-along : (p q r : PassStanding B) (xs ys zs : List Finished) → since p r ≡ since p q ++ since q r → HasHelped p q xs ys → HasHelped q r ys zs
+      → HasHelped p r xs zs
+  helped-along p q r xs ys zs split one more = record {
+    seconds = seconds-along p q r xs ys zs split one.seconds more.seconds;
+    firsts = more.firsts ∙ one.firsts;
+    directs = more.directs ∙ one.directs;
+  }
+
+  -- moves of these takes and sends
+  moves-as : (p r : PassStanding B) (takes sends more other : List Placed) → taken_since first p r ≡ more → on second (sends_of (since p r)) ≡ other
+      → MovesSoFar (takes ++ more) (sends ++ other) → MovesSoFar (takes ++ taken_since first p r) (sends ++ on second (sends_of (since p r)))
+  moves-as p r takes sends more other took sent moved =
+      subst (λ l. MovesSoFar (takes ++ l) (sends ++ on second (sends_of (since p r)))) (sym took)
+      (subst (λ l. MovesSoFar (takes ++ more) (sends ++ l)) (sym sent) moved)
+
+  -- a take of first that was moved
+  pub moved-one : (place put : ℕ) (bytes later : List ℕ) (part : Part) (p r : PassStanding B)
+      → since p r ≡ Got (suc first) place bytes ∷ Done (suc second) put later ∷ [] → part_at bytes ≡ Some part → BeginsWith later (after redacted part)
+      → HasMovedIts p r
+  moved-one place put bytes later part p r calls some moved takes sends before =
+      let take : Placed = record { topic = first; place = place; bytes = bytes } in
+      let send : Placed = record { topic = second; place = put; bytes = later } in
+      moves-as p r takes sends (take ∷ []) (send ∷ []) (ap (λ l. on first (takes_of l)) calls) (ap (λ l. on second (sends_of l)) calls)
+      (and_became take send before (record { part = part; decodes = some; moved = moved }))
+
+  -- one whose bytes are no part's
+  pub moved-back : (place back : ℕ) (bytes later : List ℕ) (p r : PassStanding B)
+      → since p r ≡ Got (suc first) place bytes ∷ Done 0 back later ∷ [] → part_at bytes ≡ None → HasMovedIts p r
+  moved-back place back bytes later p r calls none takes sends before =
+      let take : Placed = record { topic = first; place = place; bytes = bytes } in
+      moves-as p r takes sends (take ∷ []) [] (ap (λ l. on first (takes_of l)) calls) (ap (λ l. on second (sends_of l)) calls)
+      (subst (MovesSoFar (takes ++ take ∷ [])) (sym (append-nil sends)) (and_passed_over take before none))
+
+  -- nothing was taken from first, nor sent to second
+  pub moved-nothing : (p r : PassStanding B) → taken_since first p r ≡ [] → on second (sends_of (since p r)) ≡ [] → HasMovedIts p r
+  moved-nothing p r took sent takes sends before =
+      moves-as p r takes sends [] [] took sent
+      (subst (λ l. MovesSoFar l (sends ++ [])) (sym (append-nil takes)) (subst (MovesSoFar takes) (sym (append-nil sends)) before))
+
+  pub moved-along : (p q r : PassStanding B) → since p r ≡ since p q ++ since q r → HasMovedIts p q → HasMovedIts q r → HasMovedIts p r
+  moved-along p q r split one more takes sends before =
+      let sent : on second (sends_of (since p r)) ≡ on second (sends_of (since p q)) ++ on second (sends_of (since q r)) =
+      ap (λ l. on second (sends_of l)) split ∙ ap (on second) (sends-append (since p q) (since q r))
+      ∙ on-append second (sends_of (since p q)) (sends_of (since q r)) in
+      subst (λ l. MovesSoFar l (sends ++ on second (sends_of (since p r))))
+      (sym (longer takes (taken_since first p q) (taken_since first q r) (taken_since first p r) (since-taken_on first p q r split)))
+      (subst (MovesSoFar ((takes ++ taken_since first p q) ++ taken_since first q r))
+      (sym (longer sends (on second (sends_of (since p q))) (on second (sends_of (since q r))) (on second (sends_of (since p r))) sent))
+      (more (takes ++ taken_since first p q) (sends ++ on second (sends_of (since p q))) (one takes sends before)))
+
+  -- the topics that were taken from
+  pub topics-along : (p q r : PassStanding B) (xs ys : List ℕ) → since p r ≡ since p q ++ since q r → filter_map take_topic (since p q) ≡ xs
+      → filter_map take_topic (since q r) ≡ ys
+      → filter_map take_topic (since p r) ≡ xs ++ ys
+  topics-along p q r xs ys split one more =
+      ap (filter_map take_topic) split ∙ filter_map-append take_topic (since p q) (since q r) ∙ ap (λ l. l ++ filter_map take_topic (since q r)) one
+      ∙ ap (λ l. xs ++ l) more
+
+  -- a take met Spent
+  pub left-take : (messages topic ticket : ℕ) (p q : PassStanding B) → q ≡ having_seen q.seen (after_spent_get (suc topic) ticket p)
+      → HasLeftSo IsThrifty messages messages p q None
+  left-take messages topic ticket p q is =
+      left-so-at-get IsThrifty messages messages (suc topic) ticket p q is (thrifty-at_get messages (suc topic) ticket p q is)
+
+  -- the put of what was taken met Spent: it came back
+  pub left-back : (contents : B → List ℕ) (messages topic place : ℕ) (p q r : PassStanding B) (h : HeldStanding B) (kept : Option (HeldStanding B))
+      → HasGot contents (suc topic) place p q h
+      → IsSomeAnd kept (λ k. (k.index ≡ h.index) × (k.queue ≡ h.queue) × ((ring : ℕ) × (ticket : ℕ) × ((ring ≡ 0) ⊎ (ring ≡ suc second))
+      × (r ≡ having_seen r.seen (after_spent_put ring ticket q))))
+      → HasLeftSo IsThrifty messages messages p r kept
+  left-back contents messages topic place p q r h None got back = absurd back
+  left-back contents messages topic place p q r h (Some k) got back =
+      left-so-at-put IsThrifty contents messages messages (suc topic) place back.2.0 back.2.1 p q r h k got back.2.3 back.0 back.1
+      (thrifty-at_put contents messages topic place back.2.0 back.2.1 p q r h got back.2.3 back.2.2)
+
+  pub left-given : (contents : B → List ℕ) (messages topic place : ℕ) (p q r : PassStanding B) (h : HeldStanding B) (kept : Option (HeldStanding B))
+      → HasGot contents (suc topic) place p q h
+      → IsSomeAnd kept (λ k. (k.index ≡ h.index) × (k.queue ≡ h.queue)
+      × ((ticket : ℕ) × (r ≡ having_seen r.seen (after_spent_put 0 ticket q))))
+      → HasLeftSo IsThrifty messages messages p r kept
+  left-given contents messages topic place p q r h None got back = absurd back
+  left-given contents messages topic place p q r h (Some k) got back =
+      left-back contents messages topic place p q r h (Some k) got (back.0, back.1, (0, back.2.0, inl refl, back.2.1))

@@ -1,0 +1,132 @@
+-- A worker's whole work: how it begins, and what its end is, by how it left.
+use Rattle.std.proofs.Common.{◌≡◌, refl, sym, ◌∙◌, ap, subst, arith, ℕ, ◌<◌, List, [], ◌∷◌, ◌++◌, length, Option, Some, None, Bool, Ok, Err, Result, rules}
+use Rattle.std.specs.Prelude.{IfSome, OnOk}
+use Rattle.std.specs.List.{All}
+use Rattle.scq_core.specs.declared.ended.Ended.{Ended}
+use Rattle.scq_core.specs.declared.ended.Ended.TheVariants.{Nothing}
+use Rattle.scq_band.specs.Standing.{Identity}
+use Rattle.scq_band.proofs.Opening.{numbers_length}
+use Rattle.scq_topics.specs.declared.kind.Kind.{Kind}
+use Rattle.scq_queue.specs.Passes.{PassStanding, HeldStanding, first_pass, known_on}
+use Rattle.scq_files.specs.Given.{given_in}
+use Rattle.scq_files.specs.OwnFiles.{all_given}
+use Rattle.scq_files.specs.Reading.{IsRead}
+use Rattle.scq_files.specs.declared.own_file.OwnFile.{OwnFile}
+use Rattle.scq_passes.specs.Becoming as becoming
+use Rattle.scq_passes.specs.PassedOn as passing
+use Rattle.scq_passes.specs.Calls.{Suits, HasLeftSo, index_of, after_retire}
+use Rattle.scq_passes.proofs.Kept.{swept}
+use Rattle.scq_stages.specs.declared.finished.Finished.{Finished}
+use Rattle.scq_stages.specs.Working.{IsThrifty, IsAtWork, IsDone, IsLeaving, HasStopped, HasRun}
+use Rattle.scq_stages.proofs.Thrift.{thrifty-late, thrifty-retired}
+
+-- what follows of a clause of an answer that is Ok
+pub on-then : {X E : Type 0} {P Q : Type 0} (r : Result X E) → (P → Q) → OnOk r P → OnOk r Q
+on-then (Ok x) f p = f p
+on-then (Err e) f p = tt
+
+-- of no calls each is nowhere
+no-call : (before after : List Ended) (call : Ended) → [] ≡ before ++ call ∷ after → ⊥
+no-call [] after call is = absurd (cc)
+no-call (x ∷ before) after call is = absurd (cc)
+
+-- what of files is read
+abbrev pub AllRead : {S : Type 0} → List (List ℕ × Kind) → ℕ → (S → ℕ) → (S → ℕ) → (S → Option (List ℕ)) → List (OwnFile S) → Type 0
+AllRead topics size faults end_count left files =
+    All (λ f. IsRead topics size faults end_count left f.number f.was.value f.source (given_in f.given.value) f.end) files
+
+module _ {B : Type 0} where
+  -- a new pass suits, and nothing is passed on yet
+  pub suits-first : (shared : Identity B) (number : ℕ) (p : PassStanding B) → shared.setup.rings ≡ 3 → p ≡ first_pass shared number → Suits shared 1 p
+  suits-first shared number p rings is =
+      subst (Suits shared 1) (sym is)
+      (record { queue = refl; rings = rings; numbers = numbers_length shared.setup shared.setup.rings ∙ rings; spent = refl })
+
+  pub work-first : (shared : Identity B) (number : ℕ) (p : PassStanding B) (members : List Finished) (starved : Bool) → p ≡ first_pass shared number
+      → members ≡ [] → IsAtWork [] p members starved
+  work-first shared number p members starved is new =
+      subst (λ (q : PassStanding B). IsAtWork [] q members starved) (sym is)
+      (subst (λ (l : List Finished). IsAtWork [] (first_pass shared number) l starved) (sym new)
+      (record {
+        helps = λ before after at. absurd (no-call before after (Nothing 0) at);
+        between = record {
+          alone = λ before after at. absurd (no-call before after (Nothing 0) at);
+          even = refl;
+          none = refl;
+          unspent = λ ring ticket put has. absurd (search rules);
+          knows = record { sends = λ m has. absurd (search rules) };
+        };
+        thrifty = record {
+          fulls = omega arith;
+          to_first = omega arith;
+          sent_first = omega arith;
+          to_second = omega arith;
+          sent = omega arith;
+          returns = omega arith;
+        };
+        moves = becoming.none;
+        follows = tt;
+        listed = λ fed. record { passed = passing.none; seconds = becoming.none; firsts = refl; directs = tt };
+      }))
+
+  module _ {S : Type 0} (shared : Identity B) (size : ℕ) (faults end_count : S → ℕ) (left : S → Option (List ℕ)) (files : List (OwnFile S)) where
+    -- it has read its files, moved what was in first, retired, swept and left
+    pub run-left : (p q : PassStanding B) (was is : List Finished) (before after : Bool) (kept : Option (HeldStanding B))
+        → AllRead [] size faults end_count left files → Suits shared 1 p → IsDone (all_given files) p was before → IsLeaving (all_given files) p q is after
+        → ((t : ℕ) → t < 2 → (known_on t q).finished < (known_on t q).head) → kept ≡ None
+        → HasRun shared size faults end_count left files q is after kept
+    run-left p q was is before after kept read suits done leaving empty nothing =
+        let taken = leaving.taken in
+        let long : length q.numbers ≡ 3 = taken.knows.rings ∙ suits.numbers in
+        record {
+          read = read;
+          thrifty = thrifty-late (length (all_given files)) q leaving.thrifty;
+          queue = ap (λ (x : PassStanding B). x.queue) taken.pass ∙ suits.queue;
+          retired = (length p.calls, ap (λ (x : PassStanding B). x.retired) taken.pass);
+          held = leaving.between.none ∙ ap index_of (sym nothing);
+          its = subst (λ (k : Option (HeldStanding B)). IfSome k (λ h. h.queue ≡ shared)) (sym nothing) tt;
+          ended = λ awake. record {
+            at = p;
+            moved = done.moved;
+            leaving = leaving;
+            swept = swept q leaving.between.knows (λ t low. empty t (omega (arith, low, long)));
+          };
+        }
+
+    -- of a pass that keeps a ticket none of what is said of others need be shown
+    some-none : (p : PassStanding B) (ticket : ℕ) → p.spent ≡ Some ticket → p.spent ≡ None → ⊥
+    some-none p ticket is none_ = absurd (cc)
+
+    -- it met Spent in a sweep
+    pub run-late : (p q : PassStanding B) (was is : List Finished) (before after : Bool) (kept held : Option (HeldStanding B))
+        → AllRead [] size faults end_count left files → Suits shared 1 p → IsDone (all_given files) p was before
+        → HasLeftSo IsThrifty (length (all_given files)) (length (all_given files)) (after_retire p) q held → kept ≡ held
+        → HasRun shared size faults end_count left files q is after kept
+    run-late p q was is before after kept held read suits done end same =
+        subst (λ k. HasRun shared size faults end_count left files q is after k) (sym same)
+        (record {
+          read = read;
+          thrifty = end.thrifty (thrifty-retired 0 (length (all_given files)) p done.moved.thrifty);
+          queue = end.own.0 ∙ suits.queue;
+          retired = (length p.calls, end.own.2);
+          held = end.held ∙ ap (λ l. l ++ index_of held) done.moved.between.none;
+          its = subst (λ (x : Identity B). IfSome held (λ h. h.queue ≡ x)) suits.queue end.its;
+          ended = λ awake. absurd (some-none q end.spent.0 end.spent.1 awake);
+        })
+
+    -- it met Spent before it retired, and then retired
+    pub run-stopped : (p q : PassStanding B) (is : List Finished) (after : Bool) (kept held : Option (HeldStanding B))
+        → AllRead [] size faults end_count left files → HasStopped shared (length (all_given files)) p held → q ≡ after_retire p → kept ≡ held
+        → HasRun shared size faults end_count left files q is after kept
+    run-stopped p q is after kept held read end retired same =
+        subst (λ k. HasRun shared size faults end_count left files q is after k) (sym same)
+        (subst (λ (x : PassStanding B). HasRun shared size faults end_count left files x is after held) (sym retired)
+        (record {
+          read = read;
+          thrifty = thrifty-retired 1 (length (all_given files)) p end.thrifty;
+          queue = end.queue;
+          retired = (length p.calls, refl);
+          held = end.held;
+          its = end.its;
+          ended = λ awake. absurd (some-none p end.spent.0 end.spent.1 awake);
+        }))

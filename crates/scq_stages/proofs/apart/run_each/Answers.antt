@@ -1,0 +1,32 @@
+use denote.Param.Send.{IsSync, param_sync}
+use Rattle.std.proofs.Crossing as crossing
+use Rattle.scq_block.proofs.FramesSent.{frame_sent, frame_shared}
+use Rattle.scq_block.specs.contracts.frame.Frame as frame
+use Rattle.scq_block.specs.contracts.frame.FrameBuffer.TheImpl as buffer
+use Rattle.scq_queue.specs.contracts.queue.Queue as queue
+use Rattle.scq_queue.proofs.QueuesShared.{queue_sync}
+use Rattle.scq_stages.specs.contracts.job.StageJob as job
+use Rattle.scq_stages.proofs.job.StageJob.TheSendSync as jobs
+use Rattle.scq_stages.proofs.apart.run_each.Lts.{arg-0-2}
+use Rattle.scq_stages.proofs.apart.run_each.Goals as goal
+
+queue_shared : IsSync (queue.the_row frame.the_row buffer.ghosts)
+queue_shared = queue_sync frame.the_row buffer.ghosts frame_sent frame_shared
+
+-- what the closure borrows may be shared: the allocator, the job and the queue
+pub for_each_mut-requires-sync-F : goal.for_each_mut-requires-sync-F
+for_each_mut-requires-sync-F g c κs within =
+    let row = arg-0-2 g.row.R g.row.S g.R.laws g.S.laws g.R.Threads-dict g.S.Source-dict g.S.Destruct-dict κs in
+    let memory = crossing.sync in
+    let its_job : IsSync job.the_row = jobs.the_sync in
+    let here : IsSync row =
+    record {
+      shared = λ x b o κ. (
+        (
+          ((λ q. tt), memory.shared _ _ _ κ),
+          (((λ q. tt), its_job.shared x.1.now _ _ κ), (((λ q. tt), queue_shared.shared _ _ _ _), tt)),
+        ),
+        λ q. tt,
+      );
+    } in
+    param_sync 2 row here

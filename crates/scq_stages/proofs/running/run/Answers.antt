@@ -1,0 +1,100 @@
+use Rattle.std.proofs.Common.{◌≡◌, ◌∙◌, ap, sym, subst, arith, [], ◌++◌, List, length, take, drop}
+use Rattle.scq_files.specs.OwnFiles.{all_given}
+use Rattle.scq_files.specs.declared.own_file.OwnFile.{OwnFile}
+use Rattle.scq_files.proofs.Lists.{written-back}
+use Rattle.scq_stages.specs.declared.worker.Worker.{Worker}
+use Rattle.scq_stages.specs.Working.{HasRun, IsAtWork, IsDone}
+use Rattle.scq_stages.proofs.Runs.{AllRead, work-first, run-left, run-late, run-stopped}
+use Rattle.scq_stages.proofs.running.run.Goals as goal
+use Rattle.scq_stages.proofs.running.run.Goals.{After-work, In-Ok, In-Err}
+
+-- nothing was passed on before
+begun : (g : _) (c : After-work g)
+    → IsAtWork [] c.args.desk.now.worker.worker.pass c.args.desk.now.worker.worker.members.items c.args.desk.now.worker.worker.starved
+begun g c =
+    let worker = c.args.desk.now.worker.worker in
+    work-first c.args.queue.now worker.pass.number worker.pass worker.members.items worker.starved c.requires.fresh.pass c.requires.fresh.members
+
+-- the files on the desk are those that were read
+whole : (g : _) (c : After-work g)
+    → take c.args.desk.now.files.len (c.work.new.files ++ drop (length c.work.new.files) c.args.desk.now.files.items) ≡ c.work.new.files
+whole g c =
+    let old = c.args.desk.now.files.items in
+    let new = c.work.new.files in
+    let is = c.as_mut_slice-files.ensures.value in
+    let long : length new ≡ length old = c.work.auto.files ∙ ap length is in
+    let len : c.args.desk.now.files.len ≡ length old = sym (c.as_mut_slice-files.ensures.len) ∙ ap length is in
+    written-back c.args.desk.now.files.len new old (omega (arith, long, len))
+
+-- of each is known what was read of it
+read : (g : _) (c : After-work g) → AllRead [] c.args.job.now.size g.S.Source.faults g.S.Source.ends g.S.Source.left c.work.new.files
+read g c =
+    subst (λ topics. AllRead topics c.args.job.now.size g.S.Source.faults g.S.Source.ends g.S.Source.left c.work.new.files) c.none-topics.ensures
+    c.work.ensures.read
+
+pub retire-requires-clause-pass : goal.retire-requires-clause-pass
+retire-requires-clause-pass g c κs within = (c.in-Err.ensures.left (begun g (goal.at.retire-requires-clause-pass g c).After-work)).queue
+
+pub retire-requires-clause-stays : goal.retire-requires-clause-stays
+retire-requires-clause-stays g c κs within = (c.in-Err.ensures.left (begun g (goal.at.retire-requires-clause-stays g c).After-work)).stays
+
+-- it met Spent in a sweep
+pub returns-in-Err-leave-clause-run : goal.returns-in-Err-leave-clause-run
+returns-in-Err-leave-clause-run g c =
+    let job = c.args.job.now in
+    let faults = g.S.Source.faults in
+    let end_count = g.S.Source.ends in
+    let left = g.S.Source.left in
+    let files = c.work.new.files in
+    let mid = c.work.new.self in
+    let now = c.leave.new.self in
+    let later = c.keep.new.self in
+    let at = (goal.at.returns-in-Err-leave-clause-run g c).After-work in
+    subst (λ (fs : List (OwnFile _)). HasRun c.args.queue.now job.size faults end_count left fs later.worker.pass later.worker.members.items
+    later.worker.starved later.kept) (sym (whole g at))
+    (subst (λ (w : Worker _). HasRun c.args.queue.now job.size faults end_count left files w.pass w.members.items w.starved later.kept)
+    (sym c.keep.ensures.same)
+    (run-late c.args.queue.now job.size faults end_count left files mid.pass now.pass mid.members.items now.members.items mid.starved now.starved
+    later.kept c.in-Err-leave.at_limit.held (read g at) c.in-Ok.ensures.suits (c.in-Ok.ensures.done (begun g at))
+    (c.in-Err-leave.ensures.left (length (all_given files))) c.keep.ensures.kept))
+
+pub returns-in-Err-leave-clause-number : goal.returns-in-Err-leave-clause-number
+returns-in-Err-leave-clause-number g c =
+    let left = c.in-Err-leave.ensures.left 0 in
+    ap (λ (w : Worker _). w.pass.number) c.keep.ensures.same ∙ left.own.1 ∙ c.work.ensures.number
+
+-- it left
+pub returns-in_default-clause-run : goal.returns-in_default-clause-run
+returns-in_default-clause-run g c =
+    let job = c.args.job.now in
+    let faults = g.S.Source.faults in
+    let end_count = g.S.Source.ends in
+    let left = g.S.Source.left in
+    let files = c.work.new.files in
+    let mid = c.work.new.self in
+    let now = c.leave.new.self in
+    let kept = c.args.desk.now.worker.kept in
+    let at = (goal.at.returns-in_default-clause-run g c).After-work in
+    let done : IsDone (all_given files) mid.pass mid.members.items mid.starved = c.in-Ok.ensures.done (begun g at) in
+    let its = c.in_default.ensures in
+    subst (λ (fs : List (OwnFile _)). HasRun c.args.queue.now job.size faults end_count left fs now.pass now.members.items now.starved kept)
+    (sym (whole g at))
+    (run-left c.args.queue.now job.size faults end_count left files mid.pass now.pass mid.members.items now.members.items mid.starved now.starved kept
+    (read g at) c.in-Ok.ensures.suits done (its.leaving (all_given files) done) its.empty c.requires.fresh.kept)
+
+-- it met Spent before it retired
+pub returns-in-Err-clause-run : goal.returns-in-Err-clause-run
+returns-in-Err-clause-run g c =
+    let job = c.args.job.now in
+    let faults = g.S.Source.faults in
+    let end_count = g.S.Source.ends in
+    let left = g.S.Source.left in
+    let files = c.work.new.files in
+    let mid = c.work.new.self in
+    let later = c.keep-in-Err.new.self in
+    let at = (goal.at.returns-in-Err-clause-run g c).After-work in
+    subst (λ (fs : List (OwnFile _)). HasRun c.args.queue.now job.size faults end_count left fs later.worker.pass later.worker.members.items
+    later.worker.starved later.kept) (sym (whole g at))
+    (run-stopped c.args.queue.now job.size faults end_count left files mid.pass later.worker.pass later.worker.members.items later.worker.starved
+    later.kept c.in-Err.at_limit.held (read g at) (c.in-Err.ensures.left (begun g at))
+    (ap (λ (w : Worker _). w.pass) c.keep-in-Err.ensures.same ∙ c.retire.ensures) c.keep-in-Err.ensures.kept)

@@ -1,0 +1,23 @@
+use Rattle.std.proofs.Common.{◌≡◌, ◌<◌, ◌-◌, true, false}
+use Rattle.scq_queue.specs.Passes.{known_on}
+use Rattle.scq_passes.specs.Calls.{TookNoneBelow}
+use Rattle.scq_passes.specs.Leaving.{TookNothing}
+use Rattle.scq_stages.specs.Moves.{first}
+use Rattle.scq_stages.specs.Steps.{HasGivenBack, HasFinished}
+use Rattle.scq_stages.proofs.worker.Worker.sweep_first.Given as goal
+
+-- once anything was taken, it is known that more was passed
+abbrev pub invariant-takes : goal.invariant-takes
+invariant-takes g l = record {
+  taken : HasGivenBack l.fn.self.pass l.self.pass;
+  finished : l.self.starved ≡ false → HasFinished l.fn.self.pass l.self.pass l.fn.self.members.items l.self.members.items;
+  below : TookNoneBelow first l.fn.self.pass l.self.pass;
+  starved : l.self.starved ≡ false → l.fn.self.starved ≡ false;
+  some : l.some ≡ true → ((known_on first l.fn.self.pass).head < (known_on first l.self.pass).head)
+      × ((known_on first l.fn.self.pass).head < l.queue.setup.limit);
+  nothing : l.some ≡ false → TookNothing l.fn.self.pass l.self.pass;
+}
+
+-- each take that gets something has a place that is not below the head known, and below the limit
+abbrev pub decreases-takes : goal.decreases-takes
+decreases-takes g l = l.queue.setup.limit - (known_on first l.self.pass).head

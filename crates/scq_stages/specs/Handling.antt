@@ -1,0 +1,7 @@
+-- A part that a stage was done to.
+use Rattle.std.specs.Prelude.{ℕ, List}
+use Rattle.scq_frames.specs.Parts.{Part}
+
+-- the same part, with what the stage makes of its bytes
+abbrev pub after : (List ℕ → List ℕ) → Part → Part
+after stage p = record p { payload = stage p.payload }

@@ -1,0 +1,11 @@
+-- What a job of stages may ask for.
+use Rattle.std.specs.Prelude.{ℕ, ◌<◌, ◌≤◌}
+
+-- an order, a size and a number of workers, each within its own limits
+pub record IsStageJob (order size workers : ℕ) : Type 0 where
+  pub some_order : 0 < order
+  pub order_fits : order ≤ 12
+  pub some_size : 0 < size
+  pub size_fits : size ≤ 65536
+  pub some_workers : 0 < workers
+  pub workers_fit : workers ≤ 4096

@@ -1,0 +1,12 @@
+pub mod Stages
+pub mod Jobs
+pub mod Output
+pub mod Handling
+pub mod Members
+pub mod Moves
+pub mod Passing
+pub mod Steps
+pub mod Working
+pub mod Seats
+pub mod AllStages
+pub mod Ends

@@ -1,0 +1,80 @@
+//! The work of all workers, each in a thread.
+ghost use Rattle.std.specs.Prelude.{◌≡◌, ℕ, ◌+◌, ◌<◌, ◌≤◌, length, slice_index_or};
+ghost use Rattle.std.specs.List.{All};
+ghost use Rattle.scq_files.specs.OwnFiles.{IsNew, ids_of};
+ghost use Rattle.scq_stages.specs.Seats.{IsFresh};
+ghost use Rattle.scq_stages.specs.Working.{HasRun};
+
+use crate::StageJob;
+use crate::running::run;
+use crate::seating::Seated;
+use scq_block::Frame;
+use scq_files::Desk;
+use scq_outside::Source;
+use scq_queue::Queue;
+use std::alloc::Global;
+use std::thread;
+use std::thread::Threads;
+
+/// The work of all workers, each in a thread, of which none waits. The desks come back in their order.
+pub(crate) fn run_all<R: Threads + Sync, S: Source>(
+    rt: &R,
+    alloc: Global,
+    job: &StageJob,
+    queue: &Queue<Frame>,
+    desks: Vec<Desk<Seated<Frame>, S>>,
+) -> Vec<Desk<Seated<Frame>, S>>
+    requires some { 0 < length desks.items }
+    requires rings { queue.now.setup.rings ≡ 3 }
+    requires room { All (λ b. job.now.size + 24 ≤ length b.bytes.items) queue.now.given }
+    requires fresh { All (λ d. IsFresh queue.now d.worker) desks.items }
+    requires unread { All (λ d. All IsNew d.files.items) desks.items }
+    ensures count { length result.items ≡ length desks.items }
+    ensures same { (w : ℕ) (d : _) → w < length desks.items
+        → ids_of (slice_index_or result.items w d).files.items ≡ ids_of (slice_index_or desks.items w d).files.items }
+    ensures numbers { (w : ℕ) (d : _) → w < length desks.items
+        → (slice_index_or result.items w d).worker.worker.pass.number ≡ (slice_index_or desks.items w d).worker.worker.pass.number }
+    ensures run { All (λ d.
+        HasRun queue.now job.now.size S.faults S.ends S.left d.files.items d.worker.worker.pass
+        d.worker.worker.members.items d.worker.worker.starved d.worker.kept)
+        result.items }
+{
+    let mut desks = desks;
+    run_each(rt, alloc, job, queue, desks.as_mut_slice());
+    desks
+}
+
+/// Lets each worker work, in threads of their own.
+fn run_each<R: Threads + Sync, S: Source>(
+    rt: &R,
+    alloc: Global,
+    job: &StageJob,
+    queue: &Queue<Frame>,
+    desks: &mut [Desk<Seated<Frame>, S>],
+)
+    requires some { 0 < length desks.old }
+    requires rings { queue.now.setup.rings ≡ 3 }
+    requires room { All (λ b. job.now.size + 24 ≤ length b.bytes.items) queue.now.given }
+    requires fresh { All (λ d. IsFresh queue.now d.worker) desks.old }
+    requires unread { All (λ d. All IsNew d.files.items) desks.old }
+    ensures same { (w : ℕ) (d : _) → w < length desks.old
+        → ids_of (slice_index_or desks.new w d).files.items ≡ ids_of (slice_index_or desks.old w d).files.items }
+    ensures numbers { (w : ℕ) (d : _) → w < length desks.old
+        → (slice_index_or desks.new w d).worker.worker.pass.number ≡ (slice_index_or desks.old w d).worker.worker.pass.number }
+    ensures run { All (λ d.
+        HasRun queue.now job.now.size S.faults S.ends S.left d.files.items d.worker.worker.pass
+        d.worker.worker.members.items d.worker.worker.starved d.worker.kept)
+        desks.new }
+{
+    let threads = desks.len();
+    let run_one = |_: usize, desk: &mut Desk<Seated<Frame>, S>|
+        requires { (queue.now.setup.rings ≡ 3) × All (λ b. job.now.size + 24 ≤ length b.bytes.items) queue.now.given
+            × IsFresh queue.now desk.now.worker × All IsNew desk.now.files.items }
+        ensures { (ids_of desk.exit.now.files.items ≡ ids_of desk.entry.now.files.items)
+            × (desk.exit.now.worker.worker.pass.number ≡ desk.entry.now.worker.worker.pass.number)
+            × HasRun queue.entry.now job.entry.now.size S.faults S.ends S.left
+            desk.exit.now.files.items desk.exit.now.worker.worker.pass
+            desk.exit.now.worker.worker.members.items desk.exit.now.worker.worker.starved desk.exit.now.worker.kept }
+    { run(desk, alloc, job, queue) };
+    thread::for_each_mut(rt, desks, threads, &run_one);
+}

@@ -1,0 +1,96 @@
+//! The two stages on the bytes of a part, where they stand in a buffer.
+ghost use Rattle.std.specs.Prelude.{◌≡◌, ◌+◌, ◌≤◌, ◌++◌, true, false, None, length, take, drop, IfSome, IsSomeAnd};
+ghost use Rattle.scq_frames.specs.Encoded.{BeginsWith, part_at};
+ghost use Rattle.scq_stages.specs.Stages.{redacted, squeezed};
+ghost use Rattle.scq_stages.specs.Handling.{after};
+
+use crate::in_place::{redact, squeeze};
+use scq_frames::decode;
+
+/// Where the bytes of a part begin, behind its numbers.
+const HEADER: usize = 24;
+
+/// What is left of a part once its spaces are squeezed: the file and the line of its message, and how many bytes. The length that
+/// stands in front of them isn't theirs.
+#[derive(Clone, Copy, Debug)]
+pub struct Rest {
+    pub file: u32,
+    pub line: u32,
+    pub len: usize,
+}
+
+/// Redacts the part that comes first. Whether there is one.
+pub fn redact_part(bytes: &mut [u8]) -> bool
+    ensures redacted { IfSome (part_at bytes.old) (λ p. (result ≡ true) × BeginsWith bytes.new (after redacted p)) }
+    ensures none { part_at bytes.old ≡ None → (result ≡ false) × (bytes.new ≡ bytes.old) }
+    ensures len { length bytes.new ≡ length bytes.old }
+{
+    let Some(view) = decode(bytes) else {
+        return false;
+    };
+    let len = view.payload.len();
+    redact_behind(bytes, len);
+    true
+}
+
+/// Redacts so many bytes behind the numbers.
+fn redact_behind(bytes: &mut [u8], len: usize)
+    requires { 24 + len ≤ length bytes.old }
+    ensures redacted { bytes.new ≡ take 24 bytes.old ++ (redacted (take len (drop 24 bytes.old)) ++ drop len (drop 24 bytes.old)) }
+    ensures len { length bytes.new ≡ length bytes.old }
+{
+    redact(&mut bytes[HEADER..HEADER + len]);
+}
+
+/// Squeezes the spaces of the part that comes first. What is left of its bytes comes first behind its numbers.
+pub fn squeeze_part(bytes: &mut [u8]) -> Option<Rest>
+    ensures squeezed { IfSome (part_at bytes.old) (λ p. IsSomeAnd result (λ rest. (rest.file ≡ p.file) × (rest.line ≡ p.line)
+        × (24 + rest.len ≤ length bytes.new) × (take rest.len (drop 24 bytes.new) ≡ squeezed p.payload))) }
+    ensures none { part_at bytes.old ≡ None → result ≡ None }
+    ensures len { length bytes.new ≡ length bytes.old }
+{
+    let Some(view) = decode(bytes) else {
+        return None;
+    };
+    let file = view.file;
+    let line = view.line;
+    let len = view.payload.len();
+    let left = squeeze_behind(bytes, len);
+    Some(Rest {
+        file,
+        line,
+        len: left,
+    })
+}
+
+/// Does both stages to the part that comes first. What is left of its bytes comes first behind its numbers.
+pub fn finish_part(bytes: &mut [u8]) -> Option<Rest>
+    ensures finished { IfSome (part_at bytes.old) (λ p. IsSomeAnd result (λ rest. (rest.file ≡ p.file) × (rest.line ≡ p.line)
+        × (24 + rest.len ≤ length bytes.new) × (take rest.len (drop 24 bytes.new) ≡ squeezed (redacted p.payload)))) }
+    ensures none { part_at bytes.old ≡ None → result ≡ None }
+    ensures len { length bytes.new ≡ length bytes.old }
+{
+    let Some(view) = decode(bytes) else {
+        return None;
+    };
+    let file = view.file;
+    let line = view.line;
+    let len = view.payload.len();
+    redact_behind(bytes, len);
+    let kept = squeeze_behind(bytes, len);
+    Some(Rest {
+        file,
+        line,
+        len: kept,
+    })
+}
+
+/// Squeezes so many bytes behind the numbers. What is left of them, so many, comes first there.
+fn squeeze_behind(bytes: &mut [u8], len: usize) -> usize
+    requires { 24 + len ≤ length bytes.old }
+    ensures within { 24 + result ≤ length bytes.new }
+    ensures left { take result (drop 24 bytes.new) ≡ squeezed (take len (drop 24 bytes.old)) }
+    ensures len { length bytes.new ≡ length bytes.old }
+{
+    squeeze(&mut bytes[HEADER..HEADER + len])
+}

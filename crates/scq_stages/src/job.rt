@@ -1,0 +1,35 @@
+ghost use Rattle.scq_stages.specs.Jobs.{IsStageJob};
+
+/// What workers of stages are to do: messages of at most `size` bytes go through both stages in 2^order buffers, by
+/// `workers` workers.
+#[derive(Clone, Copy, Debug)]
+pub struct StageJob {
+    pub order: u32,
+    pub size: u32,
+    pub workers: u32,
+    pub ghost valid: { IsStageJob order size workers },
+}
+
+impl StageJob {
+    ghost use Rattle.std.specs.Prelude.{◌≡◌, ◌↔◌, IsNone, IfSome};
+
+    /// None exactly where the order isn't in 1 to 12, the size isn't in 1 to 65,536, or the workers aren't in 1 to 4,096.
+    pub fn new(order: u32, size: u32, workers: u32) -> Option<StageJob>
+        ensures refused { IsNone result ↔ ¬ IsStageJob order size workers }
+        ensures order { IfSome result (λ job. job.order ≡ order) }
+        ensures size { IfSome result (λ job. job.size ≡ size) }
+        ensures workers { IfSome result (λ job. job.workers ≡ workers) }
+    {
+        if !(1..=12).contains(&order) || !(1..=65_536).contains(&size) {
+            return None;
+        }
+        if !(1..=4096).contains(&workers) {
+            return None;
+        }
+        Some(StageJob {
+            order,
+            size,
+            workers,
+        })
+    }
+}

@@ -1,0 +1,155 @@
+//! How a worker reads its files.
+ghost use Rattle.std.specs.Prelude.{◌≡◌, ◌+◌, ◌≤◌, ◌++◌, List, [], false, length, None, IfErr, OnOk, All};
+ghost use Rattle.scq_frames.specs.declared.message.Message.{Message as TheMessage};
+ghost use Rattle.scq_files.specs.Given.{given_in};
+ghost use Rattle.scq_files.specs.OwnFiles.{IsNew, StopsAtAFault, ids_of, all_given};
+ghost use Rattle.scq_files.specs.Reading.{IsRead};
+ghost use Rattle.scq_passes.specs.Calls.{Suits};
+ghost use Rattle.scq_stages.specs.Working.{IsAtWork, HasStopped};
+
+use crate::StageJob;
+use crate::worker::Worker;
+use scq_files::{FileEnd, Given, OwnFile, give};
+use scq_frames::{FrameFault, Framer};
+use scq_outside::Source;
+use scq_passes::AtLimit;
+use scq_queue::Queue;
+use scq_topics::Topics;
+use scq_word::Buffer;
+use std::alloc::Global;
+use std::snapshot::Snapshot;
+
+/// The greatest number of bytes of a file.
+const MOST_BYTES: u64 = 1 << 30;
+
+impl<B: Buffer> Worker<B> {
+    /// Passes on the messages of a file one by one, and says how far it was read.
+    fn read_messages<S: Source>(
+        &mut self,
+        alloc: Global,
+        job: &StageJob,
+        queue: &Queue<B>,
+        topics: &Topics,
+        file: u32,
+        source: &mut S,
+        given: &mut Snapshot<Given>,
+        end: &mut FileEnd,
+    ) -> Result<(), AtLimit<B>>
+        requires suits { Suits queue.now 1 self.old.pass }
+        requires stays { self.old.pass.retired ≡ None }
+        requires room { All (λ b. job.now.size + 24 ≤ length (B.contents b)) queue.now.given }
+        requires topics { topics.now ≡ [] }
+        requires none { given_in given.old.value ≡ [] }
+        ensures read { IsRead topics.now job.now.size S.faults S.ends S.left file source.old source.new (given_in given.new.value) end.new }
+        ensures suits { OnOk result (Suits queue.now 1 self.new.pass) }
+        ensures stays { OnOk result (self.new.pass.retired ≡ None) }
+        ensures work { OnOk result ((messages : List TheMessage) → IsAtWork messages self.old.pass self.old.members.items self.old.starved
+            → IsAtWork (messages ++ given_in given.new.value) self.new.pass self.new.members.items self.new.starved) }
+        ensures left { IfErr result (λ l. (messages : List TheMessage) → IsAtWork messages self.old.pass self.old.members.items self.old.starved
+            → HasStopped queue.now (length (messages ++ given_in given.new.value)) self.new.pass l.held) }
+        ensures starved { self.new.starved ≡ false → self.old.starved ≡ false }
+        ensures number { self.new.pass.number ≡ self.old.pass.number }
+    {
+        // So it ends where the worker leaves it for want of memory, or since it met a ticket past the limit.
+        *end = FileEnd::Stopped(FrameFault::NoMemory);
+        let Ok(mut framer) = Framer::new(alloc, file, job.size, MOST_BYTES) else {
+            return Ok(());
+        };
+        'messages: loop {
+            match framer.next(topics, source) {
+                Ok(Some(message)) => {
+                    give(given, &message);
+                    self.pass_on(alloc, job, queue, &message)?;
+                    if self.starved {
+                        return Ok(());
+                    }
+                }
+                Ok(None) => {
+                    *end = FileEnd::Whole;
+                    return Ok(());
+                }
+                Err(fault) => {
+                    *end = FileEnd::Stopped(fault);
+                    return Ok(());
+                }
+            }
+        }
+    }
+
+    /// Reads a file to its end or up to a fault.
+    fn read_file<S: Source>(
+        &mut self,
+        alloc: Global,
+        job: &StageJob,
+        queue: &Queue<B>,
+        topics: &Topics,
+        file: &mut OwnFile<S>,
+    ) -> Result<(), AtLimit<B>>
+        requires suits { Suits queue.now 1 self.old.pass }
+        requires stays { self.old.pass.retired ≡ None }
+        requires room { All (λ b. job.now.size + 24 ≤ length (B.contents b)) queue.now.given }
+        requires topics { topics.now ≡ [] }
+        requires unread { IsNew file.old }
+        ensures same { (file.new.number ≡ file.old.number) × (file.new.was.value ≡ file.old.was.value) }
+        ensures read { IsRead topics.now job.now.size S.faults S.ends S.left file.new.number file.new.was.value file.new.source
+            (given_in file.new.given.value) file.new.end }
+        ensures suits { OnOk result (Suits queue.now 1 self.new.pass) }
+        ensures stays { OnOk result (self.new.pass.retired ≡ None) }
+        ensures work { OnOk result ((messages : List TheMessage) → IsAtWork messages self.old.pass self.old.members.items self.old.starved
+            → IsAtWork (messages ++ given_in file.new.given.value) self.new.pass self.new.members.items self.new.starved) }
+        ensures left { IfErr result (λ l. (messages : List TheMessage) → IsAtWork messages self.old.pass self.old.members.items self.old.starved
+            → HasStopped queue.now (length (messages ++ given_in file.new.given.value)) self.new.pass l.held) }
+        ensures starved { self.new.starved ≡ false → self.old.starved ≡ false }
+        ensures number { self.new.pass.number ≡ self.old.pass.number }
+    {
+        let number = file.number;
+        self.read_messages(
+            alloc,
+            job,
+            queue,
+            topics,
+            number,
+            &mut file.source,
+            &mut file.given,
+            &mut file.end,
+        )
+    }
+
+    /// Reads files from the last of the list to the first, up to the first that has a fault.
+    pub(crate) fn read_files<S: Source>(
+        &mut self,
+        alloc: Global,
+        job: &StageJob,
+        queue: &Queue<B>,
+        topics: &Topics,
+        files: &mut [OwnFile<S>],
+    ) -> Result<(), AtLimit<B>>
+        requires suits { Suits queue.now 1 self.old.pass }
+        requires stays { self.old.pass.retired ≡ None }
+        requires room { All (λ b. job.now.size + 24 ≤ length (B.contents b)) queue.now.given }
+        requires topics { topics.now ≡ [] }
+        requires unread { All IsNew files.old }
+        ensures same { ids_of files.new ≡ ids_of files.old }
+        ensures read { All (λ f. IsRead topics.now job.now.size S.faults S.ends S.left f.number f.was.value f.source (given_in f.given.value) f.end)
+            files.new }
+        ensures stops { StopsAtAFault files.new }
+        ensures suits { OnOk result (Suits queue.now 1 self.new.pass) }
+        ensures stays { OnOk result (self.new.pass.retired ≡ None) }
+        ensures work { OnOk result (IsAtWork [] self.old.pass self.old.members.items self.old.starved
+            → IsAtWork (all_given files.new) self.new.pass self.new.members.items self.new.starved) }
+        ensures left { IfErr result (λ l. IsAtWork [] self.old.pass self.old.members.items self.old.starved
+            → HasStopped queue.now (length (all_given files.new)) self.new.pass l.held) }
+        ensures starved { self.new.starved ≡ false → self.old.starved ≡ false }
+        ensures number { self.new.pass.number ≡ self.old.pass.number }
+    {
+        let mut at = files.len();
+        'files: while at > 0 {
+            at -= 1;
+            self.read_file(alloc, job, queue, topics, &mut files[at])?;
+            if let FileEnd::Stopped(_) = files[at].end {
+                return Ok(());
+            }
+        }
+        Ok(())
+    }
+}

@@ -1,0 +1,73 @@
+//! The stages over all files.
+ghost use Rattle.std.specs.Prelude.{◌≡◌, ℕ, ◌<◌, ◌≤◌, List, [], None, length, map, slice_index_or, vec_len, IfOk, IfErr, IfSome, IsErrOf, IsSomeAnd, OnOk};
+ghost use Rattle.std.specs.List.Sorted.{IsPermutation};
+ghost use Rattle.scq_frames.specs.declared.message.Message.{Message as TheMessage};
+ghost use Rattle.scq_files.specs.Ends.{AreGiven, HasMoved, all_left, messages_in};
+ghost use Rattle.scq_files.specs.Reading.{IsWhole};
+ghost use Rattle.scq_stages.specs.AllStages.{HasStaged, NothingIsStranded};
+ghost use Rattle.scq_stages.specs.Ends.{HasCause, MemoryIsFirst};
+ghost use Rattle.scq_stages.specs.Output.{finished_in, results_of, without_way};
+
+use crate::apart::run_all;
+use crate::laying::{lay_out, make_room, setup_of};
+use crate::winding::wind_up;
+use crate::{StageEnd, StageFault, StageJob};
+use scq_outside::Source;
+use scq_passes::make_queue;
+use scq_word::NoMemory;
+use std::alloc::Global;
+use std::thread::Threads;
+
+/// Takes the messages of all sources through both stages by the job's workers, each of which reads its own files: file f, from 1, is that of
+/// worker (f - 1) mod the number of workers. They share a queue of buffers. The sources come back in their order in every case.
+pub fn stage_work<R: Threads + Sync, S: Source>(
+    rt: &R,
+    alloc: Global,
+    job: &StageJob,
+    sources: Vec<S>,
+) -> StageEnd<S>
+    requires { vec_len sources ≤ 64 }
+    ensures count { length result.sources.items ≡ length sources.items }
+    ensures moved { (k : ℕ) (d : S) → k < length sources.items
+        → HasMoved S.faults S.left (slice_index_or sources.items k d) (slice_index_or result.sources.items k d) }
+
+    // Each source was read to its end, and where the bytes of all are visible the members are what becomes of their messages, each once.
+    ensures whole { OnOk result.result ((k : ℕ) (d : S) → k < length sources.items
+        → IsWhole job.now.size S.faults S.ends S.left (slice_index_or sources.items k d) (slice_index_or result.sources.items k d)) }
+    ensures results { IfOk result.result (λ s. IfSome (all_left S.left sources.items) (λ contents.
+        IsPermutation (map without_way (finished_in s.done.items)) (results_of 1 contents))) }
+
+    // The lists tell of the messages that the files gave, and of what the passes sent and took: of contents that are visible, and of every
+    // source.
+    ensures told { IfOk result.result (λ s. IfSome (all_left S.left sources.items) (λ contents.
+        HasStaged job.now.workers (messages_in [] 1 contents) s)) }
+    ensures staged { IfOk result.result (λ s. (given : List (List TheMessage)) × AreGiven [] job.now.size S.left 1 sources.items given
+        × HasStaged job.now.workers given s) }
+
+    // Whatever the answer is, the queue was closed with each buffer free: before it retired each pass moved to second what it took from first, and
+    // then found first empty; and what was sent was taken. Only where there was no memory for a queue there was none.
+    ensures left { IfSome result.left (λ left. IsSomeAnd result.passes (λ passes.
+        NothingIsStranded job.now.order job.now.workers passes.value.items left.items)) }
+    ensures none { result.left ≡ None → IsErrOf result.result StageFault.NoMemory }
+    ensures same { IfOk result.result (λ s. IsSomeAnd result.passes (λ passes. passes.value.items ≡ s.passes.value.items)) }
+
+    // A fault is that of its file, and those in front of it were read to their ends. Where there is one of a file, each source is as one
+    // whose reading didn't stop for want of memory.
+    ensures cause { IfErr result.result (λ fault. HasCause job.now.size S.faults S.ends S.left sources.items result.sources.items fault) }
+    ensures memory_first { IfErr result.result (λ fault. MemoryIsFirst job.now.size S.faults S.ends S.left sources.items result.sources.items fault) }
+{
+    let Ok(room) = make_room(alloc, job, sources.len()) else {
+        return StageEnd::starved(sources);
+    };
+    match make_queue(alloc, setup_of(job), job.size) {
+        Ok((block, queue, passes)) => {
+            let (laid, desks) = lay_out(alloc, job, &queue, passes, sources, room);
+            let desks = run_all(rt, alloc, job, &queue, desks);
+            wind_up(job, laid, block, queue, desks)
+        }
+        Err(NoMemory) => {
+            room.destroy_empty();
+            StageEnd::starved(sources)
+        }
+    }
+}

@@ -1,0 +1,58 @@
+ghost use Rattle.std.specs.Prelude.{◌≡◌, Ok, Err, None, Some, false, map, string_bytes, IfOk, IsErrOf};
+ghost use Rattle.clap.specs.Words.{takes};
+ghost use Rattle.scq_words.specs.declared.fault.WordsFault.{WordsFault as TheFault};
+ghost use Rattle.scq_words.specs.Asked.{asked_of_stages, first_of_tests, staged, stages_asked, stages_of, stages_tests, texts_of_stages};
+ghost use Rattle.scq_words.specs.Commands.{stages_app};
+ghost use Rattle.scq_words.specs.Numbers.{text_in};
+ghost use Rattle.scq_words.specs.Ranges.{IsStagesInRange};
+
+use crate::files::{few_files, named_files, own_files};
+use crate::number::optional_number;
+use crate::parsing::stages_matches;
+use crate::workers::workers_of;
+use crate::{StagesRequest, WordsError, WordsFault};
+use std::alloc::Global;
+
+/// What the words after `stages` ask for.
+pub fn read_stages(alloc: Global, words: &[String]) -> Result<StagesRequest, WordsError>
+    ensures request { IfOk result (λ request. asked_of_stages (map string_bytes words.now) ≡ Ok (staged (stages_of request))) }
+    ensures refused { (fault : TheFault) → IsErrOf result (WordsError.Refused fault) → asked_of_stages (map string_bytes words.now) ≡ Err fault }
+    ensures taken { IsErrOf result (WordsError.Refused WordsFault.NotUnderstood) → takes stages_app (map string_bytes words.now) ≡ false }
+    ensures ranges { IfOk result (λ request. IsStagesInRange (stages_of request)) }
+{
+    let matches = stages_matches(alloc, words)?;
+    let workers = matches.get_str("workers");
+    let order = matches.get_str("order");
+    let size = matches.get_str("size");
+    let files = matches.get_strs("files").unwrap_or(&[]);
+    check_stages(alloc, workers, order, size, files)
+}
+
+/// Makes the tests in their order.
+fn check_stages(
+    alloc: Global,
+    workers: Option<&str>,
+    order: Option<&str>,
+    size: Option<&str>,
+    files: &[&str],
+) -> Result<StagesRequest, WordsError>
+    ensures request { let texts = texts_of_stages (text_in workers.entry) (text_in order.entry) (text_in size.entry) (map (λ name. name.now) files.now) in
+        IfOk result (λ request. (first_of_tests (stages_tests texts) ≡ None) × (stages_asked texts ≡ stages_of request)) }
+    ensures refused { let texts = texts_of_stages (text_in workers.entry) (text_in order.entry) (text_in size.entry) (map (λ name. name.now) files.now) in
+        (fault : TheFault) → IsErrOf result (WordsError.Refused fault) → first_of_tests (stages_tests texts) ≡ Some fault }
+    ensures ranges { IfOk result (λ request. IsStagesInRange (stages_of request)) }
+{
+    let given = optional_number(workers, 0, 1, 4096, WordsFault::Workers)?;
+    let order = optional_number(order, 6, 1, 12, WordsFault::Order)?;
+    let size = optional_number(size, 65536, 1, 65536, WordsFault::Size)?;
+    few_files(files)?;
+    named_files(files)?;
+    let workers = workers_of(workers, given, order);
+    let files = own_files(alloc, files)?;
+    Ok(StagesRequest {
+        workers,
+        order,
+        size,
+        files,
+    })
+}
