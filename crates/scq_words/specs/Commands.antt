@@ -27,22 +27,38 @@ flag_rule name = record (option_rule name) { action = Some SetTrue }
 abbrev pub files_rule : Rule
 files_rule = record (new_rule (codes "files")) { required = true; action = Some Append }
 
--- a command with the options that are numbers of a run
+-- a command with the options that are numbers of a run, one after the other
+abbrev pub workers_app : List ℕ → App
+workers_app name = with_rule (plain_app name) (option_rule (codes "workers"))
+
+abbrev pub order_app : List ℕ → App
+order_app name = with_rule (workers_app name) (option_rule (codes "order"))
+
 abbrev pub numbers_app : List ℕ → App
-numbers_app name =
-    with_rule (with_rule (with_rule (plain_app name) (option_rule (codes "workers"))) (option_rule (codes "order"))) (option_rule (codes "size"))
+numbers_app name = with_rule (order_app name) (option_rule (codes "size"))
+
+-- `run` has two options more, and files
+abbrev pub topics_app : App
+topics_app = with_rule (numbers_app (codes "run")) (option_rule (codes "topics"))
+
+abbrev pub report_app : App
+report_app = with_rule topics_app (flag_rule (codes "report"))
 
 abbrev pub run_app : App
-run_app =
-    with_rule (with_rule (with_rule (numbers_app (codes "run")) (option_rule (codes "topics"))) (flag_rule (codes "report"))) files_rule
+run_app = with_rule report_app files_rule
 
 abbrev pub stages_app : App
 stages_app = with_rule (numbers_app (codes "stages")) files_rule
 
+-- `self` has options alone
+abbrev pub seed_app : App
+seed_app = with_rule (plain_app (codes "self")) (required_rule (codes "seed"))
+
+abbrev pub lines_app : App
+lines_app = with_rule seed_app (required_rule (codes "lines"))
+
 abbrev pub self_app : App
-self_app =
-    with_rule (with_rule (with_rule (plain_app (codes "self")) (required_rule (codes "seed"))) (required_rule (codes "lines")))
-    (option_rule (codes "workers"))
+self_app = with_rule lines_app (option_rule (codes "workers"))
 
 -- recordings: files alone
 abbrev pub judge_app : App

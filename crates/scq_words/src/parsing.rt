@@ -1,6 +1,6 @@
 ghost use Rattle.std.specs.Prelude.{◌≡◌, ◌≢◌, IfOk, map, string_bytes, true, false};
 ghost use Rattle.clap.specs.Words.{app_of, is_simple_and_free, kind_of, rule_of};
-ghost use Rattle.scq_words.specs.Commands.{files_rule, flag_rule, judge_app, named_app, numbers_app, option_rule, plain_app, run_app, self_app, stages_app, text_app};
+ghost use Rattle.scq_words.specs.Commands.{files_rule, flag_rule, judge_app, lines_app, named_app, numbers_app, option_rule, order_app, plain_app, report_app, run_app, seed_app, self_app, stages_app, text_app, topics_app, workers_app};
 ghost use Rattle.scq_words.specs.Parsing.{Parses};
 
 use crate::{TextCommand, WordsError, WordsFault};
@@ -29,20 +29,38 @@ pub fn run_matches<'a>(alloc: Global, words: &'a [String]) -> Result<ArgMatches<
 fn run_command<'a>(alloc: Global) -> Result<Command<'a>, AllocError>
     ensures { IfOk result (λ command. app_of command ≡ run_app) }
 {
-    numbers_command(alloc, "run")?
-        .arg(option(alloc, "topics"))?
-        .arg(flag(alloc, "report"))?
-        .arg(files(alloc))
+    report_command(alloc)?.arg(files(alloc))
+}
+
+fn report_command<'a>(alloc: Global) -> Result<Command<'a>, AllocError>
+    ensures { IfOk result (λ command. app_of command ≡ report_app) }
+{
+    topics_command(alloc)?.arg(flag(alloc, "report"))
+}
+
+fn topics_command<'a>(alloc: Global) -> Result<Command<'a>, AllocError>
+    ensures { IfOk result (λ command. app_of command ≡ topics_app) }
+{
+    numbers_command(alloc, "run")?.arg(option(alloc, "topics"))
 }
 
 /// A command with the options that are numbers of a run.
 fn numbers_command<'a>(alloc: Global, name: &'a str) -> Result<Command<'a>, AllocError>
     ensures { IfOk result (λ command. app_of command ≡ numbers_app name.entry.now) }
 {
-    plain_command(alloc, name)
-        .arg(option(alloc, "workers"))?
-        .arg(option(alloc, "order"))?
-        .arg(option(alloc, "size"))
+    order_command(alloc, name)?.arg(option(alloc, "size"))
+}
+
+fn order_command<'a>(alloc: Global, name: &'a str) -> Result<Command<'a>, AllocError>
+    ensures { IfOk result (λ command. app_of command ≡ order_app name.entry.now) }
+{
+    workers_command(alloc, name)?.arg(option(alloc, "order"))
+}
+
+fn workers_command<'a>(alloc: Global, name: &'a str) -> Result<Command<'a>, AllocError>
+    ensures { IfOk result (λ command. app_of command ≡ workers_app name.entry.now) }
+{
+    plain_command(alloc, name).arg(option(alloc, "workers"))
 }
 
 fn files<'a>(alloc: Global) -> Arg<'a>
@@ -77,10 +95,19 @@ pub fn self_matches<'a>(alloc: Global, words: &'a [String]) -> Result<ArgMatches
 fn self_command<'a>(alloc: Global) -> Result<Command<'a>, AllocError>
     ensures { IfOk result (λ command. app_of command ≡ self_app) }
 {
-    plain_command(alloc, "self")
-        .arg(option(alloc, "seed").required(true))?
-        .arg(option(alloc, "lines").required(true))?
-        .arg(option(alloc, "workers"))
+    lines_command(alloc)?.arg(option(alloc, "workers"))
+}
+
+fn lines_command<'a>(alloc: Global) -> Result<Command<'a>, AllocError>
+    ensures { IfOk result (λ command. app_of command ≡ lines_app) }
+{
+    seed_command(alloc)?.arg(option(alloc, "lines").required(true))
+}
+
+fn seed_command<'a>(alloc: Global) -> Result<Command<'a>, AllocError>
+    ensures { IfOk result (λ command. app_of command ≡ seed_app) }
+{
+    plain_command(alloc, "self").arg(option(alloc, "seed").required(true))
 }
 
 /// The matches of `judge`'s words, or the one fault of words that `clap` refuses.

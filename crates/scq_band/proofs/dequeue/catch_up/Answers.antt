@@ -1,4 +1,4 @@
-use Rattle.std.proofs.Common.{rules, refl, inr, ap}
+use Rattle.std.proofs.Common.{◌∙◌, rules, refl, inr, ap}
 use Rattle.scq_core.specs.Machine.{tail_of, head_of}
 use Rattle.scq_core.specs.declared.phase.Phase.TheVariants.{AtD7, AtD8, AtD9}
 use Rattle.scq_core.specs.declared.step.Step.TheVariants.{D7, D8, D9}
@@ -97,8 +97,8 @@ tries-preserved g c =
     let b = c.exchange.new.token.me.0 in
     let d = c.load-to.new.token.me.0 in
     let e = c.load-from.new.token.me.0 in (
-      search rules,
-      search rules,
+      c.load-from.ensures.own.0 ∙ c.load-to.ensures.own.0 ∙ c.exchange.ensures.own.0 ∙ c.tries.invariant.0,
+      c.load-from.ensures.own.1 ∙ c.load-to.ensures.own.1 ∙ c.exchange.ensures.own.1 ∙ c.tries.invariant.1,
       search rules,
       search rules,
       inr (goes_then key.setup opening c.args.token.now.me.0 a e c.tries.invariant.4 (went_on key.setup opening a b e c.exchange.ensures.went

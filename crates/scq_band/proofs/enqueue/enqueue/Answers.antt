@@ -108,8 +108,8 @@ draws-preserved g c =
     let a = c.draws.token.me.0 in
     let b = c.draw-ticket.new.token.me.0 in
     let d = c.try_place.new.token.me.0 in (
-      search rules,
-      search rules,
+      c.try_place.ensures.own.0 ∙ c.draw-ticket.ensures.own.0 ∙ c.draws.invariant.0,
+      c.try_place.ensures.own.1 ∙ c.draw-ticket.ensures.own.1 ∙ c.draws.invariant.1,
       search rules,
       search rules,
       search rules,

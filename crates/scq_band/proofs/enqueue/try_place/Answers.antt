@@ -1,4 +1,4 @@
-use Rattle.std.proofs.Common.{◌≡◌, rules, refl, inr, ap, arith}
+use Rattle.std.proofs.Common.{◌∙◌, ◌≡◌, rules, refl, inr, ap, arith}
 use Rattle.scq_word.specs.Words.{rank_in}
 use Rattle.scq_core.specs.declared.phase.Phase.TheVariants.{AtE4}
 use Rattle.scq_core.specs.declared.step.Step.TheVariants.{E4}
@@ -92,8 +92,8 @@ tries-preserved g c =
     let a = c.tries.token.me.0 in
     let b = c.load_vacant.new.token.me.0 in
     let d = c.exchange.new.token.me.0 in (
-      search rules,
-      search rules,
+      c.exchange.ensures.own.0 ∙ c.load_vacant.ensures.own.0 ∙ c.tries.invariant.0,
+      c.exchange.ensures.own.1 ∙ c.load_vacant.ensures.own.1 ∙ c.tries.invariant.1,
       search rules,
       search rules,
       inr (goes_then key.setup opening c.args.token.now.me.0 a d c.tries.invariant.4

@@ -26,9 +26,9 @@ returns-in-Ok-clause-sent g c =
       record {
         topic = refl;
         fits = record {
-          file = search rules;
-          line = search rules;
-          topic = search rules;
+          file = omega arith;
+          line = omega arith;
+          topic = omega arith;
           payload = omega (arith, c.requires.short, valid.size_fits);
           parts = omega arith;
           numbered = record { first = omega arith; last = omega arith };

@@ -27,9 +27,9 @@ returns-in-Ok-clause-sent g c =
       record {
         topic = refl;
         fits = record {
-          file = search rules;
-          line = search rules;
-          topic = search rules;
+          file = omega arith;
+          line = omega arith;
+          topic = omega arith;
           payload = omega (arith, small, length-take size (drop start m.payload), length-drop start m.payload);
           parts = omega (arith, small, few-parts size m.payload valid.some_size);
           numbered = c.requires.numbered;
