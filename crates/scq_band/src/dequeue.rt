@@ -17,7 +17,7 @@ use crate::steps::{consume, count_down, draw, exchange, load};
 use scq_core::{ZERO_LEVEL, passed};
 use scq_word::{Buffer, cycle_of, unpack};
 
-/// D3 to D5, again where the exchange fails: takes the index that stands at the ticket. With None there is none, and the slot was passed.
+/// D3 to D5, again where the exchange fails: takes the index that stands at the ticket. With None none stands there, nor ever will.
 #[inline(always)]
 fn try_take<B: Buffer>(
     words: &Words<B>,

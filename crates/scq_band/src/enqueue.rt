@@ -54,7 +54,7 @@ fn load_vacant<B: Buffer>(
     Some(found)
 }
 
-/// E2 to E4, again where the exchange fails: places the index at the ticket, unless the slot was passed; whether it is placed.
+/// E2 to E4, again where the exchange fails: places the index at the ticket, unless `load_vacant` finds no room there; whether it is placed.
 #[inline(always)]
 fn try_place<B: Buffer>(
     words: &Words<B>,

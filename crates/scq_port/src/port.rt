@@ -120,7 +120,7 @@ impl Port {
         self.pass.counts()
     }
 
-    /// The ticket at or past the limit that it keeps. From then on each call that would draw a ticket answers Spent with it.
+    /// The ticket at or past the limit that it keeps. From then on each call on a ring answers Spent with it.
     pub fn spent(&self) -> Option<u64>
         ensures { result ≡ self.now.pass.spent }
     {

@@ -1,4 +1,4 @@
-//! A pass: the token by which one thread makes calls.
+//! A pass: the handle by which one thread makes calls.
 ghost use Rattle.std.specs.Prelude.{◌≡◌, length};
 ghost use Rattle.scq_queue.specs.Lists.{fulls_in, counts_of};
 ghost use Rattle.scq_queue.specs.Passes.{lists_of, was_told};
@@ -47,7 +47,7 @@ impl<B: Buffer> Pass<B> {
         self.saw
     }
 
-    /// The ticket at or past the limit that it keeps. From then on each call that would draw a ticket answers Spent with it.
+    /// The ticket at or past the limit that it keeps. From then on each call on a ring answers Spent with it.
     pub fn spent(&self) -> Option<u64>
         ensures { result ≡ self.now.spent }
     {
