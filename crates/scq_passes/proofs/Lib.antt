@@ -13,6 +13,7 @@ pub mod Sweeps
 pub mod Vain
 pub mod ManyLists
 pub mod SendsAndTakes
+pub mod Closed
 pub mod OnTopics
 pub mod NoneSpent
 pub mod Counted

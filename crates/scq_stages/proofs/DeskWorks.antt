@@ -26,7 +26,7 @@ use Rattle.scq_stages.specs.declared.seating.Seated.{Seated}
 use Rattle.scq_stages.specs.AllStages.{HaveFinished, KeepsStages}
 use Rattle.scq_stages.specs.Working.{HasRun}
 use Rattle.scq_stages.proofs.AllStaged.{AllDone, HasDone, all-shared, have-staged, held_in}
-use Rattle.scq_stages.proofs.Closed.{HasClosed}
+use Rattle.scq_passes.proofs.Closed.{HasClosed}
 use Rattle.scq_stages.proofs.Conclusion.{Work, lists_in, messages_in, passes_in}
 
 module _ {B S : Type 0} where

@@ -7,7 +7,6 @@ pub mod Zips
 pub mod Readings
 pub mod Conclusion
 pub mod FewTickets
-pub mod Closed
 pub mod Ended
 pub mod AllStaged
 pub mod Faults

@@ -28,7 +28,7 @@ use Rattle.scq_stages.specs.declared.staged.StageFault.{StageFault}
 use Rattle.scq_stages.specs.declared.staged.Staged.{Staged}
 use Rattle.scq_stages.specs.AllStages.{HasStaged, HaveFinished}
 use Rattle.scq_stages.specs.Output.{finished_in}
-use Rattle.scq_stages.proofs.Closed.{HasClosed}
+use Rattle.scq_passes.proofs.Closed.{HasClosed}
 use Rattle.scq_stages.proofs.DeskWorks.{AllRan, all-ended, desks-gave, desks-shared, desks-staged, held_at, lists_at, messages_given, passes_at}
 use Rattle.scq_stages.proofs.Faults.{caused, memory-first, told-staged}
 use Rattle.scq_stages.proofs.Ordered.{members-told}
