@@ -42,7 +42,6 @@ use Rattle.scq_work.specs.declared.desk.Desk.{Desk}
 use Rattle.scq_files.specs.declared.own_file.OwnFile.{OwnFile}
 use Rattle.scq_work.proofs.Cleared.{AllWhole}
 use Rattle.scq_work.proofs.AllGave.{given_of, worker_messages, AllRan, given, is-given, own-given, all-parts-passed, few-in-all}
-use Rattle.std.proofs.lemmas.List.Folds.{flat_map-map}
 use Rattle.scq_work.proofs.Conclusion.{Work, IsWork, passes_in, messages_in, members_of, all-taken, all-answered}
 use Rattle.scq_files.proofs.Lists.{map-map}
 use Rattle.scq_work.proofs.MessageParts.{known-parts, flat-parts}

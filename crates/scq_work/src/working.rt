@@ -289,31 +289,31 @@ pub(crate) fn wind_up<S: Source>(
 {
     let LaidOut {
         was,
-        sources,
+        sources: emptied,
         count,
-        mut left,
+        left: mut behind,
     } = laid;
     let mut desks = desks;
     let mut gathered = Gathered {
-        sources,
+        sources: emptied,
         fault: None,
         starved: false,
     };
     gather(job, &was, desks.as_mut_slice(), count, &mut gathered);
-    clear(desks, &mut left);
+    clear(desks, &mut behind);
     let LeftBehind {
         passes,
         held,
         lists,
         starved,
-    } = left;
+    } = behind;
     let closing = Snapshot::of(&passes);
     let Closed {
         buffers,
         left,
         counts,
         saw,
-        passes,
+        passes: closed,
     } = queue.close(passes, held);
     block.merge(buffers);
     let Gathered {
@@ -324,7 +324,7 @@ pub(crate) fn wind_up<S: Source>(
     let worked = Worked {
         counts,
         answered: lists,
-        passes,
+        passes: closed,
     };
     let end = WorkEnd {
         sources,

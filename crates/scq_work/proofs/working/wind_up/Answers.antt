@@ -29,13 +29,12 @@ use Rattle.scq_work.specs.declared.worked.Worked.{Worked}
 use Rattle.scq_work.proofs.AllGave.{AllRan, given, is-given}
 use Rattle.scq_work.proofs.AllRun.{HasClosed, have-answered, have-shared, passes_at, lists_at, held_at}
 use Rattle.scq_work.proofs.Cleared.{AllWhole}
-use Rattle.scq_passes.proofs.Results.{err-then}
 use Rattle.scq_work.proofs.Faults.{caused, memory-first}
 use Rattle.scq_files.proofs.Lists.{written-back}
 use Rattle.scq_files.proofs.GivenLemmas.{given-told}
 use Rattle.scq_work.proofs.Orders.{members-told}
 use Rattle.scq_passes.proofs.Counted.{counts-exact}
-use Rattle.scq_passes.proofs.Results.{ok-more, ok-on}
+use Rattle.scq_passes.proofs.Results.{err-then, ok-more, ok-on}
 use Rattle.scq_work.proofs.Settled.{told-worked, same-passes, same-lists, same-held, same-fed, are-held}
 use Rattle.scq_work.proofs.working.wind_up.Goals as goal
 use Rattle.scq_work.proofs.working.wind_up.Goals.{After-conclude}
