@@ -10,7 +10,8 @@ use Rattle.scq_files.specs.Given.{given_in}
 use Rattle.scq_work.specs.Passing.{parts_in}
 use Rattle.scq_files.specs.Reading.{IsRead}
 use Rattle.scq_work.specs.Working.{IsAtWork, HasStopped}
-use Rattle.scq_files.specs.declared.own_file.FileEnd.{FileEnd}
+use Rattle.scq_frames.specs.declared.fault.FrameFault.TheVariants.{NoMemory}
+use Rattle.scq_files.specs.declared.own_file.FileEnd.TheVariants.{Stopped}
 use Rattle.scq_work.proofs.MessageParts.{parts-behind}
 use Rattle.scq_files.proofs.ReadLemmas.{IsReading, Answers, reading-next, reading-whole, reading-fault, reading-left}
 use Rattle.scq_work.proofs.worker.Worker.read_messages.Goals as goal
@@ -66,16 +67,15 @@ pub pass_on-requires-clause-bell : goal.pass_on-requires-clause-bell
 pass_on-requires-clause-bell g c κs within =
     subst (λ k. g.W.Bell.fits c.args.bell.now k c.args.job.now.workers) (sym c.messages.invariant.bell) c.requires.bell
 
-pub returns-in_err-pass_on-in-Ok-Some-clause-read : goal.returns-in_err-pass_on-in-Ok-Some-clause-read
-returns-in_err-pass_on-in-Ok-Some-clause-read g c =
-    let now = reading g (goal.at.returns-in_err-pass_on-in-Ok-Some-clause-read g c).After-pass_on
-    (said g (goal.at.returns-in_err-pass_on-in-Ok-Some-clause-read g c).After-next) in
-    let P : FileEnd → Type 0 =
-    λ end. IsRead c.args.job.now.topics c.args.job.now.longest g.S.Source.faults g.S.Source.ends g.S.Source.left c.args.file c.args.source.now c.next.new.source
-    (given_in c.give.new.given.value) end in
-    subst P (sym c.messages.invariant.end) (reading-left c.args.job.now.topics c.args.job.now.longest g.S.Source.faults g.S.Source.ends g.S.Source.left
-    c.args.file c.args.source.now c.next.new.source
-    c.next.new.self (given_in c.give.new.given.value) now)
+pub returns-in_err-pass_on-in-Ok-Some-clause-unended : goal.returns-in_err-pass_on-in-Ok-Some-clause-unended
+returns-in_err-pass_on-in-Ok-Some-clause-unended g c =
+    let now = reading g (goal.at.returns-in_err-pass_on-in-Ok-Some-clause-unended g c).After-pass_on
+    (said g (goal.at.returns-in_err-pass_on-in-Ok-Some-clause-unended g c).After-next) in
+    let is : c.from_residual.result ≡ Err c.in_err-pass_on-in-Ok-Some.field-0.0 = search rules in
+    subst (λ (r : Result _ _). IfErr r (λ l. IsRead c.args.job.now.topics c.args.job.now.longest g.S.Source.faults g.S.Source.ends g.S.Source.left c.args.file
+    c.args.source.now c.next.new.source (given_in c.give.new.given.value) (Stopped NoMemory))) (sym is)
+    (reading-left c.args.job.now.topics c.args.job.now.longest g.S.Source.faults g.S.Source.ends g.S.Source.left c.args.file c.args.source.now
+    c.next.new.source c.next.new.self (given_in c.give.new.given.value) now)
 
 pub returns-in_err-pass_on-in-Ok-Some-clause-left : goal.returns-in_err-pass_on-in-Ok-Some-clause-left
 returns-in_err-pass_on-in-Ok-Some-clause-left g c =
@@ -94,12 +94,8 @@ returns-in_err-pass_on-in-Ok-Some-clause-left g c =
 pub returns-then-self-clause-read : goal.returns-then-self-clause-read
 returns-then-self-clause-read g c =
     let now = reading g (goal.at.returns-then-self-clause-read g c).After-pass_on (said g (goal.at.returns-then-self-clause-read g c).After-next) in
-    let P : FileEnd → Type 0 =
-    λ end. IsRead c.args.job.now.topics c.args.job.now.longest g.S.Source.faults g.S.Source.ends g.S.Source.left c.args.file c.args.source.now c.next.new.source
-    (given_in c.give.new.given.value) end in
-    subst P (sym c.messages.invariant.end) (reading-left c.args.job.now.topics c.args.job.now.longest g.S.Source.faults g.S.Source.ends g.S.Source.left
-    c.args.file c.args.source.now c.next.new.source
-    c.next.new.self (given_in c.give.new.given.value) now)
+    reading-left c.args.job.now.topics c.args.job.now.longest g.S.Source.faults g.S.Source.ends g.S.Source.left c.args.file c.args.source.now
+    c.next.new.source c.next.new.self (given_in c.give.new.given.value) now
 
 pub returns-then-self-clause-work : goal.returns-then-self-clause-work
 returns-then-self-clause-work g c messages was =
@@ -117,7 +113,6 @@ messages-preserved g c =
     let its = c.in_ok-pass_on-in-Ok-Some.ensures in
     record {
       reading = reading g (goal.at.messages-preserved g c).After-pass_on (said g (goal.at.messages-preserved g c).After-next);
-      end = inv.end;
       suits = its.suits;
       stays = its.stays;
       work = λ messages was.
