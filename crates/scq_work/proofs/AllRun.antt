@@ -2,7 +2,7 @@
 -- ticket past the limit; so each worker has swept, and nothing is left behind. Where no file has a fault and no worker wanted memory, each list
 -- answers for its pass, and together they answer for all messages.
 use Rattle.std.proofs.Common.{◌≡◌, refl, sym, ◌∙◌, ap, subst, inl, inr, arith, false, zero, suc, ℕ, ◌+◌, ◌^◌, ◌<◌, ◌≤◌, List, [], ◌∷◌, length, map, reverse, get_or, Option, Some, None}
-use Rattle.std.specs.Prelude.{slice_get, slice_index, flat_map, sum, Vec}
+use Rattle.std.specs.Prelude.{slice_get, flat_map, Vec}
 use Rattle.std.specs.Global.{Global}
 use Rattle.std.specs.List.{All}
 use Rattle.std.specs.List.Sorted.{IsPermutation}
@@ -10,21 +10,18 @@ use Rattle.std.specs.Option.{option_map, option_to_list}
 use Rattle.std.proofs.lemmas.List.{length-map, get_or-map}
 use Rattle.std.proofs.lemmas.List.Elements.{All-map, All-append, All-nil}
 use Rattle.std.proofs.lemmas.List.Folds.{flat_map-map}
-use Rattle.std.proofs.lemmas.List.Sums.{sum_by-cons}
 use Rattle.std.proofs.lemmas.List.Sorted.{All-permutation, IsPermutation-sym, IsPermutation-reverse, IsPermutation-map, IsPermutation-trans}
 use Rattle.std.proofs.lemmas.Option.{slice_get-map, slice_get_within, slice_get_cases, get_or_from_slice_get}
 use Rattle.scq_topics.specs.declared.kind.Kind.{Kind}
 use Rattle.scq_frames.specs.declared.message.Message.{Message}
 use Rattle.scq_frames.specs.Parts.{Part}
 use Rattle.scq_word.specs.declared.setup.Setup.{Setup}
-use Rattle.scq_word.specs.Sizes.{n_of}
 use Rattle.scq_collect.specs.declared.answered.Answered.{Answered}
 use Rattle.scq_collect.specs.Joined.{part_answer, part_answers, without_way}
 use Rattle.scq_collect.specs.Merging.{members_in}
-use Rattle.scq_band.specs.Closing.{IsOneRun}
 use Rattle.scq_band.specs.Standing.{Identity}
 use Rattle.scq_band.proofs.ClosedCounts.{sum_by-map}
-use Rattle.scq_queue.specs.Closing.{EachTakeIsASend, NoPlaceIsSentTwice, NoPlaceIsTakenTwice, IsBalance, EachSendPassedIsTaken, AllFullsStand, NoneIsKeptWithinTheLimit, IsAllThere, callers_of}
+use Rattle.scq_queue.specs.Closing.{EachTakeIsASend, NoPlaceIsTakenTwice, NoneIsKeptWithinTheLimit}
 use Rattle.scq_queue.specs.Lists.{sends_of, takes_of}
 use Rattle.scq_queue.specs.Passes.{PassStanding, HeldStanding}
 use Rattle.scq_passes.specs.AllPasses.{OfEachWorker, HaveShared}
@@ -35,7 +32,7 @@ use Rattle.scq_work.specs.Members.{AnswersItsTakes, AnswersItsFulls}
 use Rattle.scq_work.specs.Passing.{parts_in, HasPassedOn, FollowsCalls}
 use Rattle.scq_files.specs.Reading.{IsRead}
 use Rattle.scq_passes.specs.Records.{HoldsNothingAtEachFull, MeetsNoSpent}
-use Rattle.scq_passes.specs.Together.{SendsAreTakes, NothingIsLeft, NoneSpent, IsBounded, HasSwept}
+use Rattle.scq_passes.specs.Together.{SendsAreTakes, NoneSpent, IsBounded, HasSwept}
 use Rattle.scq_passes.specs.Calls.{IsThrifty, index_of}
 use Rattle.scq_work.specs.Working.{HasListed}
 use Rattle.scq_work.specs.declared.desk.Desk.{Desk}
@@ -50,39 +47,7 @@ use Rattle.scq_files.proofs.GivenLemmas.{of-known, given-known}
 use Rattle.scq_work.proofs.Orders.{members-whole}
 use Rattle.scq_work.proofs.PartMembers.{members-known, members-short}
 use Rattle.scq_passes.proofs.ManyLists.{stands-at}
-use Rattle.scq_passes.proofs.SendsAndTakes.{sends-are-takes, no-place-twice, nothing-is-left}
-
--- what `close` says of the passes
-pub record HasClosed {B : Type 0} (c : Setup) (passes : List (PassStanding B)) (held : List (HeldStanding B)) (left : List ℕ) : Type 0 where
-  pub run : (opening : List (List ℕ)) × IsOneRun c opening (callers_of passes)
-  pub takes : EachTakeIsASend passes
-  pub sent_once : NoPlaceIsSentTwice passes
-  pub taken_once : NoPlaceIsTakenTwice passes
-  pub balance : IsBalance c passes left
-  pub passed : EachSendPassedIsTaken passes
-  pub fulls : AllFullsStand passes
-  pub limits : NoneIsKeptWithinTheLimit c passes
-  pub all_there : IsAllThere c held left
-
--- numbers of which each is 0 have the sum 0, and where all others are, the first is the sum
-sum-none : (xs : List ℕ) → ((k : ℕ) → k < length xs → slice_index xs k ≡ 0) → sum xs ≡ 0
-sum-none [] each = refl
-sum-none (x ∷ xs) each =
-    let all : sum (x ∷ xs) ≡ x + sum xs = sum_by-cons (λ (n : ℕ). n) x xs in
-    let here : x ≡ 0 = each zero (omega arith) in
-    let rest = sum-none xs (λ k less. each (suc k) (omega arith)) in
-    omega (arith, all)
-
-first-alone : (left : List ℕ) (topics : ℕ) → length left ≡ topics + 1 → NothingIsLeft topics left → slice_index left 0 ≡ sum left
-first-alone [] topics long none = refl
-first-alone (x ∷ xs) topics long none =
-    let all : sum (x ∷ xs) ≡ x + sum xs = sum_by-cons (λ (n : ℕ). n) x xs in
-    let rest = sum-none xs (λ k less. none k (omega (arith, long, less))) in
-    omega (arith, all)
-
--- where no value is held, all are left
-sum-alone : {H : Type 0} (left : List ℕ) (n : ℕ) (held : List H) → held ≡ [] → sum left + length held ≡ n → sum left ≡ n
-sum-alone left n held none all = omega (arith, ap length none, all)
+use Rattle.scq_passes.proofs.Closed.{HasClosed, all-taken as takes-are-sends, have-shared}
 
 module _ {B S : Type 0} where
   abbrev work_of : ℕ → Desk B S → Work B
@@ -170,7 +135,7 @@ module _ {B S : Type 0} where
       swept = All-map HasSwept (λ (d : Desk B S). d.worker.pass) desks (λ k d less. (ran.run k d less).swept (spent-none k d less))
 
       pub same : SendsAreTakes (passes_at desks)
-      same = sends-are-takes (passes_at desks) closed.takes closed.taken_once closed.sent_once closed.passed swept
+      same = takes-are-sends c (passes_at desks) (held_at desks) left_in closed swept
 
       messages-known : (k : ℕ) (d : Desk B S) → k < length desks → All (λ m. m.topic ≤ length topics) (worker_messages (get_or desks k d))
       messages-known k d less =
@@ -215,35 +180,20 @@ module _ {B S : Type 0} where
             | inr (past, none) ↦ absurd (omega arith)
           ]
 
-      nothing : NothingIsLeft (length topics + 1) left_in
-      nothing = nothing-is-left c (passes_at desks) (length topics + 1) left_in (omega (arith, ran.rings)) closed.balance same
-
-      pub have-shared : HaveShared (HasHelped (length topics + 1)) (2 ^ 36) (length topics + 1) c (passes_at desks) left_in
-      have-shared = record {
-        one = (
-          shared,
-          ran.setup,
-          All-map (λ (p : PassStanding B). p.queue ≡ shared) (λ (d : Desk B S). d.worker.pass) desks
-              (λ k d less. (ran.run k d less).queue),
-        );
-        numbers = pass-numbers;
-        run = closed.run;
-        alone = All-map (λ (p : PassStanding B). HoldsNothingAtEachFull p.calls) (λ (d : Desk B S). d.worker.pass) desks
-            (λ k d less. ((ran.run k d less).sweeping (spent-none k d less)).between.alone);
-        each = All-map (HasHelped (length topics + 1)) (λ (d : Desk B S). d.worker.pass) desks (λ k d less.
-            record { helps = ((ran.run k d less).sweeping (spent-none k d less)).helps; retired = (ran.run k d less).ended (spent-none k d less) });
-        fulls = closed.fulls;
-        same = same;
-        places = no-place-twice (passes_at desks) closed.sent_once;
-        none_left = nothing;
-        no_spent = All-map (λ (p : PassStanding B). MeetsNoSpent p.calls) (λ (d : Desk B S). d.worker.pass) desks
-            (λ k d less. ((ran.run k d less).sweeping (spent-none k d less)).between.unspent);
-        balance = closed.balance;
-        free = first-alone left_in (length topics + 1) (omega (arith, closed.balance.rings, ran.rings)) nothing
-            ∙ sum-alone left_in (n_of c.order) (held_at desks) none-kept closed.all_there;
-        unspent = unspent;
-        bounded = bounded;
-      }
+      -- whatever the workers met
+      pub all-shared : HaveShared (HasHelped (length topics + 1)) (2 ^ 36) (length topics + 1) c (passes_at desks) left_in
+      all-shared =
+          have-shared c (passes_at desks) (held_at desks) left_in closed (HasHelped (length topics + 1)) (2 ^ 36) (length topics + 1) shared ran.setup
+          (omega (arith, ran.rings))
+          (All-map (λ (p : PassStanding B). p.queue ≡ shared) (λ (d : Desk B S). d.worker.pass) desks (λ k d less. (ran.run k d less).queue))
+          pass-numbers unspent swept
+          (All-map (λ (p : PassStanding B). HoldsNothingAtEachFull p.calls) (λ (d : Desk B S). d.worker.pass) desks
+          (λ k d less. ((ran.run k d less).sweeping (spent-none k d less)).between.alone))
+          (All-map (HasHelped (length topics + 1)) (λ (d : Desk B S). d.worker.pass) desks (λ k d less.
+          record { helps = ((ran.run k d less).sweeping (spent-none k d less)).helps; retired = (ran.run k d less).ended (spent-none k d less) }))
+          (All-map (λ (p : PassStanding B). MeetsNoSpent p.calls) (λ (d : Desk B S). d.worker.pass) desks
+          (λ k d less. ((ran.run k d less).sweeping (spent-none k d less)).between.unspent))
+          bounded none-kept
 
       -- where each file was read to its end and no worker wanted memory
       module _ (whole : AllWhole desks) (fed : All (λ d. d.worker.starved ≡ false) desks) where

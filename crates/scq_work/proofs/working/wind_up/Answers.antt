@@ -27,7 +27,7 @@ use Rattle.scq_work.specs.declared.desk.Desk.{Desk}
 use Rattle.scq_work.specs.declared.worked.WorkFault.{WorkFault}
 use Rattle.scq_work.specs.declared.worked.Worked.{Worked}
 use Rattle.scq_work.proofs.AllGave.{AllRan, given, is-given}
-use Rattle.scq_work.proofs.AllRun.{HasClosed, have-answered, have-shared, passes_at, lists_at, held_at}
+use Rattle.scq_work.proofs.AllRun.{have-answered, all-shared, passes_at, lists_at, held_at}
 use Rattle.scq_work.proofs.Cleared.{AllWhole}
 use Rattle.scq_work.proofs.Faults.{caused, memory-first}
 use Rattle.scq_files.proofs.Lists.{written-back}
@@ -35,6 +35,7 @@ use Rattle.scq_files.proofs.GivenLemmas.{given-told}
 use Rattle.scq_work.proofs.Orders.{members-told}
 use Rattle.scq_passes.proofs.Counted.{counts-exact}
 use Rattle.scq_passes.proofs.Results.{err-then, ok-more, ok-on}
+use Rattle.scq_passes.proofs.Closed.{HasClosed}
 use Rattle.scq_work.proofs.Settled.{told-worked, same-passes, same-lists, same-held, same-fed, are-held}
 use Rattle.scq_work.proofs.working.wind_up.Goals as goal
 use Rattle.scq_work.proofs.working.wind_up.Goals.{After-conclude}
@@ -200,7 +201,7 @@ returns-clause-left g c =
     record {
       setup = c.args.queue.setup;
       of_job = f.of_job;
-      shared = rw gave (have-shared c.args.queue.setup c.args.queue c.args.job.now.topics c.args.job.now.size c.args.job.now.longest
+      shared = rw gave (all-shared c.args.queue.setup c.args.queue c.args.job.now.topics c.args.job.now.size c.args.job.now.longest
           g.S.Source.faults g.S.Source.ends g.S.Source.left
           c.args.laid.was.value.items c.args.desks.items f.all c.close-buffers.result.left.items f.closed);
     }
@@ -241,7 +242,7 @@ returns-clause-worked g c =
     let whole = all-whole g at is.3 in
     let fed = all-fed g at is.1 in
     let answered = have-answered queue.setup queue topics size longest faults end_count left sources ran f.all left_in f.closed whole fed in
-    let shared = have-shared queue.setup queue topics size longest faults end_count left sources ran f.all left_in f.closed in
+    let shared = all-shared queue.setup queue topics size longest faults end_count left sources ran f.all left_in f.closed in
     let its_passes : c.close-buffers.result.passes.value.items ≡ passes_at ran = c.close-buffers.ensures.passes ∙ f.passes in
     let Are : List (PassStanding Frame) → List (Vec Answered Global) → ℕ → Type 0 = λ ps ls n.
     HaveAnswered topics size n (given queue.setup queue topics size longest faults end_count left sources ran f.all) ps ls in
