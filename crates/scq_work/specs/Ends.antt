@@ -1,8 +1,17 @@
--- How the work on all files ended: the fault of the workers and its cause. Files are numbered from 1.
-use Rattle.std.specs.Prelude.{ℕ, Bool, true, false, List, Option, Some, None}
+-- How the work on all files ended: the fault of the workers and its cause, and what is known of each end. Files are numbered from 1.
+use Rattle.std.specs.Prelude.{◌≡◌, ℕ, ◌+◌, ◌<◌, Bool, true, false, List, length, map, slice_index_or, Option, Some, None, IfOk, IfErr, IfSome, IsErrOf, IsSomeAnd, OnOk}
+use Rattle.std.specs.List.Sorted.{IsPermutation}
 use Rattle.scq_frames.specs.declared.fault.FrameFault.{FrameFault}
 use Rattle.scq_frames.specs.declared.fault.FrameFault.TheVariants as frame
-use Rattle.scq_files.specs.Ends.{AllEndFed, StopsAt}
+use Rattle.scq_frames.specs.declared.message.Message.{Message}
+use Rattle.scq_collect.specs.Collected.{messages_to}
+use Rattle.scq_collect.specs.Joined.{part_answers, without_way}
+use Rattle.scq_collect.specs.Merging.{members_in}
+use Rattle.scq_files.specs.Ends.{AllEndFed, AreGiven, HasMoved, StopsAt, all_left, messages_in}
+use Rattle.scq_files.specs.Reading.{IsWhole}
+use Rattle.scq_work.specs.AllWorkers.{HasWorked, NothingIsStranded}
+use Rattle.scq_work.specs.declared.job.Job.{Job}
+use Rattle.scq_work.specs.declared.worked.WorkEnd.{WorkEnd}
 use Rattle.scq_work.specs.declared.worked.WorkFault.{WorkFault}
 use Rattle.scq_work.specs.declared.worked.WorkFault.TheVariants.{Read, TooLong, TooLarge, NoMemory}
 
@@ -30,3 +39,20 @@ HasCause size faults end_count left olds news (Read file) = StopsAt size faults 
 HasCause size faults end_count left olds news (TooLong file line len) = StopsAt size faults end_count left olds news file (frame.TooLong line len)
 HasCause size faults end_count left olds news (TooLarge file bytes) = StopsAt size faults end_count left olds news file (frame.TooLarge bytes)
 HasCause size faults end_count left olds news NoMemory = Unit {0}
+
+-- what is known of the end of a job's work on these sources, as the contract of `work` says it
+pub record EndsWork {S : Type 0} (j : Job) (faults end_count : S → ℕ) (left : S → Option (List ℕ)) (sources : List S) (end : WorkEnd S) : Type 0 where
+  pub count : length end.sources.items ≡ length sources
+  pub moved : (k : ℕ) (d : S) → k < length sources → HasMoved faults left (slice_index_or sources k d) (slice_index_or end.sources.items k d)
+  pub whole : OnOk end.result ((k : ℕ) (d : S) → k < length sources
+      → IsWhole j.longest faults end_count left (slice_index_or sources k d) (slice_index_or end.sources.items k d))
+  pub answers : IfOk end.result (λ w. IfSome (all_left left sources) (λ contents.
+      IsPermutation (map without_way (members_in w.answered.items)) (part_answers j.topics j.size (messages_to j.topics 1 contents))))
+  pub told : IfOk end.result (λ w. IfSome (all_left left sources) (λ contents. HasWorked j.topics j.size j.workers (messages_in j.topics 1 contents) w))
+  pub worked : IfOk end.result (λ w. (given : List (List Message)) × AreGiven j.topics j.longest left 1 sources given
+      × HasWorked j.topics j.size j.workers given w)
+  pub none_stranded : IfSome end.left (λ l. IsSomeAnd end.passes (λ p. NothingIsStranded j.order (length j.topics + 1) j.workers p.value.items l.items))
+  pub none : end.left ≡ None → IsErrOf end.result NoMemory
+  pub same : IfOk end.result (λ w. IsSomeAnd end.passes (λ p. p.value.items ≡ w.passes.value.items))
+  pub cause : IfErr end.result (HasCause j.longest faults end_count left sources end.sources.items)
+  pub memory_first : IfErr end.result (MemoryIsFirst j.longest faults end_count left sources end.sources.items)

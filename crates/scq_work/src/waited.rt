@@ -10,7 +10,7 @@ ghost use Rattle.scq_collect.specs.Merging.{members_in};
 ghost use Rattle.scq_queue.specs.Passes.{first_passes};
 ghost use Rattle.scq_work.specs.AllWorkers.{HasWorked, NothingIsStranded};
 ghost use Rattle.scq_files.specs.Ends.{AreGiven, HasMoved, all_left, messages_in};
-ghost use Rattle.scq_work.specs.Ends.{HasCause, MemoryIsFirst};
+ghost use Rattle.scq_work.specs.Ends.{EndsWork, HasCause, MemoryIsFirst};
 ghost use Rattle.scq_files.specs.Reading.{IsWhole};
 ghost use Rattle.scq_park.specs.Crews.{first_posts};
 ghost use Rattle.scq_work.specs.Resting.{HasRoom};
@@ -184,23 +184,7 @@ fn wait_in<R: Threads + Wait + Sync, S: Source, G: Gate>(
     requires resting_room { HasRoom job.now.workers made.resting_room }
     requires crew { length crew ≡ job.now.workers }
     requires stands { stands.items ≡ first_posts crew job.now.workers }
-    ensures count { length result.end.sources.items ≡ length sources.items }
-    ensures moved { (k : ℕ) (d : S) → k < length sources.items
-        → HasMoved S.faults S.left (slice_index_or sources.items k d) (slice_index_or result.end.sources.items k d) }
-    ensures whole { OnOk result.end.result ((k : ℕ) (d : S) → k < length sources.items
-        → IsWhole job.now.longest S.faults S.ends S.left (slice_index_or sources.items k d) (slice_index_or result.end.sources.items k d)) }
-    ensures answers { IfOk result.end.result (λ w. IfSome (all_left S.left sources.items) (λ contents.
-        IsPermutation (map without_way (members_in w.answered.items)) (part_answers job.now.topics job.now.size (messages_to job.now.topics 1 contents)))) }
-    ensures told { IfOk result.end.result (λ w. IfSome (all_left S.left sources.items) (λ contents.
-        HasWorked job.now.topics job.now.size job.now.workers (messages_in job.now.topics 1 contents) w)) }
-    ensures worked { IfOk result.end.result (λ w. (given : List (List TheMessage)) × AreGiven job.now.topics job.now.longest S.left 1 sources.items given
-        × HasWorked job.now.topics job.now.size job.now.workers given w) }
-    ensures left { IfSome result.end.left (λ left. IsSomeAnd result.end.passes (λ passes.
-        NothingIsStranded job.now.order (length job.now.topics + 1) job.now.workers passes.value.items left.items)) }
-    ensures none { result.end.left ≡ None → IsErrOf result.end.result WorkFault.NoMemory }
-    ensures same { IfOk result.end.result (λ w. IsSomeAnd result.end.passes (λ passes. passes.value.items ≡ w.passes.value.items)) }
-    ensures cause { IfErr result.end.result (λ fault. HasCause job.now.longest S.faults S.ends S.left sources.items result.end.sources.items fault) }
-    ensures memory_first { IfErr result.end.result (λ fault. MemoryIsFirst job.now.longest S.faults S.ends S.left sources.items result.end.sources.items fault) }
+    ensures end { EndsWork job.now S.faults S.ends S.left sources.items result.end }
     ensures waited { IfSome result.waited (λ waited. IsSomeAnd result.end.passes (λ passes.
         HaveWaited (length job.now.topics + 1) job.now.workers passes.value.items waited.saw.items waited.rested.items)) }
     ensures there { IsSome result.waited }

@@ -13,7 +13,7 @@ ghost use Rattle.scq_work.specs.Dealings.{AreDealt, IsFresh};
 ghost use Rattle.scq_files.specs.OwnFiles.{IsNew};
 ghost use Rattle.scq_work.specs.Desks.{HasRun};
 ghost use Rattle.scq_files.specs.Ends.{AreGiven, HasMoved, all_left, messages_in};
-ghost use Rattle.scq_work.specs.Ends.{HasCause, MemoryIsFirst, fault_of_workers};
+ghost use Rattle.scq_work.specs.Ends.{EndsWork, HasCause, MemoryIsFirst, fault_of_workers};
 ghost use Rattle.scq_files.specs.Reading.{IsWhole};
 
 use crate::apart::run_apart;
@@ -265,23 +265,7 @@ pub(crate) fn wind_up<S: Source>(
         HasRun queue job.now.topics job.now.size job.now.longest S.faults S.ends S.left d.files.items d.worker.pass
         d.worker.members.items d.worker.starved d.kept)
         desks.items }
-    ensures count { length result.0.sources.items ≡ length laid.was.value.items }
-    ensures moved { (k : ℕ) (d : S) → k < length laid.was.value.items
-        → HasMoved S.faults S.left (slice_index_or laid.was.value.items k d) (slice_index_or result.0.sources.items k d) }
-    ensures whole { OnOk result.0.result ((k : ℕ) (d : S) → k < length laid.was.value.items
-        → IsWhole job.now.longest S.faults S.ends S.left (slice_index_or laid.was.value.items k d) (slice_index_or result.0.sources.items k d)) }
-    ensures answers { IfOk result.0.result (λ w. IfSome (all_left S.left laid.was.value.items) (λ contents.
-        IsPermutation (map without_way (members_in w.answered.items)) (part_answers job.now.topics job.now.size (messages_to job.now.topics 1 contents)))) }
-    ensures told { IfOk result.0.result (λ w. IfSome (all_left S.left laid.was.value.items) (λ contents.
-        HasWorked job.now.topics job.now.size job.now.workers (messages_in job.now.topics 1 contents) w)) }
-    ensures worked { IfOk result.0.result (λ w. (given : List (List TheMessage)) × AreGiven job.now.topics job.now.longest S.left 1 laid.was.value.items given
-        × HasWorked job.now.topics job.now.size job.now.workers given w) }
-    ensures left { IfSome result.0.left (λ left. IsSomeAnd result.0.passes (λ passes.
-        NothingIsStranded job.now.order (length job.now.topics + 1) job.now.workers passes.value.items left.items)) }
-    ensures none { result.0.left ≡ None → IsErrOf result.0.result WorkFault.NoMemory }
-    ensures same { IfOk result.0.result (λ w. IsSomeAnd result.0.passes (λ passes. passes.value.items ≡ w.passes.value.items)) }
-    ensures cause { IfErr result.0.result (λ fault. HasCause job.now.longest S.faults S.ends S.left laid.was.value.items result.0.sources.items fault) }
-    ensures memory_first { IfErr result.0.result (λ fault. MemoryIsFirst job.now.longest S.faults S.ends S.left laid.was.value.items result.0.sources.items fault) }
+    ensures end { EndsWork job.now S.faults S.ends S.left laid.was.value.items result.0 }
     ensures passes { IfSome result.0.passes (λ passes. passes.value.items ≡ map (λ d. d.worker.pass) desks.items) }
     ensures saw { IfSome result.0.passes (λ passes. result.1.items ≡ map (λ p. was_told p.gate) passes.value.items) }
     ensures there { IsSome result.0.passes }

@@ -1,10 +1,12 @@
 -- The passes were there when the queue was closed, and the crew is closed with all its stands.
 use Rattle.std.proofs.Common.{◌≡◌, ◌∙◌, ◌+◌, sym, ap, subst, List, length, map, Option, Some, None, refl}
-use Rattle.std.specs.Prelude.{IfSome, IsSome, IsSomeAnd}
+use Rattle.std.specs.Prelude.{IfSome, IsSome, IsSomeAnd, Vec}
+use Rattle.std.specs.Global.{Global}
 use Rattle.std.proofs.lemmas.List.{length-map}
 use Rattle.scq_block.specs.declared.frame.Frame.{Frame}
 use Rattle.scq_queue.specs.Passes.{PassStanding, was_told}
 use Rattle.scq_work.specs.AllWorkers.{NothingIsStranded}
+use Rattle.scq_work.specs.Ends.{EndsWork}
 use Rattle.scq_work.specs.Resting.{AreSettled}
 use Rattle.scq_work.specs.Waiting.{HaveWaited}
 use Rattle.scq_work.specs.declared.desk.Desk.{Desk}
@@ -28,11 +30,11 @@ wind_up-end-requires-clause-dealt g c κs within =
     c.run_resting-desks.ensures.same c.lay_out-laid.ensures.dealt
 
 -- the sources are those that were laid out
-pub returns-clause-moved : goal.returns-clause-moved
-returns-clause-moved g c = rw (sym (ap (λ v. v.items) c.lay_out-laid.ensures.was)) c.wind_up-end.ensures.moved
-
-pub returns-clause-whole : goal.returns-clause-whole
-returns-clause-whole g c = rw (sym (ap (λ v. v.items) c.lay_out-laid.ensures.was)) c.wind_up-end.ensures.whole
+pub returns-clause-end : goal.returns-clause-end
+returns-clause-end g c =
+    let S = g.row.S.Denot in
+    subst (λ (v : Vec S Global). EndsWork c.args.job.now g.S.Source.faults g.S.Source.ends g.S.Source.left v.items c.wind_up-end.result.0)
+    c.lay_out-laid.ensures.was c.wind_up-end.ensures.end
 
 pub returns-clause-waited : goal.returns-clause-waited
 returns-clause-waited g c =
@@ -45,7 +47,7 @@ returns-clause-waited g c =
     let its = some-of end.passes (λ ps. ps.value.items ≡ map (λ (d : Desk Frame S). d.worker.pass) ran) c.wind_up-end.ensures.there c.wind_up-end.ensures.passes in
     let passes = its.it.value.items in
     let left = some-of end.left (λ l. IsSomeAnd end.passes (λ ps. NothingIsStranded job.order topics job.workers ps.value.items l.items))
-    c.wind_up-end.ensures.closed c.wind_up-end.ensures.left in
+    c.wind_up-end.ensures.closed c.wind_up-end.ensures.end.none_stranded in
     let closed : NothingIsStranded job.order topics job.workers passes left.it.items =
     subst (λ o. IsSomeAnd o (λ ps. NothingIsStranded job.order topics job.workers ps.value.items left.it.items)) its.same left.holds in
     let seats : length passes ≡ job.workers =

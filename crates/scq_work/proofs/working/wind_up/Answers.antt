@@ -1,6 +1,6 @@
 -- The end of the work of all workers. A slice of the desks is lent, and written back whole.
 use Rattle.std.proofs.Common.{◌≡◌, ◌∙◌, refl, sym, ap, subst, arith, false, ℕ, ◌+◌, ◌^◌, List, Option, None, length, map}
-use Rattle.std.specs.Prelude.{slice_index_or, flat_map, Vec, ◌||◌}
+use Rattle.std.specs.Prelude.{slice_index_or, flat_map, Vec, ◌||◌, IfOk}
 use Rattle.std.specs.Global.{Global}
 use Rattle.std.specs.List.{All}
 use Rattle.std.specs.Option.{option_to_list}
@@ -192,38 +192,9 @@ all-fed g c fed =
     (written-back c.args.desks.len c.gather.new.desks c.args.desks.items (c.gather.auto.desks ∙ c.as_mut_slice.ensures.len))
     (c.clear.ensures.starved fed))
 
--- whatever the workers met
-pub returns-clause-left : goal.returns-clause-left
-returns-clause-left g c =
-    let at = (goal.at.returns-clause-left g c).After-conclude in
-    let f = facts g at in
-    let gave : c.of-closing.result.value.items ≡ passes_at c.args.desks.items = ap (λ v. v.items) c.of-closing.ensures ∙ f.passes in
-    record {
-      setup = c.args.queue.setup;
-      of_job = f.of_job;
-      shared = rw gave (all-shared c.args.queue.setup c.args.queue c.args.job.now.topics c.args.job.now.size c.args.job.now.longest
-          g.S.Source.faults g.S.Source.ends g.S.Source.left
-          c.args.laid.was.value.items c.args.desks.items f.all c.close-buffers.result.left.items f.closed);
-    }
-
--- each pass says whether it was told that all had retired
-pub returns-clause-saw : goal.returns-clause-saw
-returns-clause-saw g c =
-    c.close-buffers.ensures.saw ∙ ap (λ v. map (λ (p : PassStanding Frame). was_told p.gate) v.items) (sym c.of-closing.ensures)
-
--- the passes are those of the desks
-pub returns-clause-passes : goal.returns-clause-passes
-returns-clause-passes g c =
-    let at = (goal.at.returns-clause-passes g c).After-conclude in
-    ap (λ v. v.items) c.of-closing.ensures ∙ (facts g at).passes
-
-pub returns-clause-same : goal.returns-clause-same
-returns-clause-same g c =
-    ok-more c.conclude.result _ (λ w. c.of-closing.result.value.items ≡ w.passes.value.items) c.conclude.ensures.ok (λ w is.
-    ap (λ v. v.items) c.of-closing.ensures ∙ sym c.close-buffers.ensures.passes ∙ ap (λ (x : Worked). x.passes.value.items) (sym is.0))
-
-pub returns-clause-worked : goal.returns-clause-worked
-returns-clause-worked g c =
+-- the end of the work, whatever the workers met
+pub returns-clause-end : goal.returns-clause-end
+returns-clause-end g c =
     let topics = c.args.job.now.topics in
     let size = c.args.job.now.size in
     let longest = c.args.job.now.longest in
@@ -233,16 +204,23 @@ returns-clause-worked g c =
     let queue = c.args.queue in
     let ran = c.args.desks.items in
     let sources = c.args.laid.was.value.items in
+    let news = c.gather.new.gathered.sources.items in
     let left_in = c.close-buffers.result.left.items in
-    let at = (goal.at.returns-clause-worked g c).After-conclude in
+    let result = c.conclude.result in
+    let ok = c.conclude.ensures.ok in
+    let starved = c.clear.new.left.starved in
+    let wants = c.gather.new.gathered.starved in
+    let long : c.args.laid.was.value.len ≡ length sources = c.args.laid.was.value.ok.0 in
+    let at = (goal.at.returns-clause-end g c).After-conclude in
     let f = facts g at in
+    let shared = all-shared queue.setup queue topics size longest faults end_count left sources ran f.all left_in f.closed in
+    let closing : c.of-closing.result.value.items ≡ passes_at ran = ap (λ v. v.items) c.of-closing.ensures ∙ f.passes in
     let Of : Worked → Type 0 = λ w. (given : List (List Message)) × AreGiven topics longest left 1 sources given
     × HasWorked topics size c.args.job.now.workers given w in
-    ok-more c.conclude.result _ Of c.conclude.ensures.ok (λ w is.
+    let worked : IfOk result Of = ok-more result _ Of ok (λ w is.
     let whole = all-whole g at is.3 in
     let fed = all-fed g at is.1 in
     let answered = have-answered queue.setup queue topics size longest faults end_count left sources ran f.all left_in f.closed whole fed in
-    let shared = all-shared queue.setup queue topics size longest faults end_count left sources ran f.all left_in f.closed in
     let its_passes : c.close-buffers.result.passes.value.items ≡ passes_at ran = c.close-buffers.ensures.passes ∙ f.passes in
     let Are : List (PassStanding Frame) → List (Vec Answered Global) → ℕ → Type 0 = λ ps ls n.
     HaveAnswered topics size n (given queue.setup queue topics size longest faults end_count left sources ran f.all) ps ls in
@@ -256,48 +234,33 @@ returns-clause-worked g c =
         counts = c.close-buffers.ensures.counts ∙ ap (map (λ (p : PassStanding Frame). counts_of (lists_of p))) f.passes
             ∙ counts-exact (2 ^ 36) (omega arith) (passes_at ran) shared.bounded ∙ ap (map lengths_of) (sym its_passes);
       },
-    ))
+    )) in
+    record {
+      count = omega (arith, c.gather.ensures.count, long);
+      moved = λ k d less. c.gather.ensures.moved k d (omega (arith, less, long));
+      whole = ok-on result _ _ ok (λ w why k d less. c.gather.ensures.sound why.3 k d (omega (arith, less, long)));
+      answers = ok-more result Of _ worked
+          (λ w has. members-told topics size longest left sources has.0 (members_in w.answered.items) has.1 has.2.answered.once);
+      told = ok-more result Of _ worked (λ w has. told-worked topics size c.args.job.now.workers has.0 w (all_left left sources)
+          (given-told topics longest left 1 sources has.0 has.1) has.2);
+      worked = worked;
+      none_stranded = record { setup = queue.setup; of_job = f.of_job; shared = rw closing shared };
+      none = λ e. absurd (cc);
+      same = ok-more result _ _ ok (λ w is.
+          ap (λ v. v.items) c.of-closing.ensures ∙ sym c.close-buffers.ensures.passes ∙ ap (λ (x : Worked). x.passes.value.items) (sym is.0));
+      cause = err-then result _ _ (λ (fault : WorkFault) why. caused longest faults end_count left sources news (starved || wants) c.gather.new.gathered.fault
+          fault why c.gather.ensures.cause) c.conclude.ensures.err;
+      memory_first = err-then result _ _ (λ (fault : WorkFault) why. memory-first longest faults end_count left sources news (starved || wants)
+          c.gather.new.gathered.fault fault why (λ none. c.gather.ensures.fed (or_parts starved wants none).1)) c.conclude.ensures.err;
+    }
 
-pub returns-clause-answers : goal.returns-clause-answers
-returns-clause-answers g c =
-    let topics = c.args.job.now.topics in
-    let size = c.args.job.now.size in
-    let longest = c.args.job.now.longest in
-    let left = g.S.Source.left in
-    ok-more c.conclude.result _ _ (returns-clause-worked g c)
-    (λ w has. members-told topics size longest left c.args.laid.was.value.items has.0 (members_in w.answered.items) has.1 has.2.answered.once)
+-- each pass says whether it was told that all had retired
+pub returns-clause-saw : goal.returns-clause-saw
+returns-clause-saw g c =
+    c.close-buffers.ensures.saw ∙ ap (λ v. map (λ (p : PassStanding Frame). was_told p.gate) v.items) (sym c.of-closing.ensures)
 
-pub returns-clause-told : goal.returns-clause-told
-returns-clause-told g c =
-    let topics = c.args.job.now.topics in
-    let size = c.args.job.now.size in
-    let longest = c.args.job.now.longest in
-    let left = g.S.Source.left in
-    ok-more c.conclude.result _ _ (returns-clause-worked g c) (λ w has.
-    told-worked topics size c.args.job.now.workers has.0 w (all_left left c.args.laid.was.value.items)
-    (given-told topics longest left 1 c.args.laid.was.value.items has.0 has.1) has.2)
-
-pub returns-clause-moved : goal.returns-clause-moved
-returns-clause-moved g c =
-    λ k d less. c.gather.ensures.moved k d (omega (arith, less, c.args.laid.was.value.ok.0))
-
-pub returns-clause-whole : goal.returns-clause-whole
-returns-clause-whole g c =
-    ok-on c.conclude.result _ _ c.conclude.ensures.ok
-    (λ w why k d less. c.gather.ensures.sound why.3 k d (omega (arith, less, c.args.laid.was.value.ok.0)))
-
-pub returns-clause-cause : goal.returns-clause-cause
-returns-clause-cause g c =
-    let news = c.gather.new.gathered.sources.items in
-    err-then c.conclude.result _ _
-    (λ (f : WorkFault) why. caused c.args.job.now.longest g.S.Source.faults g.S.Source.ends g.S.Source.left c.args.laid.was.value.items news
-    (c.clear.new.left.starved || c.gather.new.gathered.starved) c.gather.new.gathered.fault f why c.gather.ensures.cause) c.conclude.ensures.err
-
-pub returns-clause-memory_first : goal.returns-clause-memory_first
-returns-clause-memory_first g c =
-    let news = c.gather.new.gathered.sources.items in
-    let starved = c.clear.new.left.starved in
-    let wants = c.gather.new.gathered.starved in
-    err-then c.conclude.result _ _
-    (λ (f : WorkFault) why. memory-first c.args.job.now.longest g.S.Source.faults g.S.Source.ends g.S.Source.left c.args.laid.was.value.items news
-    (starved || wants) c.gather.new.gathered.fault f why (λ none. c.gather.ensures.fed (or_parts starved wants none).1)) c.conclude.ensures.err
+-- the passes are those of the desks
+pub returns-clause-passes : goal.returns-clause-passes
+returns-clause-passes g c =
+    let at = (goal.at.returns-clause-passes g c).After-conclude in
+    ap (λ v. v.items) c.of-closing.ensures ∙ (facts g at).passes
