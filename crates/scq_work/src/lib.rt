@@ -3,15 +3,18 @@
 
 mod apart;
 mod bell;
+mod clearing;
 mod dealing;
 mod desk;
 mod gate;
 mod gathering;
 mod job;
+mod laying;
 mod places;
 mod resting;
 mod threads;
 mod waited;
+mod winding;
 mod worked;
 mod worker;
 mod working;

@@ -7,7 +7,7 @@ use Rattle.std.proofs.lemmas.List.Elements.{All-nil}
 use Rattle.scq_queue.specs.Passes.{PassStanding, HeldStanding}
 use Rattle.scq_work.specs.declared.desk.Desk.{Desk}
 use Rattle.scq_passes.proofs.Parting.{popped, popped-flat, all-turned}
-use Rattle.scq_work.proofs.gathering.clear.Goals as goal
+use Rattle.scq_work.proofs.clearing.clear.Goals as goal
 
 pub desks-init : goal.desks-init
 desks-init g c =

@@ -2,7 +2,7 @@ use Rattle.std.proofs.Common.{◌≡◌, ◌+◌, ◌≤◌, ◌++◌, false, ma
 use Rattle.std.specs.Prelude.{vec_len, vec_capacity, reverse, flat_map}
 use Rattle.std.specs.List.{All}
 use Rattle.std.specs.Option.{option_to_list}
-use Rattle.scq_work.proofs.gathering.clear.Given as goal
+use Rattle.scq_work.proofs.clearing.clear.Given as goal
 
 -- what was left behind at the first desks, and what is at the others
 abbrev pub invariant-desks : goal.invariant-desks

@@ -37,8 +37,8 @@ use Rattle.scq_passes.proofs.Counted.{counts-exact}
 use Rattle.scq_passes.proofs.Results.{err-then, ok-more, ok-on}
 use Rattle.scq_passes.proofs.Closed.{HasClosed}
 use Rattle.scq_work.proofs.Settled.{told-worked, same-passes, same-lists, same-held, same-fed, are-held}
-use Rattle.scq_work.proofs.working.wind_up.Goals as goal
-use Rattle.scq_work.proofs.working.wind_up.Goals.{After-conclude}
+use Rattle.scq_work.proofs.winding.wind_up.Goals as goal
+use Rattle.scq_work.proofs.winding.wind_up.Goals.{After-conclude}
 
 pub gather-requires-clause-dealt : goal.gather-requires-clause-dealt
 gather-requires-clause-dealt g c lifetimes lives =

@@ -8,8 +8,8 @@ use Rattle.scq_work.specs.declared.desk.Desk.{Desk}
 use Rattle.scq_work.proofs.AllRun.{passes_at}
 use Rattle.scq_files.proofs.Lists.{written-back}
 use Rattle.scq_work.proofs.Settled.{same-passes, still-fresh, place-numbers}
-use Rattle.scq_work.proofs.working.lay_out.Goals as goal
-use Rattle.scq_work.proofs.working.lay_out.Goals.{After-deal}
+use Rattle.scq_work.proofs.laying.lay_out.Goals as goal
+use Rattle.scq_work.proofs.laying.lay_out.Goals.{After-deal}
 
 whole : (g : _) (c : After-deal g)
     → take c.make_desks.new.desks.len (c.deal.new.desks ++ drop (length c.deal.new.desks) c.make_desks.new.desks.items) ≡ c.deal.new.desks
