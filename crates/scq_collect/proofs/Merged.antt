@@ -1,4 +1,4 @@
--- Members merged: what a sort by their places gives, and that it is told by the members alone.
+-- Members merged: what a sort by their positions gives, and that it is told by the members alone.
 use Rattle.std.proofs.Common.{◌≡◌, ◌∙◌, refl, sym, ap, subst, inl, inr, arith, true, ℕ, ◌+◌, ◌<◌, List, [], ◌∷◌, length, map, Bor}
 use Rattle.std.specs.Prelude.{slice_index_or}
 use Rattle.std.specs.List.{All}
@@ -12,74 +12,74 @@ use Rattle.scq_collect.specs.declared.answered.Answered.{Answered}
 use Rattle.scq_frames.specs.declared.message.Message.{Message}
 use Rattle.scq_collect.specs.Collected.{messages_to}
 use Rattle.scq_collect.specs.Joined.{IsJoined, answers_of, part_answers, without_way}
-use Rattle.scq_collect.specs.Merging.{AreApart, IsBefore, IsInOrder, IsMerged, IsSorted, place_of, place_of_part}
+use Rattle.scq_collect.specs.Merging.{AreApart, IsBefore, IsInOrder, IsMerged, IsSorted, position_of, position_of_part}
 use Rattle.scq_collect.specs.Output.{Answer, answers_to}
 use Rattle.scq_collect.proofs.Orders.{Ascends, apart-distinct, ascends, exactly, sorted-in-order}
-use Rattle.scq_collect.proofs.Parted.{joined-answers, parts-ascend, place_of_part_answer}
+use Rattle.scq_collect.proofs.Parted.{joined-answers, parts-ascend, position_of_part_answer}
 use Rattle.scq_collect.proofs.Threads.{messages-answered, messages-ascend}
 
--- a member with its place
+-- a member with its position
 abbrev Placed : Type 0
 Placed = ℕ × ℕ × ℕ × Bor Answered
 
 abbrev key : Placed → ℕ × ℕ × ℕ
 key m = (m.0, m.1, m.2)
 
--- a place that stands before another is less
+-- a position that stands before another is less
 before-less : (p q : ℕ × ℕ × ℕ) → IsBefore p q → is_lt (ordering_then (ordering_then (nat_cmp p.0 q.0) (nat_cmp p.1 q.1)) (nat_cmp p.2 q.2)) ≡ true
 before-less p q (inl less) = rw (lt-ltb p.0 q.0 less) refl
 before-less p q (inr (file, inl less)) = grind (arith, lt-ltb)
 before-less p q (inr (file, inr (line, less))) = grind (arith, lt-ltb)
 
-sorted-from : {A : Type 0} (place : A → ℕ × ℕ × ℕ) (xs : List A) → IsSortedByKey place (λ p q. ordering_then (ordering_then (nat_cmp p.0 q.0) (nat_cmp p.1 q.1)) (nat_cmp p.2 q.2)) xs
-    → IsSorted place xs
-sorted-from place xs sorted k d within before =
-    let less = before-less (place (slice_index_or xs (k + 1) d)) (place (slice_index_or xs k d)) before in
+sorted-from : {A : Type 0} (position : A → ℕ × ℕ × ℕ) (xs : List A) → IsSortedByKey position (λ p q. ordering_then (ordering_then (nat_cmp p.0 q.0) (nat_cmp p.1 q.1)) (nat_cmp p.2 q.2)) xs
+    → IsSorted position xs
+sorted-from position xs sorted k d within before =
+    let less = before-less (position (slice_index_or xs (k + 1) d)) (position (slice_index_or xs k d)) before in
     let not_less = sorted k d (omega arith) within in
     absurd (cc)
 
--- what is made of sorted members, and keeps their places, is sorted
-sorted-map : {A B : Type 0} (f : A → B) (place : A → ℕ × ℕ × ℕ) (other : B → ℕ × ℕ × ℕ) (xs : List A) → All (λ x. place x ≡ other (f x)) xs → IsSorted place xs
+-- what is made of sorted members, and keeps their positions, is sorted
+pub sorted-map : {A B : Type 0} (f : A → B) (position : A → ℕ × ℕ × ℕ) (other : B → ℕ × ℕ × ℕ) (xs : List A) → All (λ x. position x ≡ other (f x)) xs → IsSorted position xs
     → IsSorted other (map f xs)
-sorted-map f place other [] same sorted k d within before = absurd (omega arith)
-sorted-map {A} {B} f place other (x ∷ xs) same sorted k d within before =
+sorted-map f position other [] same sorted k d within before = absurd (omega arith)
+sorted-map {A} {B} f position other (x ∷ xs) same sorted k d within before =
     let long : k + 1 < length (x ∷ xs) = omega (arith, length-map (x ∷ xs) f) in
-    let read : (j : ℕ) → j < length (x ∷ xs) → place (slice_index_or (x ∷ xs) j x) ≡ other (slice_index_or (map f (x ∷ xs)) j d) =
+    let read : (j : ℕ) → j < length (x ∷ xs) → position (slice_index_or (x ∷ xs) j x) ≡ other (slice_index_or (map f (x ∷ xs)) j d) =
     λ j less. same j x less ∙ ap other (sym (get_or-map f (x ∷ xs) j x d less)) in
-    sorted k x long (subst (λ p. IsBefore p (place (slice_index_or (x ∷ xs) k x))) (sym (read (k + 1) long))
+    sorted k x long (subst (λ p. IsBefore p (position (slice_index_or (x ∷ xs) k x))) (sym (read (k + 1) long))
     (subst (λ p. IsBefore (other (slice_index_or (map f (x ∷ xs)) (k + 1) d)) p) (sym (read k (omega arith))) before))
 
--- members are merged by a sort of them with their places beside them
+-- members are merged by a sort of them with their positions beside them
 pub merged-by : (given all : List Answered) (members sorted : List Placed) → map (λ m. m.3.now) members ≡ given
-    → All (λ m. (m.0, m.1, m.2) ≡ place_of_part m.3.now) members
+    → All (λ m. (m.0, m.1, m.2) ≡ position_of_part m.3.now) members
     → IsPermutation members sorted → IsSortedByKey key (λ p q. ordering_then (ordering_then (nat_cmp p.0 q.0) (nat_cmp p.1 q.1)) (nat_cmp p.2 q.2)) sorted
-    → all ≡ map (λ m. m.3.now) sorted → IsMerged place_of_part given all
+    → all ≡ map (λ m. m.3.now) sorted → IsMerged position_of_part given all
 merged-by given all members sorted are placed same order copies =
     let now : Placed → Answered = λ m. m.3.now in
-    let P : List Answered → Type 0 = λ all. IsMerged place_of_part given all in
+    let P : List Answered → Type 0 = λ all. IsMerged position_of_part given all in
     let Q : List Answered → Type 0 = λ given. IsPermutation given (map now sorted) in
     subst P (sym copies) (record {
       same = subst Q are (IsPermutation-map now members sorted same);
-      sorted = sorted-map now key place_of_part sorted
-          (All-permutation (λ (m : Placed). key m ≡ place_of_part m.3.now) members sorted same placed) (sorted-from key sorted order);
+      sorted = sorted-map now key position_of_part sorted
+          (All-permutation (λ (m : Placed). key m ≡ position_of_part m.3.now) members sorted same placed) (sorted-from key sorted order);
     })
 
--- where no two have one place, they are in order
-pub merged-in-order : (given all : List Answered) → IsMerged place_of_part given all → AreApart place_of_part given → IsInOrder place_of_part all
-merged-in-order given all m apart = sorted-in-order place_of_part given all (apart-distinct place_of_part given apart) m.same m.sorted
+-- where no two have one position, they are in order
+pub merged-in-order : (given all : List Answered) → IsMerged position_of_part given all → AreApart position_of_part given → IsInOrder position_of_part all
+merged-in-order given all m apart = sorted-in-order position_of_part given all (apart-distinct position_of_part given apart) m.same m.sorted
 
 -- where they are these in some order, and these are in order, they are these
-pub merged-exactly : (given all these : List Answered) → IsMerged place_of_part given all → IsInOrder place_of_part these
+pub merged-exactly : (given all these : List Answered) → IsMerged position_of_part given all → IsInOrder position_of_part these
     → IsPermutation given these → all ≡ these
-merged-exactly given all these m order same = exactly place_of_part given all these m.same m.sorted (ascends place_of_part these order) same
+merged-exactly given all these m order same = exactly position_of_part given all these m.same m.sorted (ascends position_of_part these order) same
 
 -- where they are the answers to all parts of messages that ascend, in some order, they are these in theirs
-pub merged-parts : (topics : List (List ℕ × Kind)) (size : ℕ) (ms : List Message) (given all : List Answered) → IsMerged place_of_part given all
-    → Ascends place_of ms → IsPermutation (map without_way given) (part_answers topics size ms) → map without_way all ≡ part_answers topics size ms
+pub merged-parts : (topics : List (List ℕ × Kind)) (size : ℕ) (ms : List Message) (given all : List Answered) → IsMerged position_of_part given all
+    → Ascends position_of ms → IsPermutation (map without_way given) (part_answers topics size ms) → map without_way all ≡ part_answers topics size ms
 merged-parts topics size ms given all m up same =
-    exactly place_of_part_answer (map without_way given) (map without_way all) (part_answers topics size ms)
+    exactly position_of_part_answer (map without_way given) (map without_way all) (part_answers topics size ms)
     (IsPermutation-map without_way given all m.same)
-    (sorted-map without_way place_of_part place_of_part_answer all (λ k d within. refl) m.sorted)
+    (sorted-map without_way position_of_part position_of_part_answer all (λ k d within. refl) m.sorted)
     (parts-ascend topics size ms up) same
 
 -- where the messages are those of files, their answers are those of one thread

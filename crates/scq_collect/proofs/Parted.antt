@@ -17,7 +17,7 @@ use Rattle.scq_frames.specs.declared.message.Message.{Message}
 use Rattle.scq_frames.specs.Parts.{Part, all_parts, part_bytes, parts_of}
 use Rattle.scq_collect.specs.Collected.{answer_of}
 use Rattle.scq_collect.specs.Joined.{BeginsMessage, PartAnswer, answers_of, joined, messages_in_order, part_answer, part_answers, text_of_parts}
-use Rattle.scq_collect.specs.Merging.{IsBefore, place_of}
+use Rattle.scq_collect.specs.Merging.{IsBefore, position_of}
 use Rattle.scq_collect.specs.Output.{Answer}
 use Rattle.scq_collect.proofs.Cutting.{cut-first}
 use Rattle.scq_collect.proofs.InChunks.{chunk-more}
@@ -135,8 +135,8 @@ joined-answers topics size (m ∷ ms) some =
     ∙ ap (λ (more : List Answer). answer_of topics m ∷ more) (joined-answers topics size ms some)
 
 -- where the part of an answer stands
-abbrev pub place_of_part_answer : PartAnswer → ℕ × ℕ × ℕ
-place_of_part_answer a = (a.file, a.line, a.part)
+abbrev pub position_of_part_answer : PartAnswer → ℕ × ℕ × ℕ
+position_of_part_answer a = (a.file, a.line, a.part)
 
 -- it is of this message, and its number is at least this one
 abbrev IsOf : Message → ℕ → PartAnswer → Type 0
@@ -150,11 +150,11 @@ of-message topics size n m a (suc k) =
     (of-message topics size n m (a + 1) k))
 
 message-ascends : (topics : List (List ℕ × Kind)) (size n : ℕ) (m : Message) (a k : ℕ)
-    → Ascends place_of_part_answer (answers_at topics size n m (range_with_len a k))
+    → Ascends position_of_part_answer (answers_at topics size n m (range_with_len a k))
 message-ascends topics size n m a zero = tt
 message-ascends topics size n m a (suc k) =
     let first = part_answer topics (part_with size n m a) in (
-      All-weaker (IsOf m (a + 1)) (λ (z : PartAnswer). IsBefore (place_of_part_answer first) (place_of_part_answer z))
+      All-weaker (IsOf m (a + 1)) (λ (z : PartAnswer). IsBefore (position_of_part_answer first) (position_of_part_answer z))
           (λ z h. inr (sym h.0, inr (sym h.1, omega (arith, h.2)))) (answers_at topics size n m (range_with_len (a + 1) k))
           (of-message topics size n m (a + 1) k),
       message-ascends topics size n m (a + 1) k,
@@ -164,37 +164,37 @@ message-ascends topics size n m a (suc k) =
 abbrev IsBehind : Message → PartAnswer → Type 0
 IsBehind m a = (m.file < a.file) ⊎ ((m.file ≡ a.file) × (m.line < a.line))
 
-behind-message : (m o : Message) → IsBefore (place_of m) (place_of o) → (a : PartAnswer) → IsOf o 1 a → IsBehind m a
+behind-message : (m o : Message) → IsBefore (position_of m) (position_of o) → (a : PartAnswer) → IsOf o 1 a → IsBehind m a
 behind-message m o (inl less) a of = inl (omega (arith, less, of.0))
 behind-message m o (inr (file, inl less)) a of = inr (file ∙ sym of.0, omega (arith, less, of.1))
 behind-message m o (inr (file, inr (line, less))) a of = absurd (omega (arith, less))
 
-all-behind : (topics : List (List ℕ × Kind)) (size : ℕ) (m : Message) (ms : List Message) → All (λ o. IsBefore (place_of m) (place_of o)) ms
+all-behind : (topics : List (List ℕ × Kind)) (size : ℕ) (m : Message) (ms : List Message) → All (λ o. IsBefore (position_of m) (position_of o)) ms
     → All (IsBehind m) (part_answers topics size ms)
 all-behind topics size m [] later = All-nil (IsBehind m)
 all-behind topics size m (o ∷ os) later =
     let n = parts_of size o.payload in
-    let first = All-head (λ (o : Message). IsBefore (place_of m) (place_of o)) o os later in
+    let first = All-head (λ (o : Message). IsBefore (position_of m) (position_of o)) o os later in
     subst (All (IsBehind m)) (sym (front topics size o os))
     (All-append (IsBehind m) (answers_at topics size n o (range_with_len 1 n)) (part_answers topics size os)
     (All-weaker (IsOf o 1) (IsBehind m) (behind-message m o first) (answers_at topics size n o (range_with_len 1 n)) (of-message topics size n o 1 n))
-    (all-behind topics size m os (All-tail (λ (o : Message). IsBefore (place_of m) (place_of o)) o os later)))
+    (all-behind topics size m os (All-tail (λ (o : Message). IsBefore (position_of m) (position_of o)) o os later)))
 
 -- the parts of messages that ascend do
-pub parts-ascend : (topics : List (List ℕ × Kind)) (size : ℕ) (ms : List Message) → Ascends place_of ms
-    → Ascends place_of_part_answer (part_answers topics size ms)
+pub parts-ascend : (topics : List (List ℕ × Kind)) (size : ℕ) (ms : List Message) → Ascends position_of ms
+    → Ascends position_of_part_answer (part_answers topics size ms)
 parts-ascend topics size [] up = tt
 parts-ascend topics size (m ∷ ms) up =
     let n = parts_of size m.payload in
     let own = answers_at topics size n m (range_with_len 1 n) in
     let others = part_answers topics size ms in
     let behind = all-behind topics size m ms up.0 in
-    let across : (x : PartAnswer) → IsOf m 1 x → All (λ y. IsBefore (place_of_part_answer x) (place_of_part_answer y)) others = λ x of.
-    All-weaker (IsBehind m) (λ (y : PartAnswer). IsBefore (place_of_part_answer x) (place_of_part_answer y)) (λ y h. before m x y of h) others behind in
-    subst (Ascends place_of_part_answer) (sym (front topics size m ms))
-    (ascends-append place_of_part_answer own others (message-ascends topics size n m 1 n) (parts-ascend topics size ms up.1)
-    (All-weaker (IsOf m 1) (λ (x : PartAnswer). All (λ y. IsBefore (place_of_part_answer x) (place_of_part_answer y)) others) across own
+    let across : (x : PartAnswer) → IsOf m 1 x → All (λ y. IsBefore (position_of_part_answer x) (position_of_part_answer y)) others = λ x of.
+    All-weaker (IsBehind m) (λ (y : PartAnswer). IsBefore (position_of_part_answer x) (position_of_part_answer y)) (λ y h. before m x y of h) others behind in
+    subst (Ascends position_of_part_answer) (sym (front topics size m ms))
+    (ascends-append position_of_part_answer own others (message-ascends topics size n m 1 n) (parts-ascend topics size ms up.1)
+    (All-weaker (IsOf m 1) (λ (x : PartAnswer). All (λ y. IsBefore (position_of_part_answer x) (position_of_part_answer y)) others) across own
     (of-message topics size n m 1 n))) where
-      before : (m : Message) (x y : PartAnswer) → IsOf m 1 x → IsBehind m y → IsBefore (place_of_part_answer x) (place_of_part_answer y)
+      before : (m : Message) (x y : PartAnswer) → IsOf m 1 x → IsBehind m y → IsBefore (position_of_part_answer x) (position_of_part_answer y)
       before m x y of (inl less) = inl (omega (arith, less, of.0))
       before m x y of (inr (file, less)) = inr (of.0 ∙ file, inl (omega (arith, less, of.1)))

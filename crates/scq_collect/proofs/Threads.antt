@@ -9,13 +9,13 @@ use Rattle.scq_topics.specs.Topics.{topic_of}
 use Rattle.scq_frames.specs.declared.message.Message.{Message}
 use Rattle.scq_frames.specs.Numbered.{numbered}
 use Rattle.scq_collect.specs.Collected.{answer_of, messages_to}
-use Rattle.scq_collect.specs.Merging.{IsBefore, place_of}
+use Rattle.scq_collect.specs.Merging.{IsBefore, position_of}
 use Rattle.scq_collect.specs.Output.{Answer, answer_to, answers_to}
 use Rattle.scq_collect.proofs.Orders.{Ascends, ascends-append}
 
 -- messages of one file that ascend, from a line on
 record AreOf (file line : ℕ) (messages : List Message) : Type 0 where
-  up : Ascends place_of messages
+  up : Ascends position_of messages
   past : All (λ a. (a.file ≡ file) × (line ≤ a.line)) messages
 
 lines-ascend : (topics : List (List ℕ × Kind)) (file number : ℕ) (lines : List (List ℕ))
@@ -35,7 +35,7 @@ lines-ascend topics file number ((b ∷ bs) ∷ more) =
     let first = numbered file (topic_of topics) (framed number (b ∷ bs)) in
     record {
       up = (
-        All-weaker (λ (a : Message). (a.file ≡ file) × (number + 1 ≤ a.line)) (λ (a : Message). IsBefore (place_of first) (place_of a))
+        All-weaker (λ (a : Message). (a.file ≡ file) × (number + 1 ≤ a.line)) (λ (a : Message). IsBefore (position_of first) (position_of a))
             (λ a h. inr (sym h.0, inl (omega (arith, h.1)))) others rest.past,
         rest.up,
       );
@@ -50,7 +50,7 @@ file-ascends topics file content = lines-ascend topics file 1 (lines_of content)
 
 -- messages that ascend, of this file and those behind it
 record AreFrom (file : ℕ) (messages : List Message) : Type 0 where
-  up : Ascends place_of messages
+  up : Ascends position_of messages
   past : All (λ a. file ≤ a.file) messages
 
 files-ascend : (topics : List (List ℕ × Kind)) (file : ℕ) (contents : List (List ℕ)) → AreFrom file (messages_to topics file contents)
@@ -61,16 +61,16 @@ files-ascend topics file (content ∷ more) =
     let mine = map (numbered file (topic_of topics)) (messages_after 0 content) in
     let others = messages_to topics (file + 1) more in
     record {
-      up = ascends-append place_of mine others own.up rest.up
-          (All-weaker (λ (a : Message). (a.file ≡ file) × (1 ≤ a.line)) (λ (x : Message). All (λ y. IsBefore (place_of x) (place_of y)) others)
-          (λ x h. All-weaker (λ (a : Message). file + 1 ≤ a.file) (λ (y : Message). IsBefore (place_of x) (place_of y))
+      up = ascends-append position_of mine others own.up rest.up
+          (All-weaker (λ (a : Message). (a.file ≡ file) × (1 ≤ a.line)) (λ (x : Message). All (λ y. IsBefore (position_of x) (position_of y)) others)
+          (λ x h. All-weaker (λ (a : Message). file + 1 ≤ a.file) (λ (y : Message). IsBefore (position_of x) (position_of y))
           (λ y later. inl (omega (arith, h.0, later))) others rest.past) mine own.past);
       past = All-append (λ (a : Message). file ≤ a.file) mine others
           (All-weaker (λ (a : Message). (a.file ≡ file) × (1 ≤ a.line)) (λ (a : Message). file ≤ a.file) (λ a h. omega (arith, h.0)) mine own.past)
           (All-weaker (λ (a : Message). file + 1 ≤ a.file) (λ (a : Message). file ≤ a.file) (λ a later. omega (arith, later)) others rest.past);
     }
 
-pub messages-ascend : (topics : List (List ℕ × Kind)) (file : ℕ) (contents : List (List ℕ)) → Ascends place_of (messages_to topics file contents)
+pub messages-ascend : (topics : List (List ℕ × Kind)) (file : ℕ) (contents : List (List ℕ)) → Ascends position_of (messages_to topics file contents)
 messages-ascend topics file contents = (files-ascend topics file contents).up
 
 own-answers : (topics : List (List ℕ × Kind)) (file : ℕ) (ms : List Framed)

@@ -7,7 +7,7 @@ use Rattle.scq_topics.specs.Reply.{reply_of}
 use Rattle.scq_topics.specs.Topics.{kind_of}
 use Rattle.scq_frames.specs.declared.message.Message.{Message}
 use Rattle.scq_frames.specs.Parts.{IsNumbered, Part, all_parts}
-use Rattle.scq_collect.specs.Merging.{AreApart, IsMerged, place_of_part}
+use Rattle.scq_collect.specs.Merging.{AreApart, IsMerged, position_of_part}
 use Rattle.scq_collect.specs.Output.{Answer}
 use Rattle.scq_collect.specs.declared.answered.Answered.{Answered}
 
@@ -48,11 +48,11 @@ part_answers topics size messages = map (part_answer topics) (flat_map (all_part
 -- the members are parts of messages, and all of each message that has one: for each file and line that stands among them they are its parts 1
 -- to `parts`, each once, with one topic
 pub record AreWhole (members : List Answered) : Type 0 where
-  pub apart : AreApart place_of_part members
+  pub apart : AreApart position_of_part members
   pub numbered : All (λ a. IsNumbered a.part a.parts) members
   pub alike : (a b : Answered) → Contains members a → Contains members b → a.file ≡ b.file → a.line ≡ b.line → (a.topic ≡ b.topic) × (a.parts ≡ b.parts)
   pub each : (a : Answered) (part : ℕ) → Contains members a → IsNumbered part a.parts
-      → (b : Answered) × Contains members b × (place_of_part b ≡ (a.file, a.line, part))
+      → (b : Answered) × Contains members b × (position_of_part b ≡ (a.file, a.line, part))
 
 -- the answers of members, without the ways
 abbrev pub plain : List (Bor Answered) → List PartAnswer
@@ -102,5 +102,5 @@ answers_of topics parts = map (joined topics) (messages_in_order parts)
 -- the answers to the messages of the members, in order of file and line
 pub record IsJoined (topics : List (List ℕ × Kind)) (members : List Answered) (wholes : List Answer) : Type 0 where
   pub all : List Answered
-  pub merged : IsMerged place_of_part members all
+  pub merged : IsMerged position_of_part members all
   pub wholes_are : wholes ≡ answers_of topics (map without_way all)

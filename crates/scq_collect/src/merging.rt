@@ -4,7 +4,7 @@ ghost use Rattle.std.specs.List.Sorted.{IsPermutation};
 ghost use Rattle.scq_collect.specs.declared.answered.Answered.{Answered as TheAnswered};
 ghost use Rattle.scq_collect.specs.Collected.{messages_to};
 ghost use Rattle.scq_collect.specs.Joined.{AreWhole, IsJoined, answers_of, part_answers, plain, without_way};
-ghost use Rattle.scq_collect.specs.Merging.{IsInOrder, members_in, place_of_answer, place_of_part};
+ghost use Rattle.scq_collect.specs.Merging.{IsInOrder, members_in, position_of_answer, position_of_part};
 ghost use Rattle.scq_collect.specs.Output.{answer_of_whole, answers_to};
 
 use crate::joining::whole_of;
@@ -26,10 +26,10 @@ pub fn merge(
     ensures joined { IfOk result (λ wholes. IsJoined topics.now (members_in lists.now) (map answer_of_whole wholes.items)) }
 
     // Where all parts of each message are there, each message stands once.
-    ensures in_order { AreWhole (members_in lists.now) → IfOk result (λ wholes. IsInOrder place_of_answer (map answer_of_whole wholes.items)) }
+    ensures in_order { AreWhole (members_in lists.now) → IfOk result (λ wholes. IsInOrder position_of_answer (map answer_of_whole wholes.items)) }
 
     // However the members are divided into lists, what is made of them is the same.
-    ensures exact { (given : List TheAnswered) → IsInOrder place_of_part given → IsPermutation (members_in lists.now) given
+    ensures exact { (given : List TheAnswered) → IsInOrder position_of_part given → IsPermutation (members_in lists.now) given
         → IfOk result (λ wholes. map answer_of_whole wholes.items ≡ answers_of topics.now (map without_way given)) }
     ensures one_thread { (size : ℕ) (contents : List (List ℕ)) → 0 < size
         → IsPermutation (map without_way (members_in lists.now)) (part_answers topics.now size (messages_to topics.now 1 contents))

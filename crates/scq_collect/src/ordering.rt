@@ -2,7 +2,7 @@
 ghost use Rattle.std.specs.Prelude.{◌≡◌, ◌<◌, List, length, map, IfOk, IfSome, IsTrue};
 ghost use Rattle.std.specs.List.{All, Contains};
 ghost use Rattle.scq_collect.specs.declared.answered.Answered.{Answered as TheAnswered};
-ghost use Rattle.scq_collect.specs.Merging.{IsBefore, IsInOrder, IsMerged, members_in, place_of_part};
+ghost use Rattle.scq_collect.specs.Merging.{IsBefore, IsInOrder, IsMerged, members_in, position_of_part};
 
 use crate::Answered;
 use scq_word::NoMemory;
@@ -18,7 +18,7 @@ const SLOTS_A_MEMBER: u64 = 4;
 /// has one part, and the lines that have members lie close enough, no two members are compared but
 /// neighbours.
 pub fn ordered<'a>(alloc: Global, lists: &'a [Vec<Answered>]) -> Result<Vec<&'a Answered>, NoMemory>
-    ensures { IfOk result (λ all. IsMerged place_of_part (members_in lists.entry.now) (map (λ m. m.now) all.items)) }
+    ensures { IfOk result (λ all. IsMerged position_of_part (members_in lists.entry.now) (map (λ m. m.now) all.items)) }
 {
     if let Some(count) = count_of(lists) {
         let Extent {
@@ -41,7 +41,7 @@ type Placed<'a> = (u32, u32, u32, &'a Answered);
 
 /// The members of all lists, sorted.
 fn sorted<'a>(alloc: Global, lists: &'a [Vec<Answered>]) -> Result<Vec<&'a Answered>, NoMemory>
-    ensures { IfOk result (λ all. IsMerged place_of_part (members_in lists.entry.now) (map (λ m. m.now) all.items)) }
+    ensures { IfOk result (λ all. IsMerged position_of_part (members_in lists.entry.now) (map (λ m. m.now) all.items)) }
 {
     let mut members = members_of(alloc, lists)?;
     members.sort_by_key(|(file, line, part, _)| (*file, *line, *part))?;
@@ -55,7 +55,7 @@ fn sorted<'a>(alloc: Global, lists: &'a [Vec<Answered>]) -> Result<Vec<&'a Answe
 /// The members of all lists, one list behind the other.
 fn members_of<'a>(alloc: Global, lists: &'a [Vec<Answered>]) -> Result<Vec<Placed<'a>>, NoMemory>
     ensures members { IfOk result (λ members. map (λ m. m.3.now) members.items ≡ members_in lists.entry.now) }
-    ensures placed { IfOk result (λ members. All (λ m. (m.0, m.1, m.2) ≡ place_of_part m.3.now) members.items) }
+    ensures placed { IfOk result (λ members. All (λ m. (m.0, m.1, m.2) ≡ position_of_part m.3.now) members.items) }
 {
     let mut members = Vec::new(alloc);
     'lists: for list in lists {
@@ -154,7 +154,7 @@ fn collected<'a>(
     count: usize,
 ) -> Result<Option<Vec<&'a Answered>>, NoMemory>
     ensures count { IfOk result (λ found. IfSome found (λ all. length all.items ≡ count)) }
-    ensures in_order { IfOk result (λ found. IfSome found (λ all. IsInOrder place_of_part (map (λ m. m.now) all.items))) }
+    ensures in_order { IfOk result (λ found. IfSome found (λ all. IsInOrder position_of_part (map (λ m. m.now) all.items))) }
     ensures from { (members : List TheAnswered) → All (λ slot. IfSome slot (λ m. Contains members m.now)) slots.now
         → IfOk result (λ found. IfSome found (λ all. All (Contains members) (map (λ m. m.now) all.items))) }
 {
@@ -162,11 +162,11 @@ fn collected<'a>(
     let mut last = (0, 0, 0);
     'slots: for slot in slots {
         let Some(member) = slot else { continue };
-        let place = (member.file, member.line, member.part);
-        if !is_before(last, place) {
+        let position = (member.file, member.line, member.part);
+        if !is_before(last, position) {
             return Ok(None);
         }
-        last = place;
+        last = position;
         all.push(*member)?;
     }
     Ok(if all.len() == count { Some(all) } else { None })

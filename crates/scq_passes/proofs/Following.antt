@@ -6,12 +6,12 @@ use Rattle.std.proofs.lemmas.List.{append-nil}
 use Rattle.std.proofs.lemmas.List.Elements.{filter-append}
 use Rattle.std.proofs.lemmas.Slice.Zip.{all_zipped_more}
 use Rattle.scq_core.specs.declared.ended.Ended.{Ended}
-use Rattle.scq_passes.specs.PassedOn.{FollowsCalls}
+use Rattle.scq_passes.specs.PassedOn.{EachHasItsCall}
 
 module _ {P : Type 0} (Is : P → Ended → Type 0) (counts : Ended → Bool) where
   -- by calls of which none counts
-  pub follows-others : (ps : List P) (xs block : List Ended) → filter counts block ≡ [] → FollowsCalls Is counts ps xs
-      → FollowsCalls Is counts ps (xs ++ block)
+  pub follows-others : (ps : List P) (xs block : List Ended) → filter counts block ≡ [] → EachHasItsCall Is counts ps xs
+      → EachHasItsCall Is counts ps (xs ++ block)
   follows-others ps xs block none was =
       let same : filter counts (xs ++ block) ≡ filter counts xs =
       filter-append counts xs block ∙ ap (λ l. filter counts xs ++ l) none ∙ append-nil (filter counts xs) in
@@ -19,7 +19,7 @@ module _ {P : Type 0} (Is : P → Ended → Type 0) (counts : Ended → Bool) wh
 
   -- by one that counts
   pub follows-next : (ps : List P) (p : P) (xs : List Ended) (call : Ended) → filter counts (call ∷ []) ≡ call ∷ [] → Is p call
-      → FollowsCalls Is counts ps xs → FollowsCalls Is counts (ps ++ p ∷ []) (xs ++ call ∷ [])
+      → EachHasItsCall Is counts ps xs → EachHasItsCall Is counts (ps ++ p ∷ []) (xs ++ call ∷ [])
   follows-next ps p xs call one is was =
       let more : filter counts (xs ++ call ∷ []) ≡ filter counts xs ++ call ∷ [] =
       filter-append counts xs (call ∷ []) ∙ ap (λ l. filter counts xs ++ l) one in

@@ -12,7 +12,7 @@ use Rattle.scq_queue.specs.Passes.{PassStanding, known_on}
 use Rattle.scq_queue.proofs.Records.{sends-append, takes-append}
 use Rattle.scq_passes.specs.Records.{Puts, AreReturns}
 use Rattle.scq_passes.specs.Together.{HasSwept}
-use Rattle.scq_passes.specs.Calls.{KnowsMore, HasTakenFollowed, HasTaken, HasSentSo, HasFoundFull, KnowsItsSends, IsThrifty}
+use Rattle.scq_passes.specs.Calls.{KnowsMore, HasTakenFollowed, HasTaken, HasSentSo, HasFoundFull, KnowsItsSends, HasFewCalls}
 use Rattle.scq_passes.proofs.Blocks.{returns, takes-weaker, takes-no_send, takes-puts, takes-returns}
 
 -- one put is at most one on a ring
@@ -110,8 +110,8 @@ module _ {B : Type 0} where
       omega arith
 
   -- how much was begun
-  pub thrifty-full : (messages head : ℕ) (p q : PassStanding B) → IsThrifty 0 messages p → HasFoundFull head p q → IsThrifty 0 (messages + 1) q
-  thrifty-full messages head p q was h =
+  pub few_calls-full : (messages head : ℕ) (p q : PassStanding B) → HasFewCalls 0 messages p → HasFoundFull head p q → HasFewCalls 0 (messages + 1) q
+  few_calls-full messages head p q was h =
       let fulls : length q.fulls ≡ length p.fulls + 1 = ap (λ (x : PassStanding B). length x.fulls) h.pass ∙ length-append p.fulls (head ∷ []) in
       let all : (r : ℕ) → tally (was_put r) q.calls ≡ tally (was_put r) p.calls + 0 = λ r.
       ap (tally (was_put r)) (full-calls head p q h) ∙ tally-append (was_put r) p.calls (Nothing 0 ∷ []) in
@@ -122,8 +122,8 @@ module _ {B : Type 0} where
         returns = let low = was.returns in omega (arith, all 0, ap length (full-takes head p q h));
       }
 
-  pub thrifty-taken : (messages : ℕ) (p q : PassStanding B) → IsThrifty 0 messages p → HasTaken p q → IsThrifty 0 messages q
-  thrifty-taken messages p q was h =
+  pub few_calls-taken : (messages : ℕ) (p q : PassStanding B) → HasFewCalls 0 messages p → HasTaken p q → HasFewCalls 0 messages q
+  few_calls-taken messages p q was h =
       let all : (r : ℕ) → tally (was_put r) q.calls ≡ tally (was_put r) p.calls + tally (was_put r) h.block = λ r.
       ap (tally (was_put r)) (taken-calls p q h) ∙ tally-append (was_put r) p.calls h.block in
       record {

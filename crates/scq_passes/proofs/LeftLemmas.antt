@@ -9,23 +9,23 @@ use Rattle.scq_law.proofs.Base.SeatSums.{tally-append}
 use Rattle.scq_queue.specs.Lists.{sends_of, takes_of}
 use Rattle.scq_queue.specs.Passes.{PassStanding, HeldStanding, HasGot, WasLent, after_spent_get, after_spent_put, having_seen}
 use Rattle.scq_passes.specs.Records.{Puts}
-use Rattle.scq_passes.specs.Calls.{HasTakenFollowed, HasTaken, HasFoundFull, HasLeftSo, HasLeft, IsThrifty, index_of}
+use Rattle.scq_passes.specs.Calls.{HasTakenFollowed, HasTaken, HasFoundFull, HasLeftSo, HasLeft, HasFewCalls, index_of}
 use Rattle.scq_queue.proofs.Records.{sends-append, takes-append}
-use Rattle.scq_passes.proofs.Kept.{at_most, thrifty-taken, thrifty-full}
+use Rattle.scq_passes.proofs.Kept.{at_most, few_calls-taken, few_calls-full}
 
 -- a put that met Spent is at most one on a ring
 few : (ring r : ℕ) → (if ring == r then 1 else 0) + 0 ≤ 1
 few ring r = at_most (ring == r)
 
 -- whatever is said of how much it begins
-module _ {B : Type 0} (Thrifty : ℕ → ℕ → PassStanding B → Type 0) where
+module _ {B : Type 0} (Few : ℕ → ℕ → PassStanding B → Type 0) where
   -- a get met Spent
   pub left-so-at-get : (before after ring ticket : ℕ) (p q : PassStanding B) → q ≡ having_seen q.seen (after_spent_get ring ticket p)
-      → (Thrifty 0 before p → Thrifty 1 after q) → HasLeftSo Thrifty before after p q None
-  left-so-at-get before after ring ticket p q is thrifty =
+      → (Few 0 before p → Few 1 after q) → HasLeftSo Few before after p q None
+  left-so-at-get before after ring ticket p q is few_calls =
       record {
         spent = (ticket, ap (λ (x : PassStanding B). x.spent) is);
-        thrifty = thrifty;
+        few_calls = few_calls;
         held = ap (λ (x : PassStanding B). x.held) is ∙ sym (append-nil p.held);
         own = (ap (λ (x : PassStanding B). x.queue) is, ap (λ (x : PassStanding B). x.number) is, ap (λ (x : PassStanding B). x.retired) is);
         its = tt;
@@ -34,11 +34,11 @@ module _ {B : Type 0} (Thrifty : ℕ → ℕ → PassStanding B → Type 0) wher
   -- a put of what was got met Spent: the worker keeps that
   pub left-so-at-put : (contents : B → List ℕ) (before after ring place to ticket : ℕ) (p q r : PassStanding B) (h k : HeldStanding B)
       → HasGot contents ring place p q h → r ≡ having_seen r.seen (after_spent_put to ticket q) → k.index ≡ h.index → k.queue ≡ h.queue
-      → (Thrifty 0 before p → Thrifty 1 after r) → HasLeftSo Thrifty before after p r (Some k)
-  left-so-at-put contents before after ring place to ticket p q r h k got is index queue thrifty =
+      → (Few 0 before p → Few 1 after r) → HasLeftSo Few before after p r (Some k)
+  left-so-at-put contents before after ring place to ticket p q r h k got is index queue few_calls =
       record {
         spent = (ticket, ap (λ (x : PassStanding B). x.spent) is);
-        thrifty = thrifty;
+        few_calls = few_calls;
         held = ap (λ (x : PassStanding B). x.held) is ∙ ap (λ (x : PassStanding B). x.held) got.pass ∙ ap (λ n. p.held ++ n ∷ []) (sym index);
         own = (
           ap (λ (x : PassStanding B). x.queue) is ∙ ap (λ (x : PassStanding B). x.queue) got.pass,
@@ -50,11 +50,11 @@ module _ {B : Type 0} (Thrifty : ℕ → ℕ → PassStanding B → Type 0) wher
 
   -- it had taken before
   pub left-so-taken : {By : Puts} (first before after : ℕ) (p q r : PassStanding B) (k : Option (HeldStanding B)) → HasTakenFollowed By p q
-      → (Thrifty 0 first p → Thrifty 0 before q) → HasLeftSo Thrifty before after q r k → HasLeftSo Thrifty first after p r k
-  left-so-taken first before after p q r k taken thrifty left =
+      → (Few 0 first p → Few 0 before q) → HasLeftSo Few before after q r k → HasLeftSo Few first after p r k
+  left-so-taken first before after p q r k taken few_calls left =
       record {
         spent = left.spent;
-        thrifty = λ was. left.thrifty (thrifty was);
+        few_calls = λ was. left.few_calls (few_calls was);
         held = left.held ∙ ap (λ (x : PassStanding B). x.held ++ index_of k) taken.pass;
         own = (
           left.own.0 ∙ ap (λ (x : PassStanding B). x.queue) taken.pass,
@@ -66,11 +66,11 @@ module _ {B : Type 0} (Thrifty : ℕ → ℕ → PassStanding B → Type 0) wher
 
   -- it had found no buffer free before
   pub left-so-full : (first before after head : ℕ) (p q r : PassStanding B) (k : Option (HeldStanding B)) → HasFoundFull head p q
-      → (Thrifty 0 first p → Thrifty 0 before q) → HasLeftSo Thrifty before after q r k → HasLeftSo Thrifty first after p r k
-  left-so-full first before after head p q r k full thrifty left =
+      → (Few 0 first p → Few 0 before q) → HasLeftSo Few before after q r k → HasLeftSo Few first after p r k
+  left-so-full first before after head p q r k full few_calls left =
       record {
         spent = left.spent;
-        thrifty = λ was. left.thrifty (thrifty was);
+        few_calls = λ was. left.few_calls (few_calls was);
         held = left.held ∙ ap (λ (x : PassStanding B). x.held ++ index_of k) full.pass;
         own = (
           left.own.0 ∙ ap (λ (x : PassStanding B). x.queue) full.pass,
@@ -81,11 +81,11 @@ module _ {B : Type 0} (Thrifty : ℕ → ℕ → PassStanding B → Type 0) wher
       }
 
   -- more parts than these, where as much may be begun for more
-  pub left-so-more : (before after more : ℕ) (p q : PassStanding B) (k : Option (HeldStanding B)) → (Thrifty 1 after q → Thrifty 1 more q)
-      → HasLeftSo Thrifty before after p q k → HasLeftSo Thrifty before more p q k
-  left-so-more before after more p q k thrifty left = record {
+  pub left-so-more : (before after more : ℕ) (p q : PassStanding B) (k : Option (HeldStanding B)) → (Few 1 after q → Few 1 more q)
+      → HasLeftSo Few before after p q k → HasLeftSo Few before more p q k
+  left-so-more before after more p q k few_calls left = record {
     spent = left.spent;
-    thrifty = λ was. thrifty (left.thrifty was);
+    few_calls = λ was. few_calls (left.few_calls was);
     held = left.held;
     own = left.own;
     its = left.its;
@@ -102,7 +102,7 @@ module _ {B : Type 0} where
       let takes : takes_of q.calls ≡ takes_of p.calls = ap takes_of calls ∙ takes-append p.calls last ∙ append-nil (takes_of p.calls) in
       let all : (r : ℕ) → tally (was_put r) q.calls ≡ tally (was_put r) p.calls + 0 =
       λ r. ap (tally (was_put r)) calls ∙ tally-append (was_put r) p.calls last in
-      left-so-at-get IsThrifty messages messages ring ticket p q is (λ was. record {
+      left-so-at-get HasFewCalls messages messages ring ticket p q is (λ was. record {
         sends = let low = was.sends in omega (arith, ap length sends);
         fulls = let low = was.fulls in omega (arith, ap (λ (x : PassStanding B). length x.fulls) is);
         puts = λ topic. let low = was.puts topic in omega (arith, all (suc topic));
@@ -127,7 +127,7 @@ module _ {B : Type 0} where
       ap (tally (was_put k)) calls ∙ tally-append (was_put k) (p.calls ++ first) last
       ∙ ap (λ n. n + tally (was_put k) last) (tally-append (was_put k) p.calls first ∙ omega arith) in
       let one : (k : ℕ) → tally (was_put k) last ≤ 1 = λ k. few 0 k in
-      left-so-at-put IsThrifty contents messages messages (suc topic) place 0 ticket p q r h k got is (ap (λ (x : HeldStanding B). x.index) same)
+      left-so-at-put HasFewCalls contents messages messages (suc topic) place 0 ticket p q r h k got is (ap (λ (x : HeldStanding B). x.index) same)
       (ap (λ (x : HeldStanding B). x.queue) same) (λ was. record {
         sends = let low = was.sends in omega (arith, ap length sends);
         fulls = let low = was.fulls in
@@ -157,7 +157,7 @@ module _ {B : Type 0} where
       ap (tally (was_put k)) calls ∙ tally-append (was_put k) (p.calls ++ first) last
       ∙ ap (λ n. n + tally (was_put k) last) (tally-append (was_put k) p.calls first ∙ omega arith) in
       let one : (k : ℕ) → tally (was_put k) last ≤ 1 = λ k. few (suc topic) k in
-      left-so-at-put IsThrifty contents messages (messages + 1) 0 lent.place (suc topic) ticket p q r h k got is index queue (λ was. record {
+      left-so-at-put HasFewCalls contents messages (messages + 1) 0 lent.place (suc topic) ticket p q r h k got is index queue (λ was. record {
         sends = let low = was.sends in omega (arith, ap length sends);
         fulls = let low = was.fulls in
             let fulls : r.fulls ≡ p.fulls = ap (λ (x : PassStanding B). x.fulls) is ∙ ap (λ (x : PassStanding B). x.fulls) got.pass in
@@ -169,19 +169,19 @@ module _ {B : Type 0} where
   -- it had taken before
   pub left-taken : (before after : ℕ) (p q r : PassStanding B) (k : Option (HeldStanding B)) → HasTaken p q → HasLeft before after q r k
       → HasLeft before after p r k
-  left-taken before after p q r k taken left = left-so-taken IsThrifty before before after p q r k taken (λ was. thrifty-taken before p q was taken) left
+  left-taken before after p q r k taken left = left-so-taken HasFewCalls before before after p q r k taken (λ was. few_calls-taken before p q was taken) left
 
   -- it had found no buffer free before
   pub left-full : (messages head : ℕ) (p q r : PassStanding B) (k : Option (HeldStanding B)) → HasFoundFull head p q
       → HasLeft (messages + 1) (messages + 1) q r k
       → HasLeft messages (messages + 1) p r k
   left-full messages head p q r k full left =
-      left-so-full IsThrifty messages (messages + 1) (messages + 1) head p q r k full (λ was. thrifty-full messages head p q was full) left
+      left-so-full HasFewCalls messages (messages + 1) (messages + 1) head p q r k full (λ was. few_calls-full messages head p q was full) left
 
   -- with a message more
   pub left-more : (messages : ℕ) (p q : PassStanding B) (k : Option (HeldStanding B)) → HasLeft messages messages p q k → HasLeft messages (messages + 1) p q k
   left-more messages p q k left =
-      left-so-more IsThrifty messages messages (messages + 1) p q k (λ old. record {
+      left-so-more HasFewCalls messages messages (messages + 1) p q k (λ old. record {
         sends = let low = old.sends in omega arith;
         fulls = let low = old.fulls in omega arith;
         puts = λ t. let low = old.puts t in omega arith;

@@ -16,7 +16,7 @@ use Rattle.scq_queue.specs.Lists.{sends_of, takes_of}
 use Rattle.scq_queue.specs.Passes.{PassStanding}
 use Rattle.scq_queue.specs.Closing.{EachTakeIsASend, NoPlaceIsTakenTwice, NoneIsKeptWithinTheLimit}
 use Rattle.scq_passes.specs.Together.{all_sends, all_takes, NoneSpent, IsBounded}
-use Rattle.scq_passes.specs.Calls.{IsThrifty}
+use Rattle.scq_passes.specs.Calls.{HasFewCalls}
 use Rattle.scq_passes.proofs.SendsAndTakes.{few-takes}
 
 -- what a get may cost is low
@@ -69,11 +69,11 @@ module _ {B : Type 0} where
   abbrev pub messages_of : List (ℕ × PassStanding B) → ℕ
   messages_of works = sum_by (λ (w : ℕ × PassStanding B). w.0) works
 
-  abbrev AllThrifty : List (ℕ × PassStanding B) → Type 0
-  AllThrifty works = All (λ (w : ℕ × PassStanding B). IsThrifty 1 w.0 w.1) works
+  abbrev AllHaveFewCalls : List (ℕ × PassStanding B) → Type 0
+  AllHaveFewCalls works = All (λ (w : ℕ × PassStanding B). HasFewCalls 1 w.0 w.1) works
 
   -- all sends are at most as many as all messages, and so are all takes
-  few-sends : (works : List (ℕ × PassStanding B)) → AllThrifty works → length (all_sends (passes_of works)) ≤ messages_of works
+  few-sends : (works : List (ℕ × PassStanding B)) → AllHaveFewCalls works → length (all_sends (passes_of works)) ≤ messages_of works
   few-sends works each =
       let all : length (all_sends (passes_of works)) ≡ sum_by (λ (w : ℕ × PassStanding B). length (sends_of w.1.calls)) works =
       length-flat_map (λ (p : PassStanding B). sends_of p.calls) (passes_of works)
@@ -88,7 +88,7 @@ module _ {B : Type 0} where
       ∙ sum_by-map (λ (p : PassStanding B). length (takes_of p.calls)) (λ (w : ℕ × PassStanding B). w.1) works
 
   -- the puts that were begun on a ring
-  begun-few : (works : List (ℕ × PassStanding B)) → AllThrifty works → length (all_takes (passes_of works)) ≤ messages_of works → (r : ℕ)
+  begun-few : (works : List (ℕ × PassStanding B)) → AllHaveFewCalls works → length (all_takes (passes_of works)) ≤ messages_of works → (r : ℕ)
       → sum_by (tally (was_put r)) (map (λ (p : PassStanding B). p.calls) (passes_of works)) ≤ messages_of works + length works
   begun-few works each takes r =
       let first = sum_by-map (tally (was_put r)) (λ (p : PassStanding B). p.calls) (passes_of works) in
@@ -105,7 +105,7 @@ module _ {B : Type 0} where
 
   -- no pass met Spent
   pub none-spent : (c : Setup) (works : List (ℕ × PassStanding B)) → c.limit ≡ 2 ^ 60 → length works ≤ c.seats
-      → messages_of works ≤ 2 ^ 36 → AllThrifty works → EachTakeIsASend (passes_of works) → NoPlaceIsTakenTwice (passes_of works)
+      → messages_of works ≤ 2 ^ 36 → AllHaveFewCalls works → EachTakeIsASend (passes_of works) → NoPlaceIsTakenTwice (passes_of works)
       → NoneIsKeptWithinTheLimit c (passes_of works) → NoneSpent (passes_of works)
   none-spent c works limit workers messages each sent once limits =
       let few = few-takes (passes_of works) sent once in
@@ -115,7 +115,7 @@ module _ {B : Type 0} where
       limits
 
   -- each pass has few sends, takes and Full replies
-  pub all-bounded : (works : List (ℕ × PassStanding B)) (most : ℕ) → messages_of works ≤ most → AllThrifty works → EachTakeIsASend (passes_of works)
+  pub all-bounded : (works : List (ℕ × PassStanding B)) (most : ℕ) → messages_of works ≤ most → AllHaveFewCalls works → EachTakeIsASend (passes_of works)
       → NoPlaceIsTakenTwice (passes_of works)
       → (k : ℕ) (d : ℕ × PassStanding B) → k < length works → IsBounded most (get_or works k d).1
   all-bounded works most messages each sent once k d less =

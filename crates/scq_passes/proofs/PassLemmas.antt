@@ -308,9 +308,9 @@ module _ {B : Type 0} where
       }
 
   -- a pass that has taken still suits
-  pub suits-taken : {By : Puts} (shared : Identity B) (topics : ℕ) (p q : PassStanding B) → Suits shared topics p → HasTakenFollowed By p q
-      → Suits shared topics q
-  suits-taken shared topics p q suits h =
+  pub suits-taken : {By : Puts} (shared : Identity B) (declared : ℕ) (p q : PassStanding B) → Suits shared declared p → HasTakenFollowed By p q
+      → Suits shared declared q
+  suits-taken shared declared p q suits h =
       record {
         queue = ap (λ (x : PassStanding B). x.queue) h.pass ∙ suits.queue;
         rings = suits.rings;

@@ -1,9 +1,8 @@
 -- How the Full replies stand in a record that grows by the calls for one message, or by takes.
 use Rattle.std.proofs.Common.{◌≡◌, refl, sym, ◌∙◌, ap, subst, arith, suc, ℕ, ◌+◌, ◌<◌, ◌≤◌, List, [], ◌∷◌, ◌++◌, ⊎_elim, Bool, true, false, rules}
 use Rattle.std.specs.Prelude.{count_by}
-use Rattle.std.specs.List.{list_any, before_first}
+use Rattle.std.specs.List.{Contains, list_any, before_first}
 use Rattle.std.proofs.lemmas.List.{append_assoc, append-nil}
-use Rattle.std.specs.List.{Contains}
 use Rattle.std.proofs.lemmas.List.Elements.{Contains-append_cases, Contains-push_cases}
 use Rattle.std.proofs.lemmas.List.Folds.{list_any-append}
 use Rattle.std.proofs.lemmas.List.Sums.{sum_by-append}

@@ -16,10 +16,10 @@ index_of (Some h) = h.index ∷ []
 
 module _ {B : Type 0} where
   -- a pass of this queue, whose topics are so many declared ones and one more, and which has met no Spent
-  pub record Suits (shared : Identity B) (topics : ℕ) (p : PassStanding B) : Type 0 where
+  pub record Suits (shared : Identity B) (declared : ℕ) (p : PassStanding B) : Type 0 where
     pub queue : p.queue ≡ shared
-    pub rings : shared.setup.rings ≡ topics + 2
-    pub numbers : length p.numbers ≡ topics + 2
+    pub rings : shared.setup.rings ≡ declared + 2
+    pub numbers : length p.numbers ≡ declared + 2
     pub spent : p.spent ≡ None
 
   -- what is known of the rings was kept: of no topic the finished place known fell, and no head
@@ -86,26 +86,26 @@ module _ {B : Type 0} where
     pub unspent : MeetsNoSpent p.calls
     pub knows : KnowsItsSends p
 
-  -- how much it has begun for so many parts: `late` is 1 for a pass that met Spent
-  pub record IsThrifty (late parts : ℕ) (p : PassStanding B) : Type 0 where
+  -- it has few calls for so many parts: at most one send and one Full for each, and a return for each take. `late` is 1 for a pass that met Spent
+  pub record HasFewCalls (late parts : ℕ) (p : PassStanding B) : Type 0 where
     pub sends : length (sends_of p.calls) ≤ parts
     pub fulls : length p.fulls ≤ parts
     pub puts : (topic : ℕ) → tally (was_put (suc topic)) p.calls ≤ parts + late
     pub returns : tally (was_put 0) p.calls ≤ length (takes_of p.calls) + late
 
-  -- a pass that met Spent, with the value that it keeps. `Thrifty late parts p` says how much one begins for so many parts, `late` as above:
+  -- a pass that met Spent, with the value that it keeps. `Few late parts p` says that it has few calls for so many parts, `late` as above:
   -- before it had passed on at most so many, and now at most so many
-  pub record HasLeftSo (Thrifty : ℕ → ℕ → PassStanding B → Type 0) (before after : ℕ) (old new : PassStanding B) (kept : Option (HeldStanding B))
+  pub record HasLeftSo (Few : ℕ → ℕ → PassStanding B → Type 0) (before after : ℕ) (old new : PassStanding B) (kept : Option (HeldStanding B))
       : Type 0 where
     pub spent : (ticket : ℕ) × (new.spent ≡ Some ticket)
-    pub thrifty : Thrifty 0 before old → Thrifty 1 after new
+    pub few_calls : Few 0 before old → Few 1 after new
     pub held : new.held ≡ old.held ++ index_of kept
     pub own : (new.queue ≡ old.queue) × (new.number ≡ old.number) × (new.retired ≡ old.retired)
     pub its : IfSome kept (λ h. h.queue ≡ old.queue)
 
   -- the same where all parts are sent or made directly
   abbrev pub HasLeft : ℕ → ℕ → PassStanding B → PassStanding B → Option (HeldStanding B) → Type 0
-  HasLeft before after old new kept = HasLeftSo IsThrifty before after old new kept
+  HasLeft before after old new kept = HasLeftSo HasFewCalls before after old new kept
 
   -- how many more tickets takes of so many topics could draw: each take that gets something uses one up
   abbrev pub takes_left : ℕ → ℕ → PassStanding B → ℕ

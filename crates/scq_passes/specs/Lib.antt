@@ -6,3 +6,4 @@ pub mod Waiting
 pub mod AllPasses
 pub mod PassedOn
 pub mod Becoming
+pub mod Jobs

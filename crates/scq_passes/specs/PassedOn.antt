@@ -12,5 +12,5 @@ pub data ArePassedOn {P S D : Type 0} (Sends : P → S → Type 0) (Makes : P �
       → ArePassedOn Sends Makes ps sends directs → Makes p d → ArePassedOn Sends Makes (ps ++ p ∷ []) sends (directs ++ d ∷ [])
 
 -- these, in order, are each the next of those calls of a record that count, and there are no other such calls
-abbrev pub FollowsCalls : {P : Type 0} → (P → Ended → Type 0) → (Ended → Bool) → List P → List Ended → Type 0
-FollowsCalls Is counts ps calls = AllZip Is ps (filter counts calls)
+abbrev pub EachHasItsCall : {P : Type 0} → (P → Ended → Type 0) → (Ended → Bool) → List P → List Ended → Type 0
+EachHasItsCall Is counts ps calls = AllZip Is ps (filter counts calls)

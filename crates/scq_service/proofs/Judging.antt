@@ -1,6 +1,5 @@
 -- The sources of recordings that were got, and their contents.
-use Rattle.std.proofs.Common.{◌≡◌, ◌∙◌, inl, refl, sym, ap, subst, arith, ℕ, suc, zero, ◌<◌, Bool, true}
-use Rattle.std.proofs.Common.{List, [], ◌∷◌, length, take, slice_get, Option, Some, None, IfSome}
+use Rattle.std.proofs.Common.{◌≡◌, ◌∙◌, inl, refl, sym, ap, subst, arith, ℕ, suc, zero, ◌<◌, Bool, true, List, [], ◌∷◌, length, take, slice_get, Option, Some, None, IfSome}
 use Rattle.std.specs.Prelude.{slice_index_or}
 use Rattle.std.specs.Option.{option_map}
 use Rattle.std.proofs.Math.Seq.{take-length}

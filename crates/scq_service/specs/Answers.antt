@@ -11,8 +11,8 @@ use Rattle.scq_collect.specs.Collected.{messages_to}
 use Rattle.scq_collect.specs.Joined.{part_answers, without_way}
 use Rattle.scq_collect.specs.Merging.{members_in}
 use Rattle.scq_self.specs.Generated.{generated, self_topics}
-use Rattle.scq_stages.specs.AllStages as stages
-use Rattle.scq_stages.specs.Output as finished
+use Rattle.scq_stages.specs.AllStages as staging
+use Rattle.scq_stages.specs.Output as stage_output
 use Rattle.scq_stages.specs.declared.staged.Staged.{Staged}
 use Rattle.scq_topics.specs.declared.kind.Kind.{Kind}
 use Rattle.scq_words.specs.Asked.{Asked}
@@ -83,21 +83,22 @@ WorkedAs faults end_count left asked got r end worked = worked ≡ None
 
 -- the workers of stages finished by so many: the contents, where each source told its own when it was got
 abbrev pub IsStagedOf : {S : Type 0} → ℕ → (S → Option (List ℕ)) → List S → Option Staged → Type 0
-IsStagedOf workers left got staged = IfSome staged (λ s. IfTold left got (λ contents. stages.HasStaged workers (messages_in [] 1 contents) s))
+IsStagedOf workers left got staged = IfSome staged (λ s. IfTold left got (λ contents. staging.HasStaged workers (messages_in [] 1 contents) s))
 
 -- so many workers finished such messages, with payloads of at most `size` bytes, which are those of the contents where these were told
 abbrev pub IsStaging : {S : Type 0} → ℕ → ℕ → (S → ℕ) → (S → ℕ) → (S → Option (List ℕ)) → List S → Inputs S → Option Staged → Type 0
 IsStaging size workers faults end_count left got r staged =
-    IfSome staged (λ s. (given : List (List Message)) × HaveGiven [] size faults end_count left got r given × stages.HasStaged workers given s)
+    IfSome staged (λ s. (given : List (List Message)) × HaveGiven [] size faults end_count left got r given × staging.HasStaged workers given s)
 
 -- the members of all lists are what becomes of the messages of the contents, each once, where these were told
-abbrev pub AreResults : {S : Type 0} → (S → Option (List ℕ)) → List S → Option Staged → Type 0
-AreResults left got staged =
-    IfSome staged (λ s. IfTold left got (λ contents. IsPermutation (map finished.without_way (finished.finished_in s.done.items)) (finished.results_of 1 contents)))
+abbrev pub AreAllHandled : {S : Type 0} → (S → Option (List ℕ)) → List S → Option Staged → Type 0
+AreAllHandled left got staged =
+    IfSome staged (λ s. IfTold left got (λ contents.
+    IsPermutation (map stage_output.without_way (stage_output.finished_in s.done.items)) (stage_output.all_handled 1 contents)))
 
 -- nothing is stranded in the queue of the workers of stages once it was closed, by their passes as they were then
 abbrev pub StrandsNothing : ℕ → ℕ → Option Staged → Type 0
-StrandsNothing order workers staged = IfSome staged (λ s. (left : List ℕ) × stages.NothingIsStranded order workers s.passes.value.items left)
+StrandsNothing order workers staged = IfSome staged (λ s. (left : List ℕ) × staging.NothingIsStranded order workers s.passes.value.items left)
 
 -- what the workers of stages finished in a run that is asked for this; another run has none
 abbrev pub StagedAs : {S : Type 0} → (S → ℕ) → (S → ℕ) → (S → Option (List ℕ)) → Result Asked WordsFault → List S → Inputs S → Option Fault → Option Staged

@@ -14,7 +14,7 @@ use Rattle.scq_self.specs.Summary.{self_summary}
 use Rattle.scq_judge.specs.Judged.{IsJudged, IsCause}
 use Rattle.scq_judge.specs.Reads.{AreQuiet, AreReadUntil, AreReadWhole}
 use Rattle.scq_judge.specs.declared.judging.JudgeFault.{JudgeFault}
-use Rattle.scq_stages.specs.Output.{one_thread_text}
+use Rattle.scq_stages.specs.Output.{one_thread_stage_output}
 use Rattle.scq_words.specs.Asked.{Asked, run, generated, judged, whole, staged}
 use Rattle.scq_words.specs.declared.fault.WordsFault.{WordsFault}
 use Rattle.scq_words.specs.declared.text_request.TextCommand.{TextCommand}
@@ -289,7 +289,7 @@ EndsAs faults end_count left (Ok (judged a)) got r w end =
     HasGotSources faults left a.files got r × EndsJudged faults end_count left a.files got r w end
 EndsAs faults end_count left (Ok (whole a)) got r w end = EndsWhole a.command faults left a.file r w end
 EndsAs faults end_count left (Ok (staged a)) got r w end =
-    HasGotSources faults left a.files got r × EndsOver a.size one_thread_text faults end_count left a.files got r w end
+    HasGotSources faults left a.files got r × EndsOver a.size one_thread_stage_output faults end_count left a.files got r w end
 
 -- nothing stood in the way of a run over these files: each was got, no count rose, each told its content, and none has trouble
 pub record IsCalm {S : Type 0} (size : ℕ) (faults : S → ℕ) (left : S → Option (List ℕ)) (names : List (List ℕ)) (got : List S) (r : Inputs S)

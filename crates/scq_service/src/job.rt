@@ -1,6 +1,5 @@
 ghost use Rattle.std.specs.Prelude.{◌≡◌, ◌^◌};
-ghost use Rattle.scq_stages.specs.Jobs.{IsStageJob};
-ghost use Rattle.scq_work.specs.Jobs.{IsJob};
+ghost use Rattle.scq_passes.specs.Jobs.{IsJob};
 
 use scq_stages::StageJob;
 use scq_topics::Topics;
@@ -23,7 +22,7 @@ pub fn job_of(order: u32, size: u32, workers: u32, topics: Topics) -> Job
 
 /// The job of stages, likewise.
 pub fn stage_job_of(order: u32, size: u32, workers: u32) -> StageJob
-    requires { IsStageJob order size workers }
+    requires { IsJob order size workers }
     ensures order { result.order ≡ order }
     ensures size { result.size ≡ size }
     ensures workers { result.workers ≡ workers }

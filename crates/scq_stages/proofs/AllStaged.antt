@@ -23,8 +23,8 @@ use Rattle.scq_files.specs.Ends.{AreGiven}
 use Rattle.scq_files.specs.Files.{own_of}
 use Rattle.scq_files.proofs.Lists.{map-map}
 use Rattle.scq_passes.specs.AllPasses.{HaveShared, OfEachWorker}
-use Rattle.scq_passes.specs.Calls.{calls_before, calls_behind, index_of}
-use Rattle.scq_passes.specs.PassedOn.{ArePassedOn, FollowsCalls}
+use Rattle.scq_passes.specs.Calls.{calls_behind, index_of}
+use Rattle.scq_passes.specs.PassedOn.{ArePassedOn, EachHasItsCall}
 use Rattle.scq_passes.specs.Records.{HoldsNothingAtEachFull, MeetsNoSpent, on}
 use Rattle.scq_passes.specs.Together.{HasSwept, IsBounded, NoneSpent}
 use Rattle.scq_passes.proofs.ManyLists.{stands-at}
@@ -32,12 +32,12 @@ use Rattle.scq_passes.proofs.NoneSpent.{messages_of, passes_of}
 use Rattle.scq_passes.proofs.OnTopics.{on-member}
 use Rattle.scq_passes.proofs.SendsAndTakes.{no-place-twice}
 use Rattle.scq_stages.specs.declared.finished.Finished.{Finished}
-use Rattle.scq_stages.specs.AllStages.{HaveFinished, KeepsStages, result_of}
-use Rattle.scq_stages.specs.Members.{AreMoves, DirectsAre, FirstsAre, SecondsAre, is_direct, is_first}
-use Rattle.scq_stages.specs.Moves.{first, is_next, second}
+use Rattle.scq_stages.specs.AllStages.{HaveFinished, KeepsStages, handled_of}
+use Rattle.scq_stages.specs.Members.{DirectsAre, FirstsAre, SecondsAre, is_direct, is_first}
+use Rattle.scq_stages.specs.Records.{first, is_next, second}
 use Rattle.scq_stages.specs.Output.{finished_in, without_way}
 use Rattle.scq_stages.specs.Passing.{FinishesItself, IsNextOf, SendsToFirst}
-use Rattle.scq_stages.specs.Working.{HasEnded, IsThrifty}
+use Rattle.scq_stages.specs.Working.{HasMovedAllAndSwept, HasFewStageCalls}
 use Rattle.scq_passes.proofs.Closed.{HasClosed, all-taken, have-shared}
 use Rattle.scq_stages.proofs.Conclusion.{Work, IsMoving, IsWork, all-finished, firsts-all, lists_in, messages_in, moved-all, passes_in, seconds-all, took-behind, was-sent}
 use Rattle.scq_stages.proofs.Ended.{follows-all, moves-so-far, nothing-behind-alone, retired-empty}
@@ -56,10 +56,10 @@ only-one (z ∷ z' ∷ zs) x y one has other = absurd (omega arith)
 module _ {B : Type 0} where
   -- a worker has done its work, however the reading of its files ended
   pub record HasDone (shared : Identity B) (w : Work B) : Type 0 where
-    pub thrifty : IsThrifty 1 (length w.messages) w.pass
+    pub few_calls : HasFewStageCalls 1 (length w.messages) w.pass
     pub queue : w.pass.queue ≡ shared
     pub held : w.pass.held ≡ index_of w.kept
-    pub ended : w.pass.spent ≡ None → HasEnded w.messages w.pass w.list.items w.starved
+    pub ended : w.pass.spent ≡ None → HasMovedAllAndSwept w.messages w.pass w.list.items w.starved
 
   -- the values that workers keep
   abbrev pub held_in : List (Work B) → List (HeldStanding B)
@@ -117,8 +117,8 @@ module _ {B : Type 0} where
         let few = done.few in
         omega arith
 
-    all-thrifty : All (λ (w : ℕ × PassStanding B). IsThrifty 1 w.0 w.1) (map counted works)
-    all-thrifty = All-map (λ (w : ℕ × PassStanding B). IsThrifty 1 w.0 w.1) counted works (λ k d less. (done.each k d less).thrifty)
+    all-few : All (λ (w : ℕ × PassStanding B). HasFewStageCalls 1 w.0 w.1) (map counted works)
+    all-few = All-map (λ (w : ℕ × PassStanding B). HasFewStageCalls 1 w.0 w.1) counted works (λ k d less. (done.each k d less).few_calls)
 
     sent-so : EachTakeIsASend (passes_of (map counted works))
     sent-so = subst (λ (ps : List (PassStanding B)). EachTakeIsASend ps) (sym passes-same) closed.takes
@@ -129,13 +129,13 @@ module _ {B : Type 0} where
     unspent : NoneSpent (passes_in works)
     unspent =
         subst (λ (ps : List (PassStanding B)). NoneSpent ps) passes-same
-        (none-spent (map counted works) all-thrifty sent-so once-so c done.limit done.rings (omega (arith, done.seats, length-map works counted)) few-messages
+        (none-spent (map counted works) all-few sent-so once-so c done.limit done.rings (omega (arith, done.seats, length-map works counted)) few-messages
         (subst (λ (ps : List (PassStanding B)). NoneIsKeptWithinTheLimit c ps) (sym passes-same) closed.limits))
 
     bounded : All (IsBounded (2 ^ 37)) (passes_in works)
     bounded = All-map (IsBounded (2 ^ 37)) (λ (w : Work B). w.pass) works (λ k d less.
         let long : k < length (map counted works) = subst (λ n. k < n) (sym (length-map works counted)) less in
-        let its = all-bounded (map counted works) all-thrifty sent-so once-so few-messages k (counted d) long in
+        let its = all-bounded (map counted works) all-few sent-so once-so few-messages k (counted d) long in
         subst (λ (w : ℕ × PassStanding B). IsBounded (2 ^ 37) w.1) (get_or-map counted works k d (counted d) less) its)
 
     -- so each has ended
@@ -145,7 +145,7 @@ module _ {B : Type 0} where
         (unspent k d.pass (omega (arith, less, length-map works (λ (w : Work B). w.pass))))
 
     abbrev Ends : Work B → Type 0
-    Ends w = HasEnded w.messages w.pass w.list.items w.starved
+    Ends w = HasMovedAllAndSwept w.messages w.pass w.list.items w.starved
 
     all-ended : All Ends works
     all-ended k d less = (done.each k d less).ended (spent-none k d less)
@@ -232,12 +232,12 @@ module _ {B : Type 0} where
       work-at : (w : ℕ) (d : Work B) → slice_get works w ≡ Some d → IsWork d
       work-at w d is = subst IsWork (get_or_from_slice_get works w d d is) (all-works w d (slice_get_within works w d is))
 
-      once : IsPermutation (map without_way (finished_in (lists_in works))) (map result_of (flat_map (λ own. own) given))
+      once : IsPermutation (map without_way (finished_in (lists_in works))) (map handled_of (flat_map (λ own. own) given))
       once =
-          IsPermutation-trans (map without_way (finished_in (lists_in works))) (map result_of (messages_in works)) (map result_of (flat_map (λ own. own) given))
+          IsPermutation-trans (map without_way (finished_in (lists_in works))) (map handled_of (messages_in works)) (map handled_of (flat_map (λ own. own) given))
           (all-finished works all-moving closed.takes all-works (no-place-twice (passes_in works) closed.sent_once) closed.taken_once
           (all-taken c (passes_in works) (held_in works) left closed (of-passes HasSwept (λ w e. e.swept))))
-          (IsPermutation-map result_of (messages_in works) (flat_map (λ own. own) given)
+          (IsPermutation-map handled_of (messages_in works) (flat_map (λ own. own) given)
           (IsPermutation-sym (flat_map (λ own. own) given) (messages_in works) all))
 
       -- one worker alone takes only what it sent itself
@@ -266,8 +266,8 @@ module _ {B : Type 0} where
             (filter is_direct list)) works
             (λ w d is. subst (λ ms. ArePassedOn SendsToFirst FinishesItself ms (on first (sends_of d.pass.calls)) (filter is_direct d.list.items)) (own w d is)
             (work-at w d is).passed);
-        follows = of-each (λ w p list. FollowsCalls IsNextOf is_next (own_of (length works) w 1 given) p.calls) works
-            (λ w d is. subst (λ ms. FollowsCalls IsNextOf is_next ms d.pass.calls) (own w d is) (moving-at w d is).follows);
+        follows = of-each (λ w p list. EachHasItsCall IsNextOf is_next (own_of (length works) w 1 given) p.calls) works
+            (λ w d is. subst (λ ms. EachHasItsCall IsNextOf is_next ms d.pass.calls) (own w d is) (moving-at w d is).follows);
         firsts = of-each (λ w p list. FirstsAre (on first (takes_of (calls_behind p))) list) works
             (λ w d is. firsts-all works all-moving closed.takes all-works d (stands-at works d w is));
         seconds = of-each (λ w p list. SecondsAre (on second (takes_of p.calls)) list) works

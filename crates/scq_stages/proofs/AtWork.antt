@@ -13,7 +13,7 @@ use Rattle.scq_queue.specs.Lists.{Placed, sends_of, takes_of}
 use Rattle.scq_queue.specs.Passes.{PassStanding, HeldStanding, WasLent, after_spent_put, having_seen, known_on}
 use Rattle.scq_queue.proofs.Records.{sends-append, takes-append}
 use Rattle.scq_passes.specs.Records.{Puts, on}
-use Rattle.scq_passes.specs.PassedOn.{ArePassedOn, FollowsCalls, and_sent, and_made}
+use Rattle.scq_passes.specs.PassedOn.{ArePassedOn, EachHasItsCall, and_sent, and_made}
 use Rattle.scq_passes.specs.Calls.{HasTakenFollowed, HasFoundFull, HasSentSo, HasLeftSo, Suits, index_of, since, taken_since}
 use Rattle.scq_passes.proofs.Between.{between-taken, between-full, between-sent}
 use Rattle.scq_passes.proofs.Following.{follows-others, follows-next}
@@ -26,12 +26,12 @@ use Rattle.scq_stages.specs.declared.finished.Finished.{Finished}
 use Rattle.scq_stages.specs.declared.finished.StageWay.TheVariants.{Direct}
 use Rattle.scq_stages.specs.Stages.{both}
 use Rattle.scq_stages.specs.Members.{is_second, is_first, is_direct, finished, DirectsAre}
-use Rattle.scq_stages.specs.Moves.{first, second, take_topic, is_next, HelpsSecondThenFirst, HelpsJustSecondThenFirst}
+use Rattle.scq_stages.specs.Records.{first, second, take_topic, is_next, HelpsSecondThenFirst, HelpsJustSecondThenFirst}
 use Rattle.scq_stages.specs.Passing.{whole_of, SendsToFirst, FinishesItself, IsNextOf}
-use Rattle.scq_stages.specs.Steps.{SecondsSoFar, MovesSoFar, HasTakenOrMoved, HasMovedIts, HasHelped}
-use Rattle.scq_stages.specs.Working.{IsThrifty, HasListed, IsAtWork, IsDone, HasStopped}
+use Rattle.scq_stages.specs.Steps.{SecondsSoFar, MovesSoFar, HasTakenOrMoved, HasMovedIts, HasFinishedOnlySeconds}
+use Rattle.scq_stages.specs.Working.{HasFewStageCalls, HasListed, IsAtWork, IsDone, HasStopped}
 use Rattle.scq_stages.proofs.Moving.{moves-none_to_first, moves-none_next}
-use Rattle.scq_stages.proofs.Thrift.{thrifty-sent, thrifty-full, thrifty-moved, thrifty-more, thrifty-at_send}
+use Rattle.scq_stages.proofs.FewCalls.{few_calls-sent, few_calls-full, few_calls-moved, few_calls-more, few_calls-at_send}
 
 -- the takes from second and from first, and from nothing else; and at least these
 abbrev JustBoth : List Ended → Type 0
@@ -81,14 +81,14 @@ module _ {B : Type 0} where
       (moved (on first (takes_of p.calls)) (on second (sends_of p.calls)) was))
 
   -- messages go on following the record
-  follows-on : (messages : List Message) (p q : PassStanding B) → HasTakenOrMoved p q → FollowsCalls IsNextOf is_next messages p.calls
-      → FollowsCalls IsNextOf is_next messages q.calls
+  follows-on : (messages : List Message) (p q : PassStanding B) → HasTakenOrMoved p q → EachHasItsCall IsNextOf is_next messages p.calls
+      → EachHasItsCall IsNextOf is_next messages q.calls
   follows-on messages p q h was =
-      subst (FollowsCalls IsNextOf is_next messages) (sym (taken-calls p q h))
+      subst (EachHasItsCall IsNextOf is_next messages) (sym (taken-calls p q h))
       (follows-others IsNextOf is_next messages p.calls h.block (moves-none_next h.block h.are) was)
 
   -- the list goes on being that of the messages and the pass
-  listed-on : (messages : List Message) (p q : PassStanding B) (was is : List Finished) → HasTakenOrMoved p q → HasHelped p q was is
+  listed-on : (messages : List Message) (p q : PassStanding B) (was is : List Finished) → HasTakenOrMoved p q → HasFinishedOnlySeconds p q was is
       → HasListed messages p was → HasListed messages q is
   listed-on messages p q was is h helped listed =
       record {
@@ -115,10 +115,10 @@ module _ {B : Type 0} where
       record {
         helps = subst HelpsJustSecondThenFirst (sym calls) (after-sent JustBoth p.calls h.from 1 h.place h.over h.bytes was.helps);
         between = between-sent first So p q was.between within h;
-        thrifty = subst (λ n. IsThrifty 0 n q) (sym (length-append messages (m ∷ []))) (thrifty-sent (length messages) So p q h was.thrifty);
+        few_calls = subst (λ n. HasFewStageCalls 0 n q) (sym (length-append messages (m ∷ []))) (few_calls-sent (length messages) So p q h was.few_calls);
         moves = subst (λ l. MovesSoFar l (on second (sends_of q.calls))) (sym (takes first))
             (subst (MovesSoFar (on first (takes_of p.calls))) (sym (sends second ∙ append-nil (on second (sends_of p.calls)))) was.moves);
-        follows = subst (FollowsCalls IsNextOf is_next (messages ++ m ∷ [])) (sym calls)
+        follows = subst (EachHasItsCall IsNextOf is_next (messages ++ m ∷ [])) (sym calls)
             (follows-next IsNextOf is_next messages m (p.calls ++ got) (Done 1 h.place h.bytes) refl h.sends
             (follows-others IsNextOf is_next messages p.calls got refl was.follows));
         listed = λ fed.
@@ -157,7 +157,7 @@ module _ {B : Type 0} where
   pub work-helped : (messages : List Message) (m : Message) (head : ℕ) (p q r : PassStanding B) (was mid is : List Finished) (before after : Bool)
       → IsAtWork messages p was before → HasFoundFull head p q → HasTakenOrMoved q r → filter_map take_topic (since q r) ≡ second ∷ first ∷ []
       → HasMovedIts q r → (after ≡ false → before ≡ false) → (after ≡ false → mid ≡ was ++ finished (Direct head) both (whole_of m) ∷ [])
-      → (after ≡ false → HasHelped q r mid is)
+      → (after ≡ false → HasFinishedOnlySeconds q r mid is)
       → IsAtWork (messages ++ m ∷ []) r is after
   work-helped messages m head p q r was mid is before after work full taken each moved fed_before grown helped =
       let calls : r.calls ≡ (p.calls ++ Nothing 0 ∷ []) ++ taken.block = taken-calls q r taken ∙ ap (λ l. l ++ taken.block) (full-calls head p q full) in
@@ -165,13 +165,13 @@ module _ {B : Type 0} where
       record {
         helps = subst HelpsJustSecondThenFirst (sym calls) (after-helped JustBoth p.calls taken.block taken.are up work.helps);
         between = between-taken q r (between-full head p q work.between full) taken;
-        thrifty = subst (λ n. IsThrifty 0 n r) (sym (length-append messages (m ∷ [])))
-            (thrifty-moved (length messages + 1) q r taken (thrifty-full (length messages) head p q full work.thrifty));
+        few_calls = subst (λ n. HasFewStageCalls 0 n r) (sym (length-append messages (m ∷ [])))
+            (few_calls-moved (length messages + 1) q r taken (few_calls-full (length messages) head p q full work.few_calls));
         moves = moves-on q r taken moved
             (subst (λ l. MovesSoFar l (on second (sends_of q.calls))) (sym (ap (on first) (full-takes head p q full)))
             (subst (MovesSoFar (on first (takes_of p.calls))) (sym (ap (on second) (full-sends head p q full))) work.moves));
         follows = follows-on (messages ++ m ∷ []) q r taken
-            (subst (FollowsCalls IsNextOf is_next (messages ++ m ∷ [])) (sym (full-calls head p q full))
+            (subst (EachHasItsCall IsNextOf is_next (messages ++ m ∷ [])) (sym (full-calls head p q full))
             (follows-next IsNextOf is_next messages m p.calls (Nothing 0) refl tt work.follows));
         listed = λ fed. listed-on (messages ++ m ∷ []) q r mid is taken (helped fed)
             (listed-full messages m head p q was mid full (grown fed) (work.listed (fed_before fed)));
@@ -179,7 +179,7 @@ module _ {B : Type 0} where
 
   -- it moved what was in first, until nothing was there
   pub work-done : (messages : List Message) (p q : PassStanding B) (before : List Ended) (was is : List Finished) (starved wanted : Bool)
-      → IsAtWork messages p was starved → HasTakenOrMoved p q → HasMovedIts p q → HasHelped p q was is → (wanted ≡ false → starved ≡ false)
+      → IsAtWork messages p was starved → HasTakenOrMoved p q → HasMovedIts p q → HasFinishedOnlySeconds p q was is → (wanted ≡ false → starved ≡ false)
       → q.calls ≡ before ++ Nothing (suc first) ∷ [] → (known_on first q).finished < (known_on first q).head → IsDone messages q is wanted
   work-done messages p q before was is starved wanted work taken moved helped fed_before emptied past =
       record {
@@ -193,7 +193,7 @@ module _ {B : Type 0} where
           };
           past = past;
           between = between-taken p q work.between taken;
-          thrifty = thrifty-moved (length messages) p q taken work.thrifty;
+          few_calls = few_calls-moved (length messages) p q taken work.few_calls;
           moves = moves-on p q taken moved work.moves;
           follows = follows-on messages p q taken work.follows;
         };
@@ -214,20 +214,20 @@ module _ {B : Type 0} where
   pub left-sent : (contents : B → List ℕ) (messages ticket : ℕ) (p q r : PassStanding B) (h : HeldStanding B) (kept : Option (HeldStanding B))
       → WasLent contents p q h
       → r ≡ having_seen r.seen (after_spent_put 1 ticket q) → IsSome kept → IfSome kept (λ k. (k.index ≡ h.index) × (k.queue ≡ h.queue))
-      → HasLeftSo IsThrifty messages (messages + 1) p r kept
+      → HasLeftSo HasFewStageCalls messages (messages + 1) p r kept
   left-sent contents messages ticket p q r h None lent is some_ back = absurd (search rules)
   left-sent contents messages ticket p q r h (Some k) lent is some_ back =
-      left-so-at-put IsThrifty contents messages (messages + 1) 0 lent.place 1 ticket p q r h k lent.got is back.0 back.1
-      (thrifty-at_send contents messages ticket p q r h lent is)
+      left-so-at-put HasFewStageCalls contents messages (messages + 1) 0 lent.place 1 ticket p q r h k lent.got is back.0 back.1
+      (few_calls-at_send contents messages ticket p q r h lent is)
 
   -- it met Spent before it was done with so many messages
   pub work-left : (shared : Identity B) (messages : List Message) (many : ℕ) (p q : PassStanding B) (members : List Finished) (starved : Bool)
       (kept : Option (HeldStanding B)) → IsAtWork messages p members starved → p.queue ≡ shared → p.retired ≡ None
-      → HasLeftSo IsThrifty (length messages) many p q kept → HasStopped shared many q kept
+      → HasLeftSo HasFewStageCalls (length messages) many p q kept → HasStopped shared many q kept
   work-left shared messages many p q members starved kept was queue stays left =
       record {
         spent = left.spent;
-        thrifty = left.thrifty was.thrifty;
+        few_calls = left.few_calls was.few_calls;
         queue = left.own.0 ∙ queue;
         stays = left.own.2 ∙ stays;
         held = left.held ∙ ap (λ l. l ++ index_of kept) was.between.none;
@@ -236,7 +236,7 @@ module _ {B : Type 0} where
 
   pub work-stopped : (shared : Identity B) (messages : List Message) (m : Message) (p q : PassStanding B) (members : List Finished) (starved : Bool)
       (kept : Option (HeldStanding B)) → IsAtWork messages p members starved → p.queue ≡ shared → p.retired ≡ None
-      → HasLeftSo IsThrifty (length messages) (length messages + 1) p q kept → HasStopped shared (length (messages ++ m ∷ [])) q kept
+      → HasLeftSo HasFewStageCalls (length messages) (length messages + 1) p q kept → HasStopped shared (length (messages ++ m ∷ [])) q kept
   work-stopped shared messages m p q members starved kept was queue stays left =
       subst (λ n. HasStopped shared n q kept) (sym (length-append messages (m ∷ [])))
       (work-left shared messages (length messages + 1) p q members starved kept was queue stays left)
@@ -246,7 +246,7 @@ module _ {B : Type 0} where
       → HasStopped shared few p kept → HasStopped shared many p kept
   stopped-more shared few many p kept low was = record {
     spent = was.spent;
-    thrifty = thrifty-more 1 few many p low was.thrifty;
+    few_calls = few_calls-more 1 few many p low was.few_calls;
     queue = was.queue;
     stays = was.stays;
     held = was.held;

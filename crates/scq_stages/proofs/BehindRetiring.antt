@@ -15,13 +15,13 @@ use Rattle.scq_passes.proofs.Since.{since-taken}
 use Rattle.scq_stages.specs.declared.finished.Finished.{Finished}
 use Rattle.scq_stages.specs.declared.finished.StageWay.TheVariants.{Direct}
 use Rattle.scq_stages.specs.Members.{is_second, is_first, is_direct, DirectsAre}
-use Rattle.scq_stages.specs.Moves.{first, second}
+use Rattle.scq_stages.specs.Records.{first, second}
 use Rattle.scq_stages.specs.Passing.{SendsToFirst, FinishesItself}
 use Rattle.scq_stages.specs.Steps.{SecondsSoFar, FirstsSoFar, HasGivenBack, HasFinished}
 use Rattle.scq_stages.specs.Working.{HasListed, HasListedAll, IsDone, IsLeaving}
 use Rattle.scq_stages.proofs.AtWork.{takes-since}
 use Rattle.scq_stages.proofs.Moving.{gives, moved-of}
-use Rattle.scq_stages.proofs.Thrift.{thrifty-moved, thrifty-retired}
+use Rattle.scq_stages.proofs.FewCalls.{few_calls-moved, few_calls-retired}
 
 module _ {B : Type 0} where
   -- what it took since it retired are the calls behind
@@ -52,8 +52,8 @@ module _ {B : Type 0} where
       record {
         taken = taken;
         between = between-taken (after_retire at) p (between-retired at done.moved.between) taken;
-        thrifty = thrifty-moved (length messages) (after_retire at) p (moved-of (after_retire at) p taken)
-            (thrifty-retired 0 (length messages) at done.moved.thrifty);
+        few_calls = few_calls-moved (length messages) (after_retire at) p (moved-of (after_retire at) p taken)
+            (few_calls-retired 0 (length messages) at done.moved.few_calls);
         high = λ m has. below m (subst (λ l. Contains (on first (takes_of l)) m) (behind-since at p taken) has);
         listed = λ fed. listed-all messages at p was is taken (finished fed) (done.listed (fed_before fed));
       }

@@ -17,7 +17,7 @@ use Rattle.scq_queue.specs.Lists.{Placed, sends_of, takes_of}
 use Rattle.scq_queue.specs.Passes.{PassStanding, HeldStanding}
 use Rattle.scq_passes.specs.Becoming.{BecomeSoFar}
 use Rattle.scq_passes.specs.Calls.{calls_before, calls_behind}
-use Rattle.scq_passes.specs.PassedOn.{ArePassedOn, FollowsCalls}
+use Rattle.scq_passes.specs.PassedOn.{ArePassedOn, EachHasItsCall}
 use Rattle.scq_passes.specs.Records.{on}
 use Rattle.scq_passes.specs.Together.{all_sends, all_takes, NoPlaceStandsTwice, SendsAreTakes}
 use Rattle.scq_passes.proofs.Becoming.{so-far-all, so-far-results}
@@ -28,10 +28,10 @@ use Rattle.scq_passes.proofs.SendsAndTakes.{take-was-sent}
 use Rattle.scq_stages.specs.declared.finished.Finished.{Finished}
 use Rattle.scq_stages.specs.declared.finished.StageWay.TheVariants.{Second, First}
 use Rattle.scq_stages.specs.Stages.{squeezed, both}
-use Rattle.scq_stages.specs.AllStages.{result_of}
+use Rattle.scq_stages.specs.AllStages.{handled_of}
 use Rattle.scq_stages.specs.Members.{AreMoves, DirectsAre, FinishesTake, FirstsAre, IsMove, IsNoPart, SecondsAre, is_direct, is_first, is_second}
-use Rattle.scq_stages.specs.Moves.{first, is_next, second}
-use Rattle.scq_stages.specs.Output.{Result, finished_in, without_way}
+use Rattle.scq_stages.specs.Records.{first, is_next, second}
+use Rattle.scq_stages.specs.Output.{Handled, finished_in, without_way}
 use Rattle.scq_stages.specs.Passing.{FinishesItself, IsNextOf, SendsToFirst}
 use Rattle.scq_stages.proofs.Readings.{IsPart, finished-reads, in-three, moved-part, moved-reads, not-over, passed-reads, read, sent-part}
 use Rattle.scq_stages.proofs.Zips.{zip-from, zip-reads}
@@ -56,7 +56,7 @@ flat-same f g (w ∷ ws) each =
 module _ {B : Type 0} where
   -- the pass answers for the messages, and for what it took before it retired: so far, since what was taken might be no part's bytes
   pub record IsMoving (w : Work B) : Type 0 where
-    pub follows : FollowsCalls IsNextOf is_next w.messages w.pass.calls
+    pub follows : EachHasItsCall IsNextOf is_next w.messages w.pass.calls
     pub moves : BecomeSoFar IsNoPart IsMove (on first (takes_of (calls_before w.pass))) (on second (sends_of w.pass.calls))
 
   -- and so does the list
@@ -143,30 +143,30 @@ module _ {B : Type 0} where
         (member-on second (sends_of v.pass.calls) t from.2 its.1) in
         moved-part by.0 t by.2 (moved-part-of v from.1 by.0 by.1)
 
-    -- the kinds of what a worker did, as results
-    abbrev of_seconds : Work B → List Result
+    -- the kinds of what a worker did, as handled messages
+    abbrev of_seconds : Work B → List Handled
     of_seconds w = map (read squeezed) (on second (takes_of w.pass.calls))
 
-    abbrev of_firsts : Work B → List Result
+    abbrev of_firsts : Work B → List Handled
     of_firsts w = map (read both) (on first (takes_of (calls_behind w.pass)))
 
-    abbrev of_moved : Work B → List Result
+    abbrev of_moved : Work B → List Handled
     of_moved w = map (read both) (on first (takes_of (calls_before w.pass)))
 
-    abbrev of_takes : Work B → List Result
+    abbrev of_takes : Work B → List Handled
     of_takes w = map (read both) (on first (takes_of w.pass.calls))
 
-    abbrev of_sends : Work B → List Result
+    abbrev of_sends : Work B → List Handled
     of_sends w = map (read both) (on first (sends_of w.pass.calls))
 
-    abbrev of_directs : Work B → List Result
+    abbrev of_directs : Work B → List Handled
     of_directs w = map without_way (filter is_direct w.list.items)
 
-    abbrev of_members : Work B → List Result
+    abbrev of_members : Work B → List Handled
     of_members w = map without_way w.list.items
 
-    abbrev of_messages : Work B → List Result
-    of_messages w = map result_of w.messages
+    abbrev of_messages : Work B → List Handled
+    of_messages w = map handled_of w.messages
 
     -- what it took from first is what it took before its retirement, and behind
     takes-read : (w : Work B) → of_takes w ≡ of_moved w ++ of_firsts w
@@ -208,9 +208,9 @@ module _ {B : Type 0} where
           let split : map without_way (two ++ filter is_direct items)
           ≡ (map without_way (filter is_second items) ++ map without_way (filter is_first items)) ++ of_directs w =
           map-append without_way two (filter is_direct items)
-          ∙ ap (λ (l : List Result). l ++ of_directs w) (map-append without_way (filter is_second items) (filter is_first items)) in
-          subst (λ (l : List Result). IsPermutation (of_members w) ((l ++ of_firsts w) ++ of_directs w)) (seconds-read w has)
-          (subst (λ (l : List Result). IsPermutation (of_members w) ((map without_way (filter is_second items) ++ l) ++ of_directs w)) (firsts-read w has)
+          ∙ ap (λ (l : List Handled). l ++ of_directs w) (map-append without_way (filter is_second items) (filter is_first items)) in
+          subst (λ (l : List Handled). IsPermutation (of_members w) ((l ++ of_firsts w) ++ of_directs w)) (seconds-read w has)
+          (subst (λ (l : List Handled). IsPermutation (of_members w) ((map without_way (filter is_second items) ++ l) ++ of_directs w)) (firsts-read w has)
           (subst (IsPermutation (of_members w)) split (IsPermutation-map without_way items (two ++ filter is_direct items) (in-three items))))
 
       module _ (places : NoPlaceStandsTwice (passes_in works)) (once : NoPlaceIsTakenTwice (passes_in works)) (swept : SendsAreTakes (passes_in works)) where
@@ -226,7 +226,7 @@ module _ {B : Type 0} where
             ≡ map (read stage) (on topic (all_sends (passes_in works))) =
             flat-map (read stage) (λ (w : Work B). on topic (sends_of w.pass.calls)) works
             ∙ ap (map (read stage)) (sym (ap (on topic) (sends-in works) ∙ on-all topic (λ (w : Work B). sends_of w.pass.calls) works)) in
-            subst (λ (l : List Result). IsPermutation l (flat_map (λ (w : Work B). map (read stage) (on topic (sends_of w.pass.calls))) works)) (sym takes)
+            subst (λ (l : List Handled). IsPermutation l (flat_map (λ (w : Work B). map (read stage) (on topic (sends_of w.pass.calls))) works)) (sym takes)
             (subst (IsPermutation (map (read stage) (on topic (all_takes (passes_in works))))) (sym sends)
             (IsPermutation-map (read stage) (on topic (all_takes (passes_in works))) (on topic (all_sends (passes_in works)))
             (IsPermutation-sym (on topic (all_sends (passes_in works))) (on topic (all_takes (passes_in works)))
@@ -252,9 +252,9 @@ module _ {B : Type 0} where
             (IsPermutation-sym (flat_map of_takes works) (flat_map of_moved works ++ flat_map of_firsts works) takes) (topic-reads first both)))
 
         -- the members of all workers are what becomes of the messages of all, each once
-        pub all-finished : IsPermutation (map without_way (finished_in (lists_in works))) (map result_of (messages_in works))
+        pub all-finished : IsPermutation (map without_way (finished_in (lists_in works))) (map handled_of (messages_in works))
         all-finished =
-            let taken : Work B → List Result = λ w. of_seconds w ++ of_firsts w in
+            let taken : Work B → List Handled = λ w. of_seconds w ++ of_firsts w in
             let lists = together of_members taken of_directs works list-reads in
             let messages = together of_messages of_sends of_directs works (λ w has.
             passed-reads w.messages (on first (sends_of w.pass.calls)) (filter is_direct w.list.items) (All-contains IsWork works w listed has).passed) in
@@ -267,5 +267,5 @@ module _ {B : Type 0} where
             let members : flat_map of_members works ≡ map without_way (finished_in (lists_in works)) =
             flat-map without_way (λ (w : Work B). w.list.items) works
             ∙ ap (map without_way) (sym (flat_map-map (λ (l : Vec Finished Global). l.items) (λ (w : Work B). w.list) works)) in
-            subst (λ (l : List Result). IsPermutation l (map result_of (messages_in works))) members
-            (subst (IsPermutation (flat_map of_members works)) (flat-map result_of (λ (w : Work B). w.messages) works) joined)
+            subst (λ (l : List Handled). IsPermutation l (map handled_of (messages_in works))) members
+            (subst (IsPermutation (flat_map of_members works)) (flat-map handled_of (λ (w : Work B). w.messages) works) joined)

@@ -95,7 +95,7 @@ module _ {B S : Type 0} where
     all-done = record {
       each = All-map (HasDone shared) work_of desks (λ k d less.
           let its = ran.run k d less in
-          record { thrifty = its.thrifty; queue = its.queue; held = its.held; ended = its.ended });
+          record { few_calls = its.few_calls; queue = its.queue; held = its.held; ended = its.ended });
       setup = ran.setup;
       numbers = λ k d less. numbers-so k d (omega (arith, less, length-map desks work_of));
       rings = ran.rings;

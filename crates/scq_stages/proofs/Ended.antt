@@ -1,27 +1,25 @@
 -- A worker that met no Spent: what its run says of its pass and of its list at the end, by what they were when it retired.
-use Rattle.std.proofs.Common.{◌≡◌, refl, sym, ◌∙◌, ap, subst, suc, ℕ, Bool, List, [], ◌∷◌, ◌++◌, take}
+use Rattle.std.proofs.Common.{◌≡◌, refl, sym, ◌∙◌, ap, subst, suc, Bool, List, [], ◌∷◌, ◌++◌}
 use Rattle.std.specs.Prelude.{filter}
-use Rattle.std.specs.List.{Contains, filter_map}
-use Rattle.std.proofs.lemmas.List.Elements.{filter-append, filter_map-append}
+use Rattle.std.specs.List.{Contains}
+use Rattle.std.proofs.lemmas.List.Elements.{filter-append}
 use Rattle.scq_core.specs.declared.ended.Ended.{Ended}
 use Rattle.scq_core.specs.declared.ended.Ended.TheVariants.{Done, Got, Nothing}
 use Rattle.scq_frames.specs.declared.message.Message.{Message}
 use Rattle.scq_queue.specs.Lists.{Placed, sends_of, takes_of}
 use Rattle.scq_queue.specs.Passes.{PassStanding}
 use Rattle.scq_passes.specs.Calls.{calls_before, calls_behind}
-use Rattle.scq_passes.specs.PassedOn.{FollowsCalls}
+use Rattle.scq_passes.specs.PassedOn.{EachHasItsCall}
 use Rattle.scq_passes.specs.Records.{AreReturns, AreTakesFollowed, IsGivenBack, on, none, and_got, and_found_none}
 use Rattle.scq_passes.specs.Together.{HasRetired}
 use Rattle.scq_passes.proofs.Following.{follows-others}
 use Rattle.scq_passes.proofs.Kept.{taken-calls}
-use Rattle.scq_passes.proofs.RecordSteps.{after-taken}
 use Rattle.scq_passes.proofs.Retired.{before-retired, nothing-behind, retired-sends, retired-taken}
 use Rattle.scq_stages.specs.declared.finished.Finished.{Finished}
-use Rattle.scq_stages.specs.AllStages.{KeepsStages}
-use Rattle.scq_stages.specs.Moves.{HelpsSecondThenFirst, FoundFirstEmpty, first, is_next, second, take_topic}
+use Rattle.scq_stages.specs.Records.{FoundFirstEmpty, first, is_next, second}
 use Rattle.scq_stages.specs.Passing.{IsNextOf}
 use Rattle.scq_stages.specs.Steps.{MovesSoFar}
-use Rattle.scq_stages.specs.Working.{HasEnded}
+use Rattle.scq_stages.specs.Working.{HasMovedAllAndSwept}
 
 -- what is given back goes to the free ring
 home : AreReturns IsGivenBack
@@ -40,7 +38,7 @@ takes-no_next calls (and_found_none {calls = before} topic more) =
     filter-append is_next before (Nothing (suc topic) ∷ []) ∙ ap (λ l. l ++ []) (takes-no_next before more)
 
 module _ {B : Type 0} (messages : List Message) (p : PassStanding B) (members : List Finished) (starved : Bool)
-    (ended : HasEnded messages p members starved) where
+    (ended : HasMovedAllAndSwept messages p members starved) where
   -- its record is that from before its retirement, and takes
   calls-are : p.calls ≡ ended.at.calls ++ ended.leaving.taken.block
   calls-are = taken-calls _ p ended.leaving.taken
@@ -58,9 +56,9 @@ module _ {B : Type 0} (messages : List Message) (p : PassStanding B) (members : 
       (sym (retired-sends home ended.at p ended.leaving.taken)) ended.moved.moves)
 
   -- its messages are its sends to first and its Fulls, in the order of its record
-  pub follows-all : FollowsCalls IsNextOf is_next messages p.calls
+  pub follows-all : EachHasItsCall IsNextOf is_next messages p.calls
   follows-all =
-      subst (FollowsCalls IsNextOf is_next messages) (sym calls-are)
+      subst (EachHasItsCall IsNextOf is_next messages) (sym calls-are)
       (follows-others IsNextOf is_next messages ended.at.calls ended.leaving.taken.block
       (takes-no_next ended.leaving.taken.block ended.leaving.taken.are) ended.moved.follows)
 

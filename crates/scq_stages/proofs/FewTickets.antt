@@ -17,8 +17,8 @@ use Rattle.scq_passes.specs.Together.{all_sends, all_takes, NoneSpent, IsBounded
 use Rattle.scq_passes.proofs.NoneSpent.{messages_of, none-spent-within, passes_of, sums, sums-le}
 use Rattle.scq_passes.proofs.OnTopics.{few-takes-on, on-all}
 use Rattle.scq_passes.proofs.SendsAndTakes.{few-takes}
-use Rattle.scq_stages.specs.Moves.{first}
-use Rattle.scq_stages.specs.Working.{IsThrifty}
+use Rattle.scq_stages.specs.Records.{first}
+use Rattle.scq_stages.specs.Working.{HasFewStageCalls}
 
 -- a sum of numbers, each at most two others together
 sums-both : {A : Type 0} (f g h : A → ℕ) (xs : List A)
@@ -59,7 +59,7 @@ module _ {B : Type 0} where
       length-flat_map (λ (p : PassStanding B). sends_of p.calls) (passes_of works)
       ∙ sum_by-map (λ (p : PassStanding B). length (sends_of p.calls)) (λ (w : ℕ × PassStanding B). w.1) works
 
-  module _ (works : List (ℕ × PassStanding B)) (each : All (λ (w : ℕ × PassStanding B). IsThrifty 1 w.0 w.1) works)
+  module _ (works : List (ℕ × PassStanding B)) (each : All (λ (w : ℕ × PassStanding B). HasFewStageCalls 1 w.0 w.1) works)
       (sent : EachTakeIsASend (passes_of works)) (once : NoPlaceIsTakenTwice (passes_of works)) where
     -- the takes of first are at most as many as the messages
     few-firsts : sum_by firsts_of works ≤ messages_of works

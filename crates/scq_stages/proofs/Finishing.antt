@@ -23,10 +23,10 @@ use Rattle.scq_stages.specs.declared.finished.StageWay.TheVariants.{Second, Firs
 use Rattle.scq_stages.specs.Stages.{redacted, squeezed, both}
 use Rattle.scq_stages.specs.Handling.{after}
 use Rattle.scq_stages.specs.Members.{is_second, is_first, is_direct, finished}
-use Rattle.scq_stages.specs.Moves.{first, second, take_topic}
-use Rattle.scq_stages.specs.Steps.{SecondsSoFar, FirstsSoFar, MovesSoFar, GotNo, HasMovedIts, HasFinishedSeconds, HasFinishedFirsts, HasFinished, HasHelped}
-use Rattle.scq_stages.specs.Working.{IsThrifty}
-use Rattle.scq_stages.proofs.Thrift.{thrifty-at_get, thrifty-at_put}
+use Rattle.scq_stages.specs.Records.{first, second, take_topic}
+use Rattle.scq_stages.specs.Steps.{SecondsSoFar, FirstsSoFar, MovesSoFar, GotNo, HasMovedIts, HasFinishedSeconds, HasFinishedFirsts, HasFinished, HasFinishedOnlySeconds}
+use Rattle.scq_stages.specs.Working.{HasFewStageCalls}
+use Rattle.scq_stages.proofs.FewCalls.{few_calls-at_get, few_calls-at_put}
 
 -- one list behind two
 longer : {A : Type 0} (xs ys zs whole : List A) → whole ≡ ys ++ zs → xs ++ whole ≡ (xs ++ ys) ++ zs
@@ -104,7 +104,7 @@ module _ {B : Type 0} where
       }
 
   pub helped-second : (place back : ℕ) (bytes later : List ℕ) (p r : PassStanding B) (was is : List Finished)
-      → since p r ≡ Got (suc second) place bytes ∷ Done 0 back later ∷ [] → WasListed Second squeezed place (part_at bytes) was is → HasHelped p r was is
+      → since p r ≡ Got (suc second) place bytes ∷ Done 0 back later ∷ [] → WasListed Second squeezed place (part_at bytes) was is → HasFinishedOnlySeconds p r was is
   helped-second place back bytes later p r was is calls listed =
       let all = finished-second place back bytes later p r was is calls listed in
       record {
@@ -136,7 +136,7 @@ module _ {B : Type 0} where
   }
 
   -- nor where nothing was taken from second
-  pub helped-nothing : (p q : PassStanding B) (was is : List Finished) → taken_since second p q ≡ [] → is ≡ was → HasHelped p q was is
+  pub helped-nothing : (p q : PassStanding B) (was is : List Finished) → taken_since second p q ≡ [] → is ≡ was → HasFinishedOnlySeconds p q was is
   helped-nothing p q was is none same = record {
     seconds = λ takes before. still second p q takes (filter is_second was) (filter is_second is) none (ap (filter is_second) same) before;
     firsts = ap (filter is_first) same;
@@ -168,8 +168,8 @@ module _ {B : Type 0} where
     directs = more.directs ∙ one.directs;
   }
 
-  pub helped-along : (p q r : PassStanding B) (xs ys zs : List Finished) → since p r ≡ since p q ++ since q r → HasHelped p q xs ys → HasHelped q r ys zs
-      → HasHelped p r xs zs
+  pub helped-along : (p q r : PassStanding B) (xs ys zs : List Finished) → since p r ≡ since p q ++ since q r → HasFinishedOnlySeconds p q xs ys → HasFinishedOnlySeconds q r ys zs
+      → HasFinishedOnlySeconds p r xs zs
   helped-along p q r xs ys zs split one more = record {
     seconds = seconds-along p q r xs ys zs split one.seconds more.seconds;
     firsts = more.firsts ∙ one.firsts;
@@ -228,26 +228,26 @@ module _ {B : Type 0} where
 
   -- a take met Spent
   pub left-take : (messages topic ticket : ℕ) (p q : PassStanding B) → q ≡ having_seen q.seen (after_spent_get (suc topic) ticket p)
-      → HasLeftSo IsThrifty messages messages p q None
+      → HasLeftSo HasFewStageCalls messages messages p q None
   left-take messages topic ticket p q is =
-      left-so-at-get IsThrifty messages messages (suc topic) ticket p q is (thrifty-at_get messages (suc topic) ticket p q is)
+      left-so-at-get HasFewStageCalls messages messages (suc topic) ticket p q is (few_calls-at_get messages (suc topic) ticket p q is)
 
   -- the put of what was taken met Spent: it came back
   pub left-back : (contents : B → List ℕ) (messages topic place : ℕ) (p q r : PassStanding B) (h : HeldStanding B) (kept : Option (HeldStanding B))
       → HasGot contents (suc topic) place p q h
       → IsSomeAnd kept (λ k. (k.index ≡ h.index) × (k.queue ≡ h.queue) × ((ring : ℕ) × (ticket : ℕ) × ((ring ≡ 0) ⊎ (ring ≡ suc second))
       × (r ≡ having_seen r.seen (after_spent_put ring ticket q))))
-      → HasLeftSo IsThrifty messages messages p r kept
+      → HasLeftSo HasFewStageCalls messages messages p r kept
   left-back contents messages topic place p q r h None got back = absurd back
   left-back contents messages topic place p q r h (Some k) got back =
-      left-so-at-put IsThrifty contents messages messages (suc topic) place back.2.0 back.2.1 p q r h k got back.2.3 back.0 back.1
-      (thrifty-at_put contents messages topic place back.2.0 back.2.1 p q r h got back.2.3 back.2.2)
+      left-so-at-put HasFewStageCalls contents messages messages (suc topic) place back.2.0 back.2.1 p q r h k got back.2.3 back.0 back.1
+      (few_calls-at_put contents messages topic place back.2.0 back.2.1 p q r h got back.2.3 back.2.2)
 
   pub left-given : (contents : B → List ℕ) (messages topic place : ℕ) (p q r : PassStanding B) (h : HeldStanding B) (kept : Option (HeldStanding B))
       → HasGot contents (suc topic) place p q h
       → IsSomeAnd kept (λ k. (k.index ≡ h.index) × (k.queue ≡ h.queue)
       × ((ticket : ℕ) × (r ≡ having_seen r.seen (after_spent_put 0 ticket q))))
-      → HasLeftSo IsThrifty messages messages p r kept
+      → HasLeftSo HasFewStageCalls messages messages p r kept
   left-given contents messages topic place p q r h None got back = absurd back
   left-given contents messages topic place p q r h (Some k) got back =
       left-back contents messages topic place p q r h (Some k) got (back.0, back.1, (0, back.2.0, inl refl, back.2.1))

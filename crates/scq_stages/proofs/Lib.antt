@@ -13,7 +13,7 @@ pub mod Faults
 pub mod DeskWorks
 pub mod Settled
 pub mod Moving
-pub mod Thrift
+pub mod FewCalls
 pub mod Finishing
 pub mod Moved
 pub mod AtWork

@@ -13,8 +13,8 @@ use Rattle.scq_passes.proofs.PassLemmas.{took-and-put}
 use Rattle.scq_stages.specs.declared.finished.Finished.{Finished}
 use Rattle.scq_stages.specs.Stages.{redacted}
 use Rattle.scq_stages.specs.Handling.{after}
-use Rattle.scq_stages.specs.Moves.{first, second, take_topic}
-use Rattle.scq_stages.specs.Steps.{HasTakenOrMoved, HasMovedIts, HasHelped}
+use Rattle.scq_stages.specs.Records.{first, second, take_topic}
+use Rattle.scq_stages.specs.Steps.{HasTakenOrMoved, HasMovedIts, HasFinishedOnlySeconds}
 use Rattle.scq_stages.proofs.Finishing.{since-took, moved-one, moved-back, helped-nothing}
 
 module _ {B : Type 0} where
@@ -29,7 +29,7 @@ module _ {B : Type 0} where
     pub taken : HasTakenOrMoved p r
     pub one : filter_map take_topic (since p r) ≡ first ∷ []
     pub moves : HasMovedIts p r
-    pub helped : HasHelped p r was is
+    pub helped : HasFinishedOnlySeconds p r was is
 
   moved-by : (contents : B → List ℕ) (place : ℕ) (p q r : PassStanding B) (h : HeldStanding B) (was is : List Finished) → suc second < length p.numbers
       → HasGot contents (suc first) place p q h → is ≡ was → (o : Option Part) → part_at (contents h.buffer) ≡ o → WasMoved o h q r

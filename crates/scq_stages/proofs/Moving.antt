@@ -14,7 +14,7 @@ use Rattle.scq_passes.proofs.Blocks.{takes-puts_all}
 use Rattle.scq_passes.proofs.Kept.{taken-weaker}
 use Rattle.scq_passes.proofs.OnTopics.{on-append, puts-on, moved-few}
 use Rattle.scq_passes.proofs.RecordSteps.{unspent-taken}
-use Rattle.scq_stages.specs.Moves.{first, second, is_next}
+use Rattle.scq_stages.specs.Records.{first, second, is_next}
 use Rattle.scq_stages.specs.Steps.{IsReturnOrMove, HasGivenBack, HasTakenOrMoved}
 
 -- what is given back goes to the free ring

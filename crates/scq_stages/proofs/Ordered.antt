@@ -14,41 +14,41 @@ use Rattle.scq_frames.specs.declared.message.Message.{Message}
 use Rattle.scq_frames.specs.Numbered.{numbered}
 use Rattle.scq_frames.specs.Text.{messages_of}
 use Rattle.scq_collect.specs.Merging.{AreApart, IsBefore}
-use Rattle.scq_collect.proofs.Orders.{Ascends, ascends-append, ascends-distinct, is_place, is_place-flip}
+use Rattle.scq_collect.proofs.Orders.{Ascends, ascends-append, ascends-distinct, is_position, is_position-flip}
 use Rattle.scq_files.specs.Ends.{AreGiven, all_left, messages_in}
 use Rattle.scq_files.specs.Reading.{AreOf}
 use Rattle.scq_files.proofs.Lists.{map-map}
 use Rattle.scq_files.proofs.GivenLemmas.{given-told}
 use Rattle.scq_stages.specs.declared.finished.Finished.{Finished}
-use Rattle.scq_stages.specs.AllStages.{result_of}
-use Rattle.scq_stages.specs.Output.{Result, place_of_finished, place_of_result, results_of, without_way}
+use Rattle.scq_stages.specs.AllStages.{handled_of}
+use Rattle.scq_stages.specs.Output.{Handled, position_of_finished, position_of_handled, all_handled, without_way}
 
--- results of this file that ascend from above a line
-record AreAbove (file line : ℕ) (results : List Result) : Type 0 where
-  up : Ascends place_of_result results
-  past : All (λ r. (r.file ≡ file) × (line < r.line)) results
+-- messages of this file, handled, that ascend from above a line
+record AreAbove (file line : ℕ) (handled : List Handled) : Type 0 where
+  up : Ascends position_of_handled handled
+  past : All (λ r. (r.file ≡ file) × (line < r.line)) handled
 
-file-ascends : (known file line : ℕ) (ms : List Message) → AreOf known file line ms → AreAbove file line (map result_of ms)
-file-ascends known file line [] of = record { up = tt; past = All-nil (λ (r : Result). (r.file ≡ file) × (line < r.line)) }
+file-ascends : (known file line : ℕ) (ms : List Message) → AreOf known file line ms → AreAbove file line (map handled_of ms)
+file-ascends known file line [] of = record { up = tt; past = All-nil (λ (r : Handled). (r.file ≡ file) × (line < r.line)) }
 file-ascends known file line (m ∷ ms) of =
     let rest = file-ascends known file m.line ms of.3 in
-    let first = result_of m in
-    let others = map result_of ms in
+    let first = handled_of m in
+    let others = map handled_of ms in
     record {
       up = (
-        All-weaker (λ (r : Result). (r.file ≡ file) × (m.line < r.line)) (λ (r : Result). IsBefore (place_of_result first) (place_of_result r))
+        All-weaker (λ (r : Handled). (r.file ≡ file) × (m.line < r.line)) (λ (r : Handled). IsBefore (position_of_handled first) (position_of_handled r))
             (λ r h. inr (of.0 ∙ sym h.0, inl h.1)) others rest.past,
         rest.up,
       );
-      past = All-cons (λ (r : Result). (r.file ≡ file) × (line < r.line)) first others (of.0, of.1)
-          (All-weaker (λ (r : Result). (r.file ≡ file) × (m.line < r.line)) (λ (r : Result). (r.file ≡ file) × (line < r.line))
+      past = All-cons (λ (r : Handled). (r.file ≡ file) × (line < r.line)) first others (of.0, of.1)
+          (All-weaker (λ (r : Handled). (r.file ≡ file) × (m.line < r.line)) (λ (r : Handled). (r.file ≡ file) × (line < r.line))
           (λ r h. (h.0, omega (arith, h.1, of.1))) others rest.past);
     }
 
--- results that ascend, of this file and those behind it
-record AreFrom (file : ℕ) (results : List Result) : Type 0 where
-  up : Ascends place_of_result results
-  past : All (λ r. file ≤ r.file) results
+-- handled messages that ascend, of this file and those behind it
+record AreFrom (file : ℕ) (handled : List Handled) : Type 0 where
+  up : Ascends position_of_handled handled
+  past : All (λ r. file ≤ r.file) handled
 
 -- all messages of files
 abbrev all_of : List (List Message) → List Message
@@ -56,42 +56,42 @@ all_of given = flat_map (λ own. own) given
 
 given-ascends : {S : Type 0} (topics : List (List ℕ × Kind)) (size : ℕ) (left : S → Option (List ℕ)) (file : ℕ) (was : List S)
     (given : List (List Message)) → AreGiven topics size left file was given
-    → AreFrom file (map result_of (all_of given))
-given-ascends topics size left file [] [] gave = record { up = tt; past = All-nil (λ (r : Result). file ≤ r.file) }
+    → AreFrom file (map handled_of (all_of given))
+given-ascends topics size left file [] [] gave = record { up = tt; past = All-nil (λ (r : Handled). file ≤ r.file) }
 given-ascends topics size left file [] (own ∷ more) gave = absurd gave
 given-ascends topics size left file (x ∷ xs) [] gave = absurd gave
 given-ascends topics size left file (x ∷ xs) (own ∷ more) gave =
     let here = file-ascends _ file 0 own gave.0.of in
     let rest = given-ascends topics size left (file + 1) xs more gave.1 in
-    let mine = map result_of own in
-    let others = map result_of (all_of more) in
+    let mine = map handled_of own in
+    let others = map handled_of (all_of more) in
     let whole : AreFrom file (mine ++ others) = record {
-      up = ascends-append place_of_result mine others here.up rest.up
-          (All-weaker (λ (r : Result). (r.file ≡ file) × (0 < r.line)) (λ (x : Result). All (λ y. IsBefore (place_of_result x) (place_of_result y)) others)
-          (λ x h. All-weaker (λ (r : Result). file + 1 ≤ r.file) (λ (y : Result). IsBefore (place_of_result x) (place_of_result y))
+      up = ascends-append position_of_handled mine others here.up rest.up
+          (All-weaker (λ (r : Handled). (r.file ≡ file) × (0 < r.line)) (λ (x : Handled). All (λ y. IsBefore (position_of_handled x) (position_of_handled y)) others)
+          (λ x h. All-weaker (λ (r : Handled). file + 1 ≤ r.file) (λ (y : Handled). IsBefore (position_of_handled x) (position_of_handled y))
           (λ y later. inl (omega (arith, h.0, later))) others rest.past) mine here.past);
-      past = All-append (λ (r : Result). file ≤ r.file) mine others
-          (All-weaker (λ (r : Result). (r.file ≡ file) × (0 < r.line)) (λ (r : Result). file ≤ r.file) (λ r h. omega (arith, h.0)) mine here.past)
-          (All-weaker (λ (r : Result). file + 1 ≤ r.file) (λ (r : Result). file ≤ r.file) (λ r later. omega (arith, later)) others rest.past);
+      past = All-append (λ (r : Handled). file ≤ r.file) mine others
+          (All-weaker (λ (r : Handled). (r.file ≡ file) × (0 < r.line)) (λ (r : Handled). file ≤ r.file) (λ r h. omega (arith, h.0)) mine here.past)
+          (All-weaker (λ (r : Handled). file + 1 ≤ r.file) (λ (r : Handled). file ≤ r.file) (λ r later. omega (arith, later)) others rest.past);
     } in
-    subst (AreFrom file) (sym (map-append result_of own (all_of more))) whole
+    subst (AreFrom file) (sym (map-append handled_of own (all_of more))) whole
 
--- a place is itself
-is_place-itself : (p : ℕ × ℕ × ℕ) → is_place p p ≡ true
-is_place-itself p = grind (arith, nat_tests)
+-- a position is itself
+is_position-itself : (p : ℕ × ℕ × ℕ) → is_position p p ≡ true
+is_position-itself p = grind (arith, nat_tests)
 
 -- members that are what becomes of given messages, in some order, are apart
 pub members-apart : {S : Type 0} (topics : List (List ℕ × Kind)) (size : ℕ) (left : S → Option (List ℕ)) (was : List S) (given : List (List Message))
     (members : List Finished) → AreGiven topics size left 1 was given
-    → IsPermutation (map without_way members) (map result_of (all_of given)) → AreApart place_of_finished members
+    → IsPermutation (map without_way members) (map handled_of (all_of given)) → AreApart position_of_finished members
 members-apart topics size left was given members gave same i j d less within alike =
-    let test : Result → Result → Bool = λ x y. is_place (place_of_result x) (place_of_result y) in
-    let results = map result_of (all_of given) in
+    let test : Handled → Handled → Bool = λ x y. is_position (position_of_handled x) (position_of_handled y) in
+    let handled = map handled_of (all_of given) in
     let up = (given-ascends topics size left 1 was given gave).up in
     let distinct : IsDistinct test (map without_way members) =
-    IsDistinct-IsPermutation test (λ x y. is_place-flip (place_of_result x) (place_of_result y)) results (map without_way members)
-    (IsPermutation-sym (map without_way members) results same) (ascends-distinct place_of_result results up) in
-    let plain : Result = without_way d in
+    IsDistinct-IsPermutation test (λ x y. is_position-flip (position_of_handled x) (position_of_handled y)) handled (map without_way members)
+    (IsPermutation-sym (map without_way members) handled same) (ascends-distinct position_of_handled handled up) in
+    let plain : Handled = without_way d in
     let long = length-map members without_way in
     let apart = apart_from_distinct test (map without_way members) i j plain distinct less (omega arith) in
     let first = get_or-map without_way members i d plain (omega arith) in
@@ -99,26 +99,26 @@ members-apart topics size left was given members gave same i j d less within ali
     let there : test (without_way (get_or members i d)) (without_way (get_or members j d)) ≡ false =
     ap (λ a. test a (without_way (get_or members j d))) (sym first) ∙ ap (test (get_or (map without_way members) i plain)) (sym second) ∙ apart in
     let itself : test (without_way (get_or members i d)) (without_way (get_or members j d)) ≡ true =
-    ap (λ p. is_place (place_of_finished (get_or members i d)) p) (sym alike) ∙ is_place-itself (place_of_finished (get_or members i d)) in
+    ap (λ p. is_position (position_of_finished (get_or members i d)) p) (sym alike) ∙ is_position-itself (position_of_finished (get_or members i d)) in
     absurd (cc)
 
 -- what becomes of the messages in contents is what one thread makes of them
-told-results : (file : ℕ) (contents : List (List ℕ)) → map result_of (all_of (messages_in [] file contents)) ≡ results_of file contents
-told-results file [] = refl
-told-results file (content ∷ more) =
+told-handled : (file : ℕ) (contents : List (List ℕ)) → map handled_of (all_of (messages_in [] file contents)) ≡ all_handled file contents
+told-handled file [] = refl
+told-handled file (content ∷ more) =
     let framed = messages_of content in
     let own = map (numbered file (topic_of [])) framed in
-    map-append result_of own (all_of (messages_in [] (file + 1) more)) ∙ ap (λ (l : List Result). map result_of own ++ l) (told-results (file + 1) more)
-    ∙ ap (λ (l : List Result). l ++ results_of (file + 1) more) (map-map result_of (numbered file (topic_of [])) framed)
+    map-append handled_of own (all_of (messages_in [] (file + 1) more)) ∙ ap (λ (l : List Handled). map handled_of own ++ l) (told-handled (file + 1) more)
+    ∙ ap (λ (l : List Handled). l ++ all_handled (file + 1) more) (map-map handled_of (numbered file (topic_of [])) framed)
 
 -- where the bytes of all files are visible, the members are what one thread makes of the contents
 pub members-told : {S : Type 0} (size : ℕ) (left : S → Option (List ℕ)) (was : List S) (given : List (List Message))
     (members : List Finished) → AreGiven [] size left 1 was given
-    → IsPermutation (map without_way members) (map result_of (all_of given))
-    → IfSome (all_left left was) (λ contents. IsPermutation (map without_way members) (results_of 1 contents))
+    → IsPermutation (map without_way members) (map handled_of (all_of given))
+    → IfSome (all_left left was) (λ contents. IsPermutation (map without_way members) (all_handled 1 contents))
 members-told size left was given members gave same = at (all_left left was) (given-told [] size left 1 was given gave) where
   at : (o : Option (List (List ℕ))) → IfSome o (λ contents. given ≡ messages_in [] 1 contents)
-      → IfSome o (λ contents. IsPermutation (map without_way members) (results_of 1 contents))
+      → IfSome o (λ contents. IsPermutation (map without_way members) (all_handled 1 contents))
   at None is = tt
   at (Some contents) is =
-      subst (IsPermutation (map without_way members)) (ap (λ g. map result_of (all_of g)) is ∙ told-results 1 contents) same
+      subst (IsPermutation (map without_way members)) (ap (λ g. map handled_of (all_of g)) is ∙ told-handled 1 contents) same

@@ -1,4 +1,4 @@
--- What a worker took, sent and finished, read as results: of bytes that are a part's, the part's file and line with what a stage makes of its payload.
+-- What a worker took, sent and finished, read as handled: of bytes that are a part's, the part's file and line with what a stage makes of its payload.
 use Rattle.std.proofs.Common.{◌≡◌, refl, sym, ◌∙◌, ap, subst, arith, Bool, not, suc, ℕ, List, [], ◌++◌, map, Some, None}
 use Rattle.std.specs.Prelude.{◌&&◌, filter, unwrap_or}
 use Rattle.std.specs.List.{Contains}
@@ -13,7 +13,7 @@ use Rattle.scq_core.specs.declared.ended.Ended.{Ended}
 use Rattle.scq_core.specs.declared.ended.Ended.TheVariants.{Done}
 use Rattle.scq_queue.specs.Lists.{Placed, sends_of, sent_by}
 use Rattle.scq_queue.proofs.Records.{came_by, sent_call}
-use Rattle.scq_passes.specs.PassedOn.{ArePassedOn, FollowsCalls}
+use Rattle.scq_passes.specs.PassedOn.{ArePassedOn, EachHasItsCall}
 use Rattle.scq_passes.proofs.ManyLists.{found-at, stands-at}
 use Rattle.scq_passes.proofs.PassedOn.{passed-results}
 use Rattle.scq_stages.specs.declared.finished.Finished.{Finished}
@@ -21,24 +21,24 @@ use Rattle.scq_stages.specs.declared.finished.StageWay.{StageWay}
 use Rattle.scq_stages.specs.declared.finished.StageWay.TheVariants.{Second, First, Direct}
 use Rattle.scq_stages.specs.Stages.{redacted, redacted_byte, squeezed, both}
 use Rattle.scq_stages.specs.Handling.{after}
-use Rattle.scq_stages.specs.AllStages.{result_of}
+use Rattle.scq_stages.specs.AllStages.{handled_of}
 use Rattle.scq_stages.specs.Members.{FinishesTake, IsMove, is_direct, is_first, is_second, is_way_direct, is_way_first, is_way_second}
-use Rattle.scq_stages.specs.Moves.{first, is_next}
-use Rattle.scq_stages.specs.Output.{Result, without_way}
+use Rattle.scq_stages.specs.Records.{first, is_next}
+use Rattle.scq_stages.specs.Output.{Handled, without_way}
 use Rattle.scq_stages.specs.Passing.{FinishesItself, IsNextOf, SendsToFirst, whole_of}
 use Rattle.scq_stages.proofs.Zips.{contains-filter, filter-filter, zip-from}
 
 -- what becomes of a part by a stage
-abbrev pub result_by : (List ℕ → List ℕ) → Part → Result
-result_by stage p = record { file = p.file; line = p.line; payload = stage p.payload }
+abbrev pub handled_by : (List ℕ → List ℕ) → Part → Handled
+handled_by stage p = record { file = p.file; line = p.line; payload = stage p.payload }
 
 -- a part that stands where there is none
 abbrev no_part : Part
 no_part = record { file = 0; line = 0; topic = 0; part = 0; parts = 0; payload = [] }
 
 -- what becomes of the part that bytes begin with; where there is none, of one without bytes
-abbrev pub read : (List ℕ → List ℕ) → Placed → Result
-read stage m = result_by stage (unwrap_or (part_at m.bytes) no_part)
+abbrev pub read : (List ℕ → List ℕ) → Placed → Handled
+read stage m = handled_by stage (unwrap_or (part_at m.bytes) no_part)
 
 -- the bytes are those of a part
 pub record IsPart (m : Placed) : Type 0 where
@@ -53,8 +53,8 @@ part-read m its = ap part_at its.begins.1 ∙ part_at-again its.part its.begins.
 pub not-over : (m : Placed) → IsPart m → part_at m.bytes ≡ None → ⊥
 not-over m its none = let read = part-read m its in absurd (cc)
 
-reads : (stage : List ℕ → List ℕ) (m : Placed) (p : Part) → part_at m.bytes ≡ Some p → read stage m ≡ result_by stage p
-reads stage m p is = ap (λ o. result_by stage (unwrap_or o no_part)) is
+reads : (stage : List ℕ → List ℕ) (m : Placed) (p : Part) → part_at m.bytes ≡ Some p → read stage m ≡ handled_by stage p
+reads stage m p is = ap (λ o. handled_by stage (unwrap_or o no_part)) is
 
 -- what was redacted is the bytes of a part where what was taken is
 pub redacted-fits : (p : Part) → IsEncodable p → IsEncodable (after redacted p)
@@ -85,11 +85,11 @@ pub finished-reads : (way : ℕ → StageWay) (stage : List ℕ → List ℕ) (t
 finished-reads way stage take f its = ap without_way its.is ∙ sym (reads stage take its.part its.decodes)
 
 -- a message that was sent reads as what becomes of it
-sent-reads : (m : Message) (send : Placed) → SendsToFirst m send → read both send ≡ result_of m
+sent-reads : (m : Message) (send : Placed) → SendsToFirst m send → read both send ≡ handled_of m
 sent-reads m send its = reads both send (whole_of m) (ap part_at its.bytes.1 ∙ part_at-again (whole_of m) its.bytes.0 its.fits)
 
 -- what was sent to first has the bytes of a part: that of a message, which the send's call is the next of
-pub sent-part : (ms : List Message) (calls : List Ended) → FollowsCalls IsNextOf is_next ms calls → (s : Placed) → Contains (sends_of calls) s
+pub sent-part : (ms : List Message) (calls : List Ended) → EachHasItsCall IsNextOf is_next ms calls → (s : Placed) → Contains (sends_of calls) s
     → s.topic ≡ first → IsPart s
 sent-part ms calls follows s has topic =
     let at = found-at (sends_of calls) s has in
@@ -102,8 +102,8 @@ sent-part ms calls follows s has topic =
 
 -- what becomes of a worker's messages is its sends to first as they are read, and its Direct members
 pub passed-reads : (ms : List Message) (sends : List Placed) (directs : List Finished) → ArePassedOn SendsToFirst FinishesItself ms sends directs
-    → IsPermutation (map result_of ms) (map (read both) sends ++ map without_way directs)
-passed-reads = passed-results result_of (read both) without_way sent-reads (λ m f its. ap without_way its.is)
+    → IsPermutation (map handled_of ms) (map (read both) sends ++ map without_way directs)
+passed-reads = passed-results handled_of (read both) without_way sent-reads (λ m f its. ap without_way its.is)
 
 -- a list is its Second, its First and its Direct members
 pub in-three : (members : List Finished) → IsPermutation members ((filter is_second members ++ filter is_first members) ++ filter is_direct members)

@@ -17,8 +17,8 @@ use Rattle.scq_passes.specs.PassedOn as passing
 use Rattle.scq_passes.specs.Calls.{Suits, HasLeftSo, index_of, after_retire}
 use Rattle.scq_passes.proofs.Kept.{swept}
 use Rattle.scq_stages.specs.declared.finished.Finished.{Finished}
-use Rattle.scq_stages.specs.Working.{IsThrifty, IsAtWork, IsDone, IsLeaving, HasStopped, HasRun}
-use Rattle.scq_stages.proofs.Thrift.{thrifty-late, thrifty-retired}
+use Rattle.scq_stages.specs.Working.{HasFewStageCalls, IsAtWork, IsDone, IsLeaving, HasStopped, HasRun}
+use Rattle.scq_stages.proofs.FewCalls.{few_calls-late, few_calls-retired}
 
 -- what follows of a clause of an answer that is Ok
 pub on-then : {X E : Type 0} {P Q : Type 0} (r : Result X E) → (P → Q) → OnOk r P → OnOk r Q
@@ -56,7 +56,7 @@ module _ {B : Type 0} where
           unspent = λ ring ticket put has. absurd (search rules);
           knows = record { sends = λ m has. absurd (search rules) };
         };
-        thrifty = record {
+        few_calls = record {
           fulls = omega arith;
           to_first = omega arith;
           sent_first = omega arith;
@@ -80,7 +80,7 @@ module _ {B : Type 0} where
         let long : length q.numbers ≡ 3 = taken.knows.rings ∙ suits.numbers in
         record {
           read = read;
-          thrifty = thrifty-late (length (all_given files)) q leaving.thrifty;
+          few_calls = few_calls-late (length (all_given files)) q leaving.few_calls;
           queue = ap (λ (x : PassStanding B). x.queue) taken.pass ∙ suits.queue;
           retired = (length p.calls, ap (λ (x : PassStanding B). x.retired) taken.pass);
           held = leaving.between.none ∙ ap index_of (sym nothing);
@@ -100,13 +100,13 @@ module _ {B : Type 0} where
     -- it met Spent in a sweep
     pub run-late : (p q : PassStanding B) (was is : List Finished) (before after : Bool) (kept held : Option (HeldStanding B))
         → AllRead [] size faults end_count left files → Suits shared 1 p → IsDone (all_given files) p was before
-        → HasLeftSo IsThrifty (length (all_given files)) (length (all_given files)) (after_retire p) q held → kept ≡ held
+        → HasLeftSo HasFewStageCalls (length (all_given files)) (length (all_given files)) (after_retire p) q held → kept ≡ held
         → HasRun shared size faults end_count left files q is after kept
     run-late p q was is before after kept held read suits done end same =
         subst (λ k. HasRun shared size faults end_count left files q is after k) (sym same)
         (record {
           read = read;
-          thrifty = end.thrifty (thrifty-retired 0 (length (all_given files)) p done.moved.thrifty);
+          few_calls = end.few_calls (few_calls-retired 0 (length (all_given files)) p done.moved.few_calls);
           queue = end.own.0 ∙ suits.queue;
           retired = (length p.calls, end.own.2);
           held = end.held ∙ ap (λ l. l ++ index_of held) done.moved.between.none;
@@ -123,7 +123,7 @@ module _ {B : Type 0} where
         (subst (λ (x : PassStanding B). HasRun shared size faults end_count left files x is after held) (sym retired)
         (record {
           read = read;
-          thrifty = thrifty-retired 1 (length (all_given files)) p end.thrifty;
+          few_calls = few_calls-retired 1 (length (all_given files)) p end.few_calls;
           queue = end.queue;
           retired = (length p.calls, refl);
           held = end.held;

@@ -1,6 +1,6 @@
 -- What all workers of stages did with the messages of files. `given` has the messages of each file, in the order of the files. A worker is told
 -- by its number, from 0: by it stand its pass among the passes, and its list among the lists.
-use Rattle.std.specs.Prelude.{◌≡◌, ℕ, ◌^◌, List, [], filter, flat_map, length, map, All, Vec}
+use Rattle.std.specs.Prelude.{◌≡◌, ℕ, ◌^◌, List, [], filter, flat_map, length, map, Vec}
 use Rattle.std.specs.Global.{Global}
 use Rattle.std.specs.List.Sorted.{IsPermutation}
 use Rattle.scq_word.specs.declared.setup.Setup.{Setup}
@@ -11,20 +11,20 @@ use Rattle.scq_queue.specs.Passes.{PassStanding}
 use Rattle.scq_files.specs.Files.{own_of}
 use Rattle.scq_passes.specs.AllPasses.{HaveShared, IsSetup, OfEachWorker, lengths_of}
 use Rattle.scq_passes.specs.Calls.{calls_before, calls_behind}
-use Rattle.scq_passes.specs.PassedOn.{ArePassedOn, FollowsCalls}
+use Rattle.scq_passes.specs.PassedOn.{ArePassedOn, EachHasItsCall}
 use Rattle.scq_passes.specs.Records.{on}
 use Rattle.scq_passes.specs.Together.{HasRetired}
 use Rattle.scq_stages.specs.declared.finished.Finished.{Finished}
 use Rattle.scq_stages.specs.declared.staged.Staged.{Staged}
 use Rattle.scq_stages.specs.Stages.{both}
 use Rattle.scq_stages.specs.Members.{AreMoves, DirectsAre, FirstsAre, SecondsAre, is_direct, is_first}
-use Rattle.scq_stages.specs.Moves.{HelpsSecondThenFirst, FoundFirstEmpty, first, is_next, second}
-use Rattle.scq_stages.specs.Output.{Result, finished_in, place_of_finished, without_way}
+use Rattle.scq_stages.specs.Records.{FoundFirstEmpty, first, is_next, second}
+use Rattle.scq_stages.specs.Output.{Handled, finished_in, position_of_finished, without_way}
 use Rattle.scq_stages.specs.Passing.{FinishesItself, IsNextOf, SendsToFirst}
 
--- what becomes of a message: its file and line, and its payload after both stages
-abbrev pub result_of : Message → Result
-result_of m = record { file = m.file; line = m.line; payload = both m.payload }
+-- a message, handled: its file and line, and its payload after both stages
+abbrev pub handled_of : Message → Handled
+handled_of m = record { file = m.file; line = m.line; payload = both m.payload }
 
 module _ {B : Type 0} where
   -- the workers' lists, against the messages of files and the workers' passes
@@ -32,13 +32,13 @@ module _ {B : Type 0} where
     pub each_pass : length passes ≡ workers
     pub each_list : length lists ≡ workers
     -- the members of all lists are what becomes of all messages, each once; so no two have one file and line
-    pub once : IsPermutation (map without_way (finished_in lists)) (map result_of (flat_map (λ own. own) given))
-    pub apart : AreApart place_of_finished (finished_in lists)
+    pub once : IsPermutation (map without_way (finished_in lists)) (map handled_of (flat_map (λ own. own) given))
+    pub apart : AreApart position_of_finished (finished_in lists)
     -- the messages of a worker's files, in order, are each its next send to first or its next Direct member, and there are no others
     pub passed : OfEachWorker (λ w p list. ArePassedOn SendsToFirst FinishesItself (own_of workers w 1 given) (on first (sends_of p.calls))
         (filter is_direct list)) passes lists
     -- and they stand so in its record: each is its next send to first or its next Full
-    pub follows : OfEachWorker (λ w p list. FollowsCalls IsNextOf is_next (own_of workers w 1 given) p.calls) passes lists
+    pub follows : OfEachWorker (λ w p list. EachHasItsCall IsNextOf is_next (own_of workers w 1 given) p.calls) passes lists
     -- one by one and in order, its takes from first from its retirement on are its First members, its takes from second its Second members, and
     -- its Full replies its Direct members
     pub firsts : OfEachWorker (λ w p list. FirstsAre (on first (takes_of (calls_behind p))) list) passes lists

@@ -1,9 +1,8 @@
 pub mod Stages
-pub mod Jobs
 pub mod Output
 pub mod Handling
 pub mod Members
-pub mod Moves
+pub mod Records
 pub mod Passing
 pub mod Steps
 pub mod Working

@@ -5,40 +5,40 @@ use Rattle.scq_frames.specs.Text.{Framed, messages_of}
 use Rattle.scq_stages.specs.Stages.{both}
 use Rattle.scq_stages.specs.declared.finished.Finished.{Finished}
 
--- what became of a message: its file and line, and what is left of its payload
-pub record Result : Type 0 where
+-- a message that is handled: its file and line, and what both stages leave of its payload
+pub record Handled : Type 0 where
   pub file : ℕ
   pub line : ℕ
   pub payload : List ℕ
 
--- what becomes of a message of this file
-abbrev pub result_to : ℕ → Framed → Result
-result_to file m = record { file = file; line = m.line; payload = both m.payload }
+-- a message of this file, handled
+abbrev pub handled_to : ℕ → Framed → Handled
+handled_to file m = record { file = file; line = m.line; payload = both m.payload }
 
--- what becomes of all messages of files with these contents, of which the first has this number
-abbrev pub results_of : ℕ → List (List ℕ) → List Result
-results_of file [] = []
-results_of file (content ∷ more) = map (result_to file) (messages_of content) ++ results_of (file + 1) more
+-- all messages of files with these contents, handled, of which the first has this number
+abbrev pub all_handled : ℕ → List (List ℕ) → List Handled
+all_handled file [] = []
+all_handled file (content ∷ more) = map (handled_to file) (messages_of content) ++ all_handled (file + 1) more
 
 -- the line for one: `file:line bytes`
-abbrev pub result_line : Result → List ℕ
-result_line r = decimal r.file ++ codes ":" ++ decimal r.line ++ codes " " ++ r.payload ++ codes "\n"
+abbrev pub handled_line : Handled → List ℕ
+handled_line r = decimal r.file ++ codes ":" ++ decimal r.line ++ codes " " ++ r.payload ++ codes "\n"
 
 -- the last line: `total count bytes`
-abbrev pub total_of_results : List Result → List ℕ
-total_of_results results =
-    codes "total " ++ decimal (length results) ++ codes " " ++ decimal (sum_by (λ (r : Result). length r.payload) results) ++ codes "\n"
+abbrev pub total_of_handled : List Handled → List ℕ
+total_of_handled handled =
+    codes "total " ++ decimal (length handled) ++ codes " " ++ decimal (sum_by (λ (r : Handled). length r.payload) handled) ++ codes "\n"
 
 -- what is written of them
-abbrev pub result_text : List Result → List ℕ
-result_text results = flat_map result_line results ++ total_of_results results
+abbrev pub text_of_handled : List Handled → List ℕ
+text_of_handled handled = flat_map handled_line handled ++ total_of_handled handled
 
 -- what one thread writes about files with these contents
-abbrev pub one_thread_text : List (List ℕ) → List ℕ
-one_thread_text contents = result_text (results_of 1 contents)
+abbrev pub one_thread_stage_output : List (List ℕ) → List ℕ
+one_thread_stage_output contents = text_of_handled (all_handled 1 contents)
 
 -- a member without the way in which a worker came to it
-abbrev pub without_way : Finished → Result
+abbrev pub without_way : Finished → Handled
 without_way f = record { file = f.file; line = f.line; payload = f.payload }
 
 -- the members of all lists, one list behind the other
@@ -46,9 +46,9 @@ abbrev pub finished_in : List (Vec Finished Global) → List Finished
 finished_in lists = flat_map (λ list. list.items) lists
 
 -- where a member stands: where its message does
-abbrev pub place_of_finished : Finished → ℕ × ℕ × ℕ
-place_of_finished f = (f.file, f.line, 1)
+abbrev pub position_of_finished : Finished → ℕ × ℕ × ℕ
+position_of_finished f = (f.file, f.line, 1)
 
--- where the message of a result stands
-abbrev pub place_of_result : Result → ℕ × ℕ × ℕ
-place_of_result r = (r.file, r.line, 1)
+-- where a handled message stands
+abbrev pub position_of_handled : Handled → ℕ × ℕ × ℕ
+position_of_handled r = (r.file, r.line, 1)

@@ -10,7 +10,7 @@ use Rattle.scq_stages.specs.declared.finished.Finished.{Finished}
 use Rattle.scq_stages.specs.declared.finished.StageWay.TheVariants.{Direct}
 use Rattle.scq_stages.specs.Stages.{both}
 use Rattle.scq_stages.specs.Members.{finished}
-use Rattle.scq_stages.specs.Moves.{first}
+use Rattle.scq_stages.specs.Records.{first}
 
 -- a whole message as its one part
 abbrev pub whole_of : Message → Part

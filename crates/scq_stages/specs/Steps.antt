@@ -9,7 +9,7 @@ use Rattle.scq_stages.specs.declared.finished.Finished.{Finished}
 use Rattle.scq_stages.specs.declared.finished.StageWay.TheVariants.{Second, First}
 use Rattle.scq_stages.specs.Stages.{squeezed, both}
 use Rattle.scq_stages.specs.Members.{FinishesTake, IsMove, IsNoPart, is_second, is_first, is_direct}
-use Rattle.scq_stages.specs.Moves.{first, second}
+use Rattle.scq_stages.specs.Records.{first, second}
 
 -- what was taken from second so far became Second members, but for what is no part's bytes; and what from first, First members
 abbrev pub SecondsSoFar : List Placed → List Finished → Type 0
@@ -62,7 +62,7 @@ module _ {B : Type 0} where
     pub directs : GotNo is_direct was is
 
   -- before it retired: what it took from second became members, and there are no others more
-  pub record HasHelped (old new : PassStanding B) (was is : List Finished) : Type 0 where
+  pub record HasFinishedOnlySeconds (old new : PassStanding B) (was is : List Finished) : Type 0 where
     pub seconds : HasFinishedSeconds old new was is
     pub firsts : GotNo is_first was is
     pub directs : GotNo is_direct was is

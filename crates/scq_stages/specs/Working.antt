@@ -13,17 +13,18 @@ use Rattle.scq_files.specs.Reading.{IsRead}
 use Rattle.scq_files.specs.declared.own_file.OwnFile.{OwnFile}
 use Rattle.scq_passes.specs.Calls.{IsBetweenParts, index_of, after_retire, calls_behind}
 use Rattle.scq_passes.specs.Records.{on}
-use Rattle.scq_passes.specs.PassedOn.{ArePassedOn, FollowsCalls}
+use Rattle.scq_passes.specs.PassedOn.{ArePassedOn, EachHasItsCall}
 use Rattle.scq_passes.specs.Together.{HasSwept}
 use Rattle.scq_stages.specs.declared.finished.Finished.{Finished}
 use Rattle.scq_stages.specs.Members.{is_second, is_first, is_direct, DirectsAre}
-use Rattle.scq_stages.specs.Moves.{first, second, is_next, HelpsJustSecondThenFirst, FoundFirstEmpty}
+use Rattle.scq_stages.specs.Records.{first, second, is_next, HelpsJustSecondThenFirst, FoundFirstEmpty}
 use Rattle.scq_stages.specs.Passing.{SendsToFirst, FinishesItself, IsNextOf}
 use Rattle.scq_stages.specs.Steps.{SecondsSoFar, FirstsSoFar, MovesSoFar, HasGivenBack}
 
 module _ {B : Type 0} where
-  -- how much a pass has begun for so many messages: `late` is 1 for one that met Spent. Ring 1 is first, and ring 2 is second
-  pub record IsThrifty (late messages : ℕ) (p : PassStanding B) : Type 0 where
+  -- a pass has few calls for so many messages: at most one send to first and one Full for each, a send to second for each take from first, and a
+  -- return for each take. `late` is 1 for one that met Spent. Ring 1 is first, and ring 2 is second
+  pub record HasFewStageCalls (late messages : ℕ) (p : PassStanding B) : Type 0 where
     pub fulls : length p.fulls ≤ messages
     pub to_first : tally (was_put 1) p.calls ≤ messages + late
     pub sent_first : length (on first (sends_of p.calls)) ≤ messages
@@ -42,9 +43,9 @@ module _ {B : Type 0} where
   pub record IsAtWork (messages : List Message) (p : PassStanding B) (members : List Finished) (starved : Bool) : Type 0 where
     pub helps : HelpsJustSecondThenFirst p.calls
     pub between : IsBetweenParts p
-    pub thrifty : IsThrifty 0 (length messages) p
+    pub few_calls : HasFewStageCalls 0 (length messages) p
     pub moves : MovesSoFar (on first (takes_of p.calls)) (on second (sends_of p.calls))
-    pub follows : FollowsCalls IsNextOf is_next messages p.calls
+    pub follows : EachHasItsCall IsNextOf is_next messages p.calls
     pub listed : starved ≡ false → HasListed messages p members
 
   -- the pass of a worker that has moved all that was in first, and is about to retire
@@ -52,9 +53,9 @@ module _ {B : Type 0} where
     pub moved_all : FoundFirstEmpty p.calls
     pub past : (known_on first p).finished < (known_on first p).head
     pub between : IsBetweenParts p
-    pub thrifty : IsThrifty 0 (length messages) p
+    pub few_calls : HasFewStageCalls 0 (length messages) p
     pub moves : MovesSoFar (on first (takes_of p.calls)) (on second (sends_of p.calls))
-    pub follows : FollowsCalls IsNextOf is_next messages p.calls
+    pub follows : EachHasItsCall IsNextOf is_next messages p.calls
 
   -- with its list, unless it wanted memory
   pub record IsDone (messages : List Message) (p : PassStanding B) (members : List Finished) (starved : Bool) : Type 0 where
@@ -72,21 +73,21 @@ module _ {B : Type 0} where
   pub record IsLeaving (messages : List Message) (at p : PassStanding B) (members : List Finished) (starved : Bool) : Type 0 where
     pub taken : HasGivenBack (after_retire at) p
     pub between : IsBetweenParts p
-    pub thrifty : IsThrifty 0 (length messages) p
+    pub few_calls : HasFewStageCalls 0 (length messages) p
     pub high : (m : Placed) → Contains (on first (takes_of (calls_behind p))) m → (known_on first at).head ≤ m.place
     pub listed : starved ≡ false → HasListedAll messages p members
 
   -- a worker that met Spent before it retired, after at most so many messages, the last one included: its pass, and the value that it keeps
   pub record HasStopped (shared : Identity B) (messages : ℕ) (p : PassStanding B) (kept : Option (HeldStanding B)) : Type 0 where
     pub spent : (ticket : ℕ) × (p.spent ≡ Some ticket)
-    pub thrifty : IsThrifty 1 messages p
+    pub few_calls : HasFewStageCalls 1 messages p
     pub queue : p.queue ≡ shared
     pub stays : p.retired ≡ None
     pub held : p.held ≡ index_of kept
     pub its : IfSome kept (λ h. h.queue ≡ shared)
 
   -- a worker that met no Spent has moved all that was in first, retired, swept and left. `at` was its pass when it retired
-  pub record HasEnded (messages : List Message) (pass : PassStanding B) (members : List Finished) (starved : Bool) : Type 0 where
+  pub record HasMovedAllAndSwept (messages : List Message) (pass : PassStanding B) (members : List Finished) (starved : Bool) : Type 0 where
     pub at : PassStanding B
     pub moved : HasMovedAll messages at
     pub leaving : IsLeaving messages at pass members starved
@@ -97,10 +98,10 @@ module _ {B : Type 0} where
   pub record HasRun {S : Type 0} (shared : Identity B) (size : ℕ) (faults end_count : S → ℕ) (left : S → Option (List ℕ)) (files : List (OwnFile S))
       (pass : PassStanding B) (members : List Finished) (starved : Bool) (kept : Option (HeldStanding B)) : Type 0 where
     pub read : All (λ f. IsRead [] size faults end_count left f.number f.was.value f.source (given_in f.given.value) f.end) files
-    pub thrifty : IsThrifty 1 (length (all_given files)) pass
+    pub few_calls : HasFewStageCalls 1 (length (all_given files)) pass
     pub queue : pass.queue ≡ shared
     pub retired : (calls : ℕ) × (pass.retired ≡ Some calls)
     pub held : pass.held ≡ index_of kept
     pub its : IfSome kept (λ h. h.queue ≡ shared)
     -- where it met no such ticket
-    pub ended : pass.spent ≡ None → HasEnded (all_given files) pass members starved
+    pub ended : pass.spent ≡ None → HasMovedAllAndSwept (all_given files) pass members starved

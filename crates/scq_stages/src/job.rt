@@ -1,4 +1,4 @@
-ghost use Rattle.scq_stages.specs.Jobs.{IsStageJob};
+ghost use Rattle.scq_passes.specs.Jobs.{IsJob};
 
 /// What workers of stages are to do: messages of at most `size` bytes go through both stages in 2^order buffers, by
 /// `workers` workers.
@@ -7,7 +7,7 @@ pub struct StageJob {
     pub order: u32,
     pub size: u32,
     pub workers: u32,
-    pub ghost valid: { IsStageJob order size workers },
+    pub ghost valid: { IsJob order size workers },
 }
 
 impl StageJob {
@@ -15,7 +15,7 @@ impl StageJob {
 
     /// None exactly where the order isn't in 1 to 12, the size isn't in 1 to 65,536, or the workers aren't in 1 to 4,096.
     pub fn new(order: u32, size: u32, workers: u32) -> Option<StageJob>
-        ensures refused { IsNone result ↔ ¬ IsStageJob order size workers }
+        ensures refused { IsNone result ↔ ¬ IsJob order size workers }
         ensures order { IfSome result (λ job. job.order ≡ order) }
         ensures size { IfSome result (λ job. job.size ≡ size) }
         ensures workers { IfSome result (λ job. job.workers ≡ workers) }

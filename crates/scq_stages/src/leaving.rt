@@ -5,9 +5,9 @@ ghost use Rattle.scq_queue.specs.Passes.{known_on};
 ghost use Rattle.scq_passes.specs.Records.{IsGivenBack};
 ghost use Rattle.scq_passes.specs.Calls.{Suits, HasLeftSo, TookNoneBelow, after_retire, takes_left};
 ghost use Rattle.scq_passes.specs.Leaving.{FoundTopicEmpty, HasSweptLast, TookNothing};
-ghost use Rattle.scq_stages.specs.Moves.{first, second};
+ghost use Rattle.scq_stages.specs.Records.{first, second};
 ghost use Rattle.scq_stages.specs.Steps.{HasGivenBack, HasFinished};
-ghost use Rattle.scq_stages.specs.Working.{IsThrifty, IsDone, IsLeaving};
+ghost use Rattle.scq_stages.specs.Working.{HasFewStageCalls, IsDone, IsLeaving};
 
 use crate::worker::Worker;
 use scq_passes::AtLimit;
@@ -31,7 +31,7 @@ impl<B: Buffer> Worker<B> {
         ensures empty { OnOk result ((known_on first self.new.pass).finished < (known_on first self.new.pass).head) }
         ensures found { OnOk result (FoundTopicEmpty first self.old.pass self.new.pass) }
         ensures nothing { result ≡ Ok false → TookNothing self.old.pass self.new.pass }
-        ensures left { IfErr result (λ l. (messages : ℕ) → HasLeftSo IsThrifty messages messages self.old.pass self.new.pass l.held) }
+        ensures left { IfErr result (λ l. (messages : ℕ) → HasLeftSo HasFewStageCalls messages messages self.old.pass self.new.pass l.held) }
         ensures starved { self.new.starved ≡ false → self.old.starved ≡ false }
     {
         let mut some = false;
@@ -57,7 +57,7 @@ impl<B: Buffer> Worker<B> {
         ensures empty { OnOk result ((known_on second self.new.pass).finished < (known_on second self.new.pass).head) }
         ensures found { OnOk result (FoundTopicEmpty second self.old.pass self.new.pass) }
         ensures nothing { result ≡ Ok false → TookNothing self.old.pass self.new.pass }
-        ensures left { IfErr result (λ l. (messages : ℕ) → HasLeftSo IsThrifty messages messages self.old.pass self.new.pass l.held) }
+        ensures left { IfErr result (λ l. (messages : ℕ) → HasLeftSo HasFewStageCalls messages messages self.old.pass self.new.pass l.held) }
         ensures starved { self.new.starved ≡ false → self.old.starved ≡ false }
     {
         let mut some = false;
@@ -82,7 +82,7 @@ impl<B: Buffer> Worker<B> {
         ensures empty { OnOk result ((t : ℕ) → t < 2 → (known_on t self.new.pass).finished < (known_on t self.new.pass).head) }
         ensures found { OnOk result ((t : ℕ) → t < 2 → FoundTopicEmpty t self.old.pass self.new.pass) }
         ensures nothing { result ≡ Ok false → TookNothing self.old.pass self.new.pass }
-        ensures left { IfErr result (λ l. (messages : ℕ) → HasLeftSo IsThrifty messages messages self.old.pass self.new.pass l.held) }
+        ensures left { IfErr result (λ l. (messages : ℕ) → HasLeftSo HasFewStageCalls messages messages self.old.pass self.new.pass l.held) }
         ensures starved { self.new.starved ≡ false → self.old.starved ≡ false }
     {
         let from_first = self.sweep_first(alloc, queue)?;
@@ -99,7 +99,7 @@ impl<B: Buffer> Worker<B> {
         ensures below { OnOk result (TookNoneBelow first self.old.pass self.new.pass) }
         ensures empty { OnOk result ((t : ℕ) → t < 2 → (known_on t self.new.pass).finished < (known_on t self.new.pass).head) }
         ensures swept { OnOk result (HasSweptLast IsGivenBack 2 64 self.old.pass self.new.pass) }
-        ensures left { IfErr result (λ l. (messages : ℕ) → HasLeftSo IsThrifty messages messages self.old.pass self.new.pass l.held) }
+        ensures left { IfErr result (λ l. (messages : ℕ) → HasLeftSo HasFewStageCalls messages messages self.old.pass self.new.pass l.held) }
         ensures starved { self.new.starved ≡ false → self.old.starved ≡ false }
     {
         let mut idle = 0;
@@ -124,7 +124,7 @@ impl<B: Buffer> Worker<B> {
         ensures leaving { OnOk result ((messages : List TheMessage) → IsDone messages self.old.pass self.old.members.items self.old.starved
             → IsLeaving messages self.old.pass self.new.pass self.new.members.items self.new.starved) }
         ensures left { IfErr result (λ l. (messages : ℕ)
-            → HasLeftSo IsThrifty messages messages (after_retire self.old.pass) self.new.pass l.held) }
+            → HasLeftSo HasFewStageCalls messages messages (after_retire self.old.pass) self.new.pass l.held) }
         ensures starved { self.new.starved ≡ false → self.old.starved ≡ false }
     {
         queue.retire(&mut self.pass);

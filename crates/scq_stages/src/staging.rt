@@ -6,7 +6,7 @@ ghost use Rattle.scq_files.specs.Ends.{AreGiven, HasMoved, all_left, messages_in
 ghost use Rattle.scq_files.specs.Reading.{IsWhole};
 ghost use Rattle.scq_stages.specs.AllStages.{HasStaged, NothingIsStranded};
 ghost use Rattle.scq_stages.specs.Ends.{HasCause, MemoryIsFirst};
-ghost use Rattle.scq_stages.specs.Output.{finished_in, results_of, without_way};
+ghost use Rattle.scq_stages.specs.Output.{finished_in, all_handled, without_way};
 
 use crate::apart::run_all;
 use crate::laying::{lay_out, make_room, setup_of};
@@ -34,8 +34,8 @@ pub fn stage_work<R: Threads + Sync, S: Source>(
     // Each source was read to its end, and where the bytes of all are visible the members are what becomes of their messages, each once.
     ensures whole { OnOk result.result ((k : ℕ) (d : S) → k < length sources.items
         → IsWhole job.now.size S.faults S.ends S.left (slice_index_or sources.items k d) (slice_index_or result.sources.items k d)) }
-    ensures results { IfOk result.result (λ s. IfSome (all_left S.left sources.items) (λ contents.
-        IsPermutation (map without_way (finished_in s.done.items)) (results_of 1 contents))) }
+    ensures handled { IfOk result.result (λ s. IfSome (all_left S.left sources.items) (λ contents.
+        IsPermutation (map without_way (finished_in s.done.items)) (all_handled 1 contents))) }
 
     // The lists tell of the messages that the files gave, and of what the passes sent and took: of contents that are visible, and of every
     // source.

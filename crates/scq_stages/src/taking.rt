@@ -10,9 +10,9 @@ ghost use Rattle.scq_passes.specs.Leaving.{FoundTopicEmpty, TookNothing};
 ghost use Rattle.scq_stages.specs.Stages.{redacted, squeezed, both};
 ghost use Rattle.scq_stages.specs.Handling.{after};
 ghost use Rattle.scq_stages.specs.Members.{finished};
-ghost use Rattle.scq_stages.specs.Moves.{first, second, take_topic};
-ghost use Rattle.scq_stages.specs.Steps.{HasGivenBack, HasTakenOrMoved, HasMovedIts, HasHelped, HasFinished};
-ghost use Rattle.scq_stages.specs.Working.{IsThrifty};
+ghost use Rattle.scq_stages.specs.Records.{first, second, take_topic};
+ghost use Rattle.scq_stages.specs.Steps.{HasGivenBack, HasTakenOrMoved, HasMovedIts, HasFinishedOnlySeconds, HasFinished};
+ghost use Rattle.scq_stages.specs.Working.{HasFewStageCalls};
 
 use crate::finished::StageWay;
 use crate::taken::{finish_in, redact_in, squeeze_in};
@@ -109,14 +109,14 @@ impl<B: Buffer> Worker<B> {
         ensures finished { OnOk result (self.new.starved ≡ false
             → HasFinished self.old.pass self.new.pass self.old.members.items self.new.members.items) }
         ensures helped { OnOk result (self.new.starved ≡ false
-            → HasHelped self.old.pass self.new.pass self.old.members.items self.new.members.items) }
+            → HasFinishedOnlySeconds self.old.pass self.new.pass self.old.members.items self.new.members.items) }
         ensures below { OnOk result (TookNoneBelow first self.old.pass self.new.pass) }
         ensures some { result ≡ Ok true → ((known_on second self.old.pass).head < (known_on second self.new.pass).head)
             × ((known_on second self.old.pass).head < queue.now.setup.limit) }
         ensures empty { result ≡ Ok false → (known_on second self.new.pass).finished < (known_on second self.new.pass).head }
         ensures found { result ≡ Ok false → FoundTopicEmpty second self.old.pass self.new.pass }
         ensures nothing { result ≡ Ok false → TookNothing self.old.pass self.new.pass }
-        ensures left { IfErr result (λ l. (messages : ℕ) → HasLeftSo IsThrifty messages messages self.old.pass self.new.pass l.held) }
+        ensures left { IfErr result (λ l. (messages : ℕ) → HasLeftSo HasFewStageCalls messages messages self.old.pass self.new.pass l.held) }
         ensures starved { self.new.starved ≡ false → self.old.starved ≡ false }
     {
         match queue.take(&mut self.pass, SECOND) {
@@ -136,13 +136,13 @@ impl<B: Buffer> Worker<B> {
         ensures taken { OnOk result (HasTakenOrMoved self.old.pass self.new.pass) }
         ensures one { OnOk result (filter_map take_topic (since self.old.pass self.new.pass) ≡ first ∷ []) }
         ensures moves { OnOk result (HasMovedIts self.old.pass self.new.pass) }
-        ensures helped { OnOk result (HasHelped self.old.pass self.new.pass self.old.members.items self.new.members.items) }
+        ensures helped { OnOk result (HasFinishedOnlySeconds self.old.pass self.new.pass self.old.members.items self.new.members.items) }
         ensures same { (self.new.members.items ≡ self.old.members.items) × (self.new.starved ≡ self.old.starved) }
         ensures some { result ≡ Ok true → ((known_on first self.old.pass).head < (known_on first self.new.pass).head)
             × ((known_on first self.old.pass).head < queue.now.setup.limit) }
         ensures last { result ≡ Ok false → (self.new.pass.calls ≡ self.old.pass.calls ++ TheEnded.Nothing (suc first) ∷ [])
             × ((known_on first self.new.pass).finished < (known_on first self.new.pass).head) }
-        ensures left { IfErr result (λ l. (messages : ℕ) → HasLeftSo IsThrifty messages messages self.old.pass self.new.pass l.held) }
+        ensures left { IfErr result (λ l. (messages : ℕ) → HasLeftSo HasFewStageCalls messages messages self.old.pass self.new.pass l.held) }
     {
         match queue.take(&mut self.pass, FIRST) {
             Ok((_, held)) => {
@@ -166,7 +166,7 @@ impl<B: Buffer> Worker<B> {
         ensures empty { result ≡ Ok false → (known_on first self.new.pass).finished < (known_on first self.new.pass).head }
         ensures found { result ≡ Ok false → FoundTopicEmpty first self.old.pass self.new.pass }
         ensures nothing { result ≡ Ok false → TookNothing self.old.pass self.new.pass }
-        ensures left { IfErr result (λ l. (messages : ℕ) → HasLeftSo IsThrifty messages messages self.old.pass self.new.pass l.held) }
+        ensures left { IfErr result (λ l. (messages : ℕ) → HasLeftSo HasFewStageCalls messages messages self.old.pass self.new.pass l.held) }
         ensures starved { self.new.starved ≡ false → self.old.starved ≡ false }
     {
         match queue.take(&mut self.pass, FIRST) {
@@ -187,8 +187,8 @@ impl<B: Buffer> Worker<B> {
         ensures each { OnOk result (filter_map take_topic (since self.old.pass self.new.pass) ≡ second ∷ first ∷ []) }
         ensures moves { OnOk result (HasMovedIts self.old.pass self.new.pass) }
         ensures helped { OnOk result (self.new.starved ≡ false
-            → HasHelped self.old.pass self.new.pass self.old.members.items self.new.members.items) }
-        ensures left { IfErr result (λ l. (messages : ℕ) → HasLeftSo IsThrifty messages messages self.old.pass self.new.pass l.held) }
+            → HasFinishedOnlySeconds self.old.pass self.new.pass self.old.members.items self.new.members.items) }
+        ensures left { IfErr result (λ l. (messages : ℕ) → HasLeftSo HasFewStageCalls messages messages self.old.pass self.new.pass l.held) }
         ensures starved { self.new.starved ≡ false → self.old.starved ≡ false }
     {
         self.take_second(alloc, queue)?;

@@ -3,7 +3,7 @@ ghost use Rattle.std.specs.Prelude.{◌≡◌, ℕ, ◌++◌, List, map, length,
 ghost use Rattle.std.specs.List.Sorted.{IsPermutation};
 ghost use Rattle.scq_stages.specs.declared.finished.Finished.{Finished as TheFinished};
 ghost use Rattle.scq_collect.specs.Merging.{IsInOrder, IsMerged};
-ghost use Rattle.scq_stages.specs.Output.{finished_in, place_of_finished, without_way, result_line, result_text, results_of, one_thread_text};
+ghost use Rattle.scq_stages.specs.Output.{finished_in, position_of_finished, without_way, handled_line, text_of_handled, all_handled, one_thread_stage_output};
 
 use crate::Finished;
 use crate::ordering::ordered;
@@ -14,14 +14,14 @@ use std::alloc::Global;
 /// The text of the members of all lists: a line for each, in order of file and line, and then the total. It fails only
 /// for want of memory.
 pub fn stage_output(alloc: Global, lists: &[Vec<Finished>]) -> Result<Bytes, NoMemory>
-    ensures text { IfOk result (λ bytes. (all : List TheFinished) × IsMerged place_of_finished (finished_in lists.now) all
-        × (bytes ≡ result_text (map without_way all))) }
+    ensures text { IfOk result (λ bytes. (all : List TheFinished) × IsMerged position_of_finished (finished_in lists.now) all
+        × (bytes ≡ text_of_handled (map without_way all))) }
 
     // However the members are divided into lists, what is made of them is the same.
-    ensures exact { (given : List TheFinished) → IsInOrder place_of_finished given → IsPermutation (finished_in lists.now) given
-        → IfOk result (λ bytes. bytes ≡ result_text (map without_way given)) }
-    ensures one_thread { (contents : List (List ℕ)) → IsPermutation (map without_way (finished_in lists.now)) (results_of 1 contents)
-        → IfOk result (λ bytes. bytes ≡ one_thread_text contents) }
+    ensures exact { (given : List TheFinished) → IsInOrder position_of_finished given → IsPermutation (finished_in lists.now) given
+        → IfOk result (λ bytes. bytes ≡ text_of_handled (map without_way given)) }
+    ensures one_thread { (contents : List (List ℕ)) → IsPermutation (map without_way (finished_in lists.now)) (all_handled 1 contents)
+        → IfOk result (λ bytes. bytes ≡ one_thread_stage_output contents) }
 {
     let members = ordered(alloc, lists)?;
     let mut text = Vec::new(alloc);
@@ -36,7 +36,7 @@ pub fn stage_output(alloc: Global, lists: &[Vec<Finished>]) -> Result<Bytes, NoM
 
 /// Adds the line for a member: `file:line bytes`.
 fn push_line(text: &mut Vec<u8>, member: &Finished) -> Result<(), NoMemory>
-    ensures { OnOk result (text.new.items ≡ text.old.items ++ result_line (without_way member.now)) }
+    ensures { OnOk result (text.new.items ≡ text.old.items ++ handled_line (without_way member.now)) }
 {
     push_number(text, u128::from(member.file))?;
     text.extend_from_slice(b":")?;

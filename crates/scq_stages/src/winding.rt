@@ -9,7 +9,7 @@ ghost use Rattle.scq_files.specs.Ends.{AreGiven, HasMoved, all_left, messages_in
 ghost use Rattle.scq_files.specs.Reading.{IsWhole};
 ghost use Rattle.scq_stages.specs.AllStages.{HasStaged, NothingIsStranded};
 ghost use Rattle.scq_stages.specs.Ends.{HasCause, MemoryIsFirst, fault_of_workers};
-ghost use Rattle.scq_stages.specs.Output.{finished_in, results_of, without_way};
+ghost use Rattle.scq_stages.specs.Output.{finished_in, all_handled, without_way};
 ghost use Rattle.scq_stages.specs.Working.{HasRun};
 
 use crate::clearing::{Left, clear};
@@ -84,8 +84,8 @@ pub(crate) fn wind_up<S: Source>(
         → HasMoved S.faults S.left (slice_index_or laid.was.value.items k d) (slice_index_or result.sources.items k d) }
     ensures whole { OnOk result.result ((k : ℕ) (d : S) → k < length laid.was.value.items
         → IsWhole job.now.size S.faults S.ends S.left (slice_index_or laid.was.value.items k d) (slice_index_or result.sources.items k d)) }
-    ensures results { IfOk result.result (λ s. IfSome (all_left S.left laid.was.value.items) (λ contents.
-        IsPermutation (map without_way (finished_in s.done.items)) (results_of 1 contents))) }
+    ensures handled { IfOk result.result (λ s. IfSome (all_left S.left laid.was.value.items) (λ contents.
+        IsPermutation (map without_way (finished_in s.done.items)) (all_handled 1 contents))) }
     ensures told { IfOk result.result (λ s. IfSome (all_left S.left laid.was.value.items) (λ contents.
         HasStaged job.now.workers (messages_in [] 1 contents) s)) }
     ensures staged { IfOk result.result (λ s. (given : List (List TheMessage)) × AreGiven [] job.now.size S.left 1 laid.was.value.items given

@@ -33,7 +33,7 @@ use Rattle.scq_work.specs.Passing.{parts_in, HasPassedOn, FollowsCalls}
 use Rattle.scq_files.specs.Reading.{IsRead}
 use Rattle.scq_passes.specs.Records.{HoldsNothingAtEachFull, MeetsNoSpent}
 use Rattle.scq_passes.specs.Together.{SendsAreTakes, NoneSpent, IsBounded, HasSwept}
-use Rattle.scq_passes.specs.Calls.{IsThrifty, index_of}
+use Rattle.scq_passes.specs.Calls.{HasFewCalls, index_of}
 use Rattle.scq_work.specs.Working.{HasListed}
 use Rattle.scq_work.specs.declared.desk.Desk.{Desk}
 use Rattle.scq_files.specs.declared.own_file.OwnFile.{OwnFile}
@@ -107,14 +107,14 @@ module _ {B S : Type 0} where
         let few = few-in-all c shared topics size longest faults end_count left sources desks ran in
         omega arith
 
-    all-thrifty : All (λ (w : ℕ × PassStanding B). IsThrifty 1 w.0 w.1) works
-    all-thrifty = All-map (λ (w : ℕ × PassStanding B). IsThrifty 1 w.0 w.1) (counted size) desks (λ k d less. (ran.run k d less).thrifty)
+    all-few : All (λ (w : ℕ × PassStanding B). HasFewCalls 1 w.0 w.1) works
+    all-few = All-map (λ (w : ℕ × PassStanding B). HasFewCalls 1 w.0 w.1) (counted size) desks (λ k d less. (ran.run k d less).few_calls)
 
     module _ (left_in : List ℕ) (closed : HasClosed c (passes_at desks) (held_at desks) left_in) where
       pub unspent : NoneSpent (passes_at desks)
       unspent =
           subst (λ (ps : List (PassStanding B)). NoneSpent ps) passes-same
-          (none-spent c works ran.limit (omega (arith, ran.seats, length-map desks (counted size))) few-messages all-thrifty
+          (none-spent c works ran.limit (omega (arith, ran.seats, length-map desks (counted size))) few-messages all-few
           (subst (λ (ps : List (PassStanding B)). EachTakeIsASend ps) (sym passes-same) closed.takes)
           (subst (λ (ps : List (PassStanding B)). NoPlaceIsTakenTwice ps) (sym passes-same) closed.taken_once)
           (subst (λ (ps : List (PassStanding B)). NoneIsKeptWithinTheLimit c ps) (sym passes-same) closed.limits))
@@ -122,7 +122,7 @@ module _ {B S : Type 0} where
       bounded : All (IsBounded (2 ^ 36)) (passes_at desks)
       bounded = All-map (IsBounded (2 ^ 36)) (λ (d : Desk B S). d.worker.pass) desks (λ k d less.
           let long : k < length works = subst (λ n. k < n) (sym (length-map desks (counted size))) less in
-          let its = all-bounded works (2 ^ 36) few-messages all-thrifty (subst (λ (ps : List (PassStanding B)). EachTakeIsASend ps) (sym passes-same) closed.takes)
+          let its = all-bounded works (2 ^ 36) few-messages all-few (subst (λ (ps : List (PassStanding B)). EachTakeIsASend ps) (sym passes-same) closed.takes)
           (subst (λ (ps : List (PassStanding B)). NoPlaceIsTakenTwice ps) (sym passes-same) closed.taken_once) k (counted size d) long in
           subst (λ (w : ℕ × PassStanding B). IsBounded (2 ^ 36) w.1) (get_or-map (counted size) desks k d (counted size d) less) its)
 

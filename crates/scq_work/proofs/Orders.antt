@@ -19,8 +19,8 @@ use Rattle.scq_frames.specs.Text.{messages_of}
 use Rattle.scq_collect.specs.declared.answered.Answered.{Answered}
 use Rattle.scq_collect.specs.Collected.{messages_to}
 use Rattle.scq_collect.specs.Joined.{AreWhole, PartAnswer, part_answer, part_answers, without_way}
-use Rattle.scq_collect.specs.Merging.{AreApart, IsBefore, IsInOrder, place_of_part}
-use Rattle.scq_collect.proofs.Orders.{is_place, is_place-flip, ascends, ascends-distinct}
+use Rattle.scq_collect.specs.Merging.{AreApart, IsBefore, IsInOrder, position_of_part}
+use Rattle.scq_collect.proofs.Orders.{is_position, is_position-flip, ascends, ascends-distinct}
 use Rattle.scq_files.specs.Reading.{AreOf}
 use Rattle.scq_files.specs.Ends.{AreGiven, all_left, messages_in}
 use Rattle.scq_files.proofs.GivenLemmas.{given-told}
@@ -29,15 +29,15 @@ use Rattle.scq_work.proofs.PartMembers.{IsPartOf, has-part, same-place, part-of-
 use Rattle.scq_passes.proofs.ManyLists.{found-at, in-all}
 
 -- a place is itself
-is_place-itself : (p : ℕ × ℕ × ℕ) → is_place p p ≡ true
-is_place-itself p = grind (arith, nat_tests)
+is_position-itself : (p : ℕ × ℕ × ℕ) → is_position p p ≡ true
+is_position-itself p = grind (arith, nat_tests)
 
 -- where a part stands, and its answer
 abbrev place_at : Part → ℕ × ℕ × ℕ
 place_at p = (p.file, p.line, p.part)
 
-abbrev place_of_text : PartAnswer → ℕ × ℕ × ℕ
-place_of_text a = (a.file, a.line, a.part)
+abbrev position_of_text : PartAnswer → ℕ × ℕ × ℕ
+position_of_text a = (a.file, a.line, a.part)
 
 -- parts rise from behind a place
 unfoldable Rises : ℕ × ℕ × ℕ → List Part → Type 0
@@ -135,7 +135,7 @@ no_part : Part
 no_part = record { file = 0; line = 0; topic = 0; part = 0; parts = 0; payload = [] }
 
 -- answers stand as their parts do
-answers-in-order : (topics : List (List ℕ × Kind)) (ps : List Part) → IsInOrder place_at ps → IsInOrder place_of_text (map (part_answer topics) ps)
+answers-in-order : (topics : List (List ℕ × Kind)) (ps : List Part) → IsInOrder place_at ps → IsInOrder position_of_text (map (part_answer topics) ps)
 answers-in-order topics ps order k d less =
     let long : k + 1 < length ps = omega (arith, length-map ps (part_answer topics)) in
     rw (get_or-map (part_answer topics) ps k no_part d (omega arith), get_or-map (part_answer topics) ps (k + 1) no_part d long)
@@ -145,15 +145,15 @@ module _ {S : Type 0} (topics : List (List ℕ × Kind)) (size longest : ℕ) (l
     (members : List Answered) (gave : AreGiven topics longest left 1 was given)
     (same : IsPermutation (map without_way members) (part_answers topics size (all_of given))) where
   -- members whose answers are those to the parts, in some order, are apart
-  members-apart : AreApart place_of_part members
+  members-apart : AreApart position_of_part members
   members-apart i j d less within alike =
-      let test : PartAnswer → PartAnswer → Bool = λ x y. is_place (place_of_text x) (place_of_text y) in
+      let test : PartAnswer → PartAnswer → Bool = λ x y. is_position (position_of_text x) (position_of_text y) in
       let answers = part_answers topics size (all_of given) in
-      let up = ascends place_of_text answers
+      let up = ascends position_of_text answers
       (answers-in-order topics (parts_in size (all_of given)) (given-in-order topics size longest left was given gave)) in
       let distinct : IsDistinct test (map without_way members) =
-      IsDistinct-IsPermutation test (λ x y. is_place-flip (place_of_text x) (place_of_text y)) answers (map without_way members)
-      (IsPermutation-sym (map without_way members) answers same) (ascends-distinct place_of_text answers up) in
+      IsDistinct-IsPermutation test (λ x y. is_position-flip (position_of_text x) (position_of_text y)) answers (map without_way members)
+      (IsPermutation-sym (map without_way members) answers same) (ascends-distinct position_of_text answers up) in
       let plain : PartAnswer = without_way d in
       let long = length-map members without_way in
       let apart = apart_from_distinct test (map without_way members) i j plain distinct less (omega arith) in
@@ -162,7 +162,7 @@ module _ {S : Type 0} (topics : List (List ℕ × Kind)) (size longest : ℕ) (l
       let there : test (without_way (get_or members i d)) (without_way (get_or members j d)) ≡ false =
       ap (λ a. test a (without_way (get_or members j d))) (sym first) ∙ ap (test (get_or (map without_way members) i plain)) (sym second) ∙ apart in
       let itself : test (without_way (get_or members i d)) (without_way (get_or members j d)) ≡ true =
-      ap (λ p. is_place (place_of_part (get_or members i d)) p) (sym alike) ∙ is_place-itself (place_of_part (get_or members i d)) in
+      ap (λ p. is_position (position_of_part (get_or members i d)) p) (sym alike) ∙ is_position-itself (position_of_part (get_or members i d)) in
       absurd (cc)
 
   -- those of one file and line are of one message

@@ -10,11 +10,11 @@ use Rattle.scq_band.specs.Standing.{Identity}
 use Rattle.scq_queue.specs.Passes.{PassStanding, HeldStanding, WasLent, after_spent_put, having_seen}
 use Rattle.scq_passes.specs.Records.{is_take}
 use Rattle.scq_work.specs.Members.{answered}
-use Rattle.scq_passes.specs.Calls.{Suits, HasTaken, HasFoundFull, HasLeft, IsThrifty, index_of}
+use Rattle.scq_passes.specs.Calls.{Suits, HasTaken, HasFoundFull, HasLeft, HasFewCalls, index_of}
 use Rattle.scq_work.specs.Working.{HasSent, HasAnswered, HasListed, IsAtWork, HasStopped}
 use Rattle.scq_passes.proofs.LeftLemmas.{left-at-send}
-use Rattle.scq_passes.proofs.Kept.{thrifty-full, thrifty-taken}
-use Rattle.scq_work.proofs.WorkerSteps.{producing-sent, producing-helped, thrifty-sent, listed-sent, listed-full, listed-taken}
+use Rattle.scq_passes.proofs.Kept.{few_calls-full, few_calls-taken}
+use Rattle.scq_work.proofs.WorkerSteps.{producing-sent, producing-helped, few_calls-sent, listed-sent, listed-full, listed-taken}
 
 module _ {B : Type 0} where
   -- the pass still suits
@@ -33,7 +33,7 @@ module _ {B : Type 0} where
   work-sent topics messages m p q members starved was within h =
       record {
         producing = producing-sent (length topics + 1) m p q was.producing within h;
-        thrifty = subst (λ n. IsThrifty 0 n q) (sym (length-append messages (m ∷ []))) (thrifty-sent (length messages) m p q was.thrifty h);
+        few_calls = subst (λ n. HasFewCalls 0 n q) (sym (length-append messages (m ∷ []))) (few_calls-sent (length messages) m p q was.few_calls h);
         listed = λ fed. listed-sent topics messages m p q members (was.listed fed) h;
       }
 
@@ -47,8 +47,8 @@ module _ {B : Type 0} where
   work-helped topics messages m head p q r was mid is before after work full taken each fed_before grown more =
       record {
         producing = producing-helped (length topics + 1) head p q r work.producing full taken each;
-        thrifty = subst (λ n. IsThrifty 0 n r) (sym (length-append messages (m ∷ [])))
-            (thrifty-taken (length messages + 1) q r (thrifty-full (length messages) head p q work.thrifty full) taken);
+        few_calls = subst (λ n. HasFewCalls 0 n r) (sym (length-append messages (m ∷ [])))
+            (few_calls-taken (length messages + 1) q r (few_calls-full (length messages) head p q work.few_calls full) taken);
         listed = λ fed.
             listed-taken topics (messages ++ m ∷ []) q r mid is
             (subst (HasListed topics (messages ++ m ∷ []) q) (sym (grown fed)) (listed-full topics messages m head p q was (work.listed (fed_before fed)) full))
@@ -68,11 +68,11 @@ module _ {B : Type 0} where
       → HasStopped shared few p kept → HasStopped shared many p kept
   stopped-more shared few many p kept low was = record {
     spent = was.spent;
-    thrifty = record {
-      sends = let its = was.thrifty.sends in omega arith;
-      fulls = let its = was.thrifty.fulls in omega arith;
-      puts = λ topic. let its = was.thrifty.puts topic in omega arith;
-      returns = was.thrifty.returns;
+    few_calls = record {
+      sends = let its = was.few_calls.sends in omega arith;
+      fulls = let its = was.few_calls.fulls in omega arith;
+      puts = λ topic. let its = was.few_calls.puts topic in omega arith;
+      returns = was.few_calls.returns;
     };
     queue = was.queue;
     stays = was.stays;
@@ -88,7 +88,7 @@ module _ {B : Type 0} where
   work-stopped shared topics messages m p q members starved kept was queue stays left =
       record {
         spent = left.spent;
-        thrifty = subst (λ n. IsThrifty 1 n q) (sym (length-append messages (m ∷ []))) (left.thrifty was.thrifty);
+        few_calls = subst (λ n. HasFewCalls 1 n q) (sym (length-append messages (m ∷ []))) (left.few_calls was.few_calls);
         queue = left.own.0 ∙ queue;
         stays = left.own.2 ∙ stays;
         held = left.held ∙ ap (λ l. l ++ index_of kept) was.producing.between.none;

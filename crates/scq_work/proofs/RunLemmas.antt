@@ -19,10 +19,10 @@ use Rattle.scq_passes.specs.Records.{HelpsOnceAfterEachFull}
 use Rattle.scq_passes.proofs.Blocks.{returns}
 use Rattle.scq_passes.proofs.Retired.{retired-taken}
 use Rattle.scq_files.specs.Reading.{IsRead}
-use Rattle.scq_passes.specs.Calls.{Suits, HasTaken, HasLeft, IsThrifty, index_of, after_retire}
+use Rattle.scq_passes.specs.Calls.{Suits, HasTaken, HasLeft, HasFewCalls, index_of, after_retire}
 use Rattle.scq_work.specs.Working.{HasAnswered, IsSweeping, IsAtWork, HasStopped}
 use Rattle.scq_files.specs.declared.own_file.OwnFile.{OwnFile}
-use Rattle.scq_passes.proofs.Kept.{swept, thrifty-taken}
+use Rattle.scq_passes.proofs.Kept.{swept, few_calls-taken}
 use Rattle.scq_work.proofs.WorkerSteps.{sweeping-first, sweeping-taken, listed-taken}
 
 -- of no calls each is nowhere
@@ -60,7 +60,7 @@ module _ {B : Type 0} where
             knows = record { sends = λ m has. absurd (search rules) };
           };
         };
-        thrifty = record { sends = omega arith; fulls = omega arith; puts = λ topic. omega arith; returns = omega arith };
+        few_calls = record { sends = omega arith; fulls = omega arith; puts = λ topic. omega arith; returns = omega arith };
         listed = λ fed. record { passed = passing.none; follows = no_call; takes = none; fulls = tt };
       }))
 
@@ -77,12 +77,12 @@ module _ {B : Type 0} where
     };
   }
 
-  thrifty-retired : (late messages : ℕ) (p : PassStanding B) → IsThrifty late messages p → IsThrifty late messages (after_retire p)
-  thrifty-retired late messages p was = record { sends = was.sends; fulls = was.fulls; puts = was.puts; returns = was.returns }
+  few_calls-retired : (late messages : ℕ) (p : PassStanding B) → HasFewCalls late messages p → HasFewCalls late messages (after_retire p)
+  few_calls-retired late messages p was = record { sends = was.sends; fulls = was.fulls; puts = was.puts; returns = was.returns }
 
   -- it met no Spent
-  thrifty-on_time : (messages : ℕ) (p : PassStanding B) → IsThrifty 0 messages p → IsThrifty 1 messages p
-  thrifty-on_time messages p was =
+  few_calls-on_time : (messages : ℕ) (p : PassStanding B) → HasFewCalls 0 messages p → HasFewCalls 1 messages p
+  few_calls-on_time messages p was =
       record {
         sends = was.sends;
         fulls = was.fulls;
@@ -104,9 +104,9 @@ module _ {B : Type 0} where
       let long : length q.numbers ≡ length topics + 2 = taken.knows.rings ∙ suits.numbers in
       record {
         read = read;
-        thrifty = thrifty-on_time (length (parts_in size (all_given files))) q
-            (thrifty-taken (length (parts_in size (all_given files))) (after_retire p) q
-            (thrifty-retired 0 (length (parts_in size (all_given files))) p work.thrifty) taken);
+        few_calls = few_calls-on_time (length (parts_in size (all_given files))) q
+            (few_calls-taken (length (parts_in size (all_given files))) (after_retire p) q
+            (few_calls-retired 0 (length (parts_in size (all_given files))) p work.few_calls) taken);
         queue = ap (λ (x : PassStanding B). x.queue) taken.pass ∙ suits.queue;
         retired = (length p.calls, ap (λ (x : PassStanding B). x.retired) taken.pass);
         held = sweeping.between.none ∙ ap index_of (sym nothing);
@@ -137,7 +137,7 @@ module _ {B : Type 0} where
       subst (λ k. HasRun shared topics size longest faults end_count left files q is after k) (sym same)
       (record {
         read = read;
-        thrifty = end.thrifty (thrifty-retired 0 (length (parts_in size (all_given files))) p work.thrifty);
+        few_calls = end.few_calls (few_calls-retired 0 (length (parts_in size (all_given files))) p work.few_calls);
         queue = end.own.0 ∙ suits.queue;
         retired = (length p.calls, end.own.2);
         held = end.held ∙ ap (λ l. l ++ index_of held) work.producing.between.none;
@@ -161,7 +161,7 @@ module _ {B : Type 0} where
       (subst (λ (x : PassStanding B). HasRun shared topics size longest faults end_count left files x is after held) (sym retired)
       (record {
         read = read;
-        thrifty = thrifty-retired 1 (length (parts_in size (all_given files))) p end.thrifty;
+        few_calls = few_calls-retired 1 (length (parts_in size (all_given files))) p end.few_calls;
         queue = end.queue;
         retired = (length p.calls, refl);
         held = end.held;

@@ -21,7 +21,7 @@ use Rattle.scq_passes.specs.Records.{is_take, HelpsAfterEachFull, HelpsOnceAfter
 use Rattle.scq_work.specs.Members.{answered, is_taken, is_direct, AnswersSoFar, AnswersItsFulls, AnswersFull}
 use Rattle.scq_passes.specs.PassedOn.{and_sent, and_made}
 use Rattle.scq_work.specs.Passing.{ArePassedOn, Sends, FollowsCalls, by_full}
-use Rattle.scq_passes.specs.Calls.{HasTaken, HasFoundFull, IsThrifty}
+use Rattle.scq_passes.specs.Calls.{HasTaken, HasFoundFull, HasFewCalls}
 use Rattle.scq_work.specs.Working.{HasSent, IsProducing, IsSweeping, HasListed, HasAnswered}
 use Rattle.scq_passes.proofs.Kept.{at_most, taken-calls, taken-sends, sent-calls, sent-sends, sent-takes, placed, full-calls, full-sends, full-takes}
 use Rattle.scq_passes.proofs.Between.{between-sent, between-full, between-taken}
@@ -68,8 +68,8 @@ module _ {B : Type 0} where
       }
 
   -- how much was begun
-  pub thrifty-sent : (messages : ℕ) (m : Part) (p q : PassStanding B) → IsThrifty 0 messages p → HasSent m p q → IsThrifty 0 (messages + 1) q
-  thrifty-sent messages m p q was h =
+  pub few_calls-sent : (messages : ℕ) (m : Part) (p q : PassStanding B) → HasFewCalls 0 messages p → HasSent m p q → HasFewCalls 0 (messages + 1) q
+  few_calls-sent messages m p q was h =
       let got : List Ended = Got 0 h.from h.over ∷ [] in
       let put : List Ended = Done (suc m.topic) h.place h.bytes ∷ [] in
       let calls = sent-calls m.topic (Sends m) p q h in

@@ -11,7 +11,7 @@ use Rattle.scq_files.specs.Reading.{IsRead}
 use Rattle.scq_passes.specs.Records.{HelpsOnceAfterEachFull}
 use Rattle.scq_passes.specs.Together.{HasRetired, HasSwept}
 use Rattle.scq_passes.specs.Waiting.{HelpsInVain}
-use Rattle.scq_passes.specs.Calls.{Suits, IsThrifty, index_of, after_retire}
+use Rattle.scq_passes.specs.Calls.{Suits, HasFewCalls, index_of, after_retire}
 use Rattle.scq_work.specs.Working.{IsAtWork, IsSweeping, HasListed}
 use Rattle.scq_files.specs.declared.own_file.OwnFile.{OwnFile}
 
@@ -34,7 +34,7 @@ pub record HasRun {B S : Type 0} (shared : Identity B) (topics : List (List ℕ 
     (left : S → Option (List ℕ)) (files : List (OwnFile S)) (pass : PassStanding B) (members : List Answered) (starved : Bool)
     (kept : Option (HeldStanding B)) : Type 0 where
   pub read : All (λ f. IsRead topics longest faults end_count left f.number f.was.value f.source (given_in f.given.value) f.end) files
-  pub thrifty : IsThrifty 1 (length (parts_in size (all_given files))) pass
+  pub few_calls : HasFewCalls 1 (length (parts_in size (all_given files))) pass
   pub queue : pass.queue ≡ shared
   pub retired : (calls : ℕ) × (pass.retired ≡ Some calls)
   pub held : pass.held ≡ index_of kept

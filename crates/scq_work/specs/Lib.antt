@@ -1,4 +1,3 @@
-pub mod Jobs
 pub mod Members
 pub mod Passing
 pub mod Working

@@ -7,7 +7,7 @@ use Rattle.scq_queue.specs.Lists.{sends_of, takes_of}
 use Rattle.scq_band.specs.Standing.{Identity}
 use Rattle.scq_queue.specs.Passes.{PassStanding, HeldStanding}
 use Rattle.scq_passes.specs.Records.{HelpsOnceAfterEachFull, HelpsAfterEachFull}
-use Rattle.scq_passes.specs.Calls.{HasSentSo, IsBetweenParts, IsThrifty, index_of}
+use Rattle.scq_passes.specs.Calls.{HasSentSo, IsBetweenParts, HasFewCalls, index_of}
 use Rattle.scq_work.specs.Members.{AnswersSoFar, AnswersItsFulls, is_taken, is_direct}
 use Rattle.scq_work.specs.Passing.{HasPassedOn, FollowsCalls, Sends}
 
@@ -41,13 +41,13 @@ module _ {B : Type 0} where
   -- a worker that has passed on these parts and goes on: its pass, and unless it wanted memory its list
   pub record IsAtWork (topics : List (List ℕ × Kind)) (parts : List Part) (p : PassStanding B) (members : List Answered) (starved : Bool) : Type 0 where
     pub producing : IsProducing (length topics + 1) p
-    pub thrifty : IsThrifty 0 (length parts) p
+    pub few_calls : HasFewCalls 0 (length parts) p
     pub listed : starved ≡ false → HasListed topics parts p members
 
   -- a worker that met Spent while it read its files, after at most so many parts, the last one included: its pass, and the value that it keeps
   pub record HasStopped (shared : Identity B) (parts : ℕ) (p : PassStanding B) (kept : Option (HeldStanding B)) : Type 0 where
     pub spent : (ticket : ℕ) × (p.spent ≡ Some ticket)
-    pub thrifty : IsThrifty 1 parts p
+    pub few_calls : HasFewCalls 1 parts p
     pub queue : p.queue ≡ shared
     pub stays : p.retired ≡ None
     pub held : p.held ≡ index_of kept

@@ -1,5 +1,5 @@
 ghost use Rattle.std.specs.Prelude.{◌≡◌, ◌^◌};
-ghost use Rattle.scq_work.specs.Jobs.{IsJob};
+ghost use Rattle.scq_passes.specs.Jobs.{IsJob};
 
 use scq_topics::Topics;
 

@@ -6,8 +6,8 @@ ghost use Rattle.scq_files.specs.Ends.{AreGiven, HasMoved, all_left, messages_in
 ghost use Rattle.scq_files.specs.Reading.{IsWhole};
 ghost use Rattle.scq_stages.specs.AllStages.{HasStaged, NothingIsStranded};
 ghost use Rattle.scq_stages.specs.Ends.{HasCause};
-ghost use Rattle.scq_stages.specs.Output.{finished_in, one_thread_text, results_of, without_way};
-ghost use Rattle.scq_service.specs.Answers.{AreResults, HaveAllCome, HaveCome, IsStagedOf, IsStaging, StrandsNothing, WorkedAt};
+ghost use Rattle.scq_stages.specs.Output.{finished_in, one_thread_stage_output, all_handled, without_way};
+ghost use Rattle.scq_service.specs.Answers.{AreAllHandled, HaveAllCome, HaveCome, IsStagedOf, IsStaging, StrandsNothing, WorkedAt};
 ghost use Rattle.scq_service.specs.Ends.{EndsOver, HasGotSources, ReadsOver, inputs_of, wrote_of};
 ghost use Rattle.scq_service.specs.Faults.{fault_of_stages, status_of};
 
@@ -34,7 +34,7 @@ pub fn run_stages<R: Threads + Sync, F: Files, K: Sink>(
     requires { length names.now ≤ 64 }
     ensures got { HasGotSources F.Src.faults F.Src.left (map string_bytes names.now) result.got.value.items
         (inputs_of F.table F.faults files.old files.new result.sources.items result.read) }
-    ensures ends { EndsOver job.now.size one_thread_text F.Src.faults F.Src.ends F.Src.left (map string_bytes names.now) result.got.value.items
+    ensures ends { EndsOver job.now.size one_thread_stage_output F.Src.faults F.Src.ends F.Src.left (map string_bytes names.now) result.got.value.items
         (inputs_of F.table F.faults files.old files.new result.sources.items result.read)
         (wrote_of K.written K.faults out.old out.new) result.fault }
     ensures status { result.status ≡ status_of result.fault }
@@ -63,8 +63,8 @@ pub fn run_stages<R: Threads + Sync, F: Files, K: Sink>(
 
 /// What is written of what workers finished.
 fn text_of(alloc: Global, staged: &Staged) -> Result<Bytes, NoMemory>
-    ensures { (contents : List (List ℕ)) → IsPermutation (map without_way (finished_in staged.now.done.items)) (results_of 1 contents)
-        → IfOk result (λ text. text ≡ one_thread_text contents) }
+    ensures { (contents : List (List ℕ)) → IsPermutation (map without_way (finished_in staged.now.done.items)) (all_handled 1 contents)
+        → IfOk result (λ text. text ≡ one_thread_stage_output contents) }
 {
     let lists = staged.done.as_slice();
     stage_output(alloc, lists)
@@ -87,7 +87,7 @@ fn stage_files<R: Threads + Sync, F: Files>(
     ensures status { result.status ≡ status_of result.fault }
     ensures worked { result.worked ≡ None }
     ensures staged { WorkedAt result.fault result.staged }
-    ensures results { AreResults F.Src.left result.got.value.items result.staged }
+    ensures handled { AreAllHandled F.Src.left result.got.value.items result.staged }
     ensures told { IsStagedOf job.now.workers F.Src.left result.got.value.items result.staged }
     ensures work { IsStaging job.now.size job.now.workers F.Src.faults F.Src.ends F.Src.left result.got.value.items
         (inputs_of F.table F.faults files.old files.new result.sources.items result.read) result.staged }
@@ -127,8 +127,8 @@ fn conclude<F: Files>(
         → HasMoved F.Src.faults F.Src.left (slice_index_or got.value.items k d) (slice_index_or end.sources.items k d) }
     requires whole { OnOk end.result ((k : ℕ) (d : F.Src) → k < length got.value.items
         → IsWhole job.now.size F.Src.faults F.Src.ends F.Src.left (slice_index_or got.value.items k d) (slice_index_or end.sources.items k d)) }
-    requires results { IfOk end.result (λ s. IfSome (all_left F.Src.left got.value.items) (λ contents.
-        IsPermutation (map without_way (finished_in s.done.items)) (results_of 1 contents))) }
+    requires handled { IfOk end.result (λ s. IfSome (all_left F.Src.left got.value.items) (λ contents.
+        IsPermutation (map without_way (finished_in s.done.items)) (all_handled 1 contents))) }
     requires told { IfOk end.result (λ s. IfSome (all_left F.Src.left got.value.items) (λ contents.
         HasStaged job.now.workers (messages_in [] 1 contents) s)) }
     requires staged { IfOk end.result (λ s. (given : List (List TheMessage)) × AreGiven [] job.now.size F.Src.left 1 got.value.items given
@@ -145,7 +145,7 @@ fn conclude<F: Files>(
     ensures status { result.status ≡ status_of result.fault }
     ensures worked { result.worked ≡ None }
     ensures staged { WorkedAt result.fault result.staged }
-    ensures results { AreResults F.Src.left result.got.value.items result.staged }
+    ensures handled { AreAllHandled F.Src.left result.got.value.items result.staged }
     ensures told { IsStagedOf job.now.workers F.Src.left result.got.value.items result.staged }
     ensures work { IsStaging job.now.size job.now.workers F.Src.faults F.Src.ends F.Src.left result.got.value.items
         (inputs_of F.table F.faults was.now.value files.now result.sources.items result.read) result.staged }

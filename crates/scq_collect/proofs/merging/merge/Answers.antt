@@ -4,7 +4,7 @@ use Rattle.std.proofs.lemmas.List.Sorted.{All-permutation}
 use Rattle.std.proofs.lemmas.Result.{IfOk-weaker}
 use Rattle.scq_collect.specs.declared.answered.Answered.{Answered}
 use Rattle.scq_collect.specs.Joined.{IsJoined, answers_of, plain, without_way}
-use Rattle.scq_collect.specs.Merging.{IsInOrder, members_in, place_of_answer}
+use Rattle.scq_collect.specs.Merging.{IsInOrder, members_in, position_of_answer}
 use Rattle.scq_collect.specs.Output.{answer_of_whole, answers_to}
 use Rattle.scq_collect.proofs.InChunks.{in-place, maps}
 use Rattle.scq_collect.proofs.Merged.{merged-exactly, merged-one-thread}
@@ -31,7 +31,7 @@ returns-clause-joined c =
 
 pub returns-clause-in_order : goal.returns-clause-in_order
 returns-clause-in_order c whole =
-    IfOk-weaker c.wholes_of.result _ (λ wholes. IsInOrder place_of_answer (map answer_of_whole wholes.items))
+    IfOk-weaker c.wholes_of.result _ (λ wholes. IsInOrder position_of_answer (map answer_of_whole wholes.items))
     (λ wholes j. joined-in-order c.args.topics.now (members_in c.args.lists.now) (map answer_of_whole wholes.items) j whole) (returns-clause-joined c)
 
 pub returns-clause-exact : goal.returns-clause-exact

@@ -4,7 +4,7 @@ use Rattle.std.specs.List.{All, Contains}
 use Rattle.std.proofs.lemmas.List.{get_or_push, length-append, map_push}
 use Rattle.std.proofs.lemmas.List.Elements.{All-push}
 use Rattle.scq_collect.specs.declared.answered.Answered.{Answered}
-use Rattle.scq_collect.specs.Merging.{IsBefore, IsInOrder, place_of_part}
+use Rattle.scq_collect.specs.Merging.{IsBefore, IsInOrder, position_of_part}
 use Rattle.scq_collect.proofs.FromSlots.{in-order-push}
 use Rattle.scq_collect.proofs.ordering.collected.Goals as goal
 
@@ -16,13 +16,13 @@ slots-preserved c =
     let known = c.slots.invariant in
     let more : map now c.push.new.self.items ≡ xs ++ x ∷ [] =
     ap (map now) c.in_ok-push.ensures.items ∙ map_push now c.slots.all.items c.in-Some.member in
-    let before : IsBefore c.slots.last (place_of_part x) = search rules in
+    let before : IsBefore c.slots.last (position_of_part x) = search rules in
     let long = ap length more in
     record {
-      in_order = subst (IsInOrder place_of_part) (sym more) (in-order-push place_of_part c.slots.last xs x known.in_order known.last before);
+      in_order = subst (IsInOrder position_of_part) (sym more) (in-order-push position_of_part c.slots.last xs x known.in_order known.last before);
       last = λ k d e.
-          ap (λ (ys : List Answered). place_of_part (slice_index_or ys k d)) more
-          ∙ ap place_of_part (get_or_push xs x d k (omega (arith, e, long, length-append xs (x ∷ []))));
+          ap (λ (ys : List Answered). position_of_part (slice_index_or ys k d)) more
+          ∙ ap position_of_part (get_or_push xs x d k (omega (arith, e, long, length-append xs (x ∷ []))));
       from = λ members all.
           let P : Option (Bor Answered) → Type 0 = λ slot. IfSome slot (λ m. Contains members m.now) in
           let at = all c.slots.slot-index c.slot-item.result c.slots-test.true in

@@ -4,7 +4,7 @@ use Rattle.std.specs.Global.{Global}
 use Rattle.std.specs.List.{All, Contains}
 use Rattle.std.proofs.lemmas.List.{length-map}
 use Rattle.scq_collect.specs.declared.answered.Answered.{Answered}
-use Rattle.scq_collect.specs.Merging.{IsInOrder, members_in, place_of_part}
+use Rattle.scq_collect.specs.Merging.{IsInOrder, members_in, position_of_part}
 use Rattle.scq_collect.proofs.FromSlots.{merged-from}
 use Rattle.scq_collect.proofs.ordering.ordered.Goals as goal
 
@@ -17,7 +17,7 @@ returns-in-Some-2 c =
     (subst (λ (slots : List (Option (Bor Answered))). All (λ slot. IfSome slot (λ m. Contains members m.now)) slots) (sym c.as_slice.ensures.value)
     c.in_ok-table.ensures) in
     let Some : (Vec (Bor Answered) Global → Type 0) → Option (Vec (Bor Answered) Global) → Type 0 = λ P found. IfSome found P in
-    merged-from place_of_part members (map now all.items)
-    (subst (Some (λ all. IsInOrder place_of_part (map now all.items))) c.in-Some-2.is c.in_ok-all.ensures.in_order)
+    merged-from position_of_part members (map now all.items)
+    (subst (Some (λ all. IsInOrder position_of_part (map now all.items))) c.in-Some-2.is c.in_ok-all.ensures.in_order)
     (subst (Some (λ all. All (Contains members) (map now all.items))) c.in-Some-2.is from)
     (length-map all.items now ∙ subst (Some (λ all. length all.items ≡ c.in-Some.count)) c.in-Some-2.is c.in_ok-all.ensures.count ∙ c.in-Some.ensures)

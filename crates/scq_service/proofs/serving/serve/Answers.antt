@@ -1,7 +1,7 @@
 use Rattle.std.proofs.Common.{subst, Result}
 use Rattle.scq_collect.specs.Output.{one_thread_output}
 use Rattle.scq_self.specs.Summary.{self_summary}
-use Rattle.scq_stages.specs.Output.{one_thread_text}
+use Rattle.scq_stages.specs.Output.{one_thread_stage_output}
 use Rattle.scq_words.specs.Asked.{Asked}
 use Rattle.scq_words.specs.declared.fault.WordsFault.{WordsFault}
 use Rattle.scq_service.specs.Ends.{EndsAs, inputs_of, most_payload, wrote_of}
@@ -29,7 +29,7 @@ returns-clause-complete_stages g c = λ a is calm.
     let r = inputs_of g.F.Files.table g.F.Files.faults c.args.files.now c.run-outcome.new.files outcome.sources.items outcome.read in
     let w = wrote_of g.K.Sink.written g.K.Sink.faults c.args.out.now c.run-outcome.new.out in
     let E : Result Asked WordsFault → Type 0 = λ asked. EndsAs faults end_count left asked outcome.got.value.items r w outcome.fault in
-    complete a.size one_thread_text faults end_count left a.files outcome.got.value.items r w outcome.fault
+    complete a.size one_thread_stage_output faults end_count left a.files outcome.got.value.items r w outcome.fault
     (subst E is c.run-outcome.ensures.end).1 calm
 
 pub returns-clause-complete_self : goal.returns-clause-complete_self

@@ -233,8 +233,8 @@ returns-clause-staged g c =
       },
     ))
 
-pub returns-clause-results : goal.returns-clause-results
-returns-clause-results g c =
+pub returns-clause-handled : goal.returns-clause-handled
+returns-clause-handled g c =
     ok-more c.conclude.result _ _ (returns-clause-staged g c) (λ s has.
     members-told c.args.job.now.size g.S.Source.left c.args.laid.was.value.items has.0 (finished_in s.done.items) has.1 has.2.staged.once)
 

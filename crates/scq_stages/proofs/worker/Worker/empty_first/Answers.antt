@@ -9,10 +9,10 @@ use Rattle.scq_passes.specs.Calls.{since}
 use Rattle.scq_passes.proofs.PassLemmas.{taken-nothing, taken-along}
 use Rattle.scq_passes.proofs.Since.{since-of, since-takes}
 use Rattle.scq_passes.proofs.LeftLemmas.{left-so-taken}
-use Rattle.scq_stages.specs.Moves.{first, second}
-use Rattle.scq_stages.specs.Working.{IsThrifty, IsAtWork, HasStopped}
+use Rattle.scq_stages.specs.Records.{first, second}
+use Rattle.scq_stages.specs.Working.{HasFewStageCalls, IsAtWork, HasStopped}
 use Rattle.scq_stages.proofs.AtWork.{work-done, work-left}
-use Rattle.scq_stages.proofs.Thrift.{thrifty-moved}
+use Rattle.scq_stages.proofs.FewCalls.{few_calls-moved}
 use Rattle.scq_stages.proofs.Finishing.{helped-nothing, helped-along, moved-nothing, moved-along}
 use Rattle.scq_stages.proofs.worker.Worker.empty_first.Goals as goal
 
@@ -72,7 +72,7 @@ returns-in_err-move_one-clause-left g c =
     let n = length messages in
     let kept = c.in_err-move_one.field-0.0.held in
     work-left c.args.queue.now messages n was.pass now.pass was.members.items was.starved kept work c.requires.suits.queue c.requires.stays
-    (left-so-taken IsThrifty n n n was.pass mid.pass now.pass kept taken (thrifty-moved n was.pass mid.pass taken)
+    (left-so-taken HasFewStageCalls n n n was.pass mid.pass now.pass kept taken (few_calls-moved n was.pass mid.pass taken)
     (c.in_err-move_one.ensures.left n)))
 
 pub returns-in_err-move_one-clause-number : goal.returns-in_err-move_one-clause-number

@@ -1,7 +1,7 @@
 use Rattle.std.proofs.Common.{◌≡◌, ◌-◌}
 use Rattle.scq_queue.specs.Passes.{known_on}
-use Rattle.scq_stages.specs.Moves.{first}
-use Rattle.scq_stages.specs.Steps.{HasTakenOrMoved, HasMovedIts, HasHelped}
+use Rattle.scq_stages.specs.Records.{first}
+use Rattle.scq_stages.specs.Steps.{HasTakenOrMoved, HasMovedIts, HasFinishedOnlySeconds}
 use Rattle.scq_stages.proofs.worker.Worker.empty_first.Given as goal
 
 -- what was taken so far was moved
@@ -9,7 +9,7 @@ abbrev pub invariant-moves : goal.invariant-moves
 invariant-moves g l = record {
   taken : HasTakenOrMoved l.fn.self.pass l.self.pass;
   moves : HasMovedIts l.fn.self.pass l.self.pass;
-  helped : HasHelped l.fn.self.pass l.self.pass l.fn.self.members.items l.self.members.items;
+  helped : HasFinishedOnlySeconds l.fn.self.pass l.self.pass l.fn.self.members.items l.self.members.items;
   members : l.self.members.items ≡ l.fn.self.members.items;
   starved : l.self.starved ≡ l.fn.self.starved;
 }

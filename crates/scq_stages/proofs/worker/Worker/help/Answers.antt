@@ -4,10 +4,10 @@ use Rattle.scq_passes.specs.Calls.{HasLeftSo, since}
 use Rattle.scq_passes.proofs.PassLemmas.{taken-along}
 use Rattle.scq_passes.proofs.Since.{since-takes}
 use Rattle.scq_passes.proofs.LeftLemmas.{left-so-taken}
-use Rattle.scq_stages.specs.Moves.{first, second}
-use Rattle.scq_stages.specs.Working.{IsThrifty}
+use Rattle.scq_stages.specs.Records.{first, second}
+use Rattle.scq_stages.specs.Working.{HasFewStageCalls}
 use Rattle.scq_stages.proofs.Moving.{moved-of}
-use Rattle.scq_stages.proofs.Thrift.{thrifty-moved}
+use Rattle.scq_stages.proofs.FewCalls.{few_calls-moved}
 use Rattle.scq_stages.proofs.Finishing.{helped-along, moved-along, topics-along}
 use Rattle.scq_stages.proofs.worker.Worker.help.Goals as goal
 use Rattle.scq_stages.proofs.worker.Worker.help.Goals.{In_ok-move_one}
@@ -25,8 +25,8 @@ returns-in_err-move_one-clause-left g c =
     let r = c.move_one.new.self.pass in
     let taken = moved-of p q c.in_ok-take_second.ensures.taken in
     let is : c.from_residual-in_err-move_one.result ≡ Err c.in_err-move_one.field-0.0 = search rules in
-    subst (λ (x : Result _ _). IfErr x (λ l. (messages : ℕ) → HasLeftSo IsThrifty messages messages p r l.held)) (sym is)
-    (λ messages. left-so-taken IsThrifty messages messages messages p q r _ taken (thrifty-moved messages p q taken)
+    subst (λ (x : Result _ _). IfErr x (λ l. (messages : ℕ) → HasLeftSo HasFewStageCalls messages messages p r l.held)) (sym is)
+    (λ messages. left-so-taken HasFewStageCalls messages messages messages p q r _ taken (few_calls-moved messages p q taken)
     (c.in_err-move_one.ensures.left messages))
 
 pub returns-clause-taken : goal.returns-clause-taken

@@ -2,9 +2,9 @@ use Rattle.std.proofs.Common.{◌≡◌, subst, ℕ, false, Ok, Err, Result}
 use Rattle.std.specs.Prelude.{IfErr, OnOk}
 use Rattle.scq_queue.specs.Passes.{PassStanding}
 use Rattle.scq_passes.specs.Calls.{HasLeftSo, TookNoneBelow, after_retire}
-use Rattle.scq_stages.specs.Moves.{first}
+use Rattle.scq_stages.specs.Records.{first}
 use Rattle.scq_stages.specs.Steps.{HasGivenBack, HasFinished}
-use Rattle.scq_stages.specs.Working.{IsThrifty}
+use Rattle.scq_stages.specs.Working.{HasFewStageCalls}
 use Rattle.scq_stages.proofs.BehindRetiring.{leaving-of}
 use Rattle.scq_stages.proofs.worker.Worker.leave.Goals as goal
 
@@ -32,5 +32,5 @@ pub returns-clause-left : goal.returns-clause-left
 returns-clause-left g c =
     let now = c.sweep_out.new.self.pass in
     let is : c.retire.new.pass ≡ after_retire c.args.self.now.pass = c.retire.ensures in
-    subst (λ (x : PassStanding _). IfErr c.sweep_out.result (λ l. (messages : ℕ) → HasLeftSo IsThrifty messages messages x now l.held)) is
+    subst (λ (x : PassStanding _). IfErr c.sweep_out.result (λ l. (messages : ℕ) → HasLeftSo HasFewStageCalls messages messages x now l.held)) is
     c.sweep_out.ensures.left

@@ -7,8 +7,8 @@ use Rattle.scq_queue.specs.Passes.{PassStanding}
 use Rattle.scq_passes.specs.Calls.{HasLeftSo, since}
 use Rattle.scq_passes.specs.Records.{on}
 use Rattle.scq_passes.proofs.PassLemmas.{found-none, found-past}
-use Rattle.scq_stages.specs.Moves.{first, second, take_topic}
-use Rattle.scq_stages.specs.Working.{IsThrifty}
+use Rattle.scq_stages.specs.Records.{first, second, take_topic}
+use Rattle.scq_stages.specs.Working.{HasFewStageCalls}
 use Rattle.scq_stages.proofs.Finishing.{since-found, moved-nothing, helped-nothing, left-take, left-back}
 use Rattle.scq_stages.proofs.Moved.{HasMovedOne, moved-took}
 use Rattle.scq_stages.proofs.worker.Worker.move_one.Goals as goal
@@ -31,7 +31,7 @@ returns-in_err-move_on-in-Ok-clause-left g c =
     let p = c.args.self.now.pass in
     let r = c.move_on.new.self.pass in
     let is : c.from_residual.result ≡ Err c.in_err-move_on-in-Ok.field-0.0 = search rules in
-    subst (λ (x : Result _ _). IfErr x (λ l. (messages : ℕ) → HasLeftSo IsThrifty messages messages p r l.held)) (sym is)
+    subst (λ (x : Result _ _). IfErr x (λ l. (messages : ℕ) → HasLeftSo HasFewStageCalls messages messages p r l.held)) (sym is)
     (λ messages. left-back g.B.Buffer.contents messages first c.in-Ok.field-0-0 p c.take.new.pass r c.in-Ok.held _ c.in-Ok.ensures.took
     c.in_err-move_on-in-Ok.ensures.back)
 

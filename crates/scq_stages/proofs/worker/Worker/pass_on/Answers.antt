@@ -8,12 +8,12 @@ use Rattle.scq_passes.proofs.PassLemmas.{found-full, suits-taken, lent-and-sent}
 use Rattle.scq_passes.proofs.LeftLemmas.{left-so-at-get, left-so-full}
 use Rattle.scq_passes.proofs.ManyLists.{one-of-all}
 use Rattle.scq_stages.specs.declared.finished.Finished.{Finished}
-use Rattle.scq_stages.specs.Moves.{first, second, take_topic}
+use Rattle.scq_stages.specs.Records.{first, second, take_topic}
 use Rattle.scq_stages.specs.Passing.{SendsToFirst}
-use Rattle.scq_stages.specs.Steps.{HasTakenOrMoved, HasMovedIts, HasHelped}
-use Rattle.scq_stages.specs.Working.{IsThrifty, IsAtWork, HasStopped}
+use Rattle.scq_stages.specs.Steps.{HasTakenOrMoved, HasMovedIts, HasFinishedOnlySeconds}
+use Rattle.scq_stages.specs.Working.{HasFewStageCalls, IsAtWork, HasStopped}
 use Rattle.scq_stages.proofs.AtWork.{work-sent, work-helped, suits-full, left-sent, work-stopped}
-use Rattle.scq_stages.proofs.Thrift.{thrifty-full, thrifty-more, thrifty-at_get}
+use Rattle.scq_stages.proofs.FewCalls.{few_calls-full, few_calls-more, few_calls-at_get}
 use Rattle.scq_stages.proofs.worker.Worker.pass_on.Goals as goal
 use Rattle.scq_stages.proofs.worker.Worker.pass_on.Goals.{After-finish_directly, In_ok-send_in-in-Ok, In_ok-help-in-Err-Full}
 
@@ -38,7 +38,7 @@ returns-in_err-send_in-in-Ok-clause-left g c =
     → HasStopped c.args.queue.now (length (messages ++ m ∷ [])) c.send_in.new.self.pass l.held)) (sym is)
     (λ messages work.
     let kept = c.in_err-send_in-in-Ok.field-0.0.held in
-    let left : HasLeftSo IsThrifty (length messages) (length messages + 1) was.pass c.send_in.new.self.pass kept =
+    let left : HasLeftSo HasFewStageCalls (length messages) (length messages + 1) was.pass c.send_in.new.self.pass kept =
     left-sent g.B.Buffer.contents (length messages) said.spent.0 was.pass c.lend.new.pass c.send_in.new.self.pass c.in-Ok.held kept c.in-Ok.ensures.lent
     said.spent.1 said.kept said.back in
     work-stopped c.args.queue.now messages m was.pass c.send_in.new.self.pass was.members.items was.starved kept work c.requires.suits.queue
@@ -72,8 +72,8 @@ returns-in-Err-Spent-clause-left g c messages work =
     let spent = (c.in-Err-Spent.ensures.spent c.in-Err-Spent.field-0-0 (cc) c.requires.suits.spent).0 in
     work-stopped c.args.queue.now messages c.args.message.now p q c.args.self.now.members.items c.args.self.now.starved None work
     c.requires.suits.queue c.requires.stays
-    (left-so-at-get IsThrifty n (n + 1) 0 c.in-Err-Spent.field-0-0 p q spent
-    (λ was. thrifty-more 1 n (n + 1) q (omega arith) (thrifty-at_get n 0 c.in-Err-Spent.field-0-0 p q spent was)))
+    (left-so-at-get HasFewStageCalls n (n + 1) 0 c.in-Err-Spent.field-0-0 p q spent
+    (λ was. few_calls-more 1 n (n + 1) q (omega arith) (few_calls-at_get n 0 c.in-Err-Spent.field-0-0 p q spent was)))
 
 -- no buffer was free: the pass suits still
 full-at : (g : _) (c : After-finish_directly g) → HasFoundFull c.in-Err-Full.head c.args.self.now.pass c.lend.new.pass
@@ -106,11 +106,11 @@ returns-in_err-help-in-Err-Full-clause-left g c =
     → HasStopped c.args.queue.now (length (messages ++ m ∷ [])) r l.held)) (sym is)
     (λ messages work.
     let n = length messages in
-    let left : HasLeftSo IsThrifty (n + 1) (n + 1) q r kept =
-    subst (λ (x : PassStanding _). HasLeftSo IsThrifty (n + 1) (n + 1) x r kept) c.finish_directly.ensures.same
+    let left : HasLeftSo HasFewStageCalls (n + 1) (n + 1) q r kept =
+    subst (λ (x : PassStanding _). HasLeftSo HasFewStageCalls (n + 1) (n + 1) x r kept) c.finish_directly.ensures.same
     (c.in_err-help-in-Err-Full.ensures.left (n + 1)) in
     work-stopped c.args.queue.now messages m was.pass r was.members.items was.starved kept work c.requires.suits.queue c.requires.stays
-    (left-so-full IsThrifty n (n + 1) (n + 1) c.in-Err-Full.head was.pass q r kept full (thrifty-full n c.in-Err-Full.head was.pass q full) left))
+    (left-so-full HasFewStageCalls n (n + 1) (n + 1) c.in-Err-Full.head was.pass q r kept full (few_calls-full n c.in-Err-Full.head was.pass q full) left))
 
 pub returns-in_err-help-in-Err-Full-clause-number : goal.returns-in_err-help-in-Err-Full-clause-number
 returns-in_err-help-in-Err-Full-clause-number g c =
@@ -146,4 +146,4 @@ returns-in_ok-help-in-Err-Full-clause-work g c messages work =
     (subst (λ (q : PassStanding _). HasMovedIts q now.pass) same said.moves)
     (λ fed. c.finish_directly.ensures.starved (c.help.ensures.starved fed))
     (λ fed. c.finish_directly.ensures.listed (c.help.ensures.starved fed))
-    (λ fed. subst (λ (q : PassStanding _). HasHelped q now.pass mid.members.items now.members.items) same (said.helped fed))
+    (λ fed. subst (λ (q : PassStanding _). HasFinishedOnlySeconds q now.pass mid.members.items now.members.items) same (said.helped fed))

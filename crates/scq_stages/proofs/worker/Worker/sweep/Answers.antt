@@ -7,11 +7,11 @@ use Rattle.scq_passes.proofs.PassLemmas.{taken-along, empty-still}
 use Rattle.scq_passes.proofs.LeftLemmas.{left-so-taken}
 use Rattle.scq_passes.proofs.Since.{since-takes, none_below-along}
 use Rattle.scq_passes.proofs.Sweeps.{found-earlier, found-later}
-use Rattle.scq_stages.specs.Moves.{first, second}
-use Rattle.scq_stages.specs.Working.{IsThrifty}
+use Rattle.scq_stages.specs.Records.{first, second}
+use Rattle.scq_stages.specs.Working.{HasFewStageCalls}
 use Rattle.scq_stages.proofs.Finishing.{finished-along}
 use Rattle.scq_stages.proofs.Moving.{gives, moved-of}
-use Rattle.scq_stages.proofs.Thrift.{thrifty-moved}
+use Rattle.scq_stages.proofs.FewCalls.{few_calls-moved}
 use Rattle.scq_stages.proofs.worker.Worker.sweep.Goals as goal
 use Rattle.scq_stages.proofs.worker.Worker.sweep.Goals.{In_ok-from_second}
 
@@ -35,8 +35,8 @@ returns-in_err-from_second-clause-left g c =
     let r = c.sweep_second.new.self.pass in
     let taken = moved-of p q c.in_ok-from_first.ensures.taken in
     let is : c.from_residual-in_err-from_second.result ≡ Err c.in_err-from_second.field-0.0 = search rules in
-    subst (λ (x : Result _ _). IfErr x (λ l. (messages : ℕ) → HasLeftSo IsThrifty messages messages p r l.held)) (sym is)
-    (λ messages. left-so-taken IsThrifty messages messages messages p q r _ taken (thrifty-moved messages p q taken)
+    subst (λ (x : Result _ _). IfErr x (λ l. (messages : ℕ) → HasLeftSo HasFewStageCalls messages messages p r l.held)) (sym is)
+    (λ messages. left-so-taken HasFewStageCalls messages messages messages p q r _ taken (few_calls-moved messages p q taken)
     (c.in_err-from_second.ensures.left messages))
 
 pub returns-clause-taken : goal.returns-clause-taken

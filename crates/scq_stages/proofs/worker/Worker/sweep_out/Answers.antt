@@ -11,12 +11,12 @@ use Rattle.scq_passes.proofs.PassLemmas.{taken-nothing, taken-along, left-falls,
 use Rattle.scq_passes.proofs.LeftLemmas.{left-so-taken}
 use Rattle.scq_passes.proofs.Since.{since-of, since-takes, none_below-nothing, none_below-along}
 use Rattle.scq_passes.proofs.Sweeps.{sweep-of, idle-more, idle-none}
-use Rattle.scq_stages.specs.Moves.{first}
+use Rattle.scq_stages.specs.Records.{first}
 use Rattle.scq_stages.specs.Steps.{HasGivenBack, HasFinished}
-use Rattle.scq_stages.specs.Working.{IsThrifty}
+use Rattle.scq_stages.specs.Working.{HasFewStageCalls}
 use Rattle.scq_stages.proofs.Finishing.{finished-nothing, finished-along}
 use Rattle.scq_stages.proofs.Moving.{moved-of}
-use Rattle.scq_stages.proofs.Thrift.{thrifty-moved}
+use Rattle.scq_stages.proofs.FewCalls.{few_calls-moved}
 use Rattle.scq_stages.proofs.worker.Worker.sweep_out.Goals as goal
 use Rattle.scq_stages.proofs.worker.Worker.sweep_out.Goals.{then-some, else-some, In_ok-some, After-closed-over}
 
@@ -87,8 +87,8 @@ returns-in_err-some-clause-left g c =
     let r = c.sweep.new.self.pass in
     let taken = moved-of p q (before g (goal.at.returns-in_err-some-clause-left g c).After-closed-over) in
     let is : c.from_residual.result ≡ Err c.in_err-some.field-0.0 = search rules in
-    subst (λ (x : Result _ _). IfErr x (λ l. (messages : ℕ) → HasLeftSo IsThrifty messages messages p r l.held)) (sym is)
-    (λ messages. left-so-taken IsThrifty messages messages messages p q r _ taken (thrifty-moved messages p q taken)
+    subst (λ (x : Result _ _). IfErr x (λ l. (messages : ℕ) → HasLeftSo HasFewStageCalls messages messages p r l.held)) (sym is)
+    (λ messages. left-so-taken HasFewStageCalls messages messages messages p q r _ taken (few_calls-moved messages p q taken)
     (c.in_err-some.ensures.left messages))
 
 pub sweeps-smaller : goal.sweeps-smaller

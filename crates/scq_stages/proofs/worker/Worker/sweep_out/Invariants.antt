@@ -2,7 +2,7 @@ use Rattle.std.proofs.Common.{◌≡◌, ◌<◌, ◌+◌, ◌-◌, ◌*◌, fal
 use Rattle.scq_passes.specs.Records.{IsGivenBack}
 use Rattle.scq_passes.specs.Leaving.{HasIdled}
 use Rattle.scq_passes.specs.Calls.{TookNoneBelow, takes_left}
-use Rattle.scq_stages.specs.Moves.{first}
+use Rattle.scq_stages.specs.Records.{first}
 use Rattle.scq_stages.specs.Steps.{HasGivenBack, HasFinished}
 use Rattle.scq_stages.proofs.worker.Worker.sweep_out.Given as goal
 

@@ -8,11 +8,11 @@ use Rattle.scq_passes.proofs.PassLemmas.{taken-nothing, taken-along}
 use Rattle.scq_passes.proofs.LeftLemmas.{left-so-taken}
 use Rattle.scq_passes.proofs.Since.{since-of, since-takes, none_below-nothing, none_below-along}
 use Rattle.scq_passes.proofs.Sweeps.{found-earlier}
-use Rattle.scq_stages.specs.Moves.{first, second}
-use Rattle.scq_stages.specs.Working.{IsThrifty}
+use Rattle.scq_stages.specs.Records.{first, second}
+use Rattle.scq_stages.specs.Working.{HasFewStageCalls}
 use Rattle.scq_stages.proofs.Finishing.{finished-nothing, finished-along}
 use Rattle.scq_stages.proofs.Moving.{moved-of}
-use Rattle.scq_stages.proofs.Thrift.{thrifty-moved}
+use Rattle.scq_stages.proofs.FewCalls.{few_calls-moved}
 use Rattle.scq_stages.proofs.worker.Worker.sweep_second.Goals as goal
 
 pub takes-init : goal.takes-init
@@ -96,6 +96,6 @@ returns-in_err-more-clause-left g c =
     let r = c.take_second.new.self.pass in
     let taken = moved-of p q c.takes.invariant.taken in
     let is : c.from_residual.result ≡ Err c.in_err-more.field-0.0 = search rules in
-    subst (λ (x : Result _ _). IfErr x (λ l. (messages : ℕ) → HasLeftSo IsThrifty messages messages p r l.held)) (sym is)
-    (λ messages. left-so-taken IsThrifty messages messages messages p q r _ taken (thrifty-moved messages p q taken)
+    subst (λ (x : Result _ _). IfErr x (λ l. (messages : ℕ) → HasLeftSo HasFewStageCalls messages messages p r l.held)) (sym is)
+    (λ messages. left-so-taken HasFewStageCalls messages messages messages p q r _ taken (few_calls-moved messages p q taken)
     (c.in_err-more.ensures.left messages))

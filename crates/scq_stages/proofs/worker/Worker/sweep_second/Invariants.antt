@@ -2,7 +2,7 @@ use Rattle.std.proofs.Common.{◌≡◌, ◌<◌, ◌-◌, true, false}
 use Rattle.scq_queue.specs.Passes.{known_on}
 use Rattle.scq_passes.specs.Calls.{TookNoneBelow}
 use Rattle.scq_passes.specs.Leaving.{TookNothing}
-use Rattle.scq_stages.specs.Moves.{first, second}
+use Rattle.scq_stages.specs.Records.{first, second}
 use Rattle.scq_stages.specs.Steps.{HasGivenBack, HasFinished}
 use Rattle.scq_stages.proofs.worker.Worker.sweep_second.Given as goal
 

@@ -9,8 +9,8 @@ use Rattle.scq_passes.specs.Records.{on}
 use Rattle.scq_passes.proofs.PassLemmas.{took-and-gave, found-none, found-past}
 use Rattle.scq_passes.proofs.Since.{none_below-nothing}
 use Rattle.scq_passes.proofs.Sweeps.{found-now, found-takes}
-use Rattle.scq_stages.specs.Moves.{first, second, take_topic}
-use Rattle.scq_stages.specs.Working.{IsThrifty}
+use Rattle.scq_stages.specs.Records.{first, second, take_topic}
+use Rattle.scq_stages.specs.Working.{HasFewStageCalls}
 use Rattle.scq_stages.proofs.Finishing.{since-took, since-found, finished-second, helped-second, finished-nothing, helped-nothing, moved-nothing, left-take, left-given}
 use Rattle.scq_stages.proofs.worker.Worker.take_second.Goals as goal
 use Rattle.scq_stages.proofs.worker.Worker.take_second.Goals.{In_ok-end_second-in-Ok, In-Err-Empty}
@@ -33,7 +33,7 @@ returns-in_err-end_second-in-Ok-clause-left g c =
     let p = c.args.self.now.pass in
     let r = c.end_second.new.self.pass in
     let is : c.from_residual.result ≡ Err c.in_err-end_second-in-Ok.field-0.0 = search rules in
-    subst (λ (x : Result _ _). IfErr x (λ l. (messages : ℕ) → HasLeftSo IsThrifty messages messages p r l.held)) (sym is)
+    subst (λ (x : Result _ _). IfErr x (λ l. (messages : ℕ) → HasLeftSo HasFewStageCalls messages messages p r l.held)) (sym is)
     (λ messages. left-given g.B.Buffer.contents messages second c.in-Ok.place p c.take.new.pass r c.in-Ok.held _ c.in-Ok.ensures.took
     c.in_err-end_second-in-Ok.ensures.back)
 

@@ -13,20 +13,20 @@ use Rattle.scq_passes.specs.Records.{on}
 use Rattle.scq_passes.specs.Calls.{HasFoundFull, HasSentSo, after_retire}
 use Rattle.scq_passes.proofs.Kept.{taken-calls, full-calls, sent-calls}
 use Rattle.scq_passes.proofs.OnTopics.{on-append}
-use Rattle.scq_stages.specs.Moves.{first, second}
+use Rattle.scq_stages.specs.Records.{first, second}
 use Rattle.scq_stages.specs.Steps.{HasTakenOrMoved}
-use Rattle.scq_stages.specs.Working.{IsThrifty}
+use Rattle.scq_stages.specs.Working.{HasFewStageCalls}
 use Rattle.scq_stages.proofs.Moving.{moves-none_to_first, moves-to_first, moves-to_second, moves-sent, moves-returns}
 
 module _ {B : Type 0} where
   -- calls that begin so few puts, for so many messages more
-  pub thrifty-grown : (late more messages : ℕ) (p q : PassStanding B) (block : List Ended) → q.calls ≡ p.calls ++ block
+  pub few_calls-grown : (late more messages : ℕ) (p q : PassStanding B) (block : List Ended) → q.calls ≡ p.calls ++ block
       → length q.fulls ≤ length p.fulls + more → tally (was_put 1) block ≤ more + late → length (on first (sends_of block)) ≤ more
       → tally (was_put 2) block ≤ length (on first (takes_of block)) + late
       → length (sends_of block) ≤ more + length (on first (takes_of block))
       → tally (was_put 0) block ≤ length (takes_of block) + late
-      → IsThrifty 0 messages p → IsThrifty late (messages + more) q
-  thrifty-grown late more messages p q block calls fulls to_first sent_first to_second sent returns was =
+      → HasFewStageCalls 0 messages p → HasFewStageCalls late (messages + more) q
+  few_calls-grown late more messages p q block calls fulls to_first sent_first to_second sent returns was =
       let puts : (r : ℕ) → tally (was_put r) q.calls ≡ tally (was_put r) p.calls + tally (was_put r) block =
       λ r. ap (tally (was_put r)) calls ∙ tally-append (was_put r) p.calls block in
       let sends : (t : ℕ) → length (on t (sends_of q.calls)) ≡ length (on t (sends_of p.calls)) + length (on t (sends_of block)) =
@@ -49,8 +49,8 @@ module _ {B : Type 0} where
       }
 
   -- for as many messages
-  thrifty-as_many : (late messages : ℕ) (q : PassStanding B) → IsThrifty late (messages + 0) q → IsThrifty late messages q
-  thrifty-as_many late messages q was = record {
+  few_calls-as_many : (late messages : ℕ) (q : PassStanding B) → HasFewStageCalls late (messages + 0) q → HasFewStageCalls late messages q
+  few_calls-as_many late messages q was = record {
     fulls = omega (arith, was.fulls);
     to_first = omega (arith, was.to_first);
     sent_first = omega (arith, was.sent_first);
@@ -60,8 +60,8 @@ module _ {B : Type 0} where
   }
 
   -- for more messages, and where it met Spent
-  pub thrifty-more : (late few many : ℕ) (p : PassStanding B) → few ≤ many → IsThrifty late few p → IsThrifty late many p
-  thrifty-more late few many p low was = record {
+  pub few_calls-more : (late few many : ℕ) (p : PassStanding B) → few ≤ many → HasFewStageCalls late few p → HasFewStageCalls late many p
+  few_calls-more late few many p low was = record {
     fulls = omega (arith, was.fulls, low);
     to_first = omega (arith, was.to_first, low);
     sent_first = omega (arith, was.sent_first, low);
@@ -70,8 +70,8 @@ module _ {B : Type 0} where
     returns = was.returns;
   }
 
-  pub thrifty-late : (messages : ℕ) (p : PassStanding B) → IsThrifty 0 messages p → IsThrifty 1 messages p
-  thrifty-late messages p was = record {
+  pub few_calls-late : (messages : ℕ) (p : PassStanding B) → HasFewStageCalls 0 messages p → HasFewStageCalls 1 messages p
+  few_calls-late messages p was = record {
     fulls = was.fulls;
     to_first = omega (arith, was.to_first);
     sent_first = was.sent_first;
@@ -80,8 +80,8 @@ module _ {B : Type 0} where
     returns = omega (arith, was.returns);
   }
 
-  pub thrifty-retired : (late messages : ℕ) (p : PassStanding B) → IsThrifty late messages p → IsThrifty late messages (after_retire p)
-  thrifty-retired late messages p was = record {
+  pub few_calls-retired : (late messages : ℕ) (p : PassStanding B) → HasFewStageCalls late messages p → HasFewStageCalls late messages (after_retire p)
+  few_calls-retired late messages p was = record {
     fulls = was.fulls;
     to_first = was.to_first;
     sent_first = was.sent_first;
@@ -91,46 +91,46 @@ module _ {B : Type 0} where
   }
 
   -- topics were taken from
-  pub thrifty-moved : (messages : ℕ) (p q : PassStanding B) → HasTakenOrMoved p q → IsThrifty 0 messages p → IsThrifty 0 messages q
-  thrifty-moved messages p q h was =
+  pub few_calls-moved : (messages : ℕ) (p q : PassStanding B) → HasTakenOrMoved p q → HasFewStageCalls 0 messages p → HasFewStageCalls 0 messages q
+  few_calls-moved messages p q h was =
       let same : q.fulls ≡ p.fulls = ap (λ (x : PassStanding B). x.fulls) h.pass in
       let none_ = moves-none_to_first h.block h.are in
-      thrifty-as_many 0 messages q
-      (thrifty-grown 0 0 messages p q h.block (taken-calls p q h) (omega (arith, ap length same)) (omega (arith, moves-to_first h.block h.are))
+      few_calls-as_many 0 messages q
+      (few_calls-grown 0 0 messages p q h.block (taken-calls p q h) (omega (arith, ap length same)) (omega (arith, moves-to_first h.block h.are))
       (omega (arith, ap length none_)) (omega (arith, moves-to_second h.block h.are)) (omega (arith, moves-sent h.block h.are))
       (omega (arith, moves-returns h.block h.are)) was)
 
   -- a message was sent
-  pub thrifty-sent : (messages : ℕ) (So : Placed → Type 0) (p q : PassStanding B) → HasSentSo first So p q → IsThrifty 0 messages p
-      → IsThrifty 0 (messages + 1) q
-  thrifty-sent messages So p q h was =
+  pub few_calls-sent : (messages : ℕ) (So : Placed → Type 0) (p q : PassStanding B) → HasSentSo first So p q → HasFewStageCalls 0 messages p
+      → HasFewStageCalls 0 (messages + 1) q
+  few_calls-sent messages So p q h was =
       let got : List Ended = Got 0 h.from h.over ∷ [] in
       let put : List Ended = Done 1 h.place h.bytes ∷ [] in
       let same : q.fulls ≡ p.fulls = ap (λ (x : PassStanding B). x.fulls) h.pass in
-      thrifty-grown 0 1 messages p q (got ++ put) (sent-calls first So p q h ∙ append_assoc p.calls got put) (omega (arith, ap length same))
+      few_calls-grown 0 1 messages p q (got ++ put) (sent-calls first So p q h ∙ append_assoc p.calls got put) (omega (arith, ap length same))
       (omega arith) (omega arith) (omega arith) (omega arith) (omega arith) was
 
   -- no buffer was free
-  pub thrifty-full : (messages head : ℕ) (p q : PassStanding B) → HasFoundFull head p q → IsThrifty 0 messages p → IsThrifty 0 (messages + 1) q
-  thrifty-full messages head p q h was =
+  pub few_calls-full : (messages head : ℕ) (p q : PassStanding B) → HasFoundFull head p q → HasFewStageCalls 0 messages p → HasFewStageCalls 0 (messages + 1) q
+  few_calls-full messages head p q h was =
       let fulls : length q.fulls ≡ length p.fulls + 1 = ap (λ (x : PassStanding B). length x.fulls) h.pass ∙ length-append p.fulls (head ∷ []) in
-      thrifty-grown 0 1 messages p q (Nothing 0 ∷ []) (full-calls head p q h) (omega (arith, fulls))
+      few_calls-grown 0 1 messages p q (Nothing 0 ∷ []) (full-calls head p q h) (omega (arith, fulls))
       (omega arith) (omega arith) (omega arith) (omega arith) (omega arith) was
 
   -- a get met Spent
-  pub thrifty-at_get : (messages ring ticket : ℕ) (p q : PassStanding B) → q ≡ having_seen q.seen (after_spent_get ring ticket p)
-      → IsThrifty 0 messages p → IsThrifty 1 messages q
-  thrifty-at_get messages ring ticket p q is was =
+  pub few_calls-at_get : (messages ring ticket : ℕ) (p q : PassStanding B) → q ≡ having_seen q.seen (after_spent_get ring ticket p)
+      → HasFewStageCalls 0 messages p → HasFewStageCalls 1 messages q
+  few_calls-at_get messages ring ticket p q is was =
       let fulls : q.fulls ≡ p.fulls = ap (λ (x : PassStanding B). x.fulls) is in
-      thrifty-as_many 1 messages q
-      (thrifty-grown 1 0 messages p q (Spent ring ticket false ∷ []) (ap (λ (x : PassStanding B). x.calls) is) (omega (arith, ap length fulls))
+      few_calls-as_many 1 messages q
+      (few_calls-grown 1 0 messages p q (Spent ring ticket false ∷ []) (ap (λ (x : PassStanding B). x.calls) is) (omega (arith, ap length fulls))
       (omega arith) (omega arith) (omega arith) (omega arith) (omega arith) was)
 
   -- a put of what was taken met Spent: a return, or a move
-  pub thrifty-at_put : (contents : B → List ℕ) (messages topic place to ticket : ℕ) (p q r : PassStanding B) (h : HeldStanding B)
+  pub few_calls-at_put : (contents : B → List ℕ) (messages topic place to ticket : ℕ) (p q r : PassStanding B) (h : HeldStanding B)
       → HasGot contents (suc topic) place p q h → r ≡ having_seen r.seen (after_spent_put to ticket q) → (to ≡ 0) ⊎ (to ≡ suc second)
-      → IsThrifty 0 messages p → IsThrifty 1 messages r
-  thrifty-at_put contents messages topic place to ticket p q r h got is by was =
+      → HasFewStageCalls 0 messages p → HasFewStageCalls 1 messages r
+  few_calls-at_put contents messages topic place to ticket p q r h got is by was =
       let first_ : List Ended = Got (suc topic) place (contents h.buffer) ∷ [] in
       let last : ℕ → List Ended = λ ring. Spent ring ticket true ∷ [] in
       let before : q.calls ≡ p.calls ++ first_ = ap (λ (x : PassStanding B). x.calls) got.pass in
@@ -138,24 +138,24 @@ module _ {B : Type 0} where
       ap (λ (x : PassStanding B). x.calls) is ∙ ap (λ l. l ++ last to) before ∙ append_assoc p.calls first_ (last to) in
       let fulls : r.fulls ≡ p.fulls = ap (λ (x : PassStanding B). x.fulls) is ∙ ap (λ (x : PassStanding B). x.fulls) got.pass in
       let G : ℕ → Type 0 = λ ring. r.calls ≡ p.calls ++ (first_ ++ last ring) in
-      thrifty-as_many 1 messages r
+      few_calls-as_many 1 messages r
       (⊎_elim (λ (free : to ≡ 0).
-      thrifty-grown 1 0 messages p r (first_ ++ last 0) (subst G free calls) (omega (arith, ap length fulls))
+      few_calls-grown 1 0 messages p r (first_ ++ last 0) (subst G free calls) (omega (arith, ap length fulls))
       (omega arith) (omega arith) (omega arith) (omega arith) (omega arith) was)
       (λ (moved : to ≡ suc second).
-      thrifty-grown 1 0 messages p r (first_ ++ last 2) (subst G moved calls) (omega (arith, ap length fulls))
+      few_calls-grown 1 0 messages p r (first_ ++ last 2) (subst G moved calls) (omega (arith, ap length fulls))
       (omega arith) (omega arith) (omega arith) (omega arith) (omega arith) was)
       by)
 
   -- the send of what was lent met Spent
-  pub thrifty-at_send : (contents : B → List ℕ) (messages ticket : ℕ) (p q r : PassStanding B) (h : HeldStanding B)
-      → WasLent contents p q h → r ≡ having_seen r.seen (after_spent_put 1 ticket q) → IsThrifty 0 messages p → IsThrifty 1 (messages + 1) r
-  thrifty-at_send contents messages ticket p q r h lent is was =
+  pub few_calls-at_send : (contents : B → List ℕ) (messages ticket : ℕ) (p q r : PassStanding B) (h : HeldStanding B)
+      → WasLent contents p q h → r ≡ having_seen r.seen (after_spent_put 1 ticket q) → HasFewStageCalls 0 messages p → HasFewStageCalls 1 (messages + 1) r
+  few_calls-at_send contents messages ticket p q r h lent is was =
       let first_ : List Ended = Got 0 lent.place (contents h.buffer) ∷ [] in
       let last : List Ended = Spent 1 ticket true ∷ [] in
       let before : q.calls ≡ p.calls ++ first_ = ap (λ (x : PassStanding B). x.calls) lent.got.pass in
       let calls : r.calls ≡ p.calls ++ (first_ ++ last) =
       ap (λ (x : PassStanding B). x.calls) is ∙ ap (λ l. l ++ last) before ∙ append_assoc p.calls first_ last in
       let fulls : r.fulls ≡ p.fulls = ap (λ (x : PassStanding B). x.fulls) is ∙ ap (λ (x : PassStanding B). x.fulls) lent.got.pass in
-      thrifty-grown 1 1 messages p r (first_ ++ last) calls (omega (arith, ap length fulls))
+      few_calls-grown 1 1 messages p r (first_ ++ last) calls (omega (arith, ap length fulls))
       (omega arith) (omega arith) (omega arith) (omega arith) (omega arith) was

@@ -1,7 +1,7 @@
--- What a job may ask for.
+-- What a job of workers may ask for, whatever they do.
 use Rattle.std.specs.Prelude.{ℕ, ◌<◌, ◌≤◌}
 
--- an order, a size of a part and a number of workers, each within its own limits
+-- an order, a size and a number of workers, each within its own limits
 pub record IsJob (order size workers : ℕ) : Type 0 where
   pub some_order : 0 < order
   pub order_fits : order ≤ 12
