@@ -1,5 +1,5 @@
 //! How a worker reads its files.
-ghost use Rattle.std.specs.Prelude.{◌≡◌, ◌+◌, ◌≤◌, ◌++◌, List, [], false, length, None, IfErr, OnOk, All};
+ghost use Rattle.std.specs.Prelude.{◌≡◌, ◌+◌, ◌≤◌, ◌++◌, List, [], false, length, None, IfOk, IfErr, OnOk, All};
 ghost use Rattle.scq_frames.specs.declared.message.Message.{Message as TheMessage};
 ghost use Rattle.scq_files.specs.Given.{given_in};
 ghost use Rattle.scq_files.specs.OwnFiles.{IsNew, StopsAtAFault, ids_of, all_given};
@@ -23,7 +23,8 @@ use std::snapshot::Snapshot;
 const MOST_BYTES: u64 = 1 << 30;
 
 impl<B: Buffer> Worker<B> {
-    /// Passes on the messages of a file one by one, and says how far it was read.
+    /// Passes on the messages of a file one by one, and says how far it was read. One that is left at a ticket past the limit is as one whose
+    /// reading stopped for want of memory.
     fn read_messages<S: Source>(
         &mut self,
         alloc: Global,
@@ -33,14 +34,16 @@ impl<B: Buffer> Worker<B> {
         file: u32,
         source: &mut S,
         given: &mut Snapshot<Given>,
-        end: &mut FileEnd,
-    ) -> Result<(), AtLimit<B>>
+    ) -> Result<FileEnd, AtLimit<B>>
         requires suits { Suits queue.now 1 self.old.pass }
         requires stays { self.old.pass.retired ≡ None }
         requires room { All (λ b. job.now.size + 24 ≤ length (B.contents b)) queue.now.given }
         requires topics { topics.now ≡ [] }
         requires none { given_in given.old.value ≡ [] }
-        ensures read { IsRead topics.now job.now.size S.faults S.ends S.left file source.old source.new (given_in given.new.value) end.new }
+        ensures read { IfOk result (λ end. IsRead topics.now job.now.size S.faults S.ends S.left file source.old source.new
+            (given_in given.new.value) end) }
+        ensures unended { IfErr result (λ _. IsRead topics.now job.now.size S.faults S.ends S.left file source.old source.new
+            (given_in given.new.value) (FileEnd.Stopped FrameFault.NoMemory)) }
         ensures suits { OnOk result (Suits queue.now 1 self.new.pass) }
         ensures stays { OnOk result (self.new.pass.retired ≡ None) }
         ensures work { OnOk result ((messages : List TheMessage) → IsAtWork messages self.old.pass self.old.members.items self.old.starved
@@ -50,10 +53,8 @@ impl<B: Buffer> Worker<B> {
         ensures starved { self.new.starved ≡ false → self.old.starved ≡ false }
         ensures number { self.new.pass.number ≡ self.old.pass.number }
     {
-        // So it ends where the worker leaves it for want of memory, or since it met a ticket past the limit.
-        *end = FileEnd::Stopped(FrameFault::NoMemory);
         let Ok(mut framer) = Framer::new(alloc, file, job.size, MOST_BYTES) else {
-            return Ok(());
+            return Ok(FileEnd::Stopped(FrameFault::NoMemory));
         };
         'messages: loop {
             match framer.next(topics, source) {
@@ -61,17 +62,11 @@ impl<B: Buffer> Worker<B> {
                     give(given, &message);
                     self.pass_on(alloc, job, queue, &message)?;
                     if self.starved {
-                        return Ok(());
+                        return Ok(FileEnd::Stopped(FrameFault::NoMemory));
                     }
                 }
-                Ok(None) => {
-                    *end = FileEnd::Whole;
-                    return Ok(());
-                }
-                Err(fault) => {
-                    *end = FileEnd::Stopped(fault);
-                    return Ok(());
-                }
+                Ok(None) => return Ok(FileEnd::Whole),
+                Err(fault) => return Ok(FileEnd::Stopped(fault)),
             }
         }
     }
@@ -103,7 +98,7 @@ impl<B: Buffer> Worker<B> {
         ensures number { self.new.pass.number ≡ self.old.pass.number }
     {
         let number = file.number;
-        self.read_messages(
+        match self.read_messages(
             alloc,
             job,
             queue,
@@ -111,8 +106,17 @@ impl<B: Buffer> Worker<B> {
             number,
             &mut file.source,
             &mut file.given,
-            &mut file.end,
-        )
+        ) {
+            Ok(end) => {
+                file.end = end;
+                Ok(())
+            }
+            Err(limit) => {
+                // It was left at a ticket past the limit, which `FileEnd` counts as want of memory.
+                file.end = FileEnd::Stopped(FrameFault::NoMemory);
+                Err(limit)
+            }
+        }
     }
 
     /// Reads files from the last of the list to the first, up to the first that has a fault.

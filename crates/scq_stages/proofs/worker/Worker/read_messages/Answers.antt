@@ -8,7 +8,8 @@ use Rattle.scq_frames.specs.declared.message.Message.{Message}
 use Rattle.scq_files.specs.Given.{given_in}
 use Rattle.scq_files.specs.Reading.{IsRead}
 use Rattle.scq_stages.specs.Working.{IsAtWork, HasStopped}
-use Rattle.scq_files.specs.declared.own_file.FileEnd.{FileEnd}
+use Rattle.scq_frames.specs.declared.fault.FrameFault.TheVariants.{NoMemory}
+use Rattle.scq_files.specs.declared.own_file.FileEnd.TheVariants.{Stopped}
 use Rattle.scq_files.proofs.ReadLemmas.{IsReading, Answers, reading-next, reading-whole, reading-fault, reading-left}
 use Rattle.scq_stages.proofs.worker.Worker.read_messages.Goals as goal
 use Rattle.scq_stages.proofs.worker.Worker.read_messages.Goals.{After-next, After-pass_on}
@@ -63,16 +64,15 @@ reading g c answer =
     (given_in c.messages.given.value) (given_in c.give.new.given.value) m c.messages.invariant.reading answer gives next known fits found its.failed
     (its.kept (λ e. absurd (cc))) c.give.ensures
 
-pub returns-in_err-pass_on-in-Ok-Some-clause-read : goal.returns-in_err-pass_on-in-Ok-Some-clause-read
-returns-in_err-pass_on-in-Ok-Some-clause-read g c =
-    let now = reading g (goal.at.returns-in_err-pass_on-in-Ok-Some-clause-read g c).After-pass_on
-    (said g (goal.at.returns-in_err-pass_on-in-Ok-Some-clause-read g c).After-next) in
-    let P : FileEnd → Type 0 =
-    λ end. IsRead c.args.topics.now c.args.job.now.size g.S.Source.faults g.S.Source.ends g.S.Source.left c.args.file c.args.source.now c.next.new.source
-    (given_in c.give.new.given.value) end in
-    subst P (sym c.messages.invariant.end) (reading-left c.args.topics.now c.args.job.now.size g.S.Source.faults g.S.Source.ends g.S.Source.left
-    c.args.file c.args.source.now c.next.new.source
-    c.next.new.self (given_in c.give.new.given.value) now)
+pub returns-in_err-pass_on-in-Ok-Some-clause-unended : goal.returns-in_err-pass_on-in-Ok-Some-clause-unended
+returns-in_err-pass_on-in-Ok-Some-clause-unended g c =
+    let now = reading g (goal.at.returns-in_err-pass_on-in-Ok-Some-clause-unended g c).After-pass_on
+    (said g (goal.at.returns-in_err-pass_on-in-Ok-Some-clause-unended g c).After-next) in
+    let is : c.from_residual.result ≡ Err c.in_err-pass_on-in-Ok-Some.field-0.0 = search rules in
+    subst (λ (r : Result _ _). IfErr r (λ l. IsRead c.args.topics.now c.args.job.now.size g.S.Source.faults g.S.Source.ends g.S.Source.left c.args.file
+    c.args.source.now c.next.new.source (given_in c.give.new.given.value) (Stopped NoMemory))) (sym is)
+    (reading-left c.args.topics.now c.args.job.now.size g.S.Source.faults g.S.Source.ends g.S.Source.left c.args.file c.args.source.now
+    c.next.new.source c.next.new.self (given_in c.give.new.given.value) now)
 
 pub returns-in_err-pass_on-in-Ok-Some-clause-left : goal.returns-in_err-pass_on-in-Ok-Some-clause-left
 returns-in_err-pass_on-in-Ok-Some-clause-left g c =
@@ -91,12 +91,8 @@ returns-in_err-pass_on-in-Ok-Some-clause-left g c =
 pub returns-then-self-clause-read : goal.returns-then-self-clause-read
 returns-then-self-clause-read g c =
     let now = reading g (goal.at.returns-then-self-clause-read g c).After-pass_on (said g (goal.at.returns-then-self-clause-read g c).After-next) in
-    let P : FileEnd → Type 0 =
-    λ end. IsRead c.args.topics.now c.args.job.now.size g.S.Source.faults g.S.Source.ends g.S.Source.left c.args.file c.args.source.now c.next.new.source
-    (given_in c.give.new.given.value) end in
-    subst P (sym c.messages.invariant.end) (reading-left c.args.topics.now c.args.job.now.size g.S.Source.faults g.S.Source.ends g.S.Source.left
-    c.args.file c.args.source.now c.next.new.source
-    c.next.new.self (given_in c.give.new.given.value) now)
+    reading-left c.args.topics.now c.args.job.now.size g.S.Source.faults g.S.Source.ends g.S.Source.left c.args.file c.args.source.now
+    c.next.new.source c.next.new.self (given_in c.give.new.given.value) now
 
 pub returns-then-self-clause-work : goal.returns-then-self-clause-work
 returns-then-self-clause-work g c messages was =
@@ -114,7 +110,6 @@ messages-preserved g c =
     let its = c.in_ok-pass_on-in-Ok-Some.ensures in
     record {
       reading = reading g (goal.at.messages-preserved g c).After-pass_on (said g (goal.at.messages-preserved g c).After-next);
-      end = inv.end;
       suits = its.suits;
       stays = its.stays;
       work = λ messages was.
