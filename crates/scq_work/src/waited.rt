@@ -16,8 +16,8 @@ ghost use Rattle.scq_park.specs.Crews.{first_posts};
 ghost use Rattle.scq_work.specs.Resting.{HasRoom};
 ghost use Rattle.scq_work.specs.Waiting.{HaveWaited};
 
-use crate::resting::{RestingRoom, make_resting_room, run_resting};
 use crate::laying::{WorkRoom, lay_out, make_room, setup_of};
+use crate::resting::{RestingRoom, make_resting_room, run_resting};
 use crate::winding::wind_up;
 use crate::{Gate, Job, WorkEnd, WorkFault};
 use scq_block::{Block, Frame};
