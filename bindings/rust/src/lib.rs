@@ -46,8 +46,8 @@
 //! # What isn't
 //!
 //! - That a call ends soon, or that all threads get their share. A take that finds nothing doesn't wait: ask again, or do something else.
-//! - Tickets run out at the [limit](Setup::limit) of the setup: a call that needs one past it is refused, and so is each later one of that port
-//!   that would draw one. What a port holds by then it keeps: those buffers are freed with the queue.
+//! - Tickets run out at the [limit](Setup::limit) of the setup: a call that needs one past it is refused, and so is each later lend,
+//!   take, send and give-back of that port. What a port holds by then it keeps: those buffers are freed with the queue.
 //! - A thread that stops in the middle of a call, or keeps a buffer, keeps it from the others.
 #![deny(missing_docs)]
 #![deny(unsafe_op_in_unsafe_fn)]

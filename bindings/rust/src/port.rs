@@ -110,7 +110,7 @@ impl Port {
         }
     }
 
-    /// The ticket at or past the limit that the port has drawn, where it has: each later call that would draw one is refused.
+    /// The ticket at or past the limit that the port has drawn, where it has: each later lend, take, send and give-back is refused.
     pub fn spent(&self) -> Option<u64> {
         let mut ticket = 0;
         // SAFETY: one call at a time is made with the handle, and `ticket` is apart from it.
