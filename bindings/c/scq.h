@@ -152,8 +152,8 @@ uint32_t scq_give_back(scq_port *port, uint32_t index);
  * Answers: SCQ_OK; SCQ_CLOSED. */
 uint32_t scq_counts_of(scq_port *port, scq_counts *out);
 
-/* Whether the port has drawn a ticket at or past the limit, which it keeps: each later lend, take, send and give-back of it that passes its tests is answered
- * SCQ_SPENT.
+/* Whether the port has drawn a ticket at or past the limit, which it keeps: each later lend, take, send and give-back of it that passes its
+ * tests is answered SCQ_SPENT.
  *
  * Tested: that the port is open.
  * Answers: SCQ_SPENT, and *ticket is the ticket; SCQ_OK where it keeps none; SCQ_CLOSED. */
