@@ -23,6 +23,8 @@ use Rattle.scq_law.proofs.Aspects.CoupledRuns.{tied_run}
 use Rattle.scq_law.proofs.Aspects.RecordsShown.{records_shown}
 use Rattle.scq_law.proofs.Order.OrderExists.{order_exists}
 use Rattle.scq_law.proofs.Order.OrderLaw.{one_order}
+use Rattle.scq_law.proofs.Progress.ProgressLaws.{has_progress}
+use Rattle.scq_law.proofs.Progress.WholeCalls.{delayed_by_ends}
 use Rattle.scq_band.specs.declared.numbers.Numbers.{Numbers}
 use Rattle.scq_band.specs.declared.slot.Slot.{Slot}
 use Rattle.scq_band.specs.Buffers.{LiesIn, opening_of}
@@ -223,6 +225,8 @@ module _ {B : Type 0} (contents : B → List ℕ) (IsSame : B → B → Type 0) 
             let t = map_back caller_of seats a x e in
             subst (λ (z : Caller). AllPrefixes z.seen.runs run) t.2 (seen_at run seats all_told a t.0 t.1);
         aspects = has_aspects c opening is_run.full recorded (tied_run c opening run recorded is_run.full is_run.seats is_run);
+        progress = has_progress c opening run;
+        delayed = delayed_by_ends c opening run;
         history = records_shown c opening run recorded is_run;
         orders =
             λ r.

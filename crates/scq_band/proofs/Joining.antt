@@ -1,6 +1,7 @@
 -- Numbers that are joined ring by ring, and a list of them copied into a longer one.
 use Rattle.std.proofs.Common.{◌≡◌, ℕ, zero, suc, ◌+◌, ◌<◌, ◌≤◌, List, [], ◌∷◌, length, take, refl, ◌∙◌, ap, arith}
-use Rattle.std.specs.Prelude.{slice_set, slice_index_or}
+use Rattle.std.specs.Prelude.{Option, Some, None, slice_set, slice_index_or}
+use Rattle.scq_band.specs.Known.{Known, nobody, lower_gate, both_of}
 use Rattle.scq_band.specs.declared.numbers.Numbers.{Numbers}
 use Rattle.scq_band.specs.Numbers.{known_of, larger, joined}
 use Rattle.scq_band.specs.Kept.{AreSmall}
@@ -58,3 +59,16 @@ pub take_length : {A : Type 0} (n : ℕ) (xs : List A) → n ≤ length xs → n
 take_length zero xs low = refl
 take_length (suc n) [] low = absurd (omega arith)
 take_length (suc n) (x ∷ xs) low = ap suc (take_length n xs (omega arith))
+
+-- who takes in a view that knows nothing knows what it knew
+joined_none : (xs : List Numbers) → joined xs [] ≡ xs
+joined_none [] = refl
+joined_none (x ∷ xs) = refl
+
+lower_none : (x : Option ℕ) → lower_gate x None ≡ x
+lower_none None = refl
+lower_none (Some a) = refl
+
+pub both_nobody : (v : Known) → both_of v nobody ≡ v
+both_nobody v =
+    λ i. record { seats = v.seats; numbers = joined_none v.numbers i; gates = v.gates; gate = lower_none v.gate i }

@@ -12,6 +12,7 @@ pub mod SeenCalls
 pub mod Operations
 pub mod Outcomes
 pub mod RingLemmas
+pub mod RingLists
 pub mod PutOutcomes
 pub mod Placing
 pub mod Ending
@@ -44,3 +45,4 @@ pub mod Keeping
 pub mod Putting
 pub mod Joining
 pub mod SeatsShared
+pub mod CallCosts

@@ -2,16 +2,17 @@
 -- of the machine is kept already (Moves, Views, Gates, Bringing), for the run after the step or the same; what a view has seen is a prefix
 -- of each longer run.
 use Rattle.std.proofs.Common.{◌≡◌, ◌≢◌, ℕ, zero, suc, ◌+◌, ◌-◌, ◌%◌, ◌^◌, ◌<◌, ◌≤◌, List, [], ◌∷◌, ◌++◌, map, length, refl, sym, ◌∙◌, ap, subst, inl, inr, arith}
-use Rattle.std.specs.Prelude.{Option, Some, None, slice_index, slice_set}
+use Rattle.std.specs.Prelude.{Option, Some, None, slice_index, slice_index_or, slice_set}
 use Rattle.std.specs.List.{Contains}
 use Rattle.std.proofs.lemmas.List.Elements.{Contains-append_cases}
 use Rattle.scq_core.specs.Updated.{updated}
-use Rattle.scq_core.proofs.UpdatedLemmas.{updated_else}
+use Rattle.scq_core.proofs.UpdatedLemmas.{updated_here, updated_else}
 use mathlib.Core.Option.{some, some-injective, some-ne-none}
 use lib.ListN.{get_elem?}
 use Rattle.atomic_table.specs.Table.{State, Me, Act, Allows, Splits, Joins, stepped, homes_after, keeps}
 use Rattle.atomic_table.specs.Table as table
-use Rattle.atomic_table.proofs.Lists.{at_set, at_snoc, set_here, set_else}
+use Rattle.atomic_table.proofs.Lists.{at_set, at_snoc, set_here, set_else, set_again}
+use Rattle.std.proofs.lemmas.List.{set-get_or}
 use Rattle.scq_word.specs.declared.setup.Setup.{Setup}
 use Rattle.scq_core.specs.declared.phase.Phase.{Phase}
 use Rattle.scq_core.specs.declared.step.Step.{Step}
@@ -22,13 +23,13 @@ use Rattle.scq_core.specs.Table.{turn_of, location_of, writes}
 use Rattle.scq_law.proofs.Replays.RunPrefixes.{prefix_whole, prefix_trans, all_prefixes, both_prefixes}
 use Rattle.scq_law.specs.Prefixes.{IsPrefix, AllPrefixes}
 use Rattle.scq_band.specs.Layout.{at}
-use Rattle.scq_band.specs.RunSeen.{Seen, nothing_seen, with_run, both_seen}
+use Rattle.scq_band.specs.RunSeen.{Seen, nothing_seen, with_run, both_seen, with_retiree}
 use Rattle.scq_band.specs.Numbers.{IsTrue}
 use Rattle.scq_band.specs.Known.{Member, Known}
 use Rattle.scq_band.specs.Shown.{Owns, Shown, awake, first_view}
 use Rattle.scq_band.specs.Standing.{IsReading}
 use Rattle.scq_band.specs.Seats.{IsAlone, looked, retired_at}
-use Rattle.scq_band.specs.Sights.{Sight, known_in, known_me, known_state, StandsAfter, Went, GoesOn, Looked, retired_ones, first_sight, ShowsRun}
+use Rattle.scq_band.specs.Sights.{Sight, known_in, known_me, known_state, StandsAfter, Went, GoesOn, Looked, Raised, retired_ones, first_sight, ShowsRun}
 use Rattle.scq_band.specs.Steps.{my, my_of}
 use Rattle.scq_band.specs.Turns.{turned_member, MayTurn, Carries, Turned}
 use Rattle.scq_band.proofs.Moves.{Ground, moves_by}
@@ -59,6 +60,14 @@ pub began : (c : Setup) (opening : List (List ℕ)) (a b : Sight) (went : Went c
 began c opening a b went =
     let step : List (ℕ × Step) = ((my a.known).number, went.first) ∷ [] in
     prefix_trans went.before (went.before ++ step) went.after (record { more = step; is = refl }) went.begins
+
+-- the one of a list of one
+one_of : (x p : ℕ × ℕ) → Contains (x ∷ []) p → x ≡ p
+one_of x p has = at has.0 has.1 has.2
+  where
+    at : (j : ℕ) → j < 1 → slice_index_or (x ∷ []) j p ≡ p → x ≡ p
+    at zero low is = is
+    at (suc j) low is = absurd (omega (arith, low))
 
 -- steps that go on
 pub went_on : (c : Setup) (opening : List (List ℕ)) (a b d : Sight) → Went c opening a b → Went c opening b d → Went c opening a d
@@ -195,11 +204,14 @@ module _ {S : Type 0} (Lies : ℕ → S → List ℕ → Type 0) where
   -- a seat that has not retired may retire
   pub retires_run : {opening : List (List ℕ)} (c : Setup) (slots id : ℕ) (me : Me S Sight) → IsAlone me.0.known → (my me.0.known).retired ≡ None
       → Allows (ShowsRun Lies opening c) slots id me 0 (λ n. (n + (2 ^ 64 - 1)) % 2 ^ 64)
-      (λ n later. ((later.0.known ≡ retired_at me.0.known) × (later.1 ≡ me.1)) × (later.0.seen ≡ me.0.seen))
+      (λ n later. ((later.0.known ≡ retired_at me.0.known) × (later.1 ≡ me.1)) × (later.0.seen ≡ with_retiree ((my me.0.known).number, length (my me.0.known).part.calls) me.0.seen))
   retires_run {opening} c slots id me alone awake_yet s sh many here small =
       let there : get_elem? (map known_in s.views) id ≡ some me.0.known = known_at s.views id me.0 here in
       let a = retires Lies {opening = opening} {gone = sh.gone} {run = sh.run} c id (known_me me) alone awake_yet (known_state s) sh.shown there small in
-      let w : Sight = record { known = retired_at me.0.known; seen = me.0.seen } in
+      let w : Sight = record {
+        known = retired_at me.0.known;
+        seen = with_retiree ((my me.0.known).number, length (my me.0.known).part.calls) me.0.seen;
+      } in
       let ws = slice_set s.words 0 ((slice_index s.words 0 + (2 ^ 64 - 1)) % 2 ^ 64) in
       let k = (my me.0.known).number in
       let calls = length (my me.0.known).part.calls in
@@ -222,7 +234,17 @@ module _ {S : Type 0} (Lies : ℕ → S → List ℕ → Type 0) where
         retirees =
             λ j v e p has.
             elim (at_set s.views id j w v e) [
-              | inl own ↦ stay p (sh.retirees id me.0 here p (subst (λ (u : Sight). Contains u.seen.retirees p) (sym own.1) has))
+              | inl own ↦
+                  let either = Contains-append_cases ((k, calls) ∷ []) me.0.seen.retirees p
+                  (subst (λ (u : Sight). Contains u.seen.retirees p) (sym own.1) has) in
+                  elim either [
+                    | inl itself ↦
+                        let owns : Owns Lies c sh.shown.scene s.homes id (my me.0.known ∷ []) =
+                        subst (λ (xs : List Member). Owns Lies c sh.shown.scene s.homes id xs) alone.seats (sh.shown.views id me.0.known there).seats in
+                        subst (λ (q : ℕ × ℕ). (q.0 < c.seats) × (gone q.0 ≡ Some q.1)) (one_of (k, calls) p itself)
+                        (owns.0.low, updated_here sh.gone k (Some calls))
+                    | inr before ↦ stay p (sh.retirees id me.0 here p before)
+                  ]
               | inr other ↦ stay p (sh.retirees j v other.1 p has)
             ];
       } in
@@ -284,6 +306,43 @@ module _ {S : Type 0} (Lies : ℕ → S → List ℕ → Type 0) where
         awake_seats = sh.shown.awake_seats ∙ ap (λ (f : ℕ → Option ℕ). awake f c.seats) sh.shown.gone_is;
       } in
       (w, a.1, a.2, shown, (a.4.0, a.4.1, a.4.2, its))
+
+  -- the whole run may be shown to a seat
+  pub raises_run : {opening : List (List ℕ)} (c : Setup) (slots id : ℕ) (me : Me S Sight)
+      → Allows (ShowsRun Lies opening c) slots id me 0 (λ n. n)
+      (λ n later. (later.0.known ≡ me.0.known) × (later.1 ≡ me.1) × Raised c opening me.0 later.0)
+  raises_run {opening} c slots id me s sh many here small =
+      let there : get_elem? (map known_in s.views) id ≡ some me.0.known = known_at s.views id me.0 here in
+      let w : Sight = record { known = me.0.known; seen = with_run sh.run me.0.seen } in
+      let ws = slice_set s.words 0 (slice_index s.words 0) in
+      let words : Shown Lies opening c sh.gone sh.run (record { words = ws; homes = s.homes; views = map known_in s.views }) =
+      subst (λ (l : List ℕ). Shown Lies opening c sh.gone sh.run (record { words = l; homes = s.homes; views = map known_in s.views })) (sym
+          (set-get_or s.words 0 0)) sh.shown in
+      let shown : ShowsRun Lies opening c (stepped s 0 (slice_index s.words 0) id me.1 w keeps) = record {
+        run = sh.run;
+        shown = subst (λ (vs : List Known). Shown Lies opening c sh.gone sh.run (record { words = ws; homes = s.homes; views = vs })) (sym
+            (known_set s.views id w ∙ set_again (map known_in s.views) id me.0.known there)) words;
+        seen =
+            λ j v e.
+            elim (at_set s.views id j w v e) [
+              | inl own ↦ subst (λ (u : Sight). AllPrefixes u.seen.runs sh.run) own.1 (prefix_whole sh.run, tt)
+              | inr other ↦ sh.seen j v other.1
+            ];
+        gone = sh.gone;
+        retirees =
+            λ j v e p has.
+            elim (at_set s.views id j w v e) [
+              | inl own ↦ sh.retirees id me.0 here p (subst (λ (u : Sight). Contains u.seen.retirees p) (sym own.1) has)
+              | inr other ↦ sh.retirees j v other.1 p has
+            ];
+      } in
+      let its : Raised c opening me.0 w = record {
+        whole = sh.run;
+        had_seen = sh.seen id me.0 here;
+        has_seen = refl;
+        stands = λ alone. stands_after opening c sh.gone sh.run (known_state s) id me.0.known sh.shown there alone;
+      } in
+      (w, keeps, tt, shown, (refl, refl, its))
 
   pub splits_run : {opening : List (List ℕ)} (c : Setup) (id : ℕ) (v left right : Sight) → left.seen ≡ v.seen → right.seen ≡ v.seen
       → ((gone : ℕ → Option ℕ) (run : List (ℕ × Step)) → Splits (Shown Lies opening c gone run) id v.known left.known right.known)

@@ -26,6 +26,7 @@ use Rattle.scq_band.specs.contracts.rule.RuleTableRuleSlotViewKey.TheImpl as rul
 use Rattle.scq_band.specs.contracts.slot.Slot as slot
 use Rattle.scq_band.specs.contracts.view.View as view
 use Rattle.scq_band.specs.contracts.numbers.Numbers as numbers
+use Rattle.scq_band.specs.contracts.ring.Ring as ring
 use Rattle.scq_band.specs.contracts.seat.Seat as seat
 use Rattle.scq_band.specs.contracts.seat.Seat.TheInside as seat_inside
 use Rattle.scq_band.specs.contracts.band.Band as band
@@ -83,6 +84,9 @@ seat_sync B buffer sends =
 setup_sync : IsSync setup.the_row
 setup_sync = search (sendable, crossing.crosses) depth 20
 
+ring_sync : IsSync ring.the_row
+ring_sync = search (sendable, crossing.crosses) depth 20
+
 abbrev table_row : (B : RattleType) → Ghosts B.Denot → RattleType
 table_row B buffer =
     table.the_row (slot.the_row B) view.the_row (key.the_row B) rule.the_row alloc.the_row (rules.ghosts B buffer rules.no_dict) ghosts
@@ -108,5 +112,5 @@ band_sync B buffer sends shares =
     view_sync (band_inside.the_row B buffer) _ _ _ _
     (declared_sync (band_inside.the_type B buffer) (
       table_sync B buffer sends,
-      (setup_sync, (vec_sync B shares, (vec_sync u64 u64_sync, tt))),
+      (setup_sync, (vec_sync ring.the_row ring_sync, (vec_sync B shares, (vec_sync u64 u64_sync, tt)))),
     ))

@@ -90,6 +90,30 @@ module _ {S : Type 0} (Lies : ℕ → S → List ℕ → Type 0) where
         stored = sh.stored;
       }
 
+  -- a mark may be made of any view
+  pub marks : {opening : List (List ℕ)} {gone : ℕ → Option ℕ} {run : List (ℕ × Step)} (c : Setup) (id : ℕ) (v : Known)
+      → Splits (Shown Lies opening c gone run) id v v nobody
+  marks c id v s sh here =
+      record {
+        scene = sh.scene;
+        leads = sh.leads;
+        gone_is = sh.gone_is;
+        made = sh.made;
+        words = sh.words;
+        awake_seats = sh.awake_seats;
+        room = sh.room;
+        views =
+            λ j u e.
+            elim (at_snoc (slice_set s.views id v) nobody u j e) [
+              | inl old ↦ sh.views j u (subst (λ (vs : List Known). get_elem? vs j ≡ some u) (set_again s.views id v here) old)
+              | inr new ↦
+                  let mark : IsView Lies c sh.scene s.homes (slice_index s.words 0) j nobody =
+                  record { seats = tt; rings = inl refl; numbers = λ r x is. absurd (cc); last_gate = λ n is. absurd (cc) } in
+                  subst (λ (w : Known). IsView Lies c sh.scene s.homes (slice_index s.words 0) j w) new mark
+            ];
+        stored = sh.stored;
+      }
+
   -- who stands where after a join: the seats of the other view in front of the first's
   abbrev joined_owner : ℕ → ℕ → ℕ → (ℕ → ℕ × ℕ) → ℕ → ℕ × ℕ
   joined_owner id other n owner k = if (owner k).0 == other then (id, (owner k).1 + n) else owner k

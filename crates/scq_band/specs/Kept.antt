@@ -9,11 +9,13 @@ use Rattle.scq_law.specs.Hands.{times}
 use Rattle.scq_band.specs.declared.numbers.Numbers.{Numbers}
 use Rattle.scq_band.specs.declared.slot.Slot.{Slot}
 use Rattle.scq_band.specs.declared.rule.Key.{Key}
+use Rattle.scq_band.specs.declared.ring.Ring.{Ring}
+use Rattle.scq_band.specs.Rings.{AreRings}
 use Rattle.scq_band.specs.Numbers.{known_of}
 use Rattle.scq_band.specs.Layout.{word_count}
 use Rattle.scq_band.specs.RunSeen.{Seen, nothing_seen}
 use Rattle.scq_band.specs.Known.{Known}
-use Rattle.scq_band.specs.Sights.{Sight, known_me}
+use Rattle.scq_band.specs.Sights.{Sight, known_me, mark_with}
 use Rattle.scq_band.specs.Steps.{my}
 use Rattle.scq_band.specs.Seats.{IsAlone}
 use Rattle.scq_band.specs.Standing.{Identity, Standing, IsAsGiven}
@@ -82,11 +84,12 @@ pub record IsKept {B : Type 0} (IsSame : B → B → Type 0) (key : Key B) (me :
   pub given : AllGiven IsSame key.given.value.items me.1
 
 -- what a band keeps: the words and slots of its setup, and empty lists with room for what it hands out when it closes
-pub record IsBand {B : Type 0} (table : TableId) (key : Key B) (setup : Setup) (buffers : List B) (room : ℕ) (left : List ℕ) (places : ℕ) : Type 0 where
+pub record IsBand {B : Type 0} (table : TableId) (key : Key B) (setup : Setup) (rings : List Ring) (buffers : List B) (room : ℕ) (left : List ℕ) (places : ℕ) : Type 0 where
   pub same : setup ≡ key.setup
   pub words : table.words ≡ word_count key.setup
   pub slots : table.slots ≡ n_of key.setup.order
   pub given : length key.given.value.items ≡ n_of key.setup.order
+  pub each : AreRings key.setup key.setup.rings rings
   pub no_buffer : buffers ≡ []
   pub holds_all : n_of key.setup.order ≤ room
   pub none_left : left ≡ []
@@ -116,3 +119,7 @@ pub record IsNote (views : List Sight) (cells : List Numbers) (rings : ℕ) : Ty
   pub is : views ≡ note_sight_with (seen_in views) (take rings cells) ∷ []
   pub small : AreSmall (take rings cells)
   pub few : rings ≤ length cells
+
+-- what a mark keeps: its badge has one view, which knows nothing
+pub record IsMark (views : List Sight) : Type 0 where
+  pub is : views ≡ mark_with (seen_in views) ∷ []

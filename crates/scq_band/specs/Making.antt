@@ -12,6 +12,7 @@ use Rattle.scq_band.specs.Layout.{ring_at, IsLocation, offset_of, gate_word, wor
 use Rattle.scq_band.specs.Known.{Known}
 use Rattle.scq_band.specs.Shown.{first_view, first_members}
 use Rattle.scq_band.specs.Numbers.{first_numbers}
+use Rattle.scq_band.specs.Rings.{AreRings}
 use Rattle.scq_band.specs.RunSeen.{nothing_seen}
 use Rattle.scq_band.specs.Sights.{Sight}
 
@@ -53,6 +54,7 @@ pub record IsMemory (c : Setup) (memory : Memory) : Type 0 where
   pub opened : AreOpened c memory.words.items c.rings 0
   pub none_left : memory.left.items ≡ []
   pub each_ring : c.rings ≤ vec_capacity memory.left
+  pub rings : AreRings c c.rings memory.rings.items
   pub seats : length memory.rooms.items ≡ c.seats
   pub each_room : All (IsRoom c) memory.rooms.items
 

@@ -1,5 +1,5 @@
 -- For private calls: what the running code keeps of a ring.
-use Rattle.std.specs.Prelude.{◌≡◌, ◌<◌}
+use Rattle.std.specs.Prelude.{◌≡◌, ℕ, suc, ◌<◌, List, [], ◌∷◌, length}
 use Rattle.scq_word.specs.declared.setup.Setup.{Setup}
 use Rattle.scq_core.specs.Machine.{tail_of}
 use Rattle.scq_core.specs.Table.{reset_level}
@@ -13,3 +13,13 @@ pub record IsRing (c : Setup) (ring : Ring) : Type 0 where
   pub limit : ring.limit ≡ c.limit
   pub tail : ring.tail ≡ at c (tail_of ring.number)
   pub level : ring.level ≡ reset_level c
+
+-- these are rings of this setup, from number k on
+abbrev pub RingsFrom : Setup → ℕ → List Ring → Type 0
+RingsFrom c k [] = Unit {0}
+RingsFrom c k (x ∷ xs) = ((x.number ≡ k) × IsRing c x) × RingsFrom c (suc k) xs
+
+-- these are the first n rings of this setup, in the order of their numbers
+pub record AreRings (c : Setup) (n : ℕ) (rings : List Ring) : Type 0 where
+  pub count : length rings ≡ n
+  pub each : RingsFrom c 0 rings

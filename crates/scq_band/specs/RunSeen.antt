@@ -30,6 +30,10 @@ with_run steps seen = record seen { runs = steps ∷ [] }
 abbrev pub both_seen : Seen → Seen → Seen
 both_seen one other = record { runs = one.runs ++ other.runs; retirees = one.retirees ++ other.retirees }
 
+-- by one who retired itself: that it has, with so many calls made before
+abbrev pub with_retiree : ℕ × ℕ → Seen → Seen
+with_retiree one seen = record seen { retirees = one ∷ seen.retirees }
+
 -- who makes a call: the number of the seat, its record, and what it has seen
 pub record Caller : Type 0 where
   pub seat : ℕ
@@ -80,3 +84,15 @@ pub record IsReadingInRun (c : Setup) (opening : List (List ℕ)) (own : Option 
   pub not_itself : own ≡ None → (calls : ℕ) → Contains new.seen.retirees (old.seat, calls) → ⊥
   pub none_left : found ≡ 0 → (seat : ℕ) → seat < c.seats → (calls : ℕ) × Contains new.seen.retirees (seat, calls)
   pub some_left : 0 < found → (seat : ℕ) × (seat < c.seats) × ((calls : ℕ) → Contains new.seen.retirees (seat, calls) → ⊥)
+
+-- a moment between calls, at which a seat was shown the whole run: all that it had seen are prefixes of it, its record is the run's, and the
+-- run is what it has seen from then on
+pub record IsMomentInRun (c : Setup) (opening : List (List ℕ)) (old new : Caller) : Type 0 where
+  pub whole : List (ℕ × Step)
+  pub had_seen : AllPrefixes old.seen.runs whole
+  pub has_seen : new.seen ≡ with_run whole old.seen
+  pub now : IsRecordAfter c opening whole old.seat new.calls
+
+-- each seat was seen retired
+abbrev pub AllHaveBeenSeenRetired : Setup → Seen → Type 0
+AllHaveBeenSeenRetired c seen = (seat : ℕ) → seat < c.seats → (calls : ℕ) × Contains seen.retirees (seat, calls)

@@ -7,7 +7,7 @@ use Rattle.scq_law.specs.RunSteps.{Run, run_of}
 use Rattle.scq_law.specs.Prefixes.{IsPrefix}
 use Rattle.scq_law.specs.declared.ordered.Ordered.{Ordered}
 use Rattle.scq_law.specs.declared.ordered.Ordered.TheVariants.{Call}
-use Rattle.scq_band.specs.RunSeen.{Caller, IsCallInRun}
+use Rattle.scq_band.specs.RunSeen.{Caller, IsCallInRun, HasSeenCalls}
 use Rattle.scq_band.specs.Closing.{IsOneRun}
 
 -- each step of the one call was made before each of the other, and in each ring's order that has both it stands before it
@@ -23,3 +23,11 @@ EachSeenCallComesFirst =
     (one : IsCallInRun c opening a now) (other : IsCallInRun c opening b later) → length now.calls ≡ length a.calls + 1
     → Contains b.seen.runs one.after → IsPrefix other.after all.steps
     → ComesFirst (run_of c opening all.steps) a.seat (length a.calls) b.seat (length b.calls)
+
+-- a call of any seat that stood in its record in a run that a caller had seen, who then began one of its own, comes before that one in the one
+-- run behind all calls, whether the caller saw it by its own calls, at a moment at which it was shown the whole run, by a mark or by a note
+abbrev pub EachCallInARunSeenComesFirst : Type 0
+EachCallInARunSeenComesFirst =
+    (c : Setup) (opening : List (List ℕ)) (callers : List Caller) (b later : Caller) (seat call : ℕ) (all : IsOneRun c opening callers)
+    (other : IsCallInRun c opening b later) → HasSeenCalls c opening b.seen seat (call + 1) → IsPrefix other.after all.steps
+    → ComesFirst (run_of c opening all.steps) seat call b.seat (length b.calls)

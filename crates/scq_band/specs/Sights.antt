@@ -72,6 +72,20 @@ pub record Looked (c : Setup) (opening : List (List ℕ)) (old new : Sight) (fou
   pub made : (k n : ℕ) → gone k ≡ Some n → HasSeenCalls c opening new.seen k n
   pub awake_seats : found ≡ awake gone c.seats
 
+-- the one seat that stands in a view was shown the whole run
+pub record Raised (c : Setup) (opening : List (List ℕ)) (old new : Sight) : Type 0 where
+  pub whole : List (ℕ × Step)
+  pub had_seen : AllPrefixes old.seen.runs whole
+  pub has_seen : new.seen ≡ with_run whole old.seen
+  pub stands : old.known.seats ≡ my old.known ∷ [] → StandsAfter c opening whole (my old.known)
+
+-- a mark of a view: what it has seen, and nothing that it knows
+abbrev pub mark_with : Seen → Sight
+mark_with seen = record { known = nobody; seen = seen }
+
+abbrev pub mark_sight : Sight → Sight
+mark_sight v = mark_with v.seen
+
 -- a note of a view; what is left of one that was joined to another
 abbrev pub note_sight : Sight → Sight
 note_sight v = record { known = note_of v.known; seen = v.seen }

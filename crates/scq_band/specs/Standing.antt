@@ -158,3 +158,8 @@ module _ {B : Type 0} where
     -- a ticket that was drawn is below the limit, and no lower than the head that was known
     pub below : (ticket : ℕ) → drawn ≡ Some ticket → ticket < old.band.setup.limit
     pub past : (ticket : ℕ) → drawn ≡ Some ticket → (known_of old.numbers ring).head ≤ ticket
+
+-- what contracts see of a mark
+pub record MarkStanding : Type 0 where
+  pub table : TableId
+  pub seen : Seen

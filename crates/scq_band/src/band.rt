@@ -1,13 +1,12 @@
 //! A band: the running rings, with their seats.
-ghost use Rattle.std.specs.Prelude.{◌≡◌, ℕ, ◌<◌, ◌≤◌, ◌==◌, length, Some, None, All, IfOk, IfErr, vec_len};
+ghost use Rattle.std.specs.Prelude.{◌≡◌, ℕ, ◌<◌, ◌≤◌, ◌==◌, true, length, Some, None, All, IfOk, IfErr, vec_len};
 ghost use Rattle.scq_word.specs.Sizes.{n_of};
 ghost use Rattle.scq_band.specs.Rings.{IsRing};
 ghost use Rattle.scq_band.specs.Buffers.{opening_of};
-ghost use Rattle.scq_band.specs.RunSeen.{IsReadingInRun};
+ghost use Rattle.scq_band.specs.RunSeen.{IsReadingInRun, with_retiree, AllHaveBeenSeenRetired};
 ghost use Rattle.scq_band.specs.Standing.{first_standings, after_look, having_seen, caller_of};
 
 use crate::gate::{read_gate, retire};
-use crate::layout::tail_word;
 use crate::making::{Memory, lay_all, lift_all, reserved};
 use crate::ring::Ring;
 use crate::rule::{Key, Rule};
@@ -16,7 +15,6 @@ use crate::slot::Slot;
 use crate::splitting::split_all;
 use crate::view::View;
 use atomic_table::{Refused, Table};
-use scq_core::reset_level;
 use scq_word::{Buffer, NoMemory, Setup};
 use std::alloc::Global;
 use std::marker::Model;
@@ -24,11 +22,13 @@ use std::snapshot::Snapshot;
 
 /// The running rings. Threads share it and make calls on it, each with a seat of its own.
 ///
-/// `buffers` and `left` are empty lists, with room for what `close` hands out.
+/// `rings` has what a call needs to know of each ring, worked out once. `buffers` and `left` are empty lists, with room for what
+/// `close` hands out.
 #[derive(Drop)]
 pub struct Band<B: Buffer> {
     pub(crate) table: Table<Slot<B>, View, Key<B>, Rule, Global>,
     pub(crate) setup: Setup,
+    pub(crate) rings: Vec<Ring>,
     pub(crate) buffers: Vec<B>,
     pub(crate) left: Vec<u64>,
 }
@@ -44,7 +44,7 @@ impl<B: Buffer> Model for Band<B> {
     ghost view = { λ b. identity_of b.table.shared.table_id b.table.shared.key };
 
     ghost invariant = { λ b.
-        IsBand b.table.shared.table_id b.table.shared.key b.setup b.buffers.items (vec_capacity b.buffers) b.left.items (vec_capacity b.left) };
+        IsBand b.table.shared.table_id b.table.shared.key b.setup b.rings.items b.buffers.items (vec_capacity b.buffers) b.left.items (vec_capacity b.left) };
 }
 
 impl<B: Buffer> Band<B> {
@@ -61,7 +61,12 @@ impl<B: Buffer> Band<B> {
         ensures own { IfOk result (λ made. All (λ s. s.band ≡ made.0) made.1.items) }
         ensures refused { IfErr result (λ refused. refused.0.items ≡ buffers.items) }
     {
-        let Memory { words, left, rooms } = match reserved(alloc, setup) {
+        let Memory {
+            words,
+            left,
+            rings,
+            rooms,
+        } = match reserved(alloc, setup) {
             Ok(memory) => memory,
             Err(wanted) => return Err((buffers, wanted)),
         };
@@ -83,6 +88,7 @@ impl<B: Buffer> Band<B> {
                 let band = Band {
                     table,
                     setup,
+                    rings,
                     buffers,
                     left,
                 };
@@ -98,25 +104,22 @@ impl<B: Buffer> Band<B> {
 
     // What a call needs to know of a ring.
     #[inline(always)]
-    pub(crate) fn ring(&self, number: u32) -> Ring
+    pub(crate) fn ring(&self, number: u32) -> &Ring
         requires { number < self.now.setup.rings }
-        ensures number { result.number ≡ number }
-        ensures ring { IsRing self.now.setup result }
+        ensures number { result.now.number ≡ number }
+        ensures ring { IsRing self.now.setup result.now }
     {
-        Ring {
-            number,
-            shape: self.setup.shape(),
-            limit: self.setup.limit(),
-            tail: tail_word(&self.setup, number),
-            level: reset_level(&self.setup),
-        }
+        &self.rings[number as usize]
     }
 
     /// The seat retires. Wait-free: one step.
     pub fn retire(&self, seat: &mut Seat<B>)
         requires seat { seat.old.band ≡ self.now }
         requires stays { seat.old.retired ≡ None }
-        ensures { seat.new ≡ record seat.old { retired = Some (length seat.old.calls) } }
+        ensures { seat.new ≡ record seat.old {
+            retired = Some (length seat.old.calls);
+            seen = with_retiree (seat.old.number, length seat.old.calls) seat.old.seen;
+        } }
     {
         retire(&self.table.shared, &mut seat.token);
     }
@@ -128,6 +131,7 @@ impl<B: Buffer> Band<B> {
         ensures looked { (found : ℕ) × (seat.new ≡ having_seen seat.new.seen (after_look found seat.old)) × (result ≡ (found == 0)) }
         ensures in_run { (found : ℕ) → seat.new.gate ≡ Some found
             → IsReadingInRun self.now.setup (opening_of B.contents self.now.given) seat.old.retired (caller_of seat.old) (caller_of seat.new) found }
+        ensures told { AllHaveBeenSeenRetired self.now.setup seat.old.seen → result ≡ true }
         ensures fell { (last found : ℕ) → seat.old.gate ≡ Some last → seat.new.gate ≡ Some found → found ≤ last }
         ensures own { (calls found : ℕ) → seat.old.retired ≡ Some calls → seat.new.gate ≡ Some found → found < self.now.setup.seats }
     {

@@ -198,6 +198,7 @@ impl<B: Buffer> Band<B> {
         let Band {
             table,
             setup,
+            rings: _rings,
             mut buffers,
             mut left,
         } = self;

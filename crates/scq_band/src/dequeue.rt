@@ -22,35 +22,31 @@ use scq_word::{Buffer, cycle_of, unpack};
 fn try_take<B: Buffer>(
     words: &Words<B>,
     token: &mut Token<B>,
-    ring: Ring,
+    ring: &Ring,
     ticket: u64,
 ) -> Option<u32>
     requires own { (token.old.table_id ≡ words.now.table_id) × (words.now.table_id.words ≡ word_count words.now.key.setup) }
-    requires ring { IsRing words.now.key.setup ring }
+    requires ring { IsRing words.now.key.setup ring.now }
     requires alone { IsAlone token.old.me.0.known }
-    requires limit { ticket < ring.limit }
-    requires seeks { IsSeeking ring.number ticket (my_phase token.old.me.0.known) }
+    requires limit { ticket < ring.now.limit }
+    requires seeks { IsSeeking ring.now.number ticket (my_phase token.old.me.0.known) }
     ensures own { (token.new.table_id ≡ token.old.table_id) × (token.new.id ≡ token.old.id) }
     ensures went { Went words.now.key.setup (opening_of B.contents words.now.key.given.value.items) token.old.me.0 token.new.me.0 }
-    ensures got { IfSome result (λ index. HasGot (LiesIn B.contents B.IsSameBuffer words.now.key.given.value.items) ring.number ticket index
+    ensures got { IfSome result (λ index. HasGot (LiesIn B.contents B.IsSameBuffer words.now.key.given.value.items) ring.now.number ticket index
         (known_me token.old.me) (known_me token.new.me)) }
     ensures small { IfSome result (λ index. index < n_of words.now.key.setup.order) }
     ensures fits { IfSome result (λ index. length (my token.new.me.0.known).part.hand ≤ n_of words.now.key.setup.order) }
     ensures once { IfSome result (λ index. (i : ℕ) → times i (my token.new.me.0.known).part.hand ≤ 1) }
-    ensures given_up { IfNone result (token.new.me.0.known ≡ goes_to (AtD6 ring.number ticket) token.old.me.0.known) }
+    ensures given_up { IfNone result (token.new.me.0.known ≡ goes_to (AtD6 ring.now.number ticket) token.old.me.0.known) }
     ensures slots { IfNone result (token.new.me.1 ≡ token.old.me.1) }
 {
     let cycle = cycle_of(ring.shape, ticket);
+    let word = ring.entry(ticket);
     'tries: loop {
-        let found = load(words, token, ring.entry(ticket));
+        let found = load(words, token, word);
         let entry = unpack(ring.shape, found);
         if entry.cycle == cycle {
-            let old = consume(
-                words,
-                token,
-                ring.entry(ticket),
-                u64::from(ring.shape.none()),
-            );
+            let old = consume(words, token, word, u64::from(ring.shape.none()));
             return unpack(ring.shape, old).index;
         }
         if entry.cycle > cycle {
@@ -59,7 +55,7 @@ fn try_take<B: Buffer>(
         if exchange(
             words,
             token,
-            ring.entry(ticket),
+            word,
             found,
             passed(ring.shape, ticket, found),
         ) == found
@@ -70,16 +66,16 @@ fn try_take<B: Buffer>(
 }
 
 /// D7 to D9 until Tail is caught up.
-fn catch_up<B: Buffer>(words: &Words<B>, token: &mut Token<B>, ring: Ring, ticket: u64, tail: u64)
+fn catch_up<B: Buffer>(words: &Words<B>, token: &mut Token<B>, ring: &Ring, ticket: u64, tail: u64)
     requires own { (token.old.table_id ≡ words.now.table_id) × (words.now.table_id.words ≡ word_count words.now.key.setup) }
-    requires ring { IsRing words.now.key.setup ring }
+    requires ring { IsRing words.now.key.setup ring.now }
     requires alone { IsAlone token.old.me.0.known }
-    requires behind { IsBehind ring.number ticket tail (ticket + 1) (my_phase token.old.me.0.known) }
+    requires behind { IsBehind ring.now.number ticket tail (ticket + 1) (my_phase token.old.me.0.known) }
     requires room { ticket < 2 ^ 60 }
     ensures own { (token.new.table_id ≡ token.old.table_id) × (token.new.id ≡ token.old.id) }
     ensures went { Went words.now.key.setup (opening_of B.contents words.now.key.given.value.items) token.old.me.0 token.new.me.0 }
     ensures slots { token.new.me.1 ≡ token.old.me.1 }
-    ensures caught_up { token.new.me.0.known ≡ goes_to (AtD10 ring.number ticket true) token.old.me.0.known }
+    ensures caught_up { token.new.me.0.known ≡ goes_to (AtD10 ring.now.number ticket true) token.old.me.0.known }
 {
     let mut from = tail;
     let mut to = ticket + 1;
@@ -98,17 +94,17 @@ fn catch_up<B: Buffer>(words: &Words<B>, token: &mut Token<B>, ring: Ring, ticke
 /// D6 to D10, for a ticket at which no index was taken: lifts Tail where it is behind, and takes one off Threshold. Whether the call
 /// ends with Nothing.
 #[inline(always)]
-fn give_up<B: Buffer>(words: &Words<B>, token: &mut Token<B>, ring: Ring, ticket: u64) -> bool
+fn give_up<B: Buffer>(words: &Words<B>, token: &mut Token<B>, ring: &Ring, ticket: u64) -> bool
     requires own { (token.old.table_id ≡ words.now.table_id) × (words.now.table_id.words ≡ word_count words.now.key.setup) }
-    requires ring { IsRing words.now.key.setup ring }
+    requires ring { IsRing words.now.key.setup ring.now }
     requires alone { IsAlone token.old.me.0.known }
-    requires given_up { my_phase token.old.me.0.known ≡ AtD6 ring.number ticket }
-    requires limit { ticket < ring.limit }
+    requires given_up { my_phase token.old.me.0.known ≡ AtD6 ring.now.number ticket }
+    requires limit { ticket < ring.now.limit }
     ensures own { (token.new.table_id ≡ token.old.table_id) × (token.new.id ≡ token.old.id) }
     ensures went { Went words.now.key.setup (opening_of B.contents words.now.key.given.value.items) token.old.me.0 token.new.me.0 }
     ensures slots { token.new.me.1 ≡ token.old.me.1 }
-    ensures over { IsTrue result → token.new.me.0.known ≡ nothing_at ring.number token.old.me.0.known }
-    ensures on { IsFalse result → token.new.me.0.known ≡ goes_to (AtD2 ring.number (ticket + 1)) token.old.me.0.known }
+    ensures over { IsTrue result → token.new.me.0.known ≡ nothing_at ring.now.number token.old.me.0.known }
+    ensures on { IsFalse result → token.new.me.0.known ≡ goes_to (AtD2 ring.now.number (ticket + 1)) token.old.me.0.known }
 {
     let tail = load(words, token, ring.tail);
     if tail <= ticket + 1 {
@@ -131,27 +127,27 @@ pub enum Without {
 pub fn dequeue<B: Buffer>(
     words: &Words<B>,
     token: &mut Token<B>,
-    ring: Ring,
+    ring: &Ring,
 ) -> Result<(u64, u32), Without>
     requires own { (token.old.table_id ≡ words.now.table_id) × (words.now.table_id.words ≡ word_count words.now.key.setup) }
-    requires ring { IsRing words.now.key.setup ring }
+    requires ring { IsRing words.now.key.setup ring.now }
     requires alone { IsAlone token.old.me.0.known }
     requires idle { (my_phase token.old.me.0.known ≡ Idle) × ((my token.old.me.0.known).part.spent ≡ None) }
     ensures own { (token.new.table_id ≡ token.old.table_id) × (token.new.id ≡ token.old.id) }
     ensures went { Went words.now.key.setup (opening_of B.contents words.now.key.given.value.items) token.old.me.0 token.new.me.0 }
-    ensures got { IfOk result (λ r. HasGotAfter (LiesIn B.contents B.IsSameBuffer words.now.key.given.value.items) ring.number r.0 r.1
+    ensures got { IfOk result (λ r. HasGotAfter (LiesIn B.contents B.IsSameBuffer words.now.key.given.value.items) ring.now.number r.0 r.1
         (known_me token.old.me) (known_me token.new.me)) }
     ensures small { IfOk result (λ r. (r.0 < words.now.key.setup.limit) × (r.1 < n_of words.now.key.setup.order)) }
     ensures fits { IfOk result (λ r. length (my token.new.me.0.known).part.hand ≤ n_of words.now.key.setup.order) }
     ensures once { IfOk result (λ r. (i : ℕ) → times i (my token.new.me.0.known).part.hand ≤ 1) }
-    ensures above { IfOk result (λ r. (known : Numbers) → slice_get token.old.me.0.known.numbers ring.number ≡ Some known → known.head ≤ r.0) }
-    ensures nothing { result ≡ Err (Without.Nothing None) → token.new.me.0.known ≡ nothing_at ring.number token.old.me.0.known }
+    ensures above { IfOk result (λ r. (known : Numbers) → slice_get token.old.me.0.known.numbers ring.now.number ≡ Some known → known.head ≤ r.0) }
+    ensures nothing { result ≡ Err (Without.Nothing None) → token.new.me.0.known ≡ nothing_at ring.now.number token.old.me.0.known }
     ensures nothing_left { (ticket : ℕ) → result ≡ Err (Without.Nothing (Some ticket))
-        → (token.new.me.0.known ≡ nothing_at ring.number (drew_head ring.number ticket token.old.me.0.known))
+        → (token.new.me.0.known ≡ nothing_at ring.now.number (drew_head ring.now.number ticket token.old.me.0.known))
         × (ticket < words.now.key.setup.limit)
-        × ((known : Numbers) → slice_get token.old.me.0.known.numbers ring.number ≡ Some known → known.head ≤ ticket) }
+        × ((known : Numbers) → slice_get token.old.me.0.known.numbers ring.now.number ≡ Some known → known.head ≤ ticket) }
     ensures spent { (ticket : ℕ) → result ≡ Err (Without.Spent ticket)
-        → (token.new.me.0.known ≡ drawn_spent ring.number ticket token.old.me.0.known) × (words.now.key.setup.limit ≤ ticket) }
+        → (token.new.me.0.known ≡ drawn_spent ring.now.number ticket token.old.me.0.known) × (words.now.key.setup.limit ≤ ticket) }
     ensures short { (ticket : ℕ) → result ≡ Err (Without.Spent ticket) → ticket + 1 < 2 ^ 64 }
     ensures kept { IfErr result (λ e. token.new.me.1 ≡ token.old.me.1) }
 {

@@ -7,7 +7,7 @@ ghost use Rattle.scq_core.specs.declared.phase.Phase.TheVariants.{Idle, AtE1, At
 ghost use Rattle.scq_word.specs.Sizes.{n_of};
 ghost use Rattle.scq_word.specs.Words.{rank_in};
 ghost use Rattle.scq_core.specs.Table.{ring_slots, holds_index};
-ghost use Rattle.scq_band.specs.Layout.{word_count};
+ghost use Rattle.scq_band.specs.Layout.{word_count, at, entry_at};
 ghost use Rattle.scq_band.specs.declared.numbers.Numbers.{Numbers};
 ghost use Rattle.scq_band.specs.Rings.{IsRing};
 ghost use Rattle.scq_band.specs.Sights.{known_me, Went};
@@ -25,25 +25,27 @@ use scq_word::{Buffer, cycle_of, unpack};
 fn load_vacant<B: Buffer>(
     words: &Words<B>,
     token: &mut Token<B>,
-    ring: Ring,
+    ring: &Ring,
     ticket: u64,
+    word: usize,
 ) -> Option<u64>
     requires own { (token.old.table_id ≡ words.now.table_id) × (words.now.table_id.words ≡ word_count words.now.key.setup) }
-    requires ring { IsRing words.now.key.setup ring }
+    requires ring { IsRing words.now.key.setup ring.now }
     requires alone { IsAlone token.old.me.0.known }
-    requires looks { IsLooking ring.number ticket (my_phase token.old.me.0.known) }
+    requires looks { IsLooking ring.now.number ticket (my_phase token.old.me.0.known) }
+    requires word { word ≡ at words.now.key.setup (entry_at words.now.key.setup ring.now.number ticket) }
     ensures own { (token.new.table_id ≡ token.old.table_id) × (token.new.id ≡ token.old.id) }
     ensures went { Went words.now.key.setup (opening_of B.contents words.now.key.given.value.items) token.old.me.0 token.new.me.0 }
     ensures slots { token.new.me.1 ≡ token.old.me.1 }
     ensures room { IfSome result (λ found. token.new.me.0.known
-        ≡ goes_to (AtE4 ring.number (index_of (my_phase token.old.me.0.known)) (content_of (my_phase token.old.me.0.known)) ticket found)
+        ≡ goes_to (AtE4 ring.now.number (index_of (my_phase token.old.me.0.known)) (content_of (my_phase token.old.me.0.known)) ticket found)
         token.old.me.0.known) }
     ensures least { IfSome result (λ found. least_of (my_phase token.old.me.0.known) ≤ rank_in (ring_slots words.now.key.setup) found) }
     ensures no_room { IfNone result
-        (token.new.me.0.known ≡ goes_to (AtE1 ring.number (index_of (my_phase token.old.me.0.known)) (content_of (my_phase token.old.me.0.known))
+        (token.new.me.0.known ≡ goes_to (AtE1 ring.now.number (index_of (my_phase token.old.me.0.known)) (content_of (my_phase token.old.me.0.known))
         (ticket + 1)) token.old.me.0.known) }
 {
-    let found = load(words, token, ring.entry(ticket));
+    let found = load(words, token, word);
     let entry = unpack(ring.shape, found);
     if entry.cycle >= cycle_of(ring.shape, ticket) || entry.index.is_some() {
         return None;
@@ -59,15 +61,15 @@ fn load_vacant<B: Buffer>(
 fn try_place<B: Buffer>(
     words: &Words<B>,
     token: &mut Token<B>,
-    ring: Ring,
+    ring: &Ring,
     ticket: u64,
     index: u32,
 ) -> bool
     requires own { (token.old.table_id ≡ words.now.table_id) × (words.now.table_id.words ≡ word_count words.now.key.setup) }
-    requires ring { IsRing words.now.key.setup ring }
+    requires ring { IsRing words.now.key.setup ring.now }
     requires alone { IsAlone token.old.me.0.known }
-    requires looks { IsLooking ring.number ticket (my_phase token.old.me.0.known) }
-    requires limit { ticket < ring.limit }
+    requires looks { IsLooking ring.now.number ticket (my_phase token.old.me.0.known) }
+    requires limit { ticket < ring.now.limit }
     requires index { (index ≡ index_of (my_phase token.old.me.0.known)) × (index < n_of words.now.key.setup.order) }
     requires front { Fronts (LiesIn B.contents B.IsSameBuffer words.now.key.given.value.items) index
         (content_of (my_phase token.old.me.0.known)) token.old.me.1 }
@@ -75,16 +77,17 @@ fn try_place<B: Buffer>(
     ensures went { Went words.now.key.setup (opening_of B.contents words.now.key.given.value.items) token.old.me.0 token.new.me.0 }
     ensures slots { token.new.me.1 ≡ (if result then rest token.old.me.1 else token.old.me.1) }
     ensures placed { IsTrue result → token.new.me.0.known
-        ≡ placed_to ring.number index (content_of (my_phase token.old.me.0.known)) ticket token.old.me.0.known }
+        ≡ placed_to ring.now.number index (content_of (my_phase token.old.me.0.known)) ticket token.old.me.0.known }
     ensures passed { IsFalse result → token.new.me.0.known
-        ≡ goes_to (AtE1 ring.number index (content_of (my_phase token.old.me.0.known)) (ticket + 1)) token.old.me.0.known }
+        ≡ goes_to (AtE1 ring.now.number index (content_of (my_phase token.old.me.0.known)) (ticket + 1)) token.old.me.0.known }
 {
     let new = filled(ring.shape, ticket, index);
+    let word = ring.entry(ticket);
     'tries: loop {
-        let Some(found) = load_vacant(words, token, ring, ticket) else {
+        let Some(found) = load_vacant(words, token, ring, ticket, word) else {
             return false;
         };
-        if exchange(words, token, ring.entry(ticket), found, new) == found {
+        if exchange(words, token, word, found, new) == found {
             return true;
         }
     }
@@ -92,15 +95,15 @@ fn try_place<B: Buffer>(
 
 /// E5, and E6 where Threshold isn't at the reset value.
 #[inline(always)]
-fn reset_threshold<B: Buffer>(words: &Words<B>, token: &mut Token<B>, ring: Ring, ticket: u64)
+fn reset_threshold<B: Buffer>(words: &Words<B>, token: &mut Token<B>, ring: &Ring, ticket: u64)
     requires own { (token.old.table_id ≡ words.now.table_id) × (words.now.table_id.words ≡ word_count words.now.key.setup) }
-    requires ring { IsRing words.now.key.setup ring }
+    requires ring { IsRing words.now.key.setup ring.now }
     requires alone { IsAlone token.old.me.0.known }
-    requires placed { IsEnding ring.number ticket (my_phase token.old.me.0.known) }
+    requires placed { IsEnding ring.now.number ticket (my_phase token.old.me.0.known) }
     ensures own { (token.new.table_id ≡ token.old.table_id) × (token.new.id ≡ token.old.id) }
     ensures went { Went words.now.key.setup (opening_of B.contents words.now.key.given.value.items) token.old.me.0 token.new.me.0 }
     ensures slots { token.new.me.1 ≡ token.old.me.1 }
-    ensures done { token.new.me.0.known ≡ done_at ring.number ticket (content_of (my_phase token.old.me.0.known)) token.old.me.0.known }
+    ensures done { token.new.me.0.known ≡ done_at ring.now.number ticket (content_of (my_phase token.old.me.0.known)) token.old.me.0.known }
 {
     if load(words, token, ring.threshold()) != ring.level {
         reset(words, token, ring.threshold(), ring.level);
@@ -112,11 +115,11 @@ fn reset_threshold<B: Buffer>(words: &Words<B>, token: &mut Token<B>, ring: Ring
 pub fn enqueue<B: Buffer>(
     words: &Words<B>,
     token: &mut Token<B>,
-    ring: Ring,
+    ring: &Ring,
     index: u32,
 ) -> Result<u64, u64>
     requires own { (token.old.table_id ≡ words.now.table_id) × (words.now.table_id.words ≡ word_count words.now.key.setup) }
-    requires ring { IsRing words.now.key.setup ring }
+    requires ring { IsRing words.now.key.setup ring.now }
     requires alone { IsAlone token.old.me.0.known }
     requires idle { (my_phase token.old.me.0.known ≡ Idle) × ((my token.old.me.0.known).part.spent ≡ None) }
     requires held { (holds_index (my token.old.me.0.known).part.hand index ≡ true) × (index < n_of words.now.key.setup.order) }
@@ -124,11 +127,11 @@ pub fn enqueue<B: Buffer>(
     requires front { Fronts (LiesIn B.contents B.IsSameBuffer words.now.key.given.value.items) index (front_bytes B.contents token.old.me.1) token.old.me.1 }
     ensures own { (token.new.table_id ≡ token.old.table_id) × (token.new.id ≡ token.old.id) }
     ensures went { Went words.now.key.setup (opening_of B.contents words.now.key.given.value.items) token.old.me.0 token.new.me.0 }
-    ensures placed { IfOk result (λ place. token.new.me.0.known ≡ put_at ring.number index place (front_bytes B.contents token.old.me.1) token.old.me.0.known) }
+    ensures placed { IfOk result (λ place. token.new.me.0.known ≡ put_at ring.now.number index place (front_bytes B.contents token.old.me.1) token.old.me.0.known) }
     ensures given { IfOk result (λ place. token.new.me.1 ≡ rest token.old.me.1) }
     ensures above { IfOk result (λ place. (place < words.now.key.setup.limit)
-        × ((known : Numbers) → slice_get token.old.me.0.known.numbers ring.number ≡ Some known → known.seen < place)) }
-    ensures spent { IfErr result (λ ticket. token.new.me.0.known ≡ spent_at ring.number ticket true token.old.me.0.known) }
+        × ((known : Numbers) → slice_get token.old.me.0.known.numbers ring.now.number ≡ Some known → known.seen < place)) }
+    ensures spent { IfErr result (λ ticket. token.new.me.0.known ≡ spent_at ring.now.number ticket true token.old.me.0.known) }
     ensures kept { IfErr result (λ ticket. (token.new.me.1 ≡ token.old.me.1) × (words.now.key.setup.limit ≤ ticket)) }
 {
     'draws: loop {

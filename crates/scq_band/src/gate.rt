@@ -1,5 +1,6 @@
 //! The gate: how many seats have not retired.
-ghost use Rattle.std.specs.Prelude.{◌≡◌, ◌<◌, None};
+ghost use Rattle.std.specs.Prelude.{◌≡◌, ◌<◌, length, None};
+ghost use Rattle.scq_band.specs.RunSeen.{with_retiree};
 ghost use Rattle.scq_band.specs.Standing.{IsReading};
 ghost use Rattle.scq_band.specs.Buffers.{opening_of};
 ghost use Rattle.scq_band.specs.Sights.{Looked};
@@ -32,7 +33,8 @@ pub fn retire<B: Buffer>(words: &Words<B>, token: &mut Token<B>)
     requires alone { IsAlone token.old.me.0.known }
     requires stays { (my token.old.me.0.known).retired ≡ None }
     ensures own { (token.new.table_id ≡ token.old.table_id) × (token.new.id ≡ token.old.id) }
-    ensures seen { token.new.me.0.seen ≡ token.old.me.0.seen }
+    ensures seen { token.new.me.0.seen
+        ≡ with_retiree ((my token.old.me.0.known).number, length (my token.old.me.0.known).part.calls) token.old.me.0.seen }
     ensures retired { token.new.me.0.known ≡ retired_at token.old.me.0.known }
     ensures slots { token.new.me.1 ≡ token.old.me.1 }
 {

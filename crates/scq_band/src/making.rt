@@ -5,14 +5,20 @@ ghost use Rattle.scq_core.specs.Machine.{read, threshold_of};
 ghost use Rattle.scq_core.specs.Start.{start_cells};
 ghost use Rattle.scq_band.specs.Numbers.{first_numbers};
 ghost use Rattle.scq_band.specs.Homes.{full_slot};
+ghost use Rattle.scq_band.specs.Rings.{AreRings};
 ghost use Rattle.scq_band.specs.Making.{lifted, AllLaid, IsRoom, IsMemory, IsOfStart, AreOpened};
 
 use crate::layout::{GATE, entry_word, head_word, tail_word, threshold_word, word_count};
 use crate::numbers::Numbers;
+use crate::ring::Ring;
 use crate::slot::Slot;
 use scq_core::{State, ZERO_LEVEL, reset_level};
 use scq_word::{Bytes, NoMemory, Setup};
 use std::alloc::Global;
+
+// How many cells of 32 bytes or less stay free behind what one seat writes, or all read: two lines of 64 bytes, so that no seat writes in a
+// line that another uses.
+const APART: usize = 8;
 
 /// The room of one seat: an empty list for its indices, and what it knows at the start.
 #[derive(Drop)]
@@ -26,6 +32,7 @@ pub struct Room {
 pub struct Memory {
     pub words: Vec<u64>,
     pub left: Vec<u64>,
+    pub rings: Vec<Ring>,
     pub rooms: Vec<Room>,
 }
 
@@ -34,18 +41,30 @@ fn first_numbers(alloc: Global, setup: &Setup) -> Result<Vec<Numbers>, NoMemory>
     ensures { IfOk result (λ v. v.items ≡ first_numbers setup.now setup.now.rings) }
 {
     let mut numbers = Vec::new(alloc);
-    numbers.reserve_exact(setup.rings() as usize)?;
+    numbers.reserve_exact(setup.rings() as usize + APART)?;
     for ring in 0..setup.rings() {
         numbers.push(Numbers::first(setup, ring))?;
     }
     Ok(numbers)
 }
 
+// What a call needs to know of each ring.
+fn rings(alloc: Global, setup: &Setup) -> Result<Vec<Ring>, NoMemory>
+    ensures { IfOk result (λ v. AreRings setup.now setup.now.rings v.items) }
+{
+    let mut rings = Vec::new(alloc);
+    rings.reserve_exact(setup.rings() as usize + APART)?;
+    for number in 0..setup.rings() {
+        rings.push(Ring::of(setup, number))?;
+    }
+    Ok(rings)
+}
+
 fn one_room(alloc: Global, setup: &Setup) -> Result<Room, NoMemory>
     ensures { IfOk result (IsRoom setup.now) }
 {
     Ok(Room {
-        hand: Vec::with_capacity(alloc, setup.shape().n() as usize)?,
+        hand: Vec::with_capacity(alloc, setup.shape().n() as usize + 8 * APART)?,
         numbers: first_numbers(alloc, setup)?,
     })
 }
@@ -125,6 +144,7 @@ pub fn reserved(alloc: Global, setup: Setup) -> Result<Memory, NoMemory>
     Ok(Memory {
         words: first_words(alloc, setup)?,
         left: Vec::with_capacity(alloc, setup.rings() as usize)?,
+        rings: rings(alloc, &setup)?,
         rooms: rooms(alloc, &setup)?,
     })
 }

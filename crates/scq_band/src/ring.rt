@@ -5,8 +5,9 @@ ghost use Rattle.scq_word.specs.declared.setup.Setup.{Setup};
 ghost use Rattle.scq_band.specs.Layout.{at, entry_at};
 ghost use Rattle.scq_band.specs.Rings.{IsRing};
 
-use crate::layout::{entry_word, head_word, threshold_word};
-use scq_word::{Shape, slot_of};
+use crate::layout::{entry_word, head_word, tail_word, threshold_word};
+use scq_core::reset_level;
+use scq_word::{Setup, Shape, slot_of};
 
 /// `tail` is the word of its Tail, which tells where its other words are. `level` is what Threshold is reset to.
 #[derive(Clone, Copy)]
@@ -19,6 +20,20 @@ pub struct Ring {
 }
 
 impl Ring {
+    pub fn of(setup: &Setup, number: u32) -> Ring
+        requires { number < setup.now.rings }
+        ensures number { result.number ≡ number }
+        ensures ring { IsRing setup.now result }
+    {
+        Ring {
+            number,
+            shape: setup.shape(),
+            limit: setup.limit(),
+            tail: tail_word(setup, number),
+            level: reset_level(setup),
+        }
+    }
+
     #[inline(always)]
     pub fn head(&self) -> usize
         requires { self.now.tail < 2 ^ 32 }

@@ -5,10 +5,13 @@ use Rattle.scq_word.specs.declared.setup.Setup.{Setup}
 use Rattle.scq_word.specs.Sizes.{n_of}
 use Rattle.scq_word.specs.Ranges.{IsOutside}
 use Rattle.scq_queue.specs.Lists.{counts_of}
-use Rattle.scq_queue.specs.Passes.{lists_of}
 use Rattle.scq_port.specs.declared.sight.Sight.{Sight}
 use Rattle.scq_port.specs.Ports.{PortStanding}
-use Rattle.scq_port.specs.Calls.{IsLent, IsTaken, IsSent, IsGivenBack, WasFull, WasEmpty, IsSpentGet, IsSpentPut, HasNoRoom, HasNoTopic, HoldsNoSuch, AreOpened}
+use Rattle.scq_port.specs.Calls.{IsLent, IsTaken, IsSent, IsGivenBack, WasFull, WasEmpty, IsSpentGet, IsSpentPut, HasNoRoom, HasNoTopic, HoldsNoSuch, AreOpened, HasEnded}
+use Rattle.scq_queue.specs.Passes.{PassStanding}
+use Rattle.scq_port.specs.declared.port_buffer.PortBuffer.{PortBuffer}
+use Rattle.scq_port.specs.Closed.{HasClosed}
+use Rattle.scq_c.specs.declared.exports.End.{End}
 use Rattle.scq_c.specs.declared.exports.Held.{Held}
 use Rattle.scq_c.specs.declared.handle.Handle.{Handle}
 
@@ -84,3 +87,16 @@ pub record OfOpen (order topics size hold limit code : ℕ) (before after : List
   pub bad_hold : code ≡ 14 → IsOutside 1 (n_of order) hold
   pub is_open : code ≡ 15 → All (λ (h : Handle). h.port ≡ None) before → ⊥
   pub known : (code ≡ 0) ⊎ ((8 ≤ code) × (code ≤ 15))
+
+-- the last port of a queue closed, with this pass: all passes of the queue are these, and what the queue's close says holds of them
+pub record AllHaveEnded (x : PortStanding) (its : PassStanding PortBuffer) : Type 0 where
+  pub passes : List (PassStanding PortBuffer)
+  pub left : List ℕ
+  pub bytes : List (List ℕ)
+  pub closed : HasClosed x.pass.queue its passes left bytes
+
+-- of a port's end: what it held was given back, and where 1 is written out the queue closed with it
+pub record OfEnd (x : PortStanding) (e : End) : Type 0 where
+  pub its : PassStanding PortBuffer
+  pub ended : HasEnded x its
+  pub last : e.last ≡ 1 → AllHaveEnded x its

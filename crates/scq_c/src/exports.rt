@@ -3,7 +3,7 @@ ghost use Rattle.std.specs.Prelude.{◌≡◌, ◌≢◌, ℕ, Some, None};
 ghost use Rattle.scq_queue.specs.Lists.{counts_of};
 ghost use Rattle.scq_queue.specs.Passes.{lists_of};
 ghost use Rattle.scq_port.specs.Ports.{PortStanding};
-ghost use Rattle.scq_c.specs.Answers.{OfLend, OfTake, OfSend, OfGiveBack, OfOpen, shown_at};
+ghost use Rattle.scq_c.specs.Answers.{OfLend, OfTake, OfSend, OfGiveBack, OfOpen, OfEnd, shown_at};
 
 use crate::answers::{CLOSED, EMPTY, FULL, NO_ROOM, NO_TOPIC, NOT_HELD, OK, SPENT};
 use crate::handle::{Handle, put, taken};
@@ -29,6 +29,13 @@ pub struct Tally {
     pub sent: u64,
     pub taken: u64,
     pub full: u64,
+}
+
+/// What a port's end tells: 1 where the queue closed with it, as the last of its ports, and else 0.
+#[repr(C)]
+#[derive(Drop)]
+pub struct End {
+    pub last: u32,
 }
 
 /// The version of these calls.
@@ -264,6 +271,36 @@ pub extern "C" fn scq_close(alloc: Global, handle: &mut Handle) -> u32
     match taken(handle, alloc) {
         Some(port) => {
             let _ended = Box::into_inner(port).close();
+            OK
+        }
+        None => CLOSED,
+    }
+}
+
+/// Closes a port, and tells whether the queue closed with it.
+fn end_of(port: Port, out: &mut End)
+    ensures { OfEnd port out.new }
+{
+    let (_ended, closed) = port.close();
+    *out = match closed {
+        Some(closed) => {
+            drop(closed);
+            End { last: 1 }
+        }
+        None => End { last: 0 },
+    };
+}
+
+/// Closes a port as `scq_close` does, and tells whether the queue closed with it.
+#[unsafe(no_mangle)]
+pub extern "C" fn scq_end(alloc: Global, handle: &mut Handle, out: &mut End) -> u32
+    ensures closed { handle.new.port ≡ None }
+    ensures was_closed { handle.old.port ≡ None → (result ≡ 4) × (out.new ≡ out.old) }
+    ensures was_open { (x : PortStanding) → handle.old.port ≡ Some x → (result ≡ 0) × OfEnd x out.new }
+{
+    match taken(handle, alloc) {
+        Some(port) => {
+            end_of(Box::into_inner(port), out);
             OK
         }
         None => CLOSED,

@@ -8,3 +8,4 @@ pub mod Aspects
 pub mod Balance
 pub mod Retries
 pub mod Order
+pub mod Progress

@@ -27,3 +27,4 @@ pub mod Spans
 pub mod Points
 pub mod Order
 pub mod Notes
+pub mod Progress

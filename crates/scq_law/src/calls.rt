@@ -8,6 +8,7 @@ ghost use Rattle.scq_core.specs.Reach.{IsReachable};
 ghost use Rattle.scq_law.specs.Run.{Recorded, IsRun};
 ghost use Rattle.scq_law.specs.Retries.{RetriesRise};
 ghost use Rattle.scq_law.specs.CallSteps.{CallsEnd, FewSteps};
+ghost use Rattle.scq_law.specs.Progress.{HasProgress, DelayedByEnds};
 
 /// Why each loop of a call ends, in its seat's steps. The exchanges with one ticket: a failed one found
 /// an entry of a higher rank, and is tried again only while that is below what the ticket's cycle has.
@@ -30,4 +31,17 @@ pub fn calls_end()
 pub fn calls_take_few_steps()
     ensures { (c : Setup) (opening : List (List ℕ)) (steps : List (ℕ × Step)) (recorded : Recorded)
         → IsRun c opening steps recorded → FewSteps c steps recorded.state }
+{}
+
+/// Lock-freedom: some call ends soon, whatever the seats do. Among more steps of a run than `k * 6 * (R + n + k)` that
+/// follow one another, for `k` seats, `n` indices and a Threshold that resets to `R`, one ends a call.
+pub fn some_call_ends_soon()
+    ensures { (c : Setup) (opening : List (List ℕ)) (steps : List (ℕ × Step)) → HasProgress c opening steps }
+{}
+
+/// A call makes at most `6 * (R + n + k)` steps of its seat, as many more for each put that ends with Done on the same ring
+/// meanwhile, and 6 more for each get that ends there. So others delay a call by what they finish there alone, and a call
+/// whose seat runs alone ends within `6 * (R + n + k)` steps.
+pub fn calls_are_delayed_by_ends()
+    ensures { (c : Setup) (opening : List (List ℕ)) (steps : List (ℕ × Step)) → DelayedByEnds c opening steps }
 {}

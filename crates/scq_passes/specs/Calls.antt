@@ -6,6 +6,7 @@ use Rattle.scq_core.specs.declared.ended.Ended.TheVariants.{Done, Got, Nothing}
 use Rattle.scq_law.specs.Bounds.{tally, was_put}
 use Rattle.scq_band.specs.Standing.{Identity}
 use Rattle.scq_queue.specs.Lists.{Placed, sends_of, takes_of}
+use Rattle.scq_band.specs.RunSeen.{with_retiree}
 use Rattle.scq_queue.specs.Passes.{PassStanding, HeldStanding, known_on}
 use Rattle.scq_passes.specs.Records.{is_got, is_put, on, Puts, AreTakesFollowed, IsReturn, HoldsNothingAtEachFull, MeetsNoSpent}
 
@@ -121,4 +122,4 @@ module _ {B : Type 0} where
 
   -- a pass that has retired
   abbrev pub after_retire : PassStanding B → PassStanding B
-  after_retire p = record p { retired = Some (length p.calls) }
+  after_retire p = record p { retired = Some (length p.calls); seen = with_retiree (p.number, length p.calls) p.seen }

@@ -21,7 +21,7 @@ cases_spent (Some t) = inr (t, refl)
 pub begins : (queue : PortQueue) (p : PassStanding PortBuffer) (slots : List (Option Value)) (used hold : ℕ) → Keeps queue p slots used hold
     → LetsGo queue p slots
 begins queue p slots used hold before =
-    record { own = before.own; here = before.here; free = λ none. before.free; past = λ none. before.past }
+    record { own = before.own; here = before.here; free = before.free; past = before.past }
 
 -- the last place has no value
 pub skips : (queue : PortQueue) (p : PassStanding PortBuffer) (slots : List (Option Value)) → LetsGo queue p (slots ++ None ∷ []) → LetsGo queue p slots
@@ -29,12 +29,12 @@ skips queue p slots before =
     record {
       own = before.own;
       here = λ i h at. before.here i h (get_before slots None (Some h) i at);
-      free = λ none i at. before.free none i (get_before slots None None i at);
+      free = λ i at. before.free i (get_before slots None None i at);
       past =
-          λ none i at.
+          λ i at.
           elim (cases_eq i (length slots)) [
-            | inl same ↦ ap (λ k. times k p.held) same ∙ before.free none (length slots) (get_last slots None)
-            | inr other ↦ before.past none i (get_past slots None i at other)
+            | inl same ↦ ap (λ k. times k p.held) same ∙ before.free (length slots) (get_last slots None)
+            | inr other ↦ before.past i (get_past slots None i at other)
           ];
     }
 
@@ -72,25 +72,22 @@ gives queue old new slots h place w before is =
             holds = ap (times i) now ∙ less_other old.held (length slots) i differs ∙ was.holds;
           };
       free =
-          λ none i at.
+          λ i at.
           let differs = not_last slots None i at in
           ap (times i) now ∙ less_other old.held (length slots) i differs
-          ∙ before.free (sym unspent ∙ none) i (get_before slots (Some h) None i at);
+          ∙ before.free i (get_before slots (Some h) None i at);
       past =
-          λ none i at.
+          λ i at.
           elim (cases_eq i (length slots)) [
             | inl same ↦ ap (λ k. times k new.held) same ∙ ap (times (length slots)) now ∙ less_here old.held (length slots)
             | inr other ↦
                 ap (times i) now ∙ less_other old.held (length slots) i other
-                ∙ before.past (sym unspent ∙ none) i (get_past slots (Some h) i at other)
+                ∙ before.past i (get_past slots (Some h) i at other)
           ];
     }
   where
     now : new.held ≡ without (length slots) old.held
     now = ap (λ (p : PassStanding PortBuffer). p.held) is ∙ ap (λ k. without k old.held) (stands queue old slots h before).index
-
-    unspent : new.spent ≡ old.spent
-    unspent = ap (λ (p : PassStanding PortBuffer). p.spent) is
 
 -- it can't be given back, since a ticket is spent: what is left is held as before
 pub leaves : (queue : PortQueue) (old new : PassStanding PortBuffer) (slots : List (Option Value)) → LetsGo queue old slots → IsAlike old new
@@ -109,9 +106,9 @@ leaves queue old new slots before is i h at =
     )
 
 -- all are given back
-pub ends : (queue : PortQueue) (p : PassStanding PortBuffer) (slots : List (Option Value)) → LetsGo queue p slots → length slots ≡ 0 → p.spent ≡ None → p.held ≡ []
-ends queue p [] before empty none = none_at_all p.held (λ i. before.past none i refl)
-ends queue p (x ∷ xs) before empty none = absurd (omega (arith, empty))
+pub ends : (queue : PortQueue) (p : PassStanding PortBuffer) (slots : List (Option Value)) → LetsGo queue p slots → length slots ≡ 0 → p.held ≡ []
+ends queue p [] before empty = none_at_all p.held (λ i. before.past i refl)
+ends queue p (x ∷ xs) before empty = absurd (omega (arith, empty))
 
 -- the values of a list of places and its last
 values_last : (slots : List (Option Value)) (o : Option Value) → values_of (slots ++ o ∷ []) ≡ filter_map (λ (x : Option Value). x) (o ∷ reverse slots)

@@ -4,3 +4,4 @@ pub mod Records
 pub mod Going
 pub mod Opened
 pub mod Sent
+pub mod EndSteps

@@ -1,7 +1,7 @@
 -- The ports of a new queue, made one by one.
 use Rattle.std.proofs.Common.{◌≡◌, ℕ, zero, suc, ◌<◌, List, [], ◌∷◌, ◌++◌, length, map, refl, sym, ◌∙◌, ap, subst, arith, append_assoc}
 use Rattle.std.specs.Prelude.{All, reverse, Result, Ok, Err, IfOk}
-use Rattle.std.proofs.lemmas.List.{reverse-append}
+use Rattle.std.proofs.lemmas.List.{reverse-append, length-append}
 use Rattle.std.proofs.lemmas.List.Elements.{All-cons}
 use Rattle.scq_queue.specs.Passes.{PassStanding, first_pass, first_passes}
 use Rattle.scq_port.specs.declared.port_buffer.PortBuffer.{PortBuffer}
@@ -14,6 +14,13 @@ all_fresh queue zero = λ k d low. absurd (omega (arith, low))
 all_fresh queue (suc n) =
     subst (λ (l : List (PassStanding PortBuffer)). All (IsFresh queue) l) (sym (reverse-append (first_passes queue n) (first_pass queue n ∷ [])))
     (All-cons (IsFresh queue) (first_pass queue n) (reverse (first_passes queue n)) (record { own = refl; awake = refl; none = refl }) (all_fresh queue n))
+
+pub first_passes_length : (queue : PortQueue) (n : ℕ) → length (first_passes queue n) ≡ n
+first_passes_length queue zero = refl
+first_passes_length queue (suc n) =
+    let e = first_passes_length queue n in
+    let more = length-append (first_passes queue n) (first_pass queue n ∷ []) in
+    omega (arith, e, more)
 
 -- what holds of all of a list holds of its last, and of the others
 pub all_last : {A : Type 0} (P : A → Type 0) (xs : List A) (x : A) → All P (xs ++ x ∷ []) → P x

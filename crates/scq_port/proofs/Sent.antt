@@ -1,6 +1,6 @@
 -- A port may go to another thread: so may its pass and its values, and the queue may go and be shared; and buffers may go and be shared.
 use denote.Builtin.{u8, u64, usize, bool}
-use denote.Param.Send.{IsSend, IsSync, sendable, view_send}
+use denote.Param.Send.{IsSend, IsSync, sendable, view_send, view_sync}
 use denote.Param.SendFields.{declared_send, declared_sync}
 use Rattle.std.proofs.Crossing as crossing
 use Rattle.std.proofs.alloc.Global.TheSendSync as heap
@@ -16,6 +16,7 @@ use Rattle.scq_band.specs.contracts.rule.Rule as rule
 use Rattle.scq_band.specs.contracts.rule.RuleTableRuleSlotViewKey.TheImpl as rules
 use Rattle.scq_band.specs.contracts.slot.Slot as slot
 use Rattle.scq_band.specs.contracts.view.View as view
+use Rattle.scq_band.specs.contracts.ring.Ring as ring
 use Rattle.scq_band.specs.contracts.band.Band as band
 use Rattle.scq_band.specs.contracts.band.Band.TheInside as band_inside
 use Rattle.scq_band.specs.contracts.seat.Seat as seat
@@ -27,7 +28,15 @@ use Rattle.scq_queue.specs.contracts.queue.Queue as queue
 use Rattle.scq_queue.specs.contracts.queue.Queue.TheInside as queue_inside
 use Rattle.scq_queue.proofs.PassesSent.{pass_sent}
 use Rattle.scq_queue.proofs.QueuesShared.{queue_sync}
-use Rattle.scq_band.proofs.SeatsShared.{vec_sync}
+use Rattle.scq_band.proofs.SeatsShared.{vec_sync, seat_sync}
+use Rattle.std.specs.contracts.snapshot.Snapshot as snapshot
+use Rattle.scq_queue.specs.contracts.fulls.Fulls as fulls
+use Rattle.scq_queue.specs.contracts.pass.Pass as pass
+use Rattle.scq_queue.specs.contracts.pass.Pass.TheInside as pass_inside
+use Rattle.scq_port.specs.contracts.ends.Ends as ends
+use Rattle.scq_port.specs.contracts.ends.Knows as knows
+use Rattle.scq_port.specs.contracts.ends.EndRule as end_rule
+use Rattle.scq_port.specs.contracts.ends.EndRuleTableRuleOptionPassPortBufferKnowsSnapshotQueuePortBuffer.TheImpl as end_rules
 use Rattle.scq_port.specs.contracts.port_buffer.PortBuffer as buffer
 use Rattle.scq_port.specs.contracts.port_buffer.PortBufferBuffer.TheImpl as buffers
 use Rattle.scq_port.specs.contracts.hand.Hand as hand
@@ -49,6 +58,9 @@ slot_sent = declared_send (slot.the_type buffer.the_row) (option_sent buffer.the
 
 setup_sent : IsSend setup.the_row
 setup_sent = search (sendable, crossing.crosses) depth 20
+
+ring_sent : IsSend ring.the_row
+ring_sent = search (sendable, crossing.crosses) depth 20
 
 bool_sent : IsSend bool
 bool_sent = search sendable
@@ -77,7 +89,7 @@ band_sent =
     view_send (band_inside.the_row buffer.the_row buffers.ghosts) _ _ _ _
     (declared_send (band_inside.the_type buffer.the_row buffers.ghosts) (
       table_sent,
-      (setup_sent, (vec_sent buffer.the_row buffer_sent, (vec_sent u64 u64_sent, tt))),
+      (setup_sent, (vec_sent ring.the_row ring_sent, (vec_sent buffer.the_row buffer_sent, (vec_sent u64 u64_sent, tt)))),
     ))
 
 queue_sent : IsSend (queue.the_row buffer.the_row buffers.ghosts)
@@ -91,11 +103,81 @@ queue_sent =
       ),
     ))
 
+usize_sync : IsSync usize
+usize_sync = search sendable
+
+left_sent : IsSend (option.the_row (pass.the_row buffer.the_row buffers.ghosts))
+left_sent = option_sent (pass.the_row buffer.the_row buffers.ghosts) (pass_sent buffer.the_row buffers.ghosts buffer_sent)
+
+end_table_sent : IsSend (table.the_row (option.the_row (pass.the_row buffer.the_row buffers.ghosts)) knows.the_row (snapshot.the_row (queue.the_row buffer.the_row buffers.ghosts)) end_rule.the_row alloc.the_row end_rules.ghosts ghosts)
+end_table_sent =
+    declared_send (table.the_type (option.the_row (pass.the_row buffer.the_row buffers.ghosts)) knows.the_row (snapshot.the_row (queue.the_row buffer.the_row buffers.ghosts)) end_rule.the_row alloc.the_row end_rules.ghosts ghosts) (
+      words.the_send (option.the_row (pass.the_row buffer.the_row buffers.ghosts)) knows.the_row (snapshot.the_row (queue.the_row buffer.the_row buffers.ghosts)) end_rule.the_row end_rules.ghosts left_sent,
+      (
+        usize_sent,
+        (
+          usize_sent,
+          (
+            lease.the_send u64 alloc.the_row ghosts heap.the_send crossing.frees,
+            (lease.the_send (option.the_row (pass.the_row buffer.the_row buffers.ghosts)) alloc.the_row ghosts heap.the_send crossing.frees, (heap.the_send, tt)),
+          ),
+        ),
+      ),
+    )
+
+end_table_sync : IsSync (table.the_row (option.the_row (pass.the_row buffer.the_row buffers.ghosts)) knows.the_row (snapshot.the_row (queue.the_row buffer.the_row buffers.ghosts)) end_rule.the_row alloc.the_row end_rules.ghosts ghosts)
+end_table_sync =
+    declared_sync (table.the_type (option.the_row (pass.the_row buffer.the_row buffers.ghosts)) knows.the_row (snapshot.the_row (queue.the_row buffer.the_row buffers.ghosts)) end_rule.the_row alloc.the_row end_rules.ghosts ghosts) (
+      words.the_sync (option.the_row (pass.the_row buffer.the_row buffers.ghosts)) knows.the_row (snapshot.the_row (queue.the_row buffer.the_row buffers.ghosts)) end_rule.the_row end_rules.ghosts left_sent,
+      (
+        usize_sync,
+        (
+          usize_sync,
+          (
+            lease.the_sync u64 alloc.the_row ghosts heap.the_send crossing.frees,
+            (lease.the_sync (option.the_row (pass.the_row buffer.the_row buffers.ghosts)) alloc.the_row ghosts heap.the_send crossing.frees, (heap.the_sync, tt)),
+          ),
+        ),
+      ),
+    )
+
+u64_sync : IsSync u64
+u64_sync = search sendable
+
+bool_sync : IsSync bool
+bool_sync = search sendable
+
+counts_sync : IsSync counts.the_row
+counts_sync = declared_sync counts.the_type (u64_sync, (u64_sync, (u64_sync, tt)))
+
+fulls_sync : IsSync (snapshot.the_row fulls.the_row)
+fulls_sync = search (sendable, crossing.crosses)
+
+pass_sync : IsSync (pass.the_row buffer.the_row buffers.ghosts)
+pass_sync =
+    view_sync (pass_inside.the_row buffer.the_row buffers.ghosts) _ _ _ _
+    (declared_sync (pass_inside.the_type buffer.the_row buffers.ghosts)
+    (seat_sync buffer.the_row buffers.ghosts buffer_sent, (fulls_sync, (counts_sync, (bool_sync, tt)))))
+
+ends_sent : IsSend ends.the_row
+ends_sent = declared_send ends.the_type (end_table_sent, tt)
+
+ends_sync : IsSync ends.the_row
+ends_sync = declared_sync ends.the_type (end_table_sync, tt)
+
 owner_sent : IsSend owner.the_row
-owner_sent = declared_send owner.the_type (queue_sent, tt)
+owner_sent =
+    declared_send owner.the_type (
+      queue_sent,
+      (ends_sent, (vec_sent (pass.the_row buffer.the_row buffers.ghosts) (pass_sent buffer.the_row buffers.ghosts buffer_sent), (heap.the_send, tt))),
+    )
 
 owner_sync : IsSync owner.the_row
-owner_sync = declared_sync owner.the_type (queue_sync buffer.the_row buffers.ghosts buffer_sent buffer_sync, tt)
+owner_sync =
+    declared_sync owner.the_type (
+      queue_sync buffer.the_row buffers.ghosts buffer_sent buffer_sync,
+      (ends_sync, (vec_sync (pass.the_row buffer.the_row buffers.ghosts) pass_sync, (heap.the_sync, tt))),
+    )
 
 held_sent : IsSend (held.the_row buffer.the_row buffers.ghosts)
 held_sent =
@@ -113,5 +195,5 @@ port_sent =
     view_send port_inside.the_row _ _ _ _
     (declared_send port_inside.the_type (
       crossing.Arc-send owner.the_row owner_sent owner_sync,
-      (pass_sent buffer.the_row buffers.ghosts buffer_sent, (hand_sent, (u32_sent, tt))),
+      (pass_sent buffer.the_row buffers.ghosts buffer_sent, (hand_sent, (u32_sent, (u32_sent, tt)))),
     ))

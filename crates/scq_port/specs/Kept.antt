@@ -30,9 +30,10 @@ abbrev pub KeepsHand : PortQueue → PassStanding PortBuffer → Hand → Type 0
 KeepsHand queue p hand = Keeps queue p hand.slots.items hand.used hand.hold
 
 -- a port's pass and values, and how many topics its queue has
-pub record IsPort (queue : PortQueue) (p : PassStanding PortBuffer) (hand : Hand) (many : ℕ) : Type 0 where
+pub record IsPort (queue : PortQueue) (p : PassStanding PortBuffer) (hand : Hand) (many number : ℕ) : Type 0 where
   pub keeps : KeepsHand queue p hand
   pub topics : many + 1 ≡ queue.setup.rings
+  pub low : number < queue.setup.seats
 
 -- what contracts see of a port with this pass and these values
 abbrev pub seen_as : PassStanding PortBuffer → Hand → PortStanding
@@ -44,9 +45,9 @@ pub record IsFresh (queue : PortQueue) (p : PassStanding PortBuffer) : Type 0 wh
   pub awake : p.retired ≡ None
   pub none : p.held ≡ []
 
--- a pass of the queue that holds the values at these places, and where no ticket is spent no others
+-- a pass of the queue that holds the values at these places, and no others
 pub record LetsGo (queue : PortQueue) (p : PassStanding PortBuffer) (slots : List (Option Value)) : Type 0 where
   pub own : p.queue ≡ queue
   pub here : (i : ℕ) (h : Value) → slice_get slots i ≡ Some (Some h) → StandsAt queue p i h
-  pub free : p.spent ≡ None → (i : ℕ) → slice_get slots i ≡ Some None → times i p.held ≡ 0
-  pub past : p.spent ≡ None → (i : ℕ) → slice_get slots i ≡ None → times i p.held ≡ 0
+  pub free : (i : ℕ) → slice_get slots i ≡ Some None → times i p.held ≡ 0
+  pub past : (i : ℕ) → slice_get slots i ≡ None → times i p.held ≡ 0

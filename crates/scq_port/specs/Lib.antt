@@ -1,3 +1,5 @@
 pub mod Ports
 pub mod Calls
 pub mod Kept
+pub mod Ends
+pub mod Closed

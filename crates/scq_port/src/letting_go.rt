@@ -1,5 +1,6 @@
 //! What becomes of the values that a port holds where it is closed.
-ghost use Rattle.std.specs.Prelude.{◌≡◌, [], None};
+ghost use Rattle.std.specs.Prelude.{◌≡◌, [], None, IfSome};
+ghost use Rattle.scq_port.specs.Ends.{IsLeft};
 ghost use Rattle.scq_port.specs.Calls.{HasEnded};
 ghost use Rattle.scq_port.specs.Kept.{KeepsHand, seen_as};
 
@@ -14,9 +15,13 @@ pub(crate) fn let_go(
     queue: &Queue<PortBuffer>,
     mut pass: Pass<PortBuffer>,
     hand: Hand,
-) -> Snapshot<Pass<PortBuffer>>
+) -> (
+    Snapshot<Pass<PortBuffer>>,
+    Option<Pass<PortBuffer>>,
+)
     requires kept { KeepsHand queue.now pass hand }
-    ensures ended { HasEnded (seen_as pass hand) result.value }
+    ensures ended { HasEnded (seen_as pass hand) result.0.value }
+    ensures left { IfSome result.1 (λ p. (p ≡ result.0.value) × IsLeft queue.now p) }
 {
     let Hand {
         mut slots,
@@ -29,10 +34,11 @@ pub(crate) fn let_go(
                 slots.push_reserved(Some(held));
                 let ended = Snapshot::of(&pass);
                 queue.leave(pass, slots);
-                return ended;
+                return (ended, None);
             }
         }
     }
     slots.destroy_empty();
-    Snapshot::of(&pass)
+    let last = Snapshot::of(&pass);
+    (last, Some(pass))
 }

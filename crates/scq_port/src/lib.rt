@@ -6,6 +6,7 @@
 #![tactic(auto)]
 
 mod crossing;
+mod ends;
 mod hand;
 mod holding;
 mod letting_go;

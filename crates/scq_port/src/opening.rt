@@ -49,9 +49,11 @@ fn port_of(
     pass: Pass<PortBuffer>,
     setup: Setup,
     hold: u32,
+    number: u32,
 ) -> Result<Port, NoMemory>
     requires setup { (arc_value owner.now).queue.setup ≡ setup }
     requires rings { 2 ≤ setup.rings }
+    requires low { number < setup.seats }
     requires fresh { IsFresh (arc_value owner.now).queue pass }
     ensures { IfOk result (λ port. port ≡ new_port hold pass) }
 {
@@ -62,6 +64,7 @@ fn port_of(
         pass,
         hand,
         topics: setup.rings() - 1,
+        number,
     })
 }
 
@@ -81,7 +84,8 @@ fn ports_of(
     let mut ports = Vec::with_capacity(alloc, passes.len())?;
     passes.reverse();
     while let Some(pass) = passes.pop() {
-        ports.push(port_of(alloc, owner, pass, setup, hold)?)?;
+        let number = passes.len() as u32;
+        ports.push(port_of(alloc, owner, pass, setup, hold, number)?)?;
     }
     Ok(ports)
 }
@@ -96,6 +100,6 @@ pub fn open(alloc: Global, setup: Setup, size: u32, hold: u32) -> Result<Vec<Por
     let Ok((queue, passes)) = Queue::make(alloc, setup, buffers) else {
         return Err(NoMemory);
     };
-    let owner = Arc::new(alloc, Owner { queue })?;
+    let owner = Arc::new(alloc, Owner::new(alloc, queue, setup.seats())?)?;
     ports_of(alloc, &owner, passes, setup, hold)
 }

@@ -1,10 +1,12 @@
 //! A port.
-ghost use Rattle.std.specs.Prelude.{◌≡◌, ℕ, suc, ◌+◌, ◌<◌, ◌≤◌, length, Some, None, Err, IfOk, IfErr};
+ghost use Rattle.std.specs.Prelude.{◌≡◌, ℕ, suc, ◌+◌, ◌<◌, ◌≤◌, length, map, Some, None, Err, IfOk, IfErr, IfSome};
 ghost use Rattle.std.specs.Arc.{arc_value};
 ghost use Rattle.scq_queue.specs.Lists.{counts_of};
 ghost use Rattle.scq_queue.specs.Passes.{lists_of};
 ghost use Rattle.scq_port.specs.Calls.{IsLent, IsTaken, IsSent, IsGivenBack, WasFull, WasEmpty, IsSpentGet, IsSpentPut, HasNoRoom, HasNoTopic, HoldsNoSuch, HasEnded};
-ghost use Rattle.scq_port.specs.Kept.{KeepsHand};
+ghost use Rattle.scq_port.specs.Kept.{KeepsHand, seen_as};
+ghost use Rattle.scq_port.specs.Ports.{bytes_of};
+ghost use Rattle.scq_port.specs.Closed.{HasClosed};
 
 use crate::hand::Hand;
 use crate::holding;
@@ -13,7 +15,7 @@ use crate::owner::Owner;
 use crate::port_buffer::PortBuffer;
 use crate::refusals::{GiveBackRefusal, LendRefusal, SendRefusal, TakeRefusal};
 use crate::sight::Sight;
-use scq_queue::{Counts, Pass};
+use scq_queue::{Closed, Counts, Pass};
 use std::alloc::Global;
 use std::marker::Model;
 use std::snapshot::Snapshot;
@@ -26,6 +28,7 @@ pub struct Port {
     pub(crate) pass: Pass<PortBuffer>,
     pub(crate) hand: Hand,
     pub(crate) topics: u32,
+    pub(crate) number: u32,
 }
 
 impl Model for Port {
@@ -38,7 +41,7 @@ impl Model for Port {
 
     ghost view = { λ p. seen_as p.pass p.hand };
 
-    ghost invariant = { λ p. IsPort (arc_value p.owner).queue p.pass p.hand p.topics };
+    ghost invariant = { λ p. IsPort (arc_value p.owner).queue p.pass p.hand p.topics p.number };
 }
 
 impl Port {
@@ -128,20 +131,52 @@ impl Port {
     }
 
     /// Closes the port, as dropping it does: gives back what it holds, and answers for contracts alone what its pass was then. The last port
-    /// of a queue frees it.
+    /// of a queue that closes closes the queue, and is told of all passes together.
     ///
-    /// Where the pass keeps a spent ticket, or draws one, what can't be given back stays with the queue until that is freed.
-    pub fn close(self) -> Snapshot<Pass<PortBuffer>>
-        ensures ended { HasEnded self result.value }
+    /// Where the pass keeps a spent ticket, or draws one, what can't be given back stays with the queue until that is freed, and nobody is
+    /// told of all passes.
+    pub fn close(self) -> (Snapshot<Pass<PortBuffer>>, Option<Closed<PortBuffer>>)
+        ensures ended { HasEnded self result.0.value }
+        ensures closed { IfSome result.1 (λ closed.
+            HasClosed self.pass.queue result.0.value closed.passes.value.items closed.left.items (map bytes_of closed.buffers.items)) }
     {
         let Port {
             owner,
             pass,
             hand,
             topics: _,
+            number,
         } = self;
-        let_go(&owner.queue, pass, hand)
+        end(owner, pass, hand, number)
     }
+}
+
+/// Gives back what a port holds, and leaves its pass; the last closes the queue.
+fn end(
+    owner: Arc<Owner, Global>,
+    pass: Pass<PortBuffer>,
+    hand: Hand,
+    number: u32,
+) -> (Snapshot<Pass<PortBuffer>>, Option<Closed<PortBuffer>>)
+    requires kept { KeepsHand (arc_value owner).queue pass hand }
+    requires low { number < (arc_value owner).queue.setup.seats }
+    ensures ended { HasEnded (seen_as pass hand) result.0.value }
+    ensures closed { IfSome result.1 (λ closed.
+        HasClosed (arc_value owner).queue result.0.value closed.passes.value.items closed.left.items (map bytes_of closed.buffers.items)) }
+{
+    let (ended, left) = let_go(&owner.queue, pass, hand);
+    let Some(pass) = left else {
+        return (ended, None);
+    };
+    let last = Snapshot::of(&pass);
+    let Some(token) = owner.ends.leave(number, pass) else {
+        return (ended, None);
+    };
+    let Some(owner) = Arc::into_inner(owner) else {
+        return (ended, None);
+    };
+    let closed = owner.close(token, number, last);
+    (ended, closed)
 }
 
 impl Drop for Port {
@@ -151,7 +186,8 @@ impl Drop for Port {
             pass,
             hand,
             topics: _,
+            number,
         } = self;
-        let _ended = let_go(&owner.queue, pass, hand);
+        let _ended = end(owner, pass, hand, number);
     }
 }

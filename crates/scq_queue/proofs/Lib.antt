@@ -8,3 +8,4 @@ mod Ends
 pub mod HeldOnce
 pub mod PassesSent
 pub mod QueuesShared
+pub mod Meeting

@@ -1,9 +1,9 @@
 //! A queue, and how it is made with its passes.
-ghost use Rattle.std.specs.Prelude.{◌≡◌, ℕ, ◌<◌, ◌≤◌, ◌==◌, false, [], map, length, Some, None, All, IfOk, IfErr, vec_len, vec_capacity};
+ghost use Rattle.std.specs.Prelude.{◌≡◌, ℕ, ◌<◌, ◌≤◌, ◌==◌, true, false, [], map, length, Some, None, All, IfOk, IfErr, vec_len, vec_capacity};
 ghost use Rattle.scq_word.specs.Sizes.{n_of};
 ghost use Rattle.scq_band.specs.Standing.{Standing};
 ghost use Rattle.scq_band.specs.Buffers.{opening_of};
-ghost use Rattle.scq_band.specs.RunSeen.{IsReadingInRun};
+ghost use Rattle.scq_band.specs.RunSeen.{IsReadingInRun, with_retiree, AllHaveBeenSeenRetired};
 ghost use Rattle.scq_queue.specs.Passes.{first_passes, after_look, having_seen, caller_of, was_told};
 ghost use Rattle.scq_queue.specs.Kept.{pass_over};
 
@@ -120,7 +120,10 @@ impl<B: Buffer> Queue<B> {
     pub fn retire(&self, pass: &mut Pass<B>)
         requires pass { pass.old.queue ≡ self.now }
         requires stays { pass.old.retired ≡ None }
-        ensures { pass.new ≡ record pass.old { retired = Some (length pass.old.calls) } }
+        ensures { pass.new ≡ record pass.old {
+            retired = Some (length pass.old.calls);
+            seen = with_retiree (pass.old.number, length pass.old.calls) pass.old.seen;
+        } }
     {
         self.band.retire(&mut pass.seat);
     }
@@ -133,6 +136,7 @@ impl<B: Buffer> Queue<B> {
         ensures looked { (found : ℕ) × (pass.new ≡ having_seen pass.new.seen (after_look found pass.old)) × (result ≡ (found == 0)) }
         ensures in_run { (found : ℕ) → pass.new.gate ≡ Some found
             → IsReadingInRun self.now.setup (opening_of B.contents self.now.given) pass.old.retired (caller_of pass.old) (caller_of pass.new) found }
+        ensures told { AllHaveBeenSeenRetired self.now.setup pass.old.seen → result ≡ true }
         ensures fell { (last found : ℕ) → pass.old.gate ≡ Some last → pass.new.gate ≡ Some found → found ≤ last }
         ensures own { (calls found : ℕ) → pass.old.retired ≡ Some calls → pass.new.gate ≡ Some found → found < self.now.setup.seats }
     {

@@ -29,3 +29,7 @@ columns_of order high =
     let parts : 2 ^ (order + 1 - 3 + 3) ≡ 2 ^ (order + 1 - 3) * 2 ^ 3 = pow-add 2 (order + 1 - 3) 3 in
     let all : 2 ^ (order + 1) ≡ 2 ^ (order + 1 - 3) * 2 ^ 3 = sym (ap (λ (k : ℕ). 2 ^ k) r) ∙ parts in
     omega (arith, slots_of-pow order)
+
+-- a ring with fewer has one column
+pub in_one_column : (s : ℕ) → in_columns 1 s ≡ s
+in_one_column s = omega (arith, mod_below s 1 (omega arith))

@@ -1,12 +1,12 @@
 -- An entry and its word say the same: what is packed is read again, and the other way round.
 use Rattle.std.proofs.Common.{◌≡◌, ℕ, ◌+◌, ◌*◌, ◌/◌, ◌%◌, ◌^◌, ◌<◌, ◌≤◌, Bool, true, false, refl, sym, ◌∙◌, ap, inl, inr, ◌⊎◌, arith, eq-eqb, Option, Some, None}
-use Rattle.std.specs.Prelude.{◌==◌, cond}
+use Rattle.std.specs.Prelude.{◌-◌, ◌==◌, cond}
 use Rattle.std.specs.Option.{ForSome}
-use Rattle.std.specs.Int.Bits.{bit_or}
+use Rattle.std.specs.Int.Bits.{bit_or, bit_and}
 use Rattle.std.proofs.Math.Nat.{mul-le-mul_right}
 use Rattle.std.proofs.lemmas.Bool.{ne_eqb}
 use Rattle.std.proofs.lemmas.Bool.Decides.{eqb_tells}
-use Rattle.std.proofs.lemmas.Nat.{pow_pos, pow-add, shl-shr, shr-shr, shr_below, div-add-mod'}
+use Rattle.std.proofs.lemmas.Nat.{pow_pos, pow-add, shl-shr, shr-shr, shr_below, div-add-mod', and_mask}
 use Rattle.std.proofs.lemmas.Grind.{common_steps}
 use Rattle.scq_word.specs.declared.entry.Entry.{Entry}
 use Rattle.scq_word.specs.Sizes.{n_of, slots_of}
@@ -161,3 +161,25 @@ rank_in-word_of order e own =
 pub bit_or-mark_of : (order w : ℕ)
     → bit_or w (mark_of (slots_of order)) ≡ packed (slots_of order) (cycle_in (slots_of order) w) (safe_in (slots_of order) w) (mark_of (slots_of order))
 bit_or-mark_of order w = rw (slots_of-pow order) (bit_or-mark (order + 1) w)
+
+-- what a shape keeps of its order: one more than the mark is the number of slots; a shift by the bits divides by it, and the mark masks the rest
+pub mark_slots : (order bits mark : ℕ) → bits ≡ order + 1 → mark ≡ 2 ^ bits - 1 → mark + 1 ≡ slots_of order
+mark_slots order bits mark bits_are mark_is =
+    let some : 0 < 2 ^ (order + 1) = pow_pos (order + 1) in
+    let pow = slots_of-pow order in
+    rw (mark_is, bits_are) (omega arith)
+
+pub shifted : (order bits w : ℕ) → bits ≡ order + 1 → w / 2 ^ bits ≡ w / slots_of order
+shifted order bits w bits_are = rw (bits_are, slots_of-pow order) refl
+
+pub masked : (order bits mark w : ℕ) → bits ≡ order + 1 → mark ≡ 2 ^ bits - 1 → bit_and w mark ≡ w % slots_of order
+masked order bits mark w bits_are mark_is = rw (mark_is, bits_are, slots_of-pow order) (and_mask w (order + 1))
+
+-- what is read by them is the entry of the word
+pub read_masked : (order w above low : ℕ) (i : Option ℕ) → above ≡ w / slots_of order → low ≡ w % slots_of order
+    → i ≡ cond (low == mark_of (slots_of order)) None (Some low)
+    → (let read : Entry = record { cycle = above / 2; safe = above % 2 == 1; index = i } in read) ≡ entry_in order w
+unfolding cycle_in safe_in index_in
+read_masked order w above low i above_is low_is index_is =
+    same_entry (record { cycle = above / 2; safe = above % 2 == 1; index = i }) (entry_in order w)
+    (rw above_is refl) (rw above_is refl) (index_is ∙ rw low_is refl)

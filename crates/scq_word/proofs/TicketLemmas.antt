@@ -1,12 +1,12 @@
 -- The two facts of slots that everything above uses, what follows from them, and cycles of tickets of one slot.
-use Rattle.std.proofs.Common.{◌≡◌, ℕ, ◌+◌, ◌*◌, ◌/◌, ◌%◌, ◌^◌, ◌<◌, ◌≤◌, refl, sym, ◌∙◌, arith, inl, inr, ltb-true, lt-ltb}
+use Rattle.std.proofs.Common.{◌≡◌, ℕ, ◌+◌, ◌*◌, ◌/◌, ◌%◌, ◌^◌, ◌<◌, ◌≤◌, refl, sym, ◌∙◌, arith, inl, inr, ltb-true, ltb-false, lt-ltb}
 use Rattle.std.proofs.Math.Nat.{mul-le-mul_right, mod-eq_of_lt}
 use Rattle.std.specs.Prelude.{◌-◌, nat_lt}
 use Rattle.std.proofs.lemmas.Bool.{cases_Bool, cases_lt}
 use Rattle.std.proofs.lemmas.Nat.{pow_pos, div-mul-add, mod-mul-add, div-add-mod', mod_below, le-div}
 use Rattle.scq_word.specs.Sizes.{slots_of}
 use Rattle.scq_word.specs.Tickets.{cycle_of, slot_of, in_columns}
-use Rattle.scq_word.proofs.ColumnLemmas.{in_columns_small, in_columns_apart, columns_of}
+use Rattle.scq_word.proofs.ColumnLemmas.{in_columns_small, in_columns_apart, columns_of, in_one_column}
 use Rattle.scq_word.proofs.Counting.{IsApart, meets_all}
 
 -- there is a slot
@@ -129,3 +129,14 @@ lower_ticket order t u slot less =
 pub cycle_of-row : (m c i : ℕ) → i < m → cycle_of m (c * m + i) ≡ c
 unfolding cycle_of
 cycle_of-row m c i small = div-mul-add c m i small
+
+-- the slot of a ticket, with columns or without
+pub slot_of-masked : (order t : ℕ) → in_columns (2 ^ (order + 1 - 3)) (t % slots_of order) ≡ slot_of order t
+unfolding slot_of
+slot_of-masked order t =
+    elim (cases_Bool (nat_lt 3 (order + 1))) [
+      | inl high ↦ rw high refl
+      | inr low ↦
+          let few : order + 1 - 3 ≡ 0 = omega (arith, ltb-false 3 (order + 1) low) in
+          rw (low, few) (in_one_column (t % slots_of order))
+    ]

@@ -31,7 +31,7 @@ pub fn limit_for(order: u32, seats: u32, puts: u64) -> Option<u64>
     ensures some { IfSome result (λ limit. limit ≡ limit_for order seats puts) }
     ensures none { IsNone result ↔ 2 ^ 60 < limit_for order seats puts }
 {
-    let shape = Shape { order };
+    let shape = Shape::of(order);
     let n = u128::from(shape.n());
     let seats_too = u128::from(seats);
     let begun = u128::from(puts) + n;

@@ -78,7 +78,7 @@ impl Setup {
     pub fn shape(&self) -> Shape
         ensures { result.order ≡ self.now.order }
     {
-        Shape { order: self.order }
+        Shape::of(self.order)
     }
 
     /// The number of rings, 1 to 18.

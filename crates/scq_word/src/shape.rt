@@ -1,15 +1,24 @@
 //! The order of a ring, and the sizes that it gives.
 
-ghost use Rattle.std.specs.Prelude.{◌≡◌, ℕ, ◌≤◌, ◌<◌, ◌-◌, ◌*◌, ◌^◌, ◌↔◌, ◌⊎◌, IsSome, IfSome, IsNone};
+ghost use Rattle.std.specs.Prelude.{◌≡◌, ℕ, ◌≤◌, ◌<◌, ◌+◌, ◌-◌, ◌*◌, ◌^◌, ◌↔◌, ◌⊎◌, IsSome, IfSome, IsNone};
 ghost use Rattle.scq_word.specs.Sizes.{n_of, slots_of};
 ghost use Rattle.scq_word.specs.Words.{mark_of};
 ghost use Rattle.scq_word.specs.Ranges.{IsWithin, IsOutside};
 
-/// The order of a ring, 1 to 12 by its type: the ring queues the indices below `2^order`.
+/// The order of a ring, 1 to 12 by its type: the ring queues the indices below `2^order`. With it stand numbers of it that calls
+/// need, worked out once: the bits of a slot, the mark, and how tickets are laid out in columns.
 #[derive(Clone, Copy, Debug, PartialEq, Eq)]
 pub struct Shape {
     pub order: u32,
+    pub(crate) bits: u32,
+    pub(crate) column_bits: u32,
+    pub(crate) row_mask: u64,
+    pub(crate) mark: u64,
     ghost order_in_range: { (1 ≤ order) × (order ≤ 12) },
+    ghost bits_are: { bits ≡ order + 1 },
+    ghost columns_are: { column_bits ≡ bits - 3 },
+    ghost rows_are: { row_mask ≡ 2 ^ (bits - 3) - 1 },
+    ghost mark_is: { mark ≡ 2 ^ bits - 1 },
 }
 
 impl Shape {
@@ -20,9 +29,25 @@ impl Shape {
         ensures order { IfSome result (λ shape. shape.order ≡ order) }
     {
         if order >= 1 && order <= 12 {
-            Some(Shape { order })
+            Some(Shape::of(order))
         } else {
             None
+        }
+    }
+
+    /// The shape of an order in 1..=12.
+    pub(crate) fn of(order: u32) -> Shape
+        requires { (1 ≤ order) × (order ≤ 12) }
+        ensures { result.order ≡ order }
+    {
+        let bits = order + 1;
+        let column_bits = bits.saturating_sub(3);
+        Shape {
+            order,
+            bits,
+            column_bits,
+            row_mask: (1 << column_bits) - 1,
+            mark: (1 << bits) - 1,
         }
     }
 

@@ -18,7 +18,7 @@ pub fn pack(shape: Shape, entry: Entry) -> u64
     ensures word { result ≡ word_of shape.order entry }
     ensures unpacked { entry_in shape.order result ≡ entry }
 {
-    let slots = u64::from(shape.slots());
+    let slots = shape.mark + 1;
     let safe = u64::from(entry.safe);
     let index = packed_index(shape, entry.index);
     entry.cycle * (2 * slots) + safe * slots + index
@@ -41,11 +41,11 @@ pub fn unpack(shape: Shape, word: u64) -> Entry
     ensures cycle { result.cycle < 2 ^ 62 / n_of shape.order }
     ensures index { HasOwnIndex shape.order result }
 {
-    let slots = u64::from(shape.slots());
+    let above = word >> shape.bits;
     Entry {
-        cycle: word / slots / 2,
-        safe: word / slots % 2 == 1,
-        index: unpacked_index(shape, (word % slots) as u32),
+        cycle: above / 2,
+        safe: above % 2 == 1,
+        index: unpacked_index(shape, (word & shape.mark) as u32),
     }
 }
 
@@ -53,7 +53,7 @@ pub fn unpack(shape: Shape, word: u64) -> Entry
 fn unpacked_index(shape: Shape, bits: u32) -> Option<u32>
     ensures { result ≡ (if bits == mark_of (slots_of shape.order) then None else Some bits) }
 {
-    if bits == shape.none() {
+    if u64::from(bits) == shape.mark {
         None
     } else {
         Some(bits)
@@ -81,7 +81,7 @@ pub fn rank(entry: Entry) -> u64
 pub fn cycle_of(shape: Shape, ticket: u64) -> u64
     ensures { result ≡ cycle_of (slots_of shape.order) ticket }
 {
-    ticket / u64::from(shape.slots())
+    ticket >> shape.bits
 }
 
 /// The slot of a ticket, below the number of slots. Two tickets have one slot exactly where they agree modulo that
@@ -91,21 +91,6 @@ pub fn slot_of(shape: Shape, ticket: u64) -> u32
     ensures slot { result ≡ slot_of shape.order ticket }
     ensures small { result < slots_of shape.order }
 {
-    let slots = shape.slots();
-    let rest = (ticket % u64::from(slots)) as u32;
-    if shape.order + 1 > 3 {
-        in_columns(slots / 8, rest)
-    } else {
-        rest
-    }
-}
-
-/// The numbers below `8 * width` laid out in eight columns.
-fn in_columns(width: u32, rest: u32) -> u32
-    requires some { 0 < width }
-    requires fits { 8 * width < 2 ^ 32 }
-    requires small { rest < 8 * width }
-    ensures { result ≡ in_columns width rest }
-{
-    rest % width * 8 + rest / width
+    let rest = ticket & shape.mark;
+    ((rest & shape.row_mask) * 8 + (rest >> shape.column_bits)) as u32
 }

@@ -23,7 +23,7 @@ use Rattle.scq_law.proofs.Retries.CallLaws.{calls_end}
 use Rattle.scq_law.proofs.Replays.RecordedRuns.{chained, recorded_step, turn_reaches}
 
 -- a seat is at rest after its turn, with one call more, or it goes on
-data After (p q : Part) : Type 0 where
+pub data After (p q : Part) : Type 0 where
   rests : q.phase ≡ Idle → length q.calls ≡ length p.calls + 1 → After p q
   goes : (q.phase ≡ Idle → ⊥) → length q.calls ≡ length p.calls → After p q
 
@@ -31,7 +31,7 @@ module _ (c : Setup) (x : ℕ) (y : List ℕ) (p : Part) where
   ended : (e : Ended) → length (p.calls ++ e ∷ []) ≡ length p.calls + 1
   ended e = length-append p.calls (e ∷ [])
 
-  after_turn : (turn : Phase) → (turn ≡ Idle → ⊥) → After p (after c turn x y p)
+  pub after_turn : (turn : Phase) → (turn ≡ Idle → ⊥) → After p (after c turn x y p)
   after_turn Idle awake = absurd (awake refl)
   after_turn (AtE1 q i w l) awake = either_way (After p) (nat_le c.limit x) _ _ (rests refl (ended _)) (goes (λ is. cc) refl)
   after_turn (AtE2 q i w t l) awake =

@@ -16,22 +16,22 @@ use Rattle.scq_band.proofs.dequeue.catch_up.Goals as goal
 pub exchange-requires-clause-low : goal.exchange-requires-clause-low
 exchange-requires-clause-low g c κs within =
     let k = c.args.words.now.key.setup in
-    word_low k (tail_of c.args.ring.number) c.args.ring.tail _ (tail_location k c.args.ring.number c.requires.ring.low) c.requires.ring.tail c.requires.own.1
+    word_low k (tail_of c.args.ring.now.number) c.args.ring.now.tail _ (tail_location k c.args.ring.now.number c.requires.ring.low) c.requires.ring.tail c.requires.own.1
 
 pub exchange-requires-clause-may : goal.exchange-requires-clause-may
 exchange-requires-clause-may g c κs within =
     let k = c.args.words.now.key.setup in
     let v = c.tries.token.me.0.known in
-    let turn = AtD7 c.args.ring.number c.args.ticket c.tries.from c.tries.to in
+    let turn = AtD7 c.args.ring.now.number c.args.ticket c.tries.from c.tries.to in
     may_phase k v turn D7 (alone_at c.args.token.now.me.0.known v turn c.requires.alone c.tries.invariant.3) (ap my_phase c.tries.invariant.3) refl
 
 pub head-requires : goal.head-requires
-head-requires g c = tail_fits c.args.words.now.key.setup c.args.ring c.requires.ring
+head-requires g c = tail_fits c.args.words.now.key.setup c.args.ring.now c.requires.ring
 
 pub load-to-requires-clause-low : goal.load-to-requires-clause-low
 load-to-requires-clause-low g c κs within =
     let k = c.args.words.now.key.setup in
-    word_low k (head_of c.args.ring.number) c.head.result _ (head_location k c.args.ring.number c.requires.ring.low) (c.head.ensures k c.requires.ring)
+    word_low k (head_of c.args.ring.now.number) c.head.result _ (head_location k c.args.ring.now.number c.requires.ring.low) (c.head.ensures k c.requires.ring)
     c.requires.own.1
 
 pub load-to-requires-clause-may : goal.load-to-requires-clause-may
@@ -39,7 +39,7 @@ load-to-requires-clause-may g c κs within =
     let k = c.args.words.now.key.setup in
     let Lie = LiesIn g.B.Buffer.contents g.B.Buffer.IsSameBuffer c.args.words.now.key.given.value.items in
     let v = c.tries.token.me.0.known in
-    let r = c.args.ring.number in
+    let r = c.args.ring.now.number in
     let h = c.args.ticket in
     let turn = AtD7 r h c.tries.from c.tries.to in
     let alone = alone_at c.args.token.now.me.0.known v turn c.requires.alone c.tries.invariant.3 in
@@ -51,14 +51,14 @@ load-to-requires-clause-may g c κs within =
 pub load-from-requires-clause-low : goal.load-from-requires-clause-low
 load-from-requires-clause-low g c κs within =
     let k = c.args.words.now.key.setup in
-    word_low k (tail_of c.args.ring.number) c.args.ring.tail _ (tail_location k c.args.ring.number c.requires.ring.low) c.requires.ring.tail c.requires.own.1
+    word_low k (tail_of c.args.ring.now.number) c.args.ring.now.tail _ (tail_location k c.args.ring.now.number c.requires.ring.low) c.requires.ring.tail c.requires.own.1
 
 pub load-from-requires-clause-may : goal.load-from-requires-clause-may
 load-from-requires-clause-may g c κs within =
     let k = c.args.words.now.key.setup in
     let Lie = LiesIn g.B.Buffer.contents g.B.Buffer.IsSameBuffer c.args.words.now.key.given.value.items in
     let v = c.tries.token.me.0.known in
-    let r = c.args.ring.number in
+    let r = c.args.ring.now.number in
     let h = c.args.ticket in
     let turn = AtD7 r h c.tries.from c.tries.to in
     let alone = alone_at c.args.token.now.me.0.known v turn c.requires.alone c.tries.invariant.3 in
@@ -69,7 +69,7 @@ load-from-requires-clause-may g c κs within =
     let seen = saw_head_again Lie k (known_me c.exchange.new.token.me) (known_me c.load-to.new.token.me) _ c.load-to.result r h c.tries.from
     (ap (loading (ring_of_word k c.head.result)) (ap my_phase next)) beside c.load-to.ensures.turned in
     let u = c.load-to.new.token.me.0.known in
-    may_load k u c.args.ring.tail (AtD9 r h c.tries.from c.load-to.result) D9 (alone_at w u (AtD9 r h c.tries.from c.load-to.result) beside seen)
+    may_load k u c.args.ring.now.tail (AtD9 r h c.tries.from c.load-to.result) D9 (alone_at w u (AtD9 r h c.tries.from c.load-to.result) beside seen)
     (ap my_phase seen) refl refl
 
 pub returns-then-exchange-from-clause-went : goal.returns-then-exchange-from-clause-went

@@ -21,18 +21,18 @@ use Rattle.scq_band.proofs.RunShown.{went_on, goes_then}
 use Rattle.scq_band.proofs.dequeue.dequeue.Goals as goal
 
 pub threshold-requires : goal.threshold-requires
-threshold-requires g c = tail_fits c.args.words.now.key.setup c.args.ring c.requires.ring
+threshold-requires g c = tail_fits c.args.words.now.key.setup c.args.ring.now c.requires.ring
 
 pub load-requires-clause-low : goal.load-requires-clause-low
 load-requires-clause-low g c κs within =
     let k = c.args.words.now.key.setup in
-    word_low k (threshold_of c.args.ring.number) c.threshold.result _ (threshold_location k c.args.ring.number c.requires.ring.low)
+    word_low k (threshold_of c.args.ring.now.number) c.threshold.result _ (threshold_location k c.args.ring.now.number c.requires.ring.low)
     (c.threshold.ensures k c.requires.ring) c.requires.own.1
 
 pub load-requires-clause-may : goal.load-requires-clause-may
 load-requires-clause-may g c κs within =
     let k = c.args.words.now.key.setup in
-    let r = c.args.ring.number in
+    let r = c.args.ring.now.number in
     let ring : ring_of_word k c.threshold.result ≡ r = ap (ring_of_word k) (c.threshold.ensures k c.requires.ring)
     ∙ ring_of_word-at k (threshold_of r) (threshold_location k r c.requires.ring.low) in
     may_get k c.args.token.now.me.0.known c.threshold.result r c.requires.alone c.requires.idle.0 c.requires.idle.1 ring c.requires.ring.low
@@ -40,7 +40,7 @@ load-requires-clause-may g c κs within =
 pub load-requires-clause-word : goal.load-requires-clause-word
 load-requires-clause-word g c κs within =
     let k = c.args.words.now.key.setup in
-    let r = c.args.ring.number in
+    let r = c.args.ring.now.number in
     let ring : ring_of_word k c.threshold.result ≡ r = ap (ring_of_word k) (c.threshold.ensures k c.requires.ring)
     ∙ ring_of_word-at k (threshold_of r) (threshold_location k r c.requires.ring.low) in
     c.threshold.ensures k c.requires.ring
@@ -49,7 +49,7 @@ load-requires-clause-word g c κs within =
 pub returns-then-load-lt-ZERO_LEVEL-clause-nothing : goal.returns-then-load-lt-ZERO_LEVEL-clause-nothing
 returns-then-load-lt-ZERO_LEVEL-clause-nothing g c is =
     let k = c.args.words.now.key.setup in
-    let r = c.args.ring.number in
+    let r = c.args.ring.now.number in
     let Lie = LiesIn g.B.Buffer.contents g.B.Buffer.IsSameBuffer c.args.words.now.key.given.value.items in
     let ring : ring_of_word k c.threshold.result ≡ r = ap (ring_of_word k) (c.threshold.ensures k c.requires.ring)
     ∙ ring_of_word-at k (threshold_of r) (threshold_location k r c.requires.ring.low) in
@@ -63,7 +63,7 @@ returns-then-load-lt-ZERO_LEVEL-clause-nothing g c is =
 pub draws-init : goal.draws-init
 draws-init g c =
     let k = c.args.words.now.key.setup in
-    let r = c.args.ring.number in
+    let r = c.args.ring.now.number in
     let Lie = LiesIn g.B.Buffer.contents g.B.Buffer.IsSameBuffer c.args.words.now.key.given.value.items in
     let ring : ring_of_word k c.threshold.result ≡ r = ap (ring_of_word k) (c.threshold.ensures k c.requires.ring)
     ∙ ring_of_word-at k (threshold_of r) (threshold_location k r c.requires.ring.low) in
@@ -83,18 +83,18 @@ draws-init g c =
     )
 
 pub head-requires : goal.head-requires
-head-requires g c = tail_fits c.args.words.now.key.setup c.args.ring c.requires.ring
+head-requires g c = tail_fits c.args.words.now.key.setup c.args.ring.now c.requires.ring
 
 pub draw-ticket-requires-clause-low : goal.draw-ticket-requires-clause-low
 draw-ticket-requires-clause-low g c κs within =
     let k = c.args.words.now.key.setup in
-    word_low k (head_of c.args.ring.number) c.head.result _ (head_location k c.args.ring.number c.requires.ring.low) (c.head.ensures k c.requires.ring)
+    word_low k (head_of c.args.ring.now.number) c.head.result _ (head_location k c.args.ring.now.number c.requires.ring.low) (c.head.ensures k c.requires.ring)
     c.requires.own.1
 
 pub draw-ticket-requires-clause-may : goal.draw-ticket-requires-clause-may
 draw-ticket-requires-clause-may g c κs within =
     let k = c.args.words.now.key.setup in
-    let r = c.args.ring.number in
+    let r = c.args.ring.now.number in
     let v = c.args.token.now.me.0.known in
     let w = c.draws.token.me.0.known in
     let l = least_of (my_phase w) in
@@ -108,7 +108,7 @@ draw-ticket-requires-clause-may g c κs within =
 pub returns-then-ticket-ring-clause-spent : goal.returns-then-ticket-ring-clause-spent
 returns-then-ticket-ring-clause-spent g c ticket is =
     let k = c.args.words.now.key.setup in
-    let r = c.args.ring.number in
+    let r = c.args.ring.now.number in
     let Lie = LiesIn g.B.Buffer.contents g.B.Buffer.IsSameBuffer c.args.words.now.key.given.value.items in
     let v = c.args.token.now.me.0.known in
     let w = c.draws.token.me.0.known in
@@ -127,7 +127,7 @@ returns-then-ticket-ring-clause-spent g c ticket is =
 pub returns-then-ticket-ring-clause-short : goal.returns-then-ticket-ring-clause-short
 returns-then-ticket-ring-clause-short g c ticket is =
     let k = c.args.words.now.key.setup in
-    let r = c.args.ring.number in
+    let r = c.args.ring.now.number in
     let Lie = LiesIn g.B.Buffer.contents g.B.Buffer.IsSameBuffer c.args.words.now.key.given.value.items in
     let w = c.draws.token.me.0.known in
     let l = least_of (my_phase w) in
@@ -142,7 +142,7 @@ returns-then-ticket-ring-clause-short g c ticket is =
 pub returns-in-Some-clause-got : goal.returns-in-Some-clause-got
 returns-in-Some-clause-got g c =
     let k = c.args.words.now.key.setup in
-    let r = c.args.ring.number in
+    let r = c.args.ring.now.number in
     let Lie = LiesIn g.B.Buffer.contents g.B.Buffer.IsSameBuffer c.args.words.now.key.given.value.items in
     let v = c.args.token.now.me.0.known in
     let w = c.draws.token.me.0.known in
@@ -164,7 +164,7 @@ returns-in-Some-clause-got g c =
 pub returns-in-Some-clause-above : goal.returns-in-Some-clause-above
 returns-in-Some-clause-above g c =
     let k = c.args.words.now.key.setup in
-    let r = c.args.ring.number in
+    let r = c.args.ring.now.number in
     let Lie = LiesIn g.B.Buffer.contents g.B.Buffer.IsSameBuffer c.args.words.now.key.given.value.items in
     let v = c.args.token.now.me.0.known in
     let l = least_of (my_phase c.draws.token.me.0.known) in
@@ -176,7 +176,7 @@ returns-in-Some-clause-above g c =
 pub returns-then-give_up-clause-nothing_left : goal.returns-then-give_up-clause-nothing_left
 returns-then-give_up-clause-nothing_left g c ticket is =
     let k = c.args.words.now.key.setup in
-    let r = c.args.ring.number in
+    let r = c.args.ring.now.number in
     let Lie = LiesIn g.B.Buffer.contents g.B.Buffer.IsSameBuffer c.args.words.now.key.given.value.items in
     let v = c.args.token.now.me.0.known in
     let w = c.draws.token.me.0.known in
@@ -201,7 +201,7 @@ pub draws-preserved : goal.draws-preserved
 draws-preserved g c =
     let k = c.args.words.now.key.setup in
     let opening = opening_of g.B.Buffer.contents c.args.words.now.key.given.value.items in
-    let r = c.args.ring.number in
+    let r = c.args.ring.now.number in
     let Lie = LiesIn g.B.Buffer.contents g.B.Buffer.IsSameBuffer c.args.words.now.key.given.value.items in
     let v = c.args.token.now.me.0.known in
     let w = c.draws.token.me.0.known in

@@ -19,21 +19,21 @@ use Rattle.scq_band.proofs.dequeue.give_up.Goals as goal
 pub load-tail-requires-clause-low : goal.load-tail-requires-clause-low
 load-tail-requires-clause-low g c κs within =
     let k = c.args.words.now.key.setup in
-    word_low k (tail_of c.args.ring.number) c.args.ring.tail _ (tail_location k c.args.ring.number c.requires.ring.low) c.requires.ring.tail c.requires.own.1
+    word_low k (tail_of c.args.ring.now.number) c.args.ring.now.tail _ (tail_location k c.args.ring.now.number c.requires.ring.low) c.requires.ring.tail c.requires.own.1
 
 pub load-tail-requires-clause-may : goal.load-tail-requires-clause-may
 load-tail-requires-clause-may g c κs within =
-    may_load c.args.words.now.key.setup c.args.token.now.me.0.known c.args.ring.tail
-    (AtD6 c.args.ring.number c.args.ticket) D6 c.requires.alone c.requires.given_up
+    may_load c.args.words.now.key.setup c.args.token.now.me.0.known c.args.ring.now.tail
+    (AtD6 c.args.ring.now.number c.args.ticket) D6 c.requires.alone c.requires.given_up
     refl refl
 
 pub threshold-requires : goal.threshold-requires
-threshold-requires g c = tail_fits c.args.words.now.key.setup c.args.ring c.requires.ring
+threshold-requires g c = tail_fits c.args.words.now.key.setup c.args.ring.now c.requires.ring
 
 pub count_down-requires-clause-low : goal.count_down-requires-clause-low
 count_down-requires-clause-low g c κs within =
     let k = c.args.words.now.key.setup in
-    word_low k (threshold_of c.args.ring.number) c.threshold.result _ (threshold_location k c.args.ring.number c.requires.ring.low)
+    word_low k (threshold_of c.args.ring.now.number) c.threshold.result _ (threshold_location k c.args.ring.now.number c.requires.ring.low)
     (c.threshold.ensures k c.requires.ring) c.requires.own.1
 
 pub count_down-requires-clause-may : goal.count_down-requires-clause-may
@@ -41,10 +41,10 @@ count_down-requires-clause-may g c κs within =
     let k = c.args.words.now.key.setup in
     let Lie = LiesIn g.B.Buffer.contents g.B.Buffer.IsSameBuffer c.args.words.now.key.given.value.items in
     let v = c.args.token.now.me.0.known in
-    let r = c.args.ring.number in
+    let r = c.args.ring.now.number in
     let h = c.args.ticket in
     let x = c.load-tail.result in
-    let is = ap (loading (ring_of_word k c.args.ring.tail)) c.requires.given_up in
+    let is = ap (loading (ring_of_word k c.args.ring.now.tail)) c.requires.given_up in
     let w = c.load-tail.new.token.me.0.known in
     let seen = saw_tail_low Lie k (known_me c.args.token.now.me)
     (known_me c.load-tail.new.token.me) _ x r h is c.requires.alone c.if-tail-ticket.true c.load-tail.ensures.turned in
@@ -54,12 +54,12 @@ count_down-requires-clause-may g c κs within =
     may_phase k u (AtD10 r h true) D10 (alone_at w u (AtD10 r h true) beside up) (ap my_phase up) refl
 
 pub threshold-requires-2 : goal.threshold-requires-2
-threshold-requires-2 g c = tail_fits c.args.words.now.key.setup c.args.ring c.requires.ring
+threshold-requires-2 g c = tail_fits c.args.words.now.key.setup c.args.ring.now c.requires.ring
 
 pub count_down-requires-2-clause-low : goal.count_down-requires-2-clause-low
 count_down-requires-2-clause-low g c κs within =
     let k = c.args.words.now.key.setup in
-    word_low k (threshold_of c.args.ring.number) c.threshold-2.result _ (threshold_location k c.args.ring.number c.requires.ring.low)
+    word_low k (threshold_of c.args.ring.now.number) c.threshold-2.result _ (threshold_location k c.args.ring.now.number c.requires.ring.low)
     (c.threshold-2.ensures k c.requires.ring) c.requires.own.1
 
 pub count_down-requires-2-clause-may : goal.count_down-requires-2-clause-may
@@ -67,9 +67,9 @@ count_down-requires-2-clause-may g c κs within =
     let k = c.args.words.now.key.setup in
     let Lie = LiesIn g.B.Buffer.contents g.B.Buffer.IsSameBuffer c.args.words.now.key.given.value.items in
     let v = c.args.token.now.me.0.known in
-    let r = c.args.ring.number in
+    let r = c.args.ring.now.number in
     let h = c.args.ticket in
-    let is = ap (loading (ring_of_word k c.args.ring.tail)) c.requires.given_up in
+    let is = ap (loading (ring_of_word k c.args.ring.now.tail)) c.requires.given_up in
     let w = c.load-tail.new.token.me.0.known in
     let seen = saw_tail_high Lie k (known_me c.args.token.now.me)
     (known_me c.load-tail.new.token.me) _ c.load-tail.result r h is c.requires.alone c.if-tail-ticket.false
@@ -81,9 +81,9 @@ returns-clause-over g c low =
     let k = c.args.words.now.key.setup in
     let Lie = LiesIn g.B.Buffer.contents g.B.Buffer.IsSameBuffer c.args.words.now.key.given.value.items in
     let v = c.args.token.now.me.0.known in
-    let r = c.args.ring.number in
+    let r = c.args.ring.now.number in
     let h = c.args.ticket in
-    let is = ap (loading (ring_of_word k c.args.ring.tail)) c.requires.given_up in
+    let is = ap (loading (ring_of_word k c.args.ring.now.tail)) c.requires.given_up in
     let w = c.load-tail.new.token.me.0.known in
     let seen = saw_tail_high Lie k (known_me c.args.token.now.me)
     (known_me c.load-tail.new.token.me) _ c.load-tail.result r h is c.requires.alone c.if-tail-ticket.false
@@ -98,9 +98,9 @@ returns-clause-on g c high =
     let k = c.args.words.now.key.setup in
     let Lie = LiesIn g.B.Buffer.contents g.B.Buffer.IsSameBuffer c.args.words.now.key.given.value.items in
     let v = c.args.token.now.me.0.known in
-    let r = c.args.ring.number in
+    let r = c.args.ring.now.number in
     let h = c.args.ticket in
-    let is = ap (loading (ring_of_word k c.args.ring.tail)) c.requires.given_up in
+    let is = ap (loading (ring_of_word k c.args.ring.now.tail)) c.requires.given_up in
     let w = c.load-tail.new.token.me.0.known in
     let seen = saw_tail_high Lie k (known_me c.args.token.now.me)
     (known_me c.load-tail.new.token.me) _ c.load-tail.result r h is c.requires.alone c.if-tail-ticket.false

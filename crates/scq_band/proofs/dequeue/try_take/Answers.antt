@@ -20,42 +20,39 @@ use Rattle.scq_band.proofs.Seeking.{saw_own_cycle, saw_earlier, passed_missed, p
 use Rattle.scq_band.proofs.RunShown.{went_on, goes_then}
 use Rattle.scq_band.proofs.dequeue.try_take.Goals as goal
 
-pub entry-requires : goal.entry-requires
-entry-requires g c = tail_fits c.args.words.now.key.setup c.args.ring c.requires.ring
+pub entry-word-requires : goal.entry-word-requires
+entry-word-requires g c = tail_fits c.args.words.now.key.setup c.args.ring.now c.requires.ring
 
 pub load-found-requires-clause-low : goal.load-found-requires-clause-low
 load-found-requires-clause-low g c κs within =
     let k = c.args.words.now.key.setup in
-    word_low k (entry_at k c.args.ring.number c.args.ticket) c.entry.result _ (entry_location k c.args.ring.number c.args.ticket c.requires.ring.low)
-    (c.entry.ensures k c.requires.ring) c.requires.own.1
+    word_low k (entry_at k c.args.ring.now.number c.args.ticket) c.entry-word.result _ (entry_location k c.args.ring.now.number c.args.ticket c.requires.ring.low)
+    (c.entry-word.ensures k c.requires.ring) c.requires.own.1
 
 pub load-found-requires-clause-may : goal.load-found-requires-clause-may
 load-found-requires-clause-may g c κs within =
     let k = c.args.words.now.key.setup in
     let v = c.tries.token.me.0.known in
-    let turn = AtD3 c.args.ring.number c.args.ticket (least_of (my_phase v)) in
-    may_load k v c.entry.result turn D3 (alone_at c.args.token.now.me.0.known v turn c.requires.alone c.tries.invariant.3)
+    let turn = AtD3 c.args.ring.now.number c.args.ticket (least_of (my_phase v)) in
+    may_load k v c.entry-word.result turn D3 (alone_at c.args.token.now.me.0.known v turn c.requires.alone c.tries.invariant.3)
     (ap my_phase c.tries.invariant.3) refl refl
-
-pub entry-requires-then-entry-cycle : goal.entry-requires-then-entry-cycle
-entry-requires-then-entry-cycle g c = tail_fits c.args.words.now.key.setup c.args.ring c.requires.ring
 
 pub consume-old-requires-clause-low : goal.consume-old-requires-clause-low
 consume-old-requires-clause-low g c κs within =
     let k = c.args.words.now.key.setup in
-    word_low k (entry_at k c.args.ring.number c.args.ticket) c.entry-then-entry-cycle.result _
-    (entry_location k c.args.ring.number c.args.ticket c.requires.ring.low) (c.entry-then-entry-cycle.ensures k c.requires.ring) c.requires.own.1
+    word_low k (entry_at k c.args.ring.now.number c.args.ticket) c.entry-word.result _
+    (entry_location k c.args.ring.now.number c.args.ticket c.requires.ring.low) (c.entry-word.ensures k c.requires.ring) c.requires.own.1
 
 pub consume-old-requires-clause-may : goal.consume-old-requires-clause-may
 consume-old-requires-clause-may g c κs within =
     let k = c.args.words.now.key.setup in
     let Lie = LiesIn g.B.Buffer.contents g.B.Buffer.IsSameBuffer c.args.words.now.key.given.value.items in
     let v = c.tries.token.me.0.known in
-    let r = c.args.ring.number in
+    let r = c.args.ring.now.number in
     let h = c.args.ticket in
     let turn = AtD3 r h (least_of (my_phase v)) in
     let alone = alone_at c.args.token.now.me.0.known v turn c.requires.alone c.tries.invariant.3 in
-    let is = ap (loading (ring_of_word k c.entry.result)) (ap my_phase c.tries.invariant.3) in
+    let is = ap (loading (ring_of_word k c.entry-word.result)) (ap my_phase c.tries.invariant.3) in
     let same : cycle_in (ring_slots k) c.load-found.result ≡ cycle k h =
     subst (λ (o : ℕ). cycle_in (slots_of o) c.load-found.result ≡ cycle_of (slots_of o) h) c.requires.ring.order
     (sym (ap (λ (e : Entry). e.cycle) c.unpack-entry.ensures.entry) ∙ c.if-entry-cycle.true ∙ c.cycle_of-cycle.ensures) in
@@ -63,14 +60,11 @@ consume-old-requires-clause-may g c κs within =
     c.load-found.ensures.turned in
     may_phase k c.load-found.new.token.me.0.known (AtD4 r h) D4 (alone_at v c.load-found.new.token.me.0.known (AtD4 r h) alone now) (ap my_phase now) refl
 
-pub entry-requires-in-tries : goal.entry-requires-in-tries
-entry-requires-in-tries g c = tail_fits c.args.words.now.key.setup c.args.ring c.requires.ring
-
 pub exchange-requires-clause-low : goal.exchange-requires-clause-low
 exchange-requires-clause-low g c κs within =
     let k = c.args.words.now.key.setup in
-    word_low k (entry_at k c.args.ring.number c.args.ticket) c.entry-in-tries.result _ (entry_location k c.args.ring.number c.args.ticket c.requires.ring.low)
-    (c.entry-in-tries.ensures k c.requires.ring) c.requires.own.1
+    word_low k (entry_at k c.args.ring.now.number c.args.ticket) c.entry-word.result _ (entry_location k c.args.ring.now.number c.args.ticket c.requires.ring.low)
+    (c.entry-word.ensures k c.requires.ring) c.requires.own.1
 
 pub passed-requires-clause-fits : goal.passed-requires-clause-fits
 passed-requires-clause-fits g c =
@@ -84,12 +78,12 @@ exchange-requires-clause-may g c κs within =
     let k = c.args.words.now.key.setup in
     let Lie = LiesIn g.B.Buffer.contents g.B.Buffer.IsSameBuffer c.args.words.now.key.given.value.items in
     let v = c.tries.token.me.0.known in
-    let r = c.args.ring.number in
+    let r = c.args.ring.now.number in
     let h = c.args.ticket in
     let x = c.load-found.result in
     let turn = AtD3 r h (least_of (my_phase v)) in
     let alone = alone_at c.args.token.now.me.0.known v turn c.requires.alone c.tries.invariant.3 in
-    let is = ap (loading (ring_of_word k c.entry.result)) (ap my_phase c.tries.invariant.3) in
+    let is = ap (loading (ring_of_word k c.entry-word.result)) (ap my_phase c.tries.invariant.3) in
     let low = earlier_cycle_of k _ h x c.cycle_of-cycle.result c.unpack-entry.result c.requires.ring.order c.unpack-entry.ensures.entry
     c.cycle_of-cycle.ensures c.if-entry-cycle.false c.if-entry-cycle-2.false in
     let now = saw_earlier Lie k (known_me c.tries.token.me) (known_me c.load-found.new.token.me) _ x r h _ is alone low c.load-found.ensures.turned in
@@ -100,13 +94,13 @@ tries-smaller g c =
     let k = c.args.words.now.key.setup in
     let Lie = LiesIn g.B.Buffer.contents g.B.Buffer.IsSameBuffer c.args.words.now.key.given.value.items in
     let v = c.tries.token.me.0.known in
-    let r = c.args.ring.number in
+    let r = c.args.ring.now.number in
     let h = c.args.ticket in
     let x = c.load-found.result in
     let y = c.exchange.result in
     let turn = AtD3 r h (least_of (my_phase v)) in
     let alone = alone_at c.args.token.now.me.0.known v turn c.requires.alone c.tries.invariant.3 in
-    let is = ap (loading (ring_of_word k c.entry.result)) (ap my_phase c.tries.invariant.3) in
+    let is = ap (loading (ring_of_word k c.entry-word.result)) (ap my_phase c.tries.invariant.3) in
     let low = earlier_cycle_of k _ h x c.cycle_of-cycle.result c.unpack-entry.result c.requires.ring.order c.unpack-entry.ensures.entry
     c.cycle_of-cycle.ensures c.if-entry-cycle.false c.if-entry-cycle-2.false in
     let now = saw_earlier Lie k (known_me c.tries.token.me) (known_me c.load-found.new.token.me) _ x r h _ is alone low c.load-found.ensures.turned in
@@ -156,13 +150,13 @@ tries-preserved g c =
     let Lie = LiesIn g.B.Buffer.contents g.B.Buffer.IsSameBuffer c.args.words.now.key.given.value.items in
     let first = c.args.token.now.me.0.known in
     let v = c.tries.token.me.0.known in
-    let r = c.args.ring.number in
+    let r = c.args.ring.now.number in
     let h = c.args.ticket in
     let x = c.load-found.result in
     let y = c.exchange.result in
     let turn = AtD3 r h (least_of (my_phase v)) in
     let alone = alone_at first v turn c.requires.alone c.tries.invariant.3 in
-    let is = ap (loading (ring_of_word k c.entry.result)) (ap my_phase c.tries.invariant.3) in
+    let is = ap (loading (ring_of_word k c.entry-word.result)) (ap my_phase c.tries.invariant.3) in
     let low = earlier_cycle_of k _ h x c.cycle_of-cycle.result c.unpack-entry.result c.requires.ring.order c.unpack-entry.ensures.entry
     c.cycle_of-cycle.ensures c.if-entry-cycle.false c.if-entry-cycle-2.false in
     let now = saw_earlier Lie k (known_me c.tries.token.me) (known_me c.load-found.new.token.me) _ x r h _ is alone low c.load-found.ensures.turned in

@@ -16,17 +16,17 @@ use Rattle.scq_band.proofs.enqueue.enqueue.Goals as goal
 pub draw-ticket-requires-clause-low : goal.draw-ticket-requires-clause-low
 draw-ticket-requires-clause-low g c κs within =
     let k = c.args.words.now.key.setup in
-    word_low k (tail_of c.args.ring.number) c.args.ring.tail _ (tail_location k c.args.ring.number c.requires.ring.low) c.requires.ring.tail c.requires.own.1
+    word_low k (tail_of c.args.ring.now.number) c.args.ring.now.tail _ (tail_location k c.args.ring.now.number c.requires.ring.low) c.requires.ring.tail c.requires.own.1
 
 pub draw-ticket-requires-clause-may : goal.draw-ticket-requires-clause-may
 draw-ticket-requires-clause-may g c κs within =
     let k = c.args.words.now.key.setup in
     let contents = g.B.Buffer.contents in
     let slots = c.args.token.now.me.1 in
-    let turn = turn_of_draw contents k c.args.ring (known_me c.draws.token.me) slots c.args.index c.requires.ring c.draws.invariant.2 c.requires.first
+    let turn = turn_of_draw contents k c.args.ring.now (known_me c.draws.token.me) slots c.args.index c.requires.ring c.draws.invariant.2 c.requires.first
     c.draws.invariant.4 in
     subst (λ (t : Phase). MayTurn k c.draws.token.me.0.known t) (sym turn)
-    (may_draw k c.args.token.now.me.0.known c.draws.token.me.0.known c.args.ring.number c.args.index
+    (may_draw k c.args.token.now.me.0.known c.draws.token.me.0.known c.args.ring.now.number c.args.index
     (front_bytes contents slots) c.requires.alone c.draws.invariant.3
     c.draws.invariant.4 c.requires.idle.1 c.requires.held.0 c.requires.ring.low c.requires.held.1)
 
@@ -35,7 +35,7 @@ draw-ticket-requires-clause-word g c κs within =
     let k = c.args.words.now.key.setup in
     let contents = g.B.Buffer.contents in
     let slots = c.args.token.now.me.1 in
-    let turn = turn_of_draw contents k c.args.ring (known_me c.draws.token.me) slots c.args.index c.requires.ring c.draws.invariant.2 c.requires.first
+    let turn = turn_of_draw contents k c.args.ring.now (known_me c.draws.token.me) slots c.args.index c.requires.ring c.draws.invariant.2 c.requires.first
     c.draws.invariant.4 in
     c.requires.ring.tail ∙ ap (λ t. at k (location_of k t)) (sym turn)
 
@@ -47,10 +47,10 @@ returns-then-ticket-ring-clause-spent g c =
     let slots = c.args.token.now.me.1 in
     let limit = c.requires.ring.limit in
     let past = c.if-ticket-ring.true in
-    let turn = turn_of_draw contents k c.args.ring (known_me c.draws.token.me) slots c.args.index c.requires.ring c.draws.invariant.2 c.requires.first
+    let turn = turn_of_draw contents k c.args.ring.now (known_me c.draws.token.me) slots c.args.index c.requires.ring c.draws.invariant.2 c.requires.first
     c.draws.invariant.4 in
     drew_past Lie k c.args.token.now.me.0.known (known_me c.draws.token.me)
-    (known_me c.draw-ticket.new.token.me) _ c.draw-ticket.result c.args.ring.number c.args.index
+    (known_me c.draw-ticket.new.token.me) _ c.draw-ticket.result c.args.ring.now.number c.args.index
     (front_bytes contents slots) _ turn c.requires.alone c.draws.invariant.3 (omega arith) c.draw-ticket.ensures.turned
 
 pub try_place-requires-clause-looks : goal.try_place-requires-clause-looks
@@ -61,12 +61,12 @@ try_place-requires-clause-looks g c κs within =
     let slots = c.args.token.now.me.1 in
     let limit = c.requires.ring.limit in
     let low = c.if-ticket-ring.false in
-    let turn = turn_of_draw contents k c.args.ring (known_me c.draws.token.me) slots c.args.index c.requires.ring c.draws.invariant.2 c.requires.first
+    let turn = turn_of_draw contents k c.args.ring.now (known_me c.draws.token.me) slots c.args.index c.requires.ring c.draws.invariant.2 c.requires.first
     c.draws.invariant.4 in
     let now = drew Lie k c.args.token.now.me.0.known (known_me c.draws.token.me)
-    (known_me c.draw-ticket.new.token.me) _ c.draw-ticket.result c.args.ring.number c.args.index
+    (known_me c.draw-ticket.new.token.me) _ c.draw-ticket.result c.args.ring.now.number c.args.index
     (front_bytes contents slots) _ turn c.requires.alone c.draws.invariant.3 (omega arith) c.draw-ticket.ensures.turned in
-    looks_as c.draw-ticket.new.token.me.0.known c.args.ring.number c.args.index (front_bytes contents slots) c.draw-ticket.result 0 (ap my_phase now)
+    looks_as c.draw-ticket.new.token.me.0.known c.args.ring.now.number c.args.index (front_bytes contents slots) c.draw-ticket.result 0 (ap my_phase now)
 
 pub returns-then-try_place-clause-above : goal.returns-then-try_place-clause-above
 returns-then-try_place-clause-above g c =
@@ -76,11 +76,11 @@ returns-then-try_place-clause-above g c =
     let slots = c.args.token.now.me.1 in
     let limit = c.requires.ring.limit in
     let low = c.if-ticket-ring.false in
-    let turn = turn_of_draw contents k c.args.ring (known_me c.draws.token.me) slots c.args.index c.requires.ring c.draws.invariant.2 c.requires.first
+    let turn = turn_of_draw contents k c.args.ring.now (known_me c.draws.token.me) slots c.args.index c.requires.ring c.draws.invariant.2 c.requires.first
     c.draws.invariant.4 in (
       omega arith,
       drew_above Lie k c.args.token.now.me.0.known (known_me c.draws.token.me)
-          (known_me c.draw-ticket.new.token.me) _ c.draw-ticket.result c.args.ring.number c.args.index
+          (known_me c.draw-ticket.new.token.me) _ c.draw-ticket.result c.args.ring.now.number c.args.index
           (front_bytes contents slots) _ turn c.draws.invariant.3 c.draw-ticket.ensures.turned,
     )
 

@@ -15,29 +15,26 @@ use Rattle.scq_band.proofs.RunShown.{went_on}
 use Rattle.scq_band.proofs.enqueue.load_vacant.Goals as goal
 use Rattle.scq_band.proofs.enqueue.load_vacant.Goals.{else-not-entry-via-then-not-entry+else-load-ticket, else-not-entry-via-else-not-entry}
 
-pub entry-requires : goal.entry-requires
-entry-requires g c = tail_fits c.args.words.now.key.setup c.args.ring c.requires.ring
-
 pub load-found-requires-clause-low : goal.load-found-requires-clause-low
 load-found-requires-clause-low g c κs within =
     let k = c.args.words.now.key.setup in
-    word_low k (entry_at k c.args.ring.number c.args.ticket) c.entry.result _ (entry_location k c.args.ring.number c.args.ticket c.requires.ring.low)
-    (c.entry.ensures k c.requires.ring) c.requires.own.1
+    word_low k (entry_at k c.args.ring.now.number c.args.ticket) c.args.word _ (entry_location k c.args.ring.now.number c.args.ticket c.requires.ring.low)
+    c.requires.word c.requires.own.1
 
 pub load-found-requires-clause-may : goal.load-found-requires-clause-may
 load-found-requires-clause-may g c κs within =
     let p = my_phase c.args.token.now.me.0.known in
-    may_load c.args.words.now.key.setup c.args.token.now.me.0.known c.entry.result (AtE2 c.args.ring.number (index_of p) (content_of p) c.args.ticket
+    may_load c.args.words.now.key.setup c.args.token.now.me.0.known c.args.word (AtE2 c.args.ring.now.number (index_of p) (content_of p) c.args.ticket
     (least_of p))
     E2 c.requires.alone c.requires.looks refl refl
 
 pub head-requires : goal.head-requires
-head-requires g c = tail_fits c.args.words.now.key.setup c.args.ring c.requires.ring
+head-requires g c = tail_fits c.args.words.now.key.setup c.args.ring.now c.requires.ring
 
 pub load-requires-clause-low : goal.load-requires-clause-low
 load-requires-clause-low g c κs within =
     let k = c.args.words.now.key.setup in
-    word_low k (head_of c.args.ring.number) c.head.result _ (head_location k c.args.ring.number c.requires.ring.low) (c.head.ensures k c.requires.ring)
+    word_low k (head_of c.args.ring.now.number) c.head.result _ (head_location k c.args.ring.now.number c.requires.ring.low) (c.head.ensures k c.requires.ring)
     c.requires.own.1
 
 pub load-requires-clause-may : goal.load-requires-clause-may
@@ -46,10 +43,10 @@ load-requires-clause-may g c κs within =
     let Lie = LiesIn g.B.Buffer.contents g.B.Buffer.IsSameBuffer c.args.words.now.key.given.value.items in
     let v = c.args.token.now.me.0.known in
     let p = my_phase v in
-    let r = c.args.ring.number in
+    let r = c.args.ring.now.number in
     let x = c.load-found.result in
-    let turn : load_turn k c.entry.result v ≡ AtE2 r (index_of p) (content_of p) c.args.ticket (least_of p) =
-    ap (loading (ring_of_word k c.entry.result)) c.requires.looks in
+    let turn : load_turn k c.args.word v ≡ AtE2 r (index_of p) (content_of p) c.args.ticket (least_of p) =
+    ap (loading (ring_of_word k c.args.word)) c.requires.looks in
     let does = takes_one k _ c.args.ticket x c.cycle_of.result c.unpack-entry.result c.requires.ring.order c.unpack-entry.ensures.entry c.cycle_of.ensures
     c.if-entry-cycle_of.false (sym c.is_some.ensures ∙ c.if-is_some.false) in
     let unsafe = is_unsafe k _ x c.unpack-entry.result c.requires.ring.order c.unpack-entry.ensures.entry c.if-not-entry.true in

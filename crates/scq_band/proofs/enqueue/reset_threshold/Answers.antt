@@ -15,27 +15,27 @@ use Rattle.scq_band.proofs.RunShown.{went_on}
 use Rattle.scq_band.proofs.enqueue.reset_threshold.Goals as goal
 
 pub threshold-requires : goal.threshold-requires
-threshold-requires g c = tail_fits c.args.words.now.key.setup c.args.ring c.requires.ring
+threshold-requires g c = tail_fits c.args.words.now.key.setup c.args.ring.now c.requires.ring
 
 pub load-requires-clause-low : goal.load-requires-clause-low
 load-requires-clause-low g c κs within =
     let k = c.args.words.now.key.setup in
-    word_low k (threshold_of c.args.ring.number) c.threshold.result _ (threshold_location k c.args.ring.number c.requires.ring.low)
+    word_low k (threshold_of c.args.ring.now.number) c.threshold.result _ (threshold_location k c.args.ring.now.number c.requires.ring.low)
     (c.threshold.ensures k c.requires.ring) c.requires.own.1
 
 pub load-requires-clause-may : goal.load-requires-clause-may
 load-requires-clause-may g c κs within =
     let p = my_phase c.args.token.now.me.0.known in
-    may_load c.args.words.now.key.setup c.args.token.now.me.0.known c.threshold.result (AtE5 c.args.ring.number (index_of p) (content_of p) c.args.ticket) E5
+    may_load c.args.words.now.key.setup c.args.token.now.me.0.known c.threshold.result (AtE5 c.args.ring.now.number (index_of p) (content_of p) c.args.ticket) E5
     c.requires.alone c.requires.placed refl refl
 
 pub threshold-requires-then-load-ring : goal.threshold-requires-then-load-ring
-threshold-requires-then-load-ring g c = tail_fits c.args.words.now.key.setup c.args.ring c.requires.ring
+threshold-requires-then-load-ring g c = tail_fits c.args.words.now.key.setup c.args.ring.now c.requires.ring
 
 pub reset-requires-clause-low : goal.reset-requires-clause-low
 reset-requires-clause-low g c κs within =
     let k = c.args.words.now.key.setup in
-    word_low k (threshold_of c.args.ring.number) c.threshold-then-load-ring.result _ (threshold_location k c.args.ring.number c.requires.ring.low)
+    word_low k (threshold_of c.args.ring.now.number) c.threshold-then-load-ring.result _ (threshold_location k c.args.ring.now.number c.requires.ring.low)
     (c.threshold-then-load-ring.ensures k c.requires.ring) c.requires.own.1
 
 pub reset-requires-clause-may : goal.reset-requires-clause-may
@@ -44,7 +44,7 @@ reset-requires-clause-may g c κs within =
     let Lie = LiesIn g.B.Buffer.contents g.B.Buffer.IsSameBuffer c.args.words.now.key.given.value.items in
     let v = c.args.token.now.me.0.known in
     let p = my_phase v in
-    let r = c.args.ring.number in
+    let r = c.args.ring.now.number in
     let now = saw_other_level Lie k (known_me c.args.token.now.me) (known_me c.load.new.token.me) _ c.load.result r (index_of p) (content_of p) c.args.ticket
     (ap (loading (ring_of_word k c.threshold.result)) c.requires.placed)
     c.requires.alone (λ e. c.if-load-ring.true (e ∙ sym c.requires.ring.level)) c.load.ensures.turned in

@@ -26,21 +26,21 @@ filled-new-requires-clause-fits g c =
 pub filled-new-requires-clause-own : goal.filled-new-requires-clause-own
 filled-new-requires-clause-own g c = rw (c.requires.ring.order) c.requires.index.1
 
-pub entry-requires : goal.entry-requires
-entry-requires g c = tail_fits c.args.words.now.key.setup c.args.ring c.requires.ring
+pub entry-word-requires : goal.entry-word-requires
+entry-word-requires g c = tail_fits c.args.words.now.key.setup c.args.ring.now c.requires.ring
 
 pub exchange-requires-clause-low : goal.exchange-requires-clause-low
 exchange-requires-clause-low g c κs within =
     let k = c.args.words.now.key.setup in
-    word_low k (entry_at k c.args.ring.number c.args.ticket) c.entry.result _ (entry_location k c.args.ring.number c.args.ticket c.requires.ring.low)
-    (c.entry.ensures k c.requires.ring) c.requires.own.1
+    word_low k (entry_at k c.args.ring.now.number c.args.ticket) c.entry-word.result _ (entry_location k c.args.ring.now.number c.args.ticket c.requires.ring.low)
+    (c.entry-word.ensures k c.requires.ring) c.requires.own.1
 
 pub exchange-requires-clause-may : goal.exchange-requires-clause-may
 exchange-requires-clause-may g c κs within =
     let k = c.args.words.now.key.setup in
     let v = c.args.token.now.me.0.known in
-    let turn = AtE4 c.args.ring.number c.args.index (content_of (my_phase v)) c.args.ticket c.in-Some.found in
-    let now = room_then v c.tries.token.me.0.known c.load_vacant.new.token.me.0.known c.args.ring.number c.args.index (content_of (my_phase v)) c.args.ticket
+    let turn = AtE4 c.args.ring.now.number c.args.index (content_of (my_phase v)) c.args.ticket c.in-Some.found in
+    let now = room_then v c.tries.token.me.0.known c.load_vacant.new.token.me.0.known c.args.ring.now.number c.args.index (content_of (my_phase v)) c.args.ticket
     (least_of (my_phase c.tries.token.me.0.known)) c.in-Some.found c.tries.invariant.3 c.in-Some.ensures.room in
     may_phase k c.load_vacant.new.token.me.0.known turn E4 (alone_at v c.load_vacant.new.token.me.0.known turn c.requires.alone now) (ap my_phase now) refl
 
@@ -52,7 +52,7 @@ tries-smaller g c =
     let e = c.in-Some.found in
     let x = c.exchange.result in
     let w = content_of (my_phase v) in
-    let r = c.args.ring.number in
+    let r = c.args.ring.now.number in
     let turn = AtE4 r c.args.index w c.args.ticket e in
     let now = room_then v c.tries.token.me.0.known c.load_vacant.new.token.me.0.known r c.args.index w c.args.ticket (least_of
     (my_phase c.tries.token.me.0.known)) e

@@ -1,6 +1,8 @@
-use Rattle.std.proofs.Common.{◌≡◌}
+use Rattle.std.proofs.Common.{◌≡◌, length}
+use Rattle.scq_band.specs.RunSeen.{with_retiree}
+use Rattle.scq_band.specs.Steps.{my}
 use Rattle.scq_band.specs.Seats.{retired_at}
 use Rattle.scq_band.proofs.gate.retire.Given as goal
 
 abbrev pub ghosts-fetch_sub : goal.ghosts-fetch_sub
-ghosts-fetch_sub g a = record { then = λ st me n later. ((later.0.known ≡ retired_at me.0.known) × (later.1 ≡ me.1)) × (later.0.seen ≡ me.0.seen) }
+ghosts-fetch_sub g a = record { then = λ st me n later. ((later.0.known ≡ retired_at me.0.known) × (later.1 ≡ me.1)) × (later.0.seen ≡ with_retiree ((my me.0.known).number, length (my me.0.known).part.calls) me.0.seen) }

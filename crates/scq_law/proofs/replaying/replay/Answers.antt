@@ -29,6 +29,8 @@ use Rattle.scq_law.proofs.Tickets.BegunLaws.{enqueues_begun}
 use Rattle.scq_law.proofs.Replays.RisingWords.{rises_throughout}
 use Rattle.scq_law.proofs.Replays.LastingPlaces.{places_last_throughout}
 use Rattle.scq_law.proofs.Replays.ReplayLaws.{of_state, of_history, of_fails, of_run}
+use Rattle.scq_law.proofs.Progress.ProgressLaws.{has_progress}
+use Rattle.scq_law.proofs.Progress.WholeCalls.{delayed_by_ends}
 use Rattle.scq_law.proofs.replaying.replay.Goals as goal
 
 pub returns-clause-one_hand : goal.returns-clause-one_hand
@@ -173,3 +175,9 @@ returns-clause-rises c =
 pub returns-clause-places_last : goal.returns-clause-places_last
 returns-clause-places_last c =
     places_last_throughout c.args.setup c.args.opening.items c.args.steps.now (sym c.args.opening.ok.0 ∙ c.requires.opening) c.requires.seats
+
+pub returns-clause-progress : goal.returns-clause-progress
+returns-clause-progress c = has_progress c.args.setup c.args.opening.items c.args.steps.now
+
+pub returns-clause-delayed_by_ends : goal.returns-clause-delayed_by_ends
+returns-clause-delayed_by_ends c = delayed_by_ends c.args.setup c.args.opening.items c.args.steps.now

@@ -58,6 +58,7 @@ returns-in-Err c =
             (c.in-Err.ensures.spent none).0,
             subst (λ (q : PortQueue). q.setup.limit ≤ ticket) (sym c.requires.kept.own) (c.in-Err.ensures.spent none).1,
           )) (λ t some. (c.in-Err.ensures.kept t some).1));
+      left = tt;
     }
 
 pub loop-slot-preserved-in_default-give_back : goal.loop-slot-preserved-in_default-give_back
@@ -90,9 +91,11 @@ loop-slot-preserved c =
 pub returns : goal.returns
 returns c =
     let empty = sym c.loop-slot.slots.ok.0 ∙ c.in_default.ensures.cases.0 in
+    let none = ends c.args.queue.now c.loop-slot.pass c.loop-slot.slots.items c.loop-slot.invariant.0 empty in
     record {
       ended =
-          subst (λ (p : PassStanding PortBuffer). HasEnded (record { pass = c.args.pass; slots = c.args.hand.slots.items; hold = c.args.hand.hold }) p) (sym c.of.ensures)
+          subst (λ (p : PassStanding PortBuffer). HasEnded (record { pass = c.args.pass; slots = c.args.hand.slots.items; hold = c.args.hand.hold }) p) (sym c.of-last.ensures)
           (ends_all c.args.hand.slots.items c.loop-slot.slots.items c.args.pass c.loop-slot.pass c.args.hand.hold c.loop-slot.invariant.1 empty
-          (λ none. ends c.args.queue.now c.loop-slot.pass c.loop-slot.slots.items c.loop-slot.invariant.0 empty none));
+          (λ unspent. none));
+      left = (sym c.of-last.ensures, record { own = c.loop-slot.invariant.0.own; none = none });
     }

@@ -1,4 +1,4 @@
-use Rattle.std.proofs.Common.{◌≡◌, List, ◌++◌, map, All, sym, ◌∙◌, ap, subst}
+use Rattle.std.proofs.Common.{◌≡◌, List, ◌++◌, map, length, All, sym, ◌∙◌, ap, subst, arith}
 use Rattle.std.specs.Prelude.{reverse}
 use Rattle.std.specs.Arc.{arc_value}
 use Rattle.std.proofs.lemmas.List.{reverse-reverse}
@@ -7,7 +7,7 @@ use Rattle.scq_port.specs.declared.port_buffer.PortBuffer.{PortBuffer}
 use Rattle.scq_port.specs.Ports.{PortStanding}
 use Rattle.scq_port.specs.Calls.{new_port}
 use Rattle.scq_port.specs.Kept.{IsFresh}
-use Rattle.scq_port.proofs.Opened.{all_fresh, all_last, all_others, one_more}
+use Rattle.scq_port.proofs.Opened.{all_fresh, all_last, all_others, one_more, first_passes_length}
 use Rattle.scq_port.proofs.opening.ports_of.Goals as goal
 
 pub loop-pass-init : goal.loop-pass-init
@@ -19,6 +19,7 @@ loop-pass-init c =
           ∙ ap (λ (l : List (PassStanding PortBuffer)). map (new_port c.args.hold) l) (reverse-reverse c.args.passes.items),
       subst (λ (l : List (PassStanding PortBuffer)). All (IsFresh queue) l)
           (ap (λ (l : List (PassStanding PortBuffer)). reverse l) (sym c.requires.passes) ∙ sym turned) (all_fresh queue c.args.setup.seats),
+      omega (arith, c.reverse.ensures.len, c.args.passes.ok.0, ap length c.requires.passes, first_passes_length queue c.args.setup.seats),
     )
 
 pub port_of-requires-clause-fresh : goal.port_of-requires-clause-fresh
@@ -35,4 +36,5 @@ loop-pass-preserved c =
           c.in_ok-push.ensures.items c.in_ok-port_of.ensures,
       all_others Fresh c.pop.new.self.items c.in-Some.pass
           (subst (λ (l : List (PassStanding PortBuffer)). All Fresh l) c.in-Some.ensures.items c.loop-pass.invariant.1),
+      omega (arith, c.loop-pass.invariant.2, c.in-Some.ensures.len),
     )

@@ -1,7 +1,7 @@
 -- The sum is the word by its definition, and no part of it is above the whole, which fits.
-use Rattle.std.proofs.Common.{◌≡◌, ◌∙◌, Bool, true, false, refl, arith}
+use Rattle.std.proofs.Common.{◌≡◌, ◌+◌, ◌∙◌, Bool, true, false, refl, arith}
 use Rattle.scq_word.specs.Entries.{safe_bit}
-use Rattle.scq_word.proofs.EntryLemmas.{packed_sum, word_of_small, entry_in-word_of}
+use Rattle.scq_word.proofs.EntryLemmas.{packed_sum, mark_slots, word_of_small, entry_in-word_of}
 use Rattle.scq_word.proofs.words.pack.Goals as goal
 use mir.Val.{bool_byte}
 
@@ -11,8 +11,9 @@ one_bit false = refl
 
 pub returns-clause-word : goal.returns-clause-word
 returns-clause-word c =
-    packed_sum c.args.shape.order c.args.entry c.from-slots.result c.from-safe.result c.packed_index-index.result
-    (c.from-slots.ensures ∙ c.slots.ensures) (c.from-safe.ensures ∙ one_bit c.args.entry.safe) c.packed_index-index.ensures.bits
+    let s = c.args.shape in
+    packed_sum s.order c.args.entry (s.mark + 1) c.from-safe.result c.packed_index-index.result
+    (mark_slots s.order s.bits s.mark s.bits_are s.mark_is) (c.from-safe.ensures ∙ one_bit c.args.entry.safe) c.packed_index-index.ensures.bits
 
 pub overflow_add-result-2 : goal.overflow_add-result-2
 overflow_add-result-2 c =

@@ -1,35 +1,22 @@
--- The rest is the ticket modulo the number of slots; a ring with columns has eight of an eighth of its slots.
-use Rattle.std.proofs.Common.{◌≡◌, ◌<◌, ◌+◌, ◌∙◌, arith}
-use Rattle.std.proofs.lemmas.Nat.{mod_below, pow_pos}
-use Rattle.std.specs.Prelude.{◌^◌, ◌-◌}
+-- The rest is the ticket below the mark, and its row and column are read off by a mask and a shift.
+use Rattle.std.proofs.Common.{◌≡◌, ◌+◌, ◌-◌, ◌*◌, ◌/◌, ◌%◌, ◌^◌, ◌∙◌, ap, subst, refl, ℕ, ◌<◌}
+use Rattle.std.specs.Int.Bits.{bit_and}
+use Rattle.std.proofs.lemmas.Nat.{and_mask}
 use Rattle.scq_word.specs.Sizes.{slots_of}
-use Rattle.scq_word.proofs.ColumnLemmas.{columns_of}
-use Rattle.scq_word.proofs.TicketLemmas.{some_slots_of, slot_of-columns, slot_of-rest, slot_of_small}
+use Rattle.scq_word.specs.Tickets.{slot_of}
+use Rattle.scq_word.proofs.EntryLemmas.{masked}
+use Rattle.scq_word.proofs.TicketLemmas.{slot_of-masked, slot_of_small}
 use Rattle.scq_word.proofs.words.slot_of.Goals as goal
 
-pub in_columns-requires-clause-some : goal.in_columns-requires-clause-some
-in_columns-requires-clause-some c =
-    let width : 0 < 2 ^ (c.args.shape.order + 1 - 3) = pow_pos (c.args.shape.order + 1 - 3) in
-    omega (arith, columns_of c.args.shape.order c.if-shape-gt3.true, c.slots-slots.ensures)
+slot_by : (order bits column_bits row_mask mark t : ℕ) → bits ≡ order + 1 → column_bits ≡ bits - 3 → row_mask ≡ 2 ^ (bits - 3) - 1 → mark ≡ 2 ^ bits - 1
+    → bit_and (bit_and t mark) row_mask * 8 + bit_and t mark / 2 ^ column_bits ≡ slot_of order t
+slot_by order bits column_bits row_mask mark t bits_are columns_are rows_are mark_is =
+    rw (masked order bits mark t bits_are mark_is, columns_are, rows_are, bits_are, and_mask (t % slots_of order) (order + 1 - 3)) (slot_of-masked order t)
 
-pub in_columns-requires-clause-small : goal.in_columns-requires-clause-small
-in_columns-requires-clause-small c =
-    let slots : c.from.result ≡ slots_of c.args.shape.order = c.from.ensures ∙ c.slots-slots.ensures in
-    rw slots
-    (omega (
-      arith,
-      mod_below c.args.ticket (slots_of c.args.shape.order) (some_slots_of c.args.shape.order),
-      columns_of c.args.shape.order c.if-shape-gt3.true,
-      c.slots-slots.ensures,
-    ))
+pub returns-clause-slot : goal.returns-clause-slot
+returns-clause-slot c =
+    let s = c.args.shape in
+    slot_by s.order s.bits s.column_bits s.row_mask s.mark c.args.ticket s.bits_are s.columns_are s.rows_are s.mark_is
 
-pub returns-then-shape-gt3-clause-slot : goal.returns-then-shape-gt3-clause-slot
-returns-then-shape-gt3-clause-slot c =
-    c.in_columns.ensures ∙ rw (c.from.ensures, c.slots-slots.ensures) (slot_of-columns c.args.shape.order c.args.ticket c.if-shape-gt3.true)
-
-pub returns-then-shape-gt3-clause-small : goal.returns-then-shape-gt3-clause-small
-returns-then-shape-gt3-clause-small c = rw (returns-then-shape-gt3-clause-slot c) (slot_of_small c.args.shape.order c.args.ticket)
-
-pub returns-else-shape-gt3-clause-slot : goal.returns-else-shape-gt3-clause-slot
-returns-else-shape-gt3-clause-slot c =
-    rw (c.from.ensures, c.slots-slots.ensures) (slot_of-rest c.args.shape.order c.args.ticket c.if-shape-gt3.false)
+pub returns-clause-small : goal.returns-clause-small
+returns-clause-small c = rw (returns-clause-slot c) (slot_of_small c.args.shape.order c.args.ticket)

@@ -1,14 +1,16 @@
 -- What was read is the entry of the word by its definition; the rest are that entry's laws.
-use Rattle.std.proofs.Common.{◌≡◌, ◌+◌, ◌-◌, ◌∙◌, sym, ap, arith}
+use Rattle.std.proofs.Common.{◌≡◌, ◌+◌, ◌-◌, ◌/◌, ◌^◌, ◌∙◌, sym, ap, arith}
+use Rattle.std.specs.Int.Bits.{bit_and}
 use Rattle.scq_word.specs.Entries.{word_of}
-use Rattle.scq_word.proofs.EntryLemmas.{read_parts, word_of-entry_in, entry_of_own, cycle_in_fits}
+use Rattle.scq_word.proofs.EntryLemmas.{read_masked, shifted, masked, word_of-entry_in, entry_of_own, cycle_in_fits}
 use Rattle.scq_word.specs.declared.entry.Entry.{Entry}
 use Rattle.scq_word.proofs.words.unpack.Goals as goal
 
 pub returns-clause-entry : goal.returns-clause-entry
 returns-clause-entry c =
-    read_parts c.args.shape.order c.args.word c.from-slots.result c.unpacked_index.result
-    (c.from-slots.ensures ∙ c.slots.ensures) c.unpacked_index.ensures
+    let s = c.args.shape in
+    read_masked s.order c.args.word (c.args.word / 2 ^ s.bits) (bit_and c.args.word s.mark) c.unpacked_index.result
+    (shifted s.order s.bits c.args.word s.bits_are) (masked s.order s.bits s.mark c.args.word s.bits_are s.mark_is) c.unpacked_index.ensures
 
 pub returns-clause-packed : goal.returns-clause-packed
 returns-clause-packed c = ap (λ (e : Entry). word_of c.args.shape.order e) (returns-clause-entry c) ∙ word_of-entry_in c.args.shape.order c.args.word

@@ -118,7 +118,7 @@ invariant_of-seat-in-Err g c =
     let b = brought Same key me ms c.seat.inside.hand.items _ _ _ c.args.index (Some buffer) c.seat.invariant turned c.bring_to_front.ensures.first is in
     let turned_so = kept_turned Same key me v ms c.seat.inside.hand.items c.bring_to_front.new.hand.items _ (vec_capacity c.bring_to_front.new.hand) _ _
     c.seat.invariant (ap known_in c.bring_to_front.ensures.own.2) turned c.bring_to_front.ensures.order c.bring_to_front.ensures.room in
-    let u = spent_at c.ring.result.number c.in-Err.ticket true v in
+    let u = spent_at c.ring.result.now.number c.in-Err.ticket true v in
     let now = ap (λ (k : Known). (k, c.enqueue.new.token.me.1)) c.in-Err.ensures.spent
     ∙ ap (λ (l : List (ℕ × Slot g.row.B.Denot)). (u, l)) c.in-Err.ensures.kept.0 in
     kept_still Same key (known_me c.enqueue.new.token.me) v u ms c.bring_to_front.new.hand.items _ _ _ _ _ _ turned_so refl
@@ -153,7 +153,7 @@ returns-in-Ok-clause-place g c =
     let same = ap (λ (i : Identity g.row.B.Denot). i.setup.rings) (ap (λ (s : Standing g.row.B.Denot). s.band) c.seat.view_is ∙ c.requires.seat) in
     let ring = c.requires.ring in
     omega (arith, rings, same, ring) in
-    let there = ap (λ (u : Known). slice_get u.numbers c.ring.result.number) (ap known_in c.bring_to_front.ensures.own.2)
+    let there = ap (λ (u : Known). slice_get u.numbers c.ring.result.now.number) (ap known_in c.bring_to_front.ensures.own.2)
     ∙ ap (λ n. slice_get me.0.numbers n) c.ring.ensures.number ∙ known_there me.0.numbers r low in (
       subst (λ (s : Setup). c.in-Ok.place < s.limit) setup c.in-Ok.ensures.above.0,
       subst (λ (ns : List Numbers). (known_of ns r).seen < c.in-Ok.place) (ap (λ (s : Standing g.row.B.Denot). s.numbers) c.seat.view_is)

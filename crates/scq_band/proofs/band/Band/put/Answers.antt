@@ -182,13 +182,13 @@ invariant_of-seat-in-Err g c =
     let b2 = laid_brought Same key.given.value.items me2 (rest ms) c.args.index c.args.buffer front as_given in
     let turned_so = kept_turned Same key me v ms c.seat.inside.hand.items c.bring_to_front.new.hand.items _ (vec_capacity c.bring_to_front.new.hand) _ _
     c.seat.invariant (ap known_in c.bring_to_front.ensures.own.2) turned c.bring_to_front.ensures.order c.bring_to_front.ensures.room in
-    let u = spent_at c.ring.result.number c.in-Err.ticket true v in
+    let u = spent_at c.ring.result.now.number c.in-Err.ticket true v in
     let still = c.in-Err.ensures.kept.0 ∙ front in
     let again = ap (λ (os : List (ℕ × Slot g.row.B.Denot)). (c.args.index, record { buffer = None }) ∷ os) (ap rest still)
     ∙ lifted_again Same me key.given.value.items ms c.args.index b in
     let now = ap known_me c.lift_first-buffer.ensures.lifted
     ∙ ap (λ (k : Known). (k, (c.args.index, record { buffer = None }) ∷ rest c.enqueue.new.token.me.1))
-    (c.in-Err.ensures.spent ∙ ap (spent_at c.ring.result.number c.in-Err.ticket true) view)
+    (c.in-Err.ensures.spent ∙ ap (spent_at c.ring.result.now.number c.in-Err.ticket true) view)
     ∙ ap (λ (l : List (ℕ × Slot g.row.B.Denot)). (u, l)) again in
     kept_still Same key (known_me c.lift_first-buffer.new.token.me) v u ms c.bring_to_front.new.hand.items _ _ _ _ _ _ turned_so refl
     (record { seats = refl; out = turned_so.alone.out }) refl refl turned_so.numbers refl turned_so.small refl now
@@ -236,7 +236,7 @@ returns-in-Ok-clause-place g c =
     let ring = c.requires.ring in
     omega (arith, rings, same, ring) in
     let lay_view = ap (λ (m : Me (Slot g.row.B.Denot) Sight). m.0) c.lay_first.ensures.laid ∙ c.bring_to_front.ensures.own.2 in
-    let there = ap (λ (u : Sight). slice_get u.known.numbers c.ring.result.number) lay_view
+    let there = ap (λ (u : Sight). slice_get u.known.numbers c.ring.result.now.number) lay_view
     ∙ ap (λ n. slice_get me.0.numbers n) c.ring.ensures.number ∙ known_there me.0.numbers r low in (
       subst (λ (s : Setup). c.in-Ok.place < s.limit) setup c.in-Ok.ensures.above.0,
       subst (λ (ns : List Numbers). (known_of ns r).seen < c.in-Ok.place) (ap (λ (s : Standing g.row.B.Denot). s.numbers) c.seat.view_is)

@@ -1,18 +1,29 @@
-use Rattle.std.proofs.Common.{◌≡◌, ◌∙◌, ap}
+use Rattle.std.proofs.Common.{◌≡◌, ◌<◌, length, ap, subst, arith}
 use Rattle.scq_word.specs.declared.setup.Setup.{Setup}
-use Rattle.scq_core.specs.Machine.{tail_of}
-use Rattle.scq_core.specs.Table.{reset_level}
-use Rattle.scq_band.specs.Layout.{at}
+use Rattle.scq_band.specs.Rings.{IsRing}
 use Rattle.scq_band.specs.Standing.{Identity}
+use Rattle.scq_band.proofs.RingLists.{ring_read}
 use Rattle.scq_band.proofs.band.Band.ring.Goals as goal
+
+pub returns-clause-number : goal.returns-clause-number
+returns-clause-number g c =
+    let key = c.self.inside.table.shared.key in
+    let same = ap (λ (i : Identity g.row.B.Denot). i.setup.rings) c.self.view_is in
+    let are = c.self.invariant.each in
+    let count = are.count in
+    let below = c.requires in
+    let low : c.args.number < length c.self.inside.rings.items = omega arith in
+    let is = (ring_read key.setup 0 c.self.inside.rings.items c.args.number c.index.result.now are.each low c.index.ensures).0 in
+    omega arith
 
 pub returns-clause-ring : goal.returns-clause-ring
 returns-clause-ring g c =
-    let setup : c.self.inside.setup ≡ c.args.self.now.setup = c.self.invariant.same ∙ ap (λ (i : Identity g.row.B.Denot). i.setup) c.self.view_is in
-    record {
-      low = c.requires;
-      order = c.shape.ensures ∙ ap (λ (s : Setup). s.order) setup;
-      limit = c.limit.ensures ∙ ap (λ (s : Setup). s.limit) setup;
-      tail = c.tail_word.ensures.word ∙ ap (λ (s : Setup). at s (tail_of c.args.number)) setup;
-      level = c.reset_level.ensures ∙ ap reset_level setup;
-    }
+    let key = c.self.inside.table.shared.key in
+    let setup = ap (λ (i : Identity g.row.B.Denot). i.setup) c.self.view_is in
+    let same = ap (λ (i : Identity g.row.B.Denot). i.setup.rings) c.self.view_is in
+    let are = c.self.invariant.each in
+    let count = are.count in
+    let below = c.requires in
+    let low : c.args.number < length c.self.inside.rings.items = omega arith in
+    subst (λ (k : Setup). IsRing k c.index.result.now) setup
+    (ring_read key.setup 0 c.self.inside.rings.items c.args.number c.index.result.now are.each low c.index.ensures).1

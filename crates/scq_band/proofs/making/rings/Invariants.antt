@@ -1,0 +1,5 @@
+use Rattle.scq_band.specs.Rings.{AreRings}
+use Rattle.scq_band.proofs.making.rings.Given as goal
+
+abbrev pub invariant-loop-number : goal.invariant-loop-number
+invariant-loop-number l = AreRings l.setup l.number l.rings.items

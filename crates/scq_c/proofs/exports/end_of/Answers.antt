@@ -1,0 +1,30 @@
+use Rattle.std.proofs.Common.{◌≡◌, ℕ, map, ap, sym, ◌∙◌, arith}
+use Rattle.scq_port.specs.Ports.{bytes_of}
+use Rattle.scq_c.specs.declared.exports.End.{End}
+use Rattle.scq_c.proofs.Somes.{if_some_at}
+use Rattle.scq_c.proofs.exports.end_of.Goals as goal
+use Rattle.scq_c.proofs.exports.end_of.Goals.{in-Some, in-None}
+
+pub returns : goal.returns
+returns c =
+    elim c.match-closed.branch [
+      | in-Some w ↦
+          record {
+            its = c.close-ended.result.0.value;
+            ended = c.close-ended.ensures.ended;
+            last =
+                λ one.
+                record {
+                  passes = w.in-Some.closed.passes.value.items;
+                  left = w.in-Some.closed.left.items;
+                  bytes = map bytes_of w.in-Some.closed.buffers.items;
+                  closed = if_some_at _ c.close-ended.result.1 w.in-Some.closed c.close-ended.ensures.closed w.in-Some.is;
+                };
+          }
+      | in-None w ↦
+          record {
+            its = c.close-ended.result.0.value;
+            ended = c.close-ended.ensures.ended;
+            last = λ one. absurd (let zeroth : c.match-closed.out.last ≡ 0 = ap (λ (e : End). e.last) w.out-is in omega (arith, one, zeroth));
+          }
+    ]

@@ -1,0 +1,9 @@
+pub mod HeadGap
+pub mod Potential
+pub mod TurnEffects
+pub mod OwnSteps
+pub mod LeftBounds
+pub mod ProgressLaws
+pub mod CallsProgress
+pub mod WholeCalls
+pub mod EndedTurns

@@ -1,0 +1,73 @@
+-- How soon some call ends, whatever the seats do.
+use Rattle.std.specs.Prelude.{◌≡◌, ℕ, ◌+◌, ◌*◌, ◌<◌, ◌≤◌, ◌==◌, if◌then◌else◌, List, [], ◌∷◌, ◌++◌, length}
+use Rattle.scq_word.specs.declared.setup.Setup.{Setup}
+use Rattle.scq_word.specs.Sizes.{n_of}
+use Rattle.scq_word.specs.Bounds.{reset_value}
+use Rattle.scq_core.specs.declared.ended.Ended.{Ended}
+use Rattle.scq_core.specs.declared.ended.Ended.TheVariants.{Done, Got, Nothing, Spent}
+use Rattle.scq_core.specs.declared.step.Step.{Step}
+use Rattle.scq_core.specs.Machine.{Machine}
+use Rattle.scq_core.specs.Table.{ring_of}
+use Rattle.scq_core.specs.Laws.{total}
+use Rattle.scq_law.specs.Bounds.{tally}
+use Rattle.scq_law.specs.CallSteps.{steps_of}
+use Rattle.scq_law.specs.Run.{Recorded, IsRun}
+use Rattle.scq_law.specs.Prefixes.{IsPrefix, IsRecordAfter}
+
+-- the most steps that a call makes while no call on its ring ends
+abbrev pub quiet_steps : Setup → ℕ
+quiet_steps c = 6 * (reset_value c.order c.seats + n_of c.order + c.seats)
+
+-- the most that all calls make together while none ends
+abbrev pub progress_bound : Setup → ℕ
+progress_bound c = c.seats * quiet_steps c
+
+-- how many calls have ended
+abbrev pub ended_calls : Setup → Machine → ℕ
+ended_calls c m = total (λ p. length p.calls) m.part c.seats
+
+-- lock-freedom: from one moment of a run to a later one, no more steps are made than the bound for each call that ends between them, and
+-- the bound once more. So among more steps than the bound that follow one another, one ends a call
+pub record HasProgress (c : Setup) (opening : List (List ℕ)) (steps : List (ℕ × Step)) : Type 0 where
+  pub soon : (front back : List (ℕ × Step)) (was now : Recorded) → IsPrefix front back → IsPrefix back steps → IsRun c opening front was
+      → IsRun c opening back now
+      → length back + ended_calls c was.state * progress_bound c ≤ length front + (ended_calls c now.state + 1) * progress_bound c
+
+-- the ring of a call that has ended
+abbrev pub ring_ended : Ended → ℕ
+ring_ended (Done r p w) = r
+ring_ended (Got r p w) = r
+ring_ended (Nothing r) = r
+ring_ended (Spent r t is_put) = r
+
+-- how many steps more the end of a call may cost each other call that is under way on its ring: that of a put resets Threshold; a get
+-- may have passed one entry and one ticket; a call that met its limit has done nothing
+abbrev pub end_delay : Setup → Ended → ℕ
+end_delay c (Done r p w) = quiet_steps c
+end_delay c (Got r p w) = 6
+end_delay c (Nothing r) = 6
+end_delay c (Spent r t is_put) = 0
+
+abbrev pub delay_on : Setup → ℕ → Ended → ℕ
+delay_on c r ended = if ring_ended ended == r then end_delay c ended else 0
+
+-- what the ends of all calls that have ended on a ring come to
+abbrev pub delays : Setup → Machine → ℕ → ℕ
+delays c m r = total (λ p. tally (delay_on c r) p.calls) m.part c.seats
+
+-- a whole call of a seat, which is at rest before it and after
+pub record WholeCallIsDelayedByEnds (c : Setup) (before after : List (ℕ × Step)) (was now : Machine) (seat : ℕ) (ended : Ended) : Type 0 where
+  pub few : steps_of seat after + delays c was (ring_ended ended) + end_delay c ended
+      ≤ steps_of seat before + quiet_steps c + delays c now (ring_ended ended)
+
+-- a call makes no more steps than the bound, and what the ends of the calls come to that end on its ring meanwhile: up to a moment at
+-- which it is still under way, and up to its end, which itself costs it nothing. So others delay a call by what they finish there alone,
+-- and one that runs alone ends within the bound
+pub record DelayedByEnds (c : Setup) (opening : List (List ℕ)) (steps : List (ℕ × Step)) : Type 0 where
+  pub so_far : (k : ℕ) → k < c.seats → (front back : List (ℕ × Step)) (was now : Recorded) → IsPrefix front back → IsPrefix back steps
+      → IsRun c opening front was → IsRun c opening back now → length (was.state.part k).calls ≡ length (now.state.part k).calls
+      → steps_of k back + delays c was.state (ring_of (now.state.part k).phase)
+      ≤ steps_of k front + quiet_steps c + delays c now.state (ring_of (now.state.part k).phase)
+  pub whole : (k : ℕ) → k < c.seats → (before after : List (ℕ × Step)) (calls : List Ended) (ended : Ended) → IsPrefix before after
+      → IsPrefix after steps → (was : IsRecordAfter c opening before k calls) → (now : IsRecordAfter c opening after k (calls ++ ended ∷ []))
+      → WholeCallIsDelayedByEnds c before after was.recorded.state now.recorded.state k ended

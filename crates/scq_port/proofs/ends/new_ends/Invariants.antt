@@ -1,0 +1,9 @@
+use Rattle.std.proofs.Common.{◌≡◌, ◌≤◌, ◌-◌}
+use Rattle.std.specs.Prelude.{vec_len, vec_capacity}
+use Rattle.scq_port.proofs.ends.new_ends.Given as goal
+
+abbrev pub invariant-loop-slots : goal.invariant-loop-slots
+invariant-loop-slots l = (vec_len l.slots ≤ l.count) × (l.count ≤ vec_capacity l.slots)
+
+abbrev pub decreases-loop-slots : goal.decreases-loop-slots
+decreases-loop-slots l = l.count - vec_len l.slots

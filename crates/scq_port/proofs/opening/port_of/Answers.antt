@@ -1,0 +1,24 @@
+use Rattle.std.proofs.Common.{rules, ◌≡◌, ℕ, ◌<◌, ◌≤◌, ◌+◌, [], map, replicate, IfOk, vec_len, ◌-◌, ◌*◌, length, ◌/◌, ◌%◌, Bool, true, false, nat_eq, nat_lt, List, ◌∷◌, ◌++◌, slice_index_or, slice_set, bit_and, bit_or, Fits, w8, w32, w64, Bor, MutBor}
+use Rattle.std.specs.Arc.{arc_value}
+use Rattle.scq_word.specs.Sizes.{n_of}
+use Rattle.scq_queue.specs.Passes.{first_passes}
+use Rattle.scq_port.specs.Ports.{bytes_of}
+use Rattle.scq_port.specs.Calls.{AreOpened, new_port}
+use Rattle.scq_port.specs.Kept.{IsFresh, Keeps}
+use Rattle.scq_port.proofs.Keeping.{keeps_new}
+use Rattle.scq_port.proofs.opening.port_of.Goals as goal
+
+same : (c : goal.After-rings) → arc_value c.in_ok-owner.owner ≡ arc_value c.args.owner.now
+same c = search rules
+
+places : (c : goal.After-rings) → c.n.result ≡ n_of (arc_value c.args.owner.now).queue.setup.order
+places c = search (rules, c.n.ensures, c.shape.ensures, c.requires.setup) depth 8
+
+keeps : (c : goal.After-rings) → Keeps (arc_value c.args.owner.now).queue c.args.pass c.in_ok-hand.hand.slots.items c.in_ok-hand.hand.used c.in_ok-hand.hand.hold
+keeps c =
+    rw (c.in_ok-hand.ensures.0, c.in_ok-hand.ensures.1, c.in_ok-hand.ensures.2, places c)
+    (keeps_new _ c.args.pass c.args.hold c.requires.fresh.own c.requires.fresh.awake c.requires.fresh.none)
+
+-- src/opening.rt:62:5
+pub invariant_of-result : goal.invariant_of-result
+invariant_of-result c = record { keeps = rw (same c) (keeps c); topics = rw (same c, c.requires.setup) (search rules); low = rw (same c, c.requires.setup) (c.requires.low) }
