@@ -1,0 +1,73 @@
+"""Sends a message and takes it, by the shared object alone: neither header nor compiler is needed. So any language can that opens a shared
+object by name, as dlopen does.
+
+    python3 hello.py [libscq.so.1]
+
+The calls and what a caller has to uphold stand in scq(3).
+"""
+
+import ctypes
+import sys
+
+VERSION = 1
+OK = 0
+MAX_LIMIT = 1 << 60
+
+
+class Port(ctypes.Structure):
+    """What a thread makes its calls with; null where it is closed. An open one is never copied."""
+
+    _fields_ = [("at", ctypes.c_void_p)]
+
+
+class Held(ctypes.Structure):
+    """A buffer that a port holds."""
+
+    _fields_ = [("at", ctypes.c_void_p), ("len", ctypes.c_size_t), ("place", ctypes.c_uint64), ("index", ctypes.c_uint32)]
+
+
+CALLS = {
+    "scq_version": [],
+    "scq_open": [ctypes.c_uint32] * 4 + [ctypes.c_uint64, ctypes.POINTER(Port), ctypes.c_size_t],
+    "scq_lend": [ctypes.POINTER(Port), ctypes.POINTER(Held)],
+    "scq_take": [ctypes.POINTER(Port), ctypes.c_uint32, ctypes.POINTER(Held)],
+    "scq_send": [ctypes.POINTER(Port), ctypes.c_uint32, ctypes.c_uint32, ctypes.POINTER(ctypes.c_uint64)],
+    "scq_give_back": [ctypes.POINTER(Port), ctypes.c_uint32],
+    "scq_close": [ctypes.POINTER(Port)],
+}
+
+
+def opened(name):
+    """The shared object, with the type of each call."""
+    library = ctypes.CDLL(name)
+    for call, arguments in CALLS.items():
+        function = getattr(library, call)
+        function.argtypes = arguments
+        function.restype = ctypes.c_uint32
+    if library.scq_version() != VERSION:
+        sys.exit(f"{name} is of version {library.scq_version()}, and this program of {VERSION}")
+    return library
+
+
+def done(answer):
+    """Ends the program where a call was refused."""
+    if answer != OK:
+        sys.exit(f"answer {answer}")
+
+
+def main():
+    scq = opened(sys.argv[1] if len(sys.argv) > 1 else f"libscq.so.{VERSION}")
+    ports, held, place = (Port * 2)(), Held(), ctypes.c_uint64()
+    done(scq.scq_open(6, 1, 64, 1, MAX_LIMIT, ports, len(ports)))
+    sender, taker = ctypes.byref(ports[0]), ctypes.byref(ports[1])
+    done(scq.scq_lend(sender, ctypes.byref(held)))
+    ctypes.memmove(held.at, b"hello from Python\0", 18)
+    done(scq.scq_send(sender, held.index, 0, ctypes.byref(place)))
+    done(scq.scq_take(taker, 0, ctypes.byref(held)))
+    print(ctypes.string_at(held.at).decode())
+    done(scq.scq_give_back(taker, held.index))
+    done(scq.scq_close(sender))
+    done(scq.scq_close(taker))
+
+
+main()
