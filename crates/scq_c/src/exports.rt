@@ -261,7 +261,8 @@ pub extern "C" fn scq_spent(alloc: Global, handle: &mut Handle, ticket: &mut u64
     }
 }
 
-/// Closes a port: what it holds is given back, as `Port::close` says, and the last port of a queue frees it.
+/// Closes a port: what it holds is given back, as `Port::close` says, and the last port of a queue frees it. `scq_end` does the same, and
+/// tells what became of the queue.
 #[unsafe(no_mangle)]
 pub extern "C" fn scq_close(alloc: Global, handle: &mut Handle) -> u32
     ensures closed { handle.new.port ≡ None }

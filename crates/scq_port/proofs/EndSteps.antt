@@ -17,7 +17,7 @@ use Rattle.scq_queue.specs.Passes.{PassStanding}
 use Rattle.scq_queue.specs.Closing.{AreTheHeld}
 use Rattle.scq_port.specs.declared.port_buffer.PortBuffer.{PortBuffer}
 use Rattle.scq_port.specs.Ports.{PortQueue}
-use Rattle.scq_port.specs.Ends.{Left, Berth, nowhere, out_at, laid_at, home_of, IsLeft, KnowsTrue, Keep, HasBegun}
+use Rattle.scq_port.specs.Ends.{Laid, Claim, no_claim, claimed_at, laid_at, home_of, IsLeft, IsTrueClaim, EndsHold, HasClaimed, HasLaid}
 
 at_end : {A : Type 0} (l : List A) (a b : A) (j : ℕ) → get_elem? (l ++ a ∷ []) j ≡ some b → (get_elem? l j ≡ some b) ⊎ ((j ≡ length l) × (a ≡ b))
 at_end [] a b zero e = inr (refl, some-injective a b e)
@@ -34,12 +34,12 @@ zeros zero k = refl
 zeros (suc n) zero = refl
 zeros (suc n) (suc k) = zeros n k
 
-first_left : List (ℕ × Left) → Left
-first_left [] = None
-first_left (x ∷ xs) = x.1
+first_laid : List (ℕ × Laid) → Laid
+first_laid [] = None
+first_laid (x ∷ xs) = x.1
 
 same_laid : (i : ℕ) {p q : PassStanding PortBuffer} → Some p ≡ Some q → laid_at i p ≡ laid_at i q
-same_laid i e = let same = e in ap (λ (x : Left). record { at = Some i; pass = x }) same
+same_laid i e = let same = e in ap (λ (x : Laid). record { at = Some i; pass = x }) same
 
 some_same : (i k : ℕ) → Some i ≡ Some k → k ≡ i
 some_same i k e = let same : i ≡ k = cc in sym same
@@ -48,8 +48,8 @@ some_is : {q p : PassStanding PortBuffer} → Some q ≡ Some p → q ≡ p
 some_is {q} {p} e = let both = e in cc
 
 -- the table at the start
-pub opens : (queue : PortQueue) (n : ℕ) (words : List ℕ) (slots : List Left) → words ≡ replicate n 0 → length words ≡ length slots
-    → Keep queue (table.opening words slots nowhere)
+pub opens : (queue : PortQueue) (n : ℕ) (words : List ℕ) (slots : List Laid) → words ≡ replicate n 0 → length words ≡ length slots
+    → EndsHold queue (table.opening words slots no_claim)
 opens queue n words slots is many =
     record {
       count = many ∙ sym (length-map slots some);
@@ -57,29 +57,29 @@ opens queue n words slots is many =
       left =
           λ k low two.
           let no : 0 ≡ 2 = sym (ap (λ (l : List ℕ). slice_index l k) is ∙ zeros n k) ∙ two in absurd (omega (arith, no));
-      berths = λ id b k at is_at. nothing id b k at is_at;
+      claims = λ id b k at is_at. nothing id b k at is_at;
       apart = λ one other a b k at_one at_other is_one is_other. nothing_at one a k at_one is_one;
     }
   where
-    never : (id : ℕ) (b : Berth) (k : ℕ) → get_elem? (nowhere ∷ []) id ≡ some b → b.at ≡ Some k → ⊥
+    never : (id : ℕ) (b : Claim) (k : ℕ) → get_elem? (no_claim ∷ []) id ≡ some b → b.at ≡ Some k → ⊥
     never zero b k at is_at =
-        let no : None ≡ Some k = ap (λ (x : Berth). x.at) (some-injective nowhere b at) ∙ is_at in absurd (cc)
+        let no : None ≡ Some k = ap (λ (x : Claim). x.at) (some-injective no_claim b at) ∙ is_at in absurd (cc)
     never (suc id) b k at is_at = absurd (some-ne-none b (sym at))
 
-    nothing : (id : ℕ) (b : Berth) (k : ℕ) → get_elem? (nowhere ∷ []) id ≡ some b → b.at ≡ Some k → KnowsTrue words (map some slots) b k
+    nothing : (id : ℕ) (b : Claim) (k : ℕ) → get_elem? (no_claim ∷ []) id ≡ some b → b.at ≡ Some k → IsTrueClaim words (map some slots) b k
     nothing id b k at is_at = absurd (never id b k at is_at)
 
-    nothing_at : {one other : ℕ} (id : ℕ) (b : Berth) (k : ℕ) → get_elem? (nowhere ∷ []) id ≡ some b → b.at ≡ Some k → one ≡ other
+    nothing_at : {one other : ℕ} (id : ℕ) (b : Claim) (k : ℕ) → get_elem? (no_claim ∷ []) id ≡ some b → b.at ≡ Some k → one ≡ other
     nothing_at id b k at is_at = absurd (never id b k at is_at)
 
 -- one begins to close a port
-pub begins : (queue : PortQueue) (slots i : ℕ) → i < slots → Arrives (Keep queue) slots i (λ _. 1) (λ n later. HasBegun i n later)
+pub begins : (queue : PortQueue) (slots i : ℕ) → i < slots → Arrives (EndsHold queue) slots i (λ _. 1) (λ n later. HasClaimed i n later)
 begins queue slots i low s g many small =
     elim (cases_eq (slice_index s.words i) 0) [
       | inl free ↦
           let y = g.fresh i (omega (arith, low, many)) free in
-          (out_at i, takes i y.0, y.1, taken free, record { took = λ e. (y.0, refl) })
-      | inr held ↦ (nowhere, keeps, tt, stayed held, record { took = λ e. absurd (held e) })
+          (claimed_at i, takes i y.0, y.1, taken free, record { took = λ e. (y.0, refl) })
+      | inr held ↦ (no_claim, keeps, tt, stayed held, record { took = λ e. absurd (held e) })
     ]
   where
     words : List ℕ
@@ -94,7 +94,7 @@ begins queue slots i low s g many small =
     not_here : (k x : ℕ) → (x ≡ 1 → ⊥) → slice_index words k ≡ x → k ≢ i
     not_here k x differs is same = differs (sym is ∙ ap (λ (j : ℕ). slice_index words j) same ∙ one)
 
-    taken : slice_index s.words i ≡ 0 → Keep queue (record { words = words; homes = slice_set s.homes i none; views = s.views ++ out_at i ∷ [] })
+    taken : slice_index s.words i ≡ 0 → EndsHold queue (record { words = words; homes = slice_set s.homes i none; views = s.views ++ claimed_at i ∷ [] })
     taken free =
         record {
           count = length-set s.words i 1 ∙ g.count ∙ sym (length-set s.homes i none);
@@ -108,53 +108,53 @@ begins queue slots i low s g many small =
               let apart = not_here k 2 (λ e. omega (arith, e)) two in
               let p = g.left k (let l = length-set s.homes i none in omega (arith, there, l)) (sym (as_was k apart) ∙ two) in
               (p.0, set_else s.homes i k none apart ∙ p.1, p.2);
-          berths =
+          claims =
               λ id b k at is_at.
-              elim (at_end s.views (out_at i) b id at) [
+              elim (at_end s.views (claimed_at i) b id at) [
                 | inl old ↦
-                    let t = g.berths id b k old is_at in
+                    let t = g.claims id b k old is_at in
                     let apart : k ≢ i = λ same. t.begun (ap (λ (j : ℕ). slice_index s.words j) same ∙ free) in
                     record { begun = λ z. t.begun (sym (as_was k apart) ∙ z); home = set_else s.homes i k none apart ∙ t.home }
                 | inr new ↦
-                    let same = some_same i k (ap (λ (x : Berth). x.at) new.1 ∙ is_at) in
+                    let same = some_same i k (ap (λ (x : Claim). x.at) new.1 ∙ is_at) in
                     record {
                       begun = λ z. let no : 0 ≡ 1 = sym z ∙ ap (λ (j : ℕ). slice_index words j) same ∙ one in omega (arith, no);
                       home =
                           ap (λ (j : ℕ). get_elem? (slice_set s.homes i none) j) same
                           ∙ set_here s.homes i none (omega (arith, low, many))
-                          ∙ ap (λ (x : Berth). some (home_of x.pass)) new.1;
+                          ∙ ap (λ (x : Claim). some (home_of x.pass)) new.1;
                     }
               ];
           apart =
               λ first other a b k at_first at_other is_first is_other.
-              elim (at_end s.views (out_at i) a first at_first) [
+              elim (at_end s.views (claimed_at i) a first at_first) [
                 | inl old ↦
-                    elim (at_end s.views (out_at i) b other at_other) [
+                    elim (at_end s.views (claimed_at i) b other at_other) [
                       | inl older ↦ g.apart first other a b k old older is_first is_other
-                      | inr new ↦ absurd (clash free first a k old is_first (some_same i k (ap (λ (x : Berth). x.at) new.1 ∙ is_other)))
+                      | inr new ↦ absurd (clash free first a k old is_first (some_same i k (ap (λ (x : Claim). x.at) new.1 ∙ is_other)))
                     ]
                 | inr newer ↦
-                    elim (at_end s.views (out_at i) b other at_other) [
-                      | inl older ↦ absurd (clash free other b k older is_other (some_same i k (ap (λ (x : Berth). x.at) newer.1 ∙ is_first)))
+                    elim (at_end s.views (claimed_at i) b other at_other) [
+                      | inl older ↦ absurd (clash free other b k older is_other (some_same i k (ap (λ (x : Claim). x.at) newer.1 ∙ is_first)))
                       | inr new ↦ newer.0 ∙ sym new.0
                     ]
               ];
         }
       where
-        clash : slice_index s.words i ≡ 0 → (id : ℕ) (b : Berth) (k : ℕ) → get_elem? s.views id ≡ some b → b.at ≡ Some k → k ≡ i → ⊥
-        clash was id b k at is_at same = (g.berths id b k at is_at).begun (ap (λ (j : ℕ). slice_index s.words j) same ∙ was)
+        clash : slice_index s.words i ≡ 0 → (id : ℕ) (b : Claim) (k : ℕ) → get_elem? s.views id ≡ some b → b.at ≡ Some k → k ≡ i → ⊥
+        clash was id b k at is_at same = (g.claims id b k at is_at).begun (ap (λ (j : ℕ). slice_index s.words j) same ∙ was)
 
-    stayed : (slice_index s.words i ≡ 0 → ⊥) → Keep queue (record { words = words; homes = s.homes; views = s.views ++ nowhere ∷ [] })
+    stayed : (slice_index s.words i ≡ 0 → ⊥) → EndsHold queue (record { words = words; homes = s.homes; views = s.views ++ no_claim ∷ [] })
     stayed held =
         record {
           count = length-set s.words i 1 ∙ g.count;
           fresh = λ k there zero_. let apart = not_here k 0 (λ e. omega (arith, e)) zero_ in g.fresh k there (sym (as_was k apart) ∙ zero_);
           left = λ k there two. let apart = not_here k 2 (λ e. omega (arith, e)) two in g.left k there (sym (as_was k apart) ∙ two);
-          berths =
+          claims =
               λ id b k at is_at.
-              elim (at_end s.views nowhere b id at) [
+              elim (at_end s.views no_claim b id at) [
                 | inl old ↦
-                    let t = g.berths id b k old is_at in
+                    let t = g.claims id b k old is_at in
                     record {
                       begun =
                           λ z.
@@ -164,37 +164,37 @@ begins queue slots i low s g many small =
                           ];
                       home = t.home;
                     }
-                | inr new ↦ let no : None ≡ Some k = ap (λ (x : Berth). x.at) new.1 ∙ is_at in absurd (cc)
+                | inr new ↦ let no : None ≡ Some k = ap (λ (x : Claim). x.at) new.1 ∙ is_at in absurd (cc)
               ];
           apart =
               λ first other a b k at_first at_other is_first is_other.
-              elim (at_end s.views nowhere a first at_first) [
+              elim (at_end s.views no_claim a first at_first) [
                 | inl old ↦
-                    elim (at_end s.views nowhere b other at_other) [
+                    elim (at_end s.views no_claim b other at_other) [
                       | inl older ↦ g.apart first other a b k old older is_first is_other
-                      | inr new ↦ let no : None ≡ Some k = ap (λ (x : Berth). x.at) new.1 ∙ is_other in absurd (cc)
+                      | inr new ↦ let no : None ≡ Some k = ap (λ (x : Claim). x.at) new.1 ∙ is_other in absurd (cc)
                     ]
-                | inr new ↦ let no : None ≡ Some k = ap (λ (x : Berth). x.at) new.1 ∙ is_first in absurd (cc)
+                | inr new ↦ let no : None ≡ Some k = ap (λ (x : Claim). x.at) new.1 ∙ is_first in absurd (cc)
               ];
         }
 
-abbrev Laying : PortQueue → ℕ → ℕ → ℕ → Me Left Berth → Type 0
+abbrev Laying : PortQueue → ℕ → ℕ → ℕ → Me Laid Claim → Type 0
 Laying queue slots id i me =
-    Allows (Keep queue) slots id me i (λ _. 2) (λ n later. (q : PassStanding PortBuffer) → me.1 ≡ (i, Some q) ∷ [] → later.0 ≡ laid_at i q)
+    Allows (EndsHold queue) slots id me i (λ _. 2) (λ n later. HasLaid i me.1 later.0)
 
 -- the pass of a port is laid in its slot
-pub lays : (queue : PortQueue) (slots id i : ℕ) (me : Me Left Berth) (p : PassStanding PortBuffer) → i < slots → me ≡ (out_at i, (i, Some p) ∷ [])
+pub lays : (queue : PortQueue) (slots id i : ℕ) (me : Me Laid Claim) (p : PassStanding PortBuffer) → i < slots → me ≡ (claimed_at i, (i, Some p) ∷ [])
     → IsLeft queue p → Laying queue slots id i me
-unfolding first_left
-lays queue slots id i me p low is ok = subst (λ (m : Me Left Berth). Laying queue slots id i m) (sym is) laid
+unfolding first_laid
+lays queue slots id i me p low is ok = subst (λ (m : Me Laid Claim). Laying queue slots id i m) (sym is) laid
   where
-    laid : Laying queue slots id i (out_at i, (i, Some p) ∷ [])
-    laid s g many here small = (laid_at i p, gives, tt, kept, λ q e. same_laid i (ap first_left e))
+    laid : Laying queue slots id i (claimed_at i, (i, Some p) ∷ [])
+    laid s g many here small = (laid_at i p, gives, tt, kept, λ q e. same_laid i (ap first_laid e))
       where
         words : List ℕ
         words = slice_set s.words i 2
 
-        homes : List (maybe.Option Left)
+        homes : List (maybe.Option Laid)
         homes = slice_set s.homes i (some (Some p))
 
         two_here : slice_index words i ≡ 2
@@ -206,16 +206,16 @@ lays queue slots id i me p low is ok = subst (λ (m : Me Left Berth). Laying que
         at_home : get_elem? homes i ≡ some (some (Some p))
         at_home = set_here s.homes i (some (Some p)) (omega (arith, low, many))
 
-        before : (j : ℕ) (b : Berth) → get_elem? (slice_set s.views id (laid_at i p)) j ≡ some b → (was : Berth) × (get_elem? s.views j ≡ some was)
+        before : (j : ℕ) (b : Claim) → get_elem? (slice_set s.views id (laid_at i p)) j ≡ some b → (was : Claim) × (get_elem? s.views j ≡ some was)
             × (was.at ≡ b.at)
         before j b at =
             elim (at_set s.views id j (laid_at i p) b at) [
               | inl own ↦
-                  (out_at i, ap (λ (n : ℕ). get_elem? s.views n) own.0 ∙ here, ap (λ (x : Berth). x.at) own.1)
+                  (claimed_at i, ap (λ (n : ℕ). get_elem? s.views n) own.0 ∙ here, ap (λ (x : Claim). x.at) own.1)
               | inr other ↦ (b, other.1, refl)
             ]
 
-        kept : Keep queue (record { words = words; homes = homes; views = slice_set s.views id (laid_at i p) })
+        kept : EndsHold queue (record { words = words; homes = homes; views = slice_set s.views id (laid_at i p) })
         kept =
             record {
               count = length-set s.words i 2 ∙ g.count ∙ sym (length-set s.homes i (some (Some p)));
@@ -236,20 +236,20 @@ lays queue slots id i me p low is ok = subst (λ (m : Me Left Berth). Laying que
                         let q = g.left k (let l = length-set s.homes i (some (Some p)) in omega (arith, there, l)) (sym (as_was k apart) ∙ two) in
                         (q.0, set_else s.homes i k (some (Some p)) apart ∙ q.1, q.2)
                   ];
-              berths =
+              claims =
                   λ j b k at is_at.
                   elim (at_set s.views id j (laid_at i p) b at) [
                     | inl own ↦
-                        let same = some_same i k (ap (λ (x : Berth). x.at) own.1 ∙ is_at) in
+                        let same = some_same i k (ap (λ (x : Claim). x.at) own.1 ∙ is_at) in
                         record {
                           begun = λ z. let no : 0 ≡ 2 = sym z ∙ ap (λ (n : ℕ). slice_index words n) same ∙ two_here in omega (arith, no);
                           home =
-                              ap (λ (n : ℕ). get_elem? homes n) same ∙ at_home ∙ ap (λ (x : Berth). some (home_of x.pass)) own.1;
+                              ap (λ (n : ℕ). get_elem? homes n) same ∙ at_home ∙ ap (λ (x : Claim). some (home_of x.pass)) own.1;
                         }
                     | inr other ↦
-                        let t = g.berths j b k other.1 is_at in
+                        let t = g.claims j b k other.1 is_at in
                         let apart : k ≢ i =
-                        λ same. other.0 (g.apart j id b (out_at i) k other.1 here is_at (ap (λ (n : ℕ). Some n) (sym same))) in
+                        λ same. other.0 (g.apart j id b (claimed_at i) k other.1 here is_at (ap (λ (n : ℕ). Some n) (sym same))) in
                         record { begun = λ z. t.begun (sym (as_was k apart) ∙ z); home = set_else s.homes i k (some (Some p)) apart ∙ t.home }
                   ];
               apart =
@@ -260,8 +260,8 @@ lays queue slots id i me p low is ok = subst (λ (m : Me Left Berth). Laying que
             }
 
 -- what lies in a slot of the closed table whose word is 2
-pub left_there : (queue : PortQueue) (id : ℕ) (b : Berth) (words : List ℕ) (slots : List Left) → Final (Seen (Keep queue) id b) words slots
-    → (k : ℕ) (x : Left) → k < length slots → slice_index words k ≡ 2 → get_elem? slots k ≡ some x → (p : PassStanding PortBuffer) × (x ≡ Some p) × IsLeft queue p
+pub left_there : (queue : PortQueue) (id : ℕ) (b : Claim) (words : List ℕ) (slots : List Laid) → Final (Seen (EndsHold queue) id b) words slots
+    → (k : ℕ) (x : Laid) → k < length slots → slice_index words k ≡ 2 → get_elem? slots k ≡ some x → (p : PassStanding PortBuffer) × (x ≡ Some p) × IsLeft queue p
 left_there queue id b words slots final k x low two at =
     let s = final.0 in
     let g = final.1.0 in
@@ -270,11 +270,11 @@ left_there queue id b words slots final k x low two at =
     (q.0, some-injective x (Some q.0) (sym at ∙ there), q.2)
 
 -- and in that of one who laid a pass
-pub own_there : (queue : PortQueue) (id : ℕ) (b : Berth) (words : List ℕ) (slots : List Left) → Final (Seen (Keep queue) id b) words slots
+pub own_there : (queue : PortQueue) (id : ℕ) (b : Claim) (words : List ℕ) (slots : List Laid) → Final (Seen (EndsHold queue) id b) words slots
     → (k : ℕ) (p : PassStanding PortBuffer) → b ≡ laid_at k p → get_elem? slots k ≡ some (Some p)
 own_there queue id b words slots final k p is =
-    let t = final.1.0.berths id b k final.1.1 (ap (λ (x : Berth). x.at) is) in
-    final.4 k (Some p) (t.home ∙ ap (λ (x : Berth). some (home_of x.pass)) is)
+    let t = final.1.0.claims id b k final.1.1 (ap (λ (x : Claim). x.at) is) in
+    final.4 k (Some p) (t.home ∙ ap (λ (x : Claim). some (home_of x.pass)) is)
 
 -- one more pass that was left
 pub next_all : (queue : PortQueue) (passes more : List (PassStanding PortBuffer)) (q : PassStanding PortBuffer) → more ≡ passes ++ q ∷ []
@@ -283,7 +283,7 @@ next_all queue passes more q is all one =
     subst (λ (l : List (PassStanding PortBuffer)). All (IsLeft queue) l) (sym is)
     (All-append (IsLeft queue) passes (q ∷ []) all (All-cons (IsLeft queue) q [] one (All-nil (IsLeft queue))))
 
-pub next_there : (passes more : List (PassStanding PortBuffer)) (slots : List Left) (i : ℕ) (q : PassStanding PortBuffer) → more ≡ passes ++ q ∷ []
+pub next_there : (passes more : List (PassStanding PortBuffer)) (slots : List Laid) (i : ℕ) (q : PassStanding PortBuffer) → more ≡ passes ++ q ∷ []
     → get_elem? slots i ≡ some (Some q)
     → (length passes ≡ i → (k : ℕ) (p : PassStanding PortBuffer) → k < i → get_elem? slots k ≡ some (Some p) → Contains passes p)
     → length passes ≡ i → (k : ℕ) (p : PassStanding PortBuffer) → k < i + 1 → get_elem? slots k ≡ some (Some p) → Contains more p

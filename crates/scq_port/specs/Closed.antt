@@ -1,22 +1,27 @@
--- What the last port of a queue that closes is told: all that the queue's close says, of the passes of all ports as they were when each closed.
+-- What the last port of a queue that closes is told: all that the queue's close says, of the passes of all ports as each of them closed.
 use Rattle.std.specs.Prelude.{◌≡◌, ℕ, List, [], length, All}
 use Rattle.std.specs.List.{Contains}
 use Rattle.scq_band.specs.Buffers.{opening_of}
 use Rattle.scq_band.specs.Closing.{IsOneRunToTheEnd}
 use Rattle.scq_queue.specs.Passes.{PassStanding}
-use Rattle.scq_queue.specs.Closing.{EachTakeIsASend, NoPlaceIsSentTwice, NoPlaceIsTakenTwice, IsBalance, EachSendPassedIsTaken, AllFullsStand, EachKeptIsPastTheBound, NoneIsKeptWithinTheLimit, records_of, all_held, callers_of}
+use Rattle.scq_queue.specs.Closing.{EachTakeIsASend, NoPlaceIsSentTwice, NoPlaceIsTakenTwice}
+use Rattle.scq_queue.specs.Closing.{IsBalance, EachSendPassedIsTaken, AllFullsStand}
+use Rattle.scq_queue.specs.Closing.{EachKeptIsPastTheBound, NoneIsKeptWithinTheLimit}
+use Rattle.scq_queue.specs.Closing.{records_of, all_held, callers_of}
 use Rattle.scq_port.specs.declared.port_buffer.PortBuffer.{PortBuffer}
 use Rattle.scq_port.specs.Ports.{PortQueue, bytes_of}
 use Rattle.scq_port.specs.Ends.{IsLeft}
 
 -- all passes of the queue are these, none of which holds a value, and the port that closed last had this one. One run stands behind all
 -- their calls: it has the four aspects, and each ring's calls stand in one order in which every reply is a plain queue's
-pub record HasClosed (queue : PortQueue) (last : PassStanding PortBuffer) (passes : List (PassStanding PortBuffer)) (left : List ℕ) (bytes : List
-    (List ℕ)) : Type 0 where
+pub record HasClosed (queue : PortQueue) (last : PassStanding PortBuffer)
+    (passes : List (PassStanding PortBuffer)) (left : List ℕ) (bytes : List (List ℕ))
+    : Type 0 where
   pub own : All (IsLeft queue) passes
   pub all : length passes ≡ queue.setup.seats
   pub its : Contains passes last
-  pub run : IsOneRunToTheEnd queue.setup (opening_of bytes_of queue.given) (callers_of passes) (records_of passes) (all_held passes) bytes
+  pub run : IsOneRunToTheEnd queue.setup (opening_of bytes_of queue.given) (callers_of passes)
+      (records_of passes) (all_held passes) bytes
   pub takes : EachTakeIsASend passes
   pub sent_once : NoPlaceIsSentTwice passes
   pub taken_once : NoPlaceIsTakenTwice passes

@@ -1,5 +1,5 @@
--- The table in which ports leave their passes when they close, each in a slot of its own. A slot's word is 0 as long as its port is open,
--- and 2 once its pass lies there.
+-- The table in which ports leave their passes when they close, each in the slot of its number. A slot's word is 0 as long as its port
+-- is open, 1 while the port closes, and 2 once its pass lies there.
 use Rattle.std.specs.Prelude.{◌≡◌, ℕ, ◌<◌, List, [], ◌∷◌, length, Option, Some, None, slice_index}
 use mathlib.Core.Option.{some, none}
 use mathlib.Core.Option as maybe
@@ -9,25 +9,26 @@ use Rattle.scq_queue.specs.Passes.{PassStanding}
 use Rattle.scq_port.specs.declared.port_buffer.PortBuffer.{PortBuffer}
 use Rattle.scq_port.specs.Ports.{PortQueue}
 
-abbrev pub Left : Type 0
-Left = Option (PassStanding PortBuffer)
+-- what may lie in a slot: a pass, or nothing
+abbrev pub Laid : Type 0
+Laid = Option (PassStanding PortBuffer)
 
--- what one who closes a port knows: nothing; that a slot is out with it; or that its pass lies there
-pub record Berth : Type 0 where
+-- what a token knows: nothing; that this slot is out with it; or that this pass lies there
+pub record Claim : Type 0 where
   pub at : Option ℕ
-  pub pass : Left
+  pub pass : Laid
 
-abbrev pub nowhere : Berth
-nowhere = record { at = None; pass = None }
+abbrev pub no_claim : Claim
+no_claim = record { at = None; pass = None }
 
-abbrev pub out_at : ℕ → Berth
-out_at k = record { at = Some k; pass = None }
+abbrev pub claimed_at : ℕ → Claim
+claimed_at k = record { at = Some k; pass = None }
 
-abbrev pub laid_at : ℕ → PassStanding PortBuffer → Berth
+abbrev pub laid_at : ℕ → PassStanding PortBuffer → Claim
 laid_at k p = record { at = Some k; pass = Some p }
 
--- what is at home in the slot of a berth
-abbrev pub home_of : Left → maybe.Option Left
+-- what is at home in the slot of a claim: what was laid there, or else the slot is out
+abbrev pub home_of : Laid → maybe.Option Laid
 home_of None = none
 home_of (Some p) = some (Some p)
 
@@ -36,20 +37,31 @@ pub record IsLeft (queue : PortQueue) (p : PassStanding PortBuffer) : Type 0 whe
   pub own : p.queue ≡ queue
   pub none : p.held ≡ []
 
-pub record KnowsTrue (words : List ℕ) (homes : List (maybe.Option Left)) (b : Berth) (k : ℕ) : Type 0 where
+-- a claim on slot k is true of the table's words and slots
+pub record IsTrueClaim (words : List ℕ) (homes : List (maybe.Option Laid)) (b : Claim) (k : ℕ)
+    : Type 0 where
   pub begun : slice_index words k ≡ 0 → ⊥
   pub home : get_elem? homes k ≡ some (home_of b.pass)
 
--- the rule of the table
-pub record Keep (queue : PortQueue) (s : State Left Berth) : Type 0 where
+-- the rule of the table: a slot whose port is open is at home; where a port has closed its pass lies there; what tokens know is true, and
+-- no two of them know of one slot
+pub record EndsHold (queue : PortQueue) (s : State Laid Claim) : Type 0 where
   pub count : length s.words ≡ length s.homes
-  pub fresh : (k : ℕ) → k < length s.homes → slice_index s.words k ≡ 0 → (y : Left) × (get_elem? s.homes k ≡ some (some y))
+  pub fresh : (k : ℕ) → k < length s.homes → slice_index s.words k ≡ 0
+      → (y : Laid) × (get_elem? s.homes k ≡ some (some y))
   pub left : (k : ℕ) → k < length s.homes → slice_index s.words k ≡ 2
-      → (p : PassStanding PortBuffer) × (get_elem? s.homes k ≡ some (some (Some p))) × IsLeft queue p
-  pub berths : (id : ℕ) (b : Berth) (k : ℕ) → get_elem? s.views id ≡ some b → b.at ≡ Some k → KnowsTrue s.words s.homes b k
-  pub apart : (one other : ℕ) (a b : Berth) (k : ℕ) → get_elem? s.views one ≡ some a → get_elem? s.views other ≡ some b → a.at ≡ Some k → b.at ≡ Some k
-      → one ≡ other
+      → (p : PassStanding PortBuffer) × (get_elem? s.homes k ≡ some (some (Some p)))
+      × IsLeft queue p
+  pub claims : (id : ℕ) (b : Claim) (k : ℕ) → get_elem? s.views id ≡ some b → b.at ≡ Some k
+      → IsTrueClaim s.words s.homes b k
+  pub apart : (one other : ℕ) (a b : Claim) (k : ℕ) → get_elem? s.views one ≡ some a
+      → get_elem? s.views other ≡ some b → a.at ≡ Some k → b.at ≡ Some k → one ≡ other
 
--- one who began to close a port has its slot, if none had begun
-pub record HasBegun (k found : ℕ) (later : Me Left Berth) : Type 0 where
-  pub took : found ≡ 0 → (y : Left) × (later ≡ (out_at k, (k, y) ∷ []))
+-- one who found 0 in the word of slot k took the slot
+pub record HasClaimed (k found : ℕ) (later : Me Laid Claim) : Type 0 where
+  pub took : found ≡ 0 → (y : Laid) × (later ≡ (claimed_at k, (k, y) ∷ []))
+
+-- one who had slot k, with a pass in it, left the pass there
+abbrev pub HasLaid : ℕ → List (ℕ × Laid) → Claim → Type 0
+HasLaid k slots later =
+    (p : PassStanding PortBuffer) → slots ≡ (k, Some p) ∷ [] → later ≡ laid_at k p

@@ -9,16 +9,14 @@ use crate::port_buffer::PortBuffer;
 use scq_queue::{Pass, Queue};
 use std::snapshot::Snapshot;
 
-/// Gives back what a pass holds, and answers the pass as it was then. Where a ticket is spent, so that nothing more can be given back, what
-/// is left stays with the queue.
+/// Gives back what a pass holds, and answers what the pass was then, for contracts alone, with the
+/// pass. Where a ticket is spent, so that nothing more can be given back, what is left stays with the
+/// queue, and with it the pass.
 pub(crate) fn let_go(
     queue: &Queue<PortBuffer>,
     mut pass: Pass<PortBuffer>,
     hand: Hand,
-) -> (
-    Snapshot<Pass<PortBuffer>>,
-    Option<Pass<PortBuffer>>,
-)
+) -> (Snapshot<Pass<PortBuffer>>, Option<Pass<PortBuffer>>)
     requires kept { KeepsHand queue.now pass hand }
     ensures ended { HasEnded (seen_as pass hand) result.0.value }
     ensures left { IfSome result.1 (λ p. (p ≡ result.0.value) × IsLeft queue.now p) }

@@ -4,14 +4,15 @@ ghost use Rattle.scq_port.specs.Ports.{bytes_of};
 ghost use Rattle.scq_port.specs.Ends.{laid_at};
 ghost use Rattle.scq_port.specs.Closed.{HasClosed};
 
-use crate::ends::{EndToken, Ends, new_ends};
+use crate::ends::{EndToken, Ends};
 use crate::port_buffer::PortBuffer;
 use scq_queue::{Closed, Pass, Queue};
 use scq_word::NoMemory;
 use std::alloc::Global;
 use std::snapshot::Snapshot;
 
-/// A queue that ends where its last port goes, and the slots in which its ports leave their passes.
+/// A queue, and the slots in which its ports leave their passes when they close. Where the last port
+/// closes it ends in `close`; where it is let go of otherwise, it is let go of without a word.
 ///
 /// `passes` is an empty list, with room for what `close` needs.
 pub struct Owner {
@@ -21,10 +22,12 @@ pub struct Owner {
     alloc: Global,
     pub ghost own: { ends.table.shared.key.value ≡ queue },
     pub ghost slots: { ends.table.shared.table_id.slots ≡ queue.setup.seats },
-    ghost room: { (passes.items ≡ []) × (queue.setup.seats ≤ vec_capacity passes) },
+    ghost empty: { passes.items ≡ [] },
+    ghost room: { queue.setup.seats ≤ vec_capacity passes },
 }
 
 impl Owner {
+    /// An owner of a queue with so many seats.
     pub(crate) fn new(
         alloc: Global,
         queue: Queue<PortBuffer>,
@@ -37,7 +40,7 @@ impl Owner {
             queue.abandon();
             return Err(NoMemory);
         };
-        match new_ends(alloc, &queue, seats) {
+        match Ends::new(alloc, &queue, seats) {
             Ok(ends) => Ok(Owner {
                 queue,
                 ends,
@@ -51,7 +54,10 @@ impl Owner {
         }
     }
 
-    /// Closes the queue, where all ports have left their passes.
+    /// Closes the queue, where all ports have left their passes, as the one of this token did.
+    ///
+    /// None where one of them has not, which the last port doesn't meet: each has left its pass
+    /// before it lets go of its share.
     pub(crate) fn close(
         self,
         token: EndToken,
@@ -62,7 +68,8 @@ impl Owner {
         requires laid { token.me.0 ≡ laid_at number last.value }
         requires low { number < self.queue.setup.seats }
         ensures { IfSome result (λ closed.
-            HasClosed self.queue last.value closed.passes.value.items closed.left.items (map bytes_of closed.buffers.items)) }
+            HasClosed self.queue last.value closed.passes.value.items closed.left.items
+            (map bytes_of closed.buffers.items)) }
     {
         let Owner {
             queue,

@@ -130,15 +130,17 @@ impl Port {
         self.pass.spent()
     }
 
-    /// Closes the port, as dropping it does: gives back what it holds, and answers for contracts alone what its pass was then. The last port
-    /// of a queue that closes closes the queue, and is told of all passes together.
+    /// Closes the port, as dropping it does: gives back what it holds, and answers for contracts
+    /// alone what its pass was then. The last port of a queue that closes closes the queue, and is
+    /// told of all passes together.
     ///
-    /// Where the pass keeps a spent ticket, or draws one, what can't be given back stays with the queue until that is freed, and nobody is
-    /// told of all passes.
+    /// Where the pass keeps a spent ticket, or draws one, what can't be given back stays with the
+    /// queue until that is freed, and nobody is told of all passes.
     pub fn close(self) -> (Snapshot<Pass<PortBuffer>>, Option<Closed<PortBuffer>>)
         ensures ended { HasEnded self result.0.value }
         ensures closed { IfSome result.1 (λ closed.
-            HasClosed self.pass.queue result.0.value closed.passes.value.items closed.left.items (map bytes_of closed.buffers.items)) }
+            HasClosed self.pass.queue result.0.value closed.passes.value.items
+            closed.left.items (map bytes_of closed.buffers.items)) }
     {
         let Port {
             owner,
@@ -151,7 +153,8 @@ impl Port {
     }
 }
 
-/// Gives back what a port holds, and leaves its pass; the last closes the queue.
+/// Gives back what a port holds, leaves its pass with the others, and lets go of its share of the
+/// queue; who gets the queue back closes it.
 fn end(
     owner: Arc<Owner, Global>,
     pass: Pass<PortBuffer>,
@@ -162,7 +165,8 @@ fn end(
     requires low { number < (arc_value owner).queue.setup.seats }
     ensures ended { HasEnded (seen_as pass hand) result.0.value }
     ensures closed { IfSome result.1 (λ closed.
-        HasClosed (arc_value owner).queue result.0.value closed.passes.value.items closed.left.items (map bytes_of closed.buffers.items)) }
+        HasClosed (arc_value owner).queue result.0.value closed.passes.value.items
+        closed.left.items (map bytes_of closed.buffers.items)) }
 {
     let (ended, left) = let_go(&owner.queue, pass, hand);
     let Some(pass) = left else {

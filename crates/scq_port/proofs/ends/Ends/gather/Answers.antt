@@ -6,7 +6,7 @@ use lib.ListN.{get_elem?}
 use Rattle.scq_queue.specs.Passes.{PassStanding}
 use Rattle.scq_band.proofs.Unloading.{read_word, length_next, empty_next, full_next}
 use Rattle.scq_port.specs.declared.port_buffer.PortBuffer.{PortBuffer}
-use Rattle.scq_port.specs.Ends.{Left, IsLeft}
+use Rattle.scq_port.specs.Ends.{Laid, IsLeft}
 use Rattle.scq_port.proofs.EndSteps.{left_there, own_there, next_all, next_there}
 use Rattle.scq_port.proofs.ends.Ends.gather.Goals as goal
 use Rattle.scq_port.proofs.ends.Ends.gather.Goals.{then-word-eq2+in-Some, else-word-eq2}
@@ -21,7 +21,7 @@ unreachable-requires c =
     read_word (slots_items closed.words) c.loop-slot.slot c.word.result
     (subst (λ (l : List ℕ). get_elem? l c.loop-slot.slot ≡ some c.word.result) words c.word.ensures) ∙ c.if-word-eq2.true in
     let at : get_elem? (slots_items closed.slots) c.loop-slot.slot ≡ some c.take-left.result =
-    subst (λ (l : List Left). get_elem? l c.loop-slot.slot ≡ some c.take-left.result) inv.0 c.take-left.ensures.value in
+    subst (λ (l : List Laid). get_elem? l c.loop-slot.slot ≡ some c.take-left.result) inv.0 c.take-left.ensures.value in
     let low : c.loop-slot.slot < length (slots_items closed.slots) =
     omega (arith, c.loop-slot-test.true, c.slot_count.ensures, inv.1, closed.slots.ok.0) in
     let t = left_there c.args.self.table.shared.key.value c.args.token.id c.args.token.me.0 (slots_items closed.words) (slots_items closed.slots)
@@ -38,7 +38,7 @@ loop-slot-preserved c =
     let queue = c.args.self.table.shared.key.value in
     let words = ap slots_items (o.3 ∙ inv.2) in
     let at : get_elem? (slots_items closed.slots) i ≡ some c.take-left.result =
-    subst (λ (l : List Left). get_elem? l i ≡ some c.take-left.result) inv.0 c.take-left.ensures.value in
+    subst (λ (l : List Laid). get_elem? l i ≡ some c.take-left.result) inv.0 c.take-left.ensures.value in
     let low : i < length (slots_items closed.slots) =
     omega (arith, c.loop-slot-test.true, c.slot_count.ensures, inv.1, closed.slots.ok.0) in
     let less : i < slots_len c.loop-slot.closed.slots = omega (arith, c.loop-slot-test.true, c.slot_count.ensures) in

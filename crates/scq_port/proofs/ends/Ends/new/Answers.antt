@@ -1,6 +1,6 @@
 use Rattle.std.proofs.Common.{◌≡◌, ◌∙◌, arith, length, ℕ, replicate, sym, refl}
 use Rattle.scq_port.proofs.EndSteps.{opens}
-use Rattle.scq_port.proofs.ends.new_ends.Goals as goal
+use Rattle.scq_port.proofs.ends.Ends.new.Goals as goal
 
 pub new-requires : goal.new-requires
 new-requires c =

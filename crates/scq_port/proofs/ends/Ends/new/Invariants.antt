@@ -1,6 +1,6 @@
 use Rattle.std.proofs.Common.{◌≡◌, ◌≤◌, ◌-◌}
 use Rattle.std.specs.Prelude.{vec_len, vec_capacity}
-use Rattle.scq_port.proofs.ends.new_ends.Given as goal
+use Rattle.scq_port.proofs.ends.Ends.new.Given as goal
 
 abbrev pub invariant-loop-slots : goal.invariant-loop-slots
 invariant-loop-slots l = (vec_len l.slots ≤ l.count) × (l.count ≤ vec_capacity l.slots)
