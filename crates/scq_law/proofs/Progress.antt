@@ -1,9 +1,12 @@
+pub mod CaughtUp
 pub mod HeadGap
 pub mod Potential
+pub mod SeatCounts
 pub mod TurnEffects
+pub mod QuietTurns
 pub mod OwnSteps
 pub mod LeftBounds
+pub mod EndedTurns
 pub mod ProgressLaws
 pub mod CallsProgress
 pub mod WholeCalls
-pub mod EndedTurns

@@ -33,15 +33,17 @@ pub fn calls_take_few_steps()
         → IsRun c opening steps recorded → FewSteps c steps recorded.state }
 {}
 
-/// Lock-freedom: some call ends soon, whatever the seats do. Among more steps of a run than `k * 6 * (R + n + k)` that
-/// follow one another, for `k` seats, `n` indices and a Threshold that resets to `R`, one ends a call.
+/// Lock-freedom, with a bound: some call ends soon, whatever the seats do. Let `b` be `6 * (R + n + k)`,
+/// for `n` indices, `k` seats and a Threshold that resets to `R`. Among any `k * b + 1` steps of a run
+/// that follow one another one ends a call. A call that ends with Spent counts as ended.
 pub fn some_call_ends_soon()
     ensures { (c : Setup) (opening : List (List ℕ)) (steps : List (ℕ × Step)) → HasProgress c opening steps }
 {}
 
-/// A call makes at most `6 * (R + n + k)` steps of its seat, as many more for each put that ends with Done on the same ring
-/// meanwhile, and 6 more for each get that ends there. So others delay a call by what they finish there alone, and a call
-/// whose seat runs alone ends within `6 * (R + n + k)` steps.
+/// What delays a call: its seat makes at most `b` steps for it, `b` more for each put of another seat
+/// that ends with Done on its ring meanwhile, and 6 more for each get of another that ends there, got
+/// or nothing. An end with Spent, calls on other rings and seats that stopped cost it nothing. So each
+/// ring by itself is lock-free.
 pub fn calls_are_delayed_by_ends()
     ensures { (c : Setup) (opening : List (List ℕ)) (steps : List (ℕ × Step)) → DelayedByEnds c opening steps }
 {}

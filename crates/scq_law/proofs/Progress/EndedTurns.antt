@@ -1,5 +1,6 @@
--- What a call that ends costs another on its ring. Plan: of a get, its seat may draw one ticket of Head more, and change an entry once
--- more, or has changed one: that is 6 steps at most. Of a call that met Spent nothing. Of a put Threshold is reset: no more than the bound.
+-- What a call that ends costs another on its ring. Plan: of a get, its seat may draw one ticket of
+-- Head more, and change an entry once more, or has changed one: that is 6 steps at most. Of a call
+-- that met Spent nothing. Of a put Threshold is reset: no more than the bound.
 use Rattle.std.proofs.Common.{◌≡◌, ℕ, ◌+◌, ◌-◌, ◌*◌, ◌<◌, ◌≤◌, ◌⊎◌, Bool, true, false, ◌&&◌, List, [], ◌∷◌, ◌++◌, refl, sym, ap, inl, inr, arith}
 use Rattle.std.specs.Prelude.{◌==◌, nat_lt, nat_le, Some}
 use Rattle.std.proofs.lemmas.Bool.{cases_Bool}
@@ -18,8 +19,9 @@ use Rattle.scq_core.specs.Laws.{Busy, word_at}
 use Rattle.scq_core.proofs.UpdatedLemmas.{updated_here}
 use Rattle.scq_core.proofs.Turns.{awake}
 use Rattle.scq_core.proofs.Counts.{total_updated}
-use Rattle.scq_law.proofs.Progress.Potential.{draw_of, draw_on, change_on, draws_on, changes_on, spare_at, head_end, changes, stale, left, lag_left}
-use Rattle.scq_law.proofs.Progress.TurnEffects.{own_draw, own_change, draw_bit, stale_same, stale_bit, draw_before, change_before, rises}
+use Rattle.scq_law.proofs.Progress.Potential.{draw_of, draw_on, change_on, draws_on, changes_on, spare_at, left, Leaves, others_left}
+use Rattle.scq_law.proofs.Progress.SeatCounts.{own_draw, own_change, draw_bit}
+use Rattle.scq_law.proofs.Progress.QuietTurns.{stale_same, stale_bit, draw_before, change_before, rises}
 
 -- how many units a call costs that ends so, other than by Done: each is 6 steps
 abbrev pub is_done : Ended → Bool
@@ -40,17 +42,21 @@ last_call (x ∷ xs) a b same = last_call xs a b (cc)
 record EndEffect (m n : Cells) (r draw draw' change units : ℕ) : Type 0 where
   ends : n.head r + spare_at n r + draw' ≤ m.head r + spare_at m r + draw + units
   level : spare_at n r ≤ spare_at m r
-  entries : (((s : ℕ) → n.entries.word r s ≡ m.entries.word r s) × (spare_at n r + 1 ≤ spare_at m r + change + units))
+  entries : (((s : ℕ) → n.entries.word r s ≡ m.entries.word r s)
+      × (spare_at n r + 1 ≤ spare_at m r + change + units))
       ⊎ (spare_at n r + 2 ≤ spare_at m r + change + units)
 
 module _ (c : Setup) (m : Cells) (p : Part) where
   abbrev EndBy : Phase → Type 0
   EndBy turn =
-      (e : Ended) → (after c turn (read m (location_of c turn)) (beside m (location_of c turn)) p).phase ≡ Idle
-      → (after c turn (read m (location_of c turn)) (beside m (location_of c turn)) p).calls ≡ p.calls ++ e ∷ []
+      (e : Ended) → (after c turn (read m (location_of c turn)) (beside m (location_of c turn))
+      p).phase ≡ Idle
+      → (after c turn (read m (location_of c turn)) (beside m (location_of c turn)) p).calls
+      ≡ p.calls ++ e ∷ []
       → (is_done e ≡ true)
       ⊎ EndEffect m (cells_after c turn m) (ring_of turn) (own_draw turn)
-      (draw_of (ring_of turn) (after c turn (read m (location_of c turn)) (beside m (location_of c turn)) p).spent resting) (own_change turn) (end_units e)
+      (draw_of (ring_of turn) (after c turn (read m (location_of c turn))
+      (beside m (location_of c turn)) p).spent resting) (own_change turn) (end_units e)
 
   end_turn : (turn : Phase) → (turn ≡ Idle → ⊥) → EndBy turn
   end_turn Idle awake = absurd (awake refl)
@@ -59,13 +65,19 @@ module _ (c : Setup) (m : Cells) (p : Part) where
         | inl past ↦
             rw past
             (λ e rests calls.
-            let units : end_units e ≡ 0 = ap end_units (sym (last_call p.calls (Spent r (m.tail r) true) e calls)) in
-            inr (record { ends = omega arith; level = omega arith; entries = inl ((λ s. refl), omega arith) }))
+            let units : end_units e ≡ 0 =
+            ap end_units (sym (last_call p.calls (Spent r (m.tail r) true) e calls)) in
+            inr (record {
+              ends = omega arith;
+              level = omega arith;
+              entries = inl ((λ s. refl), omega arith);
+            }))
         | inr under ↦ rw under (λ e rests calls. absurd (cc))
       ]
   end_turn (AtE2 r i w t l) awake =
       let x = word_at c m r t in
-      elim (cases_Bool (nat_lt (cycle_in (ring_slots c) x) (cycle c t) && is_none_in (ring_slots c) x)) [
+      elim (cases_Bool (nat_lt (cycle_in (ring_slots c) x) (cycle c t) && is_none_in (ring_slots c)
+      x)) [
         | inl fits ↦
             elim (cases_Bool (safe_in (ring_slots c) x == 1)) [
               | inl safe ↦ rw (fits, safe) (λ e rests calls. absurd (cc))
@@ -85,19 +97,26 @@ module _ (c : Setup) (m : Cells) (p : Part) where
       ]
   end_turn (AtE5 r i w t) awake =
       elim (cases_Bool (m.threshold r == reset_level c)) [
-        | inl high ↦ rw high (λ e rests calls. inl (ap is_done (sym (last_call p.calls (Done r t w) e calls))))
+        | inl high ↦ rw high (λ e rests calls. inl
+            (ap is_done (sym (last_call p.calls (Done r t w) e calls))))
         | inr low ↦ rw low (λ e rests calls. absurd (cc))
       ]
-  end_turn (AtE6 r i w t) awake = λ e rests calls. inl (ap is_done (sym (last_call p.calls (Done r t w) e calls)))
+  end_turn (AtE6 r i w t) awake =
+      λ e rests calls. inl (ap is_done (sym (last_call p.calls (Done r t w) e calls)))
   end_turn (AtD1 r) awake =
       let same = updated_here m.threshold r (m.threshold r) in
       elim (cases_Bool (nat_lt (m.threshold r) zero_level)) [
         | inl low ↦
             rw low
             (λ e rests calls.
-            let units : end_units e ≡ 1 = ap end_units (sym (last_call p.calls (Nothing r) e calls)) in
+            let units : end_units e ≡ 1 =
+            ap end_units (sym (last_call p.calls (Nothing r) e calls)) in
             let bit = draw_bit r p.spent resting in
-            inr (record { ends = omega arith; level = omega arith; entries = inl ((λ s. refl), omega arith) }))
+            inr (record {
+              ends = omega arith;
+              level = omega arith;
+              entries = inl ((λ s. refl), omega arith);
+            }))
         | inr high ↦ rw high (λ e rests calls. absurd (cc))
       ]
   end_turn (AtD2 r l) awake =
@@ -106,8 +125,13 @@ module _ (c : Setup) (m : Cells) (p : Part) where
         | inl past ↦
             rw past
             (λ e rests calls.
-            let units : end_units e ≡ 0 = ap end_units (sym (last_call p.calls (Spent r (m.head r) false) e calls)) in
-            inr (record { ends = omega arith; level = omega arith; entries = inl ((λ s. refl), omega arith) }))
+            let units : end_units e ≡ 0 =
+            ap end_units (sym (last_call p.calls (Spent r (m.head r) false) e calls)) in
+            inr (record {
+              ends = omega arith;
+              level = omega arith;
+              entries = inl ((λ s. refl), omega arith);
+            }))
         | inr under ↦ rw under (λ e rests calls. absurd (cc))
       ]
   end_turn (AtD3 r h l) awake =
@@ -122,7 +146,9 @@ module _ (c : Setup) (m : Cells) (p : Part) where
       ]
   end_turn (AtD4 r h) awake =
       λ e rests calls.
-      let units : end_units e ≡ 1 = ap end_units (sym (last_call p.calls (Got r h (m.entries.content r (slot c h))) e calls)) in
+      let units : end_units e ≡ 1 =
+      ap end_units (sym (last_call p.calls (Got r h (m.entries.content r (slot c h))) e
+      calls)) in
       let bit = draw_bit r p.spent resting in
       inr (record { ends = omega arith; level = omega arith; entries = inr (omega arith) })
   end_turn (AtD5 r h v) awake =
@@ -151,99 +177,88 @@ module _ (c : Setup) (m : Cells) (p : Part) where
       λ e rests calls.
       let units : end_units e ≡ 1 = ap end_units (sym (last_call p.calls (Nothing r) e calls)) in
       let bit = draw_bit r p.spent resting in
-      inr (record { ends = omega arith; level = omega arith; entries = inl ((λ s. refl), omega arith) })
+      inr (record {
+        ends = omega arith;
+        level = omega arith;
+        entries = inl ((λ s. refl), omega arith);
+      })
   end_turn (AtD10 r h false) awake =
       let less = updated_here m.threshold r (m.threshold r - 1) in
       elim (cases_Bool (nat_le (m.threshold r) zero_level)) [
         | inl low ↦
             rw low
             (λ e rests calls.
-            let units : end_units e ≡ 1 = ap end_units (sym (last_call p.calls (Nothing r) e calls)) in
+            let units : end_units e ≡ 1 =
+            ap end_units (sym (last_call p.calls (Nothing r) e calls)) in
             let bit = draw_bit r p.spent resting in
-            inr (record { ends = omega arith; level = omega arith; entries = inl ((λ s. refl), omega arith) }))
+            inr (record {
+              ends = omega arith;
+              level = omega arith;
+              entries = inl ((λ s. refl), omega arith);
+            }))
         | inr high ↦ rw high (λ e rests calls. absurd (cc))
       ]
 
--- a little more of everything
-record Louder (c : Setup) (m n : Cells) (dm bm dn bn : ℕ → ℕ) (units r : ℕ) : Type 0 where
-  ends : head_end n dn r ≤ head_end m dm r + units
-  tail : m.tail r ≤ n.tail r
-  level : spare_at n r ≤ spare_at m r
-  change : changes n bn r ≤ changes m bm r + units
-  looks : (t e : ℕ) → changes n bn r + stale c n r t e ≤ changes m bm r + stale c m r t e + units
+-- a step of seat j that ends its call so: another call on the turn's ring has no more left than 6
+-- for each unit, unless it ends with Done
+module _ (c : Setup) (m : Machine) (j : ℕ) (s : Step) (turn : Phase) (low : j < c.seats)
+    (reachable : IsReachable c m) (enabled : turn_of c (m.part j) s ≡ Some turn) where
+  abbrev part_then : Part
+  part_then = after c turn (read m.cells (location_of c turn)) (beside m.cells (location_of c turn))
+      (m.part j)
 
-louder_left : (c : Setup) (m n : Cells) (dm bm dn bn : ℕ → ℕ) (units : ℕ) (hand : List ℕ) (phase : Phase) → Busy c m hand phase
-    → Louder c m n dm bm dn bn units (ring_of phase) → left c n dn bn phase ≤ left c m dm bm phase + 6 * units
-louder_left c m n dm bm dn bn u hand Idle busy q = omega arith
-louder_left c m n dm bm dn bn u hand (AtE1 r i w l) busy q = let a = q.ends in let b = q.tail in let d = q.change in omega arith
-louder_left c m n dm bm dn bn u hand (AtE2 r i w t l) busy q = let a = q.ends in let b = q.tail in let d = q.change in omega arith
-louder_left c m n dm bm dn bn u hand (AtE3 r i w t e) busy q = let a = q.ends in let b = q.tail in let d = q.looks t e in omega arith
-louder_left c m n dm bm dn bn u hand (AtE4 r i w t e) busy q = let a = q.ends in let b = q.tail in let d = q.looks t e in omega arith
-louder_left c m n dm bm dn bn u hand (AtE5 r i w t) busy q = omega arith
-louder_left c m n dm bm dn bn u hand (AtE6 r i w t) busy q = omega arith
-louder_left c m n dm bm dn bn u hand (AtD1 r) busy q = let a = q.level in let d = q.change in omega arith
-louder_left c m n dm bm dn bn u hand (AtD2 r l) busy q = let a = q.level in let d = q.change in omega arith
-louder_left c m n dm bm dn bn u hand (AtD3 r h l) busy q = let a = q.level in let d = q.change in omega arith
-louder_left c m n dm bm dn bn u hand (AtD4 r h) busy q = omega arith
-louder_left c m n dm bm dn bn u hand (AtD5 r h e) busy q = let a = q.level in let d = q.looks h e in omega arith
-louder_left c m n dm bm dn bn u hand (AtD6 r h) busy q = let a = q.level in let d = q.change in omega arith
-louder_left c m n dm bm dn bn u hand (AtD7 r h from to) busy q =
-    let up = busy.2 in
-    let up_to = up.rises in
-    let low = up.behind_head in
-    let more = lag_left (m.tail r) (n.tail r) (head_end m dm r + u) (head_end n dn r) from q.tail q.ends (omega arith) in
-    omega arith
-louder_left c m n dm bm dn bn u hand (AtD8 r h from) busy q = let a = q.ends in let b = q.tail in omega arith
-louder_left c m n dm bm dn bn u hand (AtD9 r h from to) busy q = let a = q.ends in let b = q.tail in omega arith
-louder_left c m n dm bm dn bn u hand (AtD10 r h true) busy q = omega arith
-louder_left c m n dm bm dn bn u hand (AtD10 r h false) busy q = let a = q.level in let d = q.change in omega arith
-
--- a step of seat j that ends its call so: another call on the turn's ring has no more left than 6 for each unit, unless it ends with Done
-module _ (c : Setup) (m : Machine) (j : ℕ) (s : Step) (turn : Phase) (low : j < c.seats) (reachable : IsReachable c m) (enabled : turn_of c (m.part j) s ≡ Some turn) where
-  abbrev part_ended : Part
-  part_ended = after c turn (read m.cells (location_of c turn)) (beside m.cells (location_of c turn)) (m.part j)
-
-  louder : (e : Ended) → part_ended.phase ≡ Idle → part_ended.calls ≡ (m.part j).calls ++ e ∷ []
+  left_by_end : (e : Ended) → part_then.phase ≡ Idle → part_then.calls ≡ (m.part j).calls ++ e ∷ []
       → (is_done e ≡ true)
-      ⊎ Louder c m.cells (cells_after c turn m.cells) (draws_on c m) (changes_on c m) (draws_on c (moved c m j turn)) (changes_on c (moved c m j turn)) (end_units e) (ring_of turn)
-  louder e rests calls =
+      ⊎ Leaves (end_units e) c m.cells (cells_after c turn m.cells) (draws_on c m) (changes_on c m)
+      (draws_on c (moved c m j turn)) (changes_on c (moved c m j turn)) (ring_of turn)
+  left_by_end e rests calls =
       let r = ring_of turn in
       let n = cells_after c turn m.cells in
-      elim (end_turn c m.cells (m.part j) turn (awake c (m.part j).hand (m.part j).spent (m.part j).phase s turn enabled) e rests calls) [
+      elim (end_turn c m.cells (m.part j) turn
+      (awake c (m.part j).hand (m.part j).spent (m.part j).phase s turn enabled) e rests
+      calls) [
         | inl done ↦ inl done
         | inr effect ↦
-            let draws = total_updated (λ (p : Part). draw_on r p) m.part j part_ended c.seats low in
+            let draws = total_updated (λ (p : Part). draw_on r p) m.part j part_then c.seats low in
             let draw_was = draw_before c m j s turn low reachable enabled in
-            let draw_now : draw_on r part_ended ≡ draw_of r part_ended.spent resting = ap (λ (v : Phase). draw_of r part_ended.spent (stance_of v)) rests in
-            let bits = total_updated (λ (p : Part). change_on r p) m.part j part_ended c.seats low in
+            let draw_now : draw_on r part_then ≡ draw_of r part_then.spent resting =
+            ap (λ (v : Phase). draw_of r part_then.spent (stance_of v)) rests in
+            let bits = total_updated (λ (p : Part). change_on r p) m.part j part_then c.seats low in
             let bit_was = change_before c m j s turn low reachable enabled in
-            let bit_now : change_on r part_ended ≡ 1 = rw rests refl in
+            let bit_now : change_on r part_then ≡ 1 = rw rests refl in
             let ends = effect.ends in
             inr
             (record {
               ends = omega arith;
               tail = (rises c m j s turn low reachable enabled).tail r;
               level = effect.level;
-              change = elim effect.entries [ inl same ↦ let less = same.1 in omega arith | inr less ↦ omega arith ];
+              change = elim effect.entries
+                  [ inl same ↦ let less = same.1 in omega arith | inr less ↦ omega arith ];
               looks =
                   λ t v.
                   elim effect.entries [
-                    | inl same ↦ let less = same.1 in let word = stale_same c m.cells n r same.0 t v in omega arith
+                    | inl same ↦
+                        let less = same.1 in
+                        let word = stale_same c m.cells n r same.0 t v in
+                        omega arith
                     | inr less ↦ let bit = stale_bit c n r t v in omega arith
                   ];
             })
       ]
 
-  pub end_left : (e : Ended) (hand : List ℕ) (phase : Phase) → Busy c m.cells hand phase → ring_of phase ≡ ring_of turn → part_ended.phase ≡ Idle
-      → part_ended.calls ≡ (m.part j).calls ++ e ∷ []
+  pub end_left : (e : Ended) (hand : List ℕ) (phase : Phase) → Busy c m.cells hand phase
+      → ring_of phase ≡ ring_of turn → part_then.phase ≡ Idle
+      → part_then.calls ≡ (m.part j).calls ++ e ∷ []
       → (is_done e ≡ true)
-      ⊎ (left c (cells_after c turn m.cells) (draws_on c (moved c m j turn)) (changes_on c (moved c m j turn)) phase
+      ⊎ (left c (cells_after c turn m.cells) (draws_on c (moved c m j turn))
+      (changes_on c (moved c m j turn)) phase
       ≤ left c m.cells (draws_on c m) (changes_on c m) phase + 6 * end_units e)
   end_left e hand phase busy ring rests calls =
-      elim (louder e rests calls) [
+      elim (left_by_end e rests calls) [
         | inl done ↦ inl done
         | inr more ↦
             inr
-            (louder_left c m.cells (cells_after c turn m.cells) (draws_on c m) (changes_on c m) (draws_on c (moved c m j turn)) (changes_on c (moved c m j turn))
-            (end_units e) hand phase busy (rw ring more))
+            (others_left (end_units e) c m.cells (cells_after c turn m.cells) (draws_on c m)
+            (changes_on c m) (draws_on c (moved c m j turn)) (changes_on c (moved c m j turn)) hand
+            phase busy (rw ring more))
       ]

@@ -1,157 +1,31 @@
--- Head is no further past Tail than seats have tickets of it. Plan: each ticket from Tail on below Head is that of a dequeue which
--- hasn't seen Tail past it, or one that a seat keeps, since a dequeue takes or gives up only once Tail is past its ticket; and a
--- seat has one ticket.
-use Rattle.std.proofs.Common.{◌≡◌, ℕ, zero, suc, ◌+◌, ◌-◌, ◌<◌, ◌≤◌, ◌⊎◌, true, false, ◌&&◌, List, refl, sym, ap, ◌∙◌, inl, inr, arith, eq-eqb, ne_eqb, leb-true}
+-- Head is no further past Tail than seats have tickets of it. Plan: each ticket from Tail on below
+-- Head is that of a dequeue which hasn't seen Tail past it, or one that a seat keeps, since a
+-- dequeue takes or gives up only once Tail is past its ticket; and a seat has one ticket.
+use Rattle.std.proofs.Common.{◌≡◌, ℕ, zero, suc, ◌+◌, ◌-◌, ◌<◌, ◌≤◌, ◌⊎◌, true, false, refl, sym, ap, ◌∙◌, inl, inr, arith, eq-eqb, ne_eqb}
 use Rattle.std.specs.Prelude.{◌==◌, nat_lt, nat_le, if◌then◌else◌, Option, Some, None}
-use Rattle.std.proofs.lemmas.Bool.{cases_Bool, cases_eq, cases_lt, leb-false}
+use Rattle.std.proofs.lemmas.Bool.{cases_Bool, cases_eq, cases_lt}
 use Rattle.scq_word.specs.declared.setup.Setup.{Setup}
 use Rattle.scq_word.specs.Sizes.{n_of}
-use Rattle.scq_word.specs.Words.{safe_in, cycle_in, is_none_in}
+use Rattle.scq_word.specs.Words.{cycle_in}
 use Rattle.scq_core.specs.declared.phase.Phase.{Phase}
-use Rattle.scq_core.specs.declared.phase.Phase.TheVariants.{Idle, AtE1, AtE2, AtE3, AtE4, AtE5, AtE6, AtD1, AtD2, AtD3, AtD4, AtD5, AtD6, AtD7, AtD8, AtD9, AtD10}
+use Rattle.scq_core.specs.declared.phase.Phase.TheVariants.{AtE3, AtD2, AtD3, AtD4, AtD5, AtD6, AtD7, AtD8, AtD9, AtD10}
 use Rattle.scq_core.specs.declared.step.Step.{Step}
 use Rattle.scq_core.specs.Updated.{updated}
 use Rattle.scq_core.specs.Machine.{Cells, Part, Machine, read, beside}
-use Rattle.scq_core.specs.Table.{ring_slots, cycle, zero_level, reset_level, turn_of, location_of, after, cells_after, moved}
+use Rattle.scq_core.specs.Table.{ring_slots, cycle, turn_of, location_of, after, cells_after, moved}
 use Rattle.scq_core.specs.Stances.{Stance, trying, gave_up, stance_of}
 use Rattle.scq_core.specs.Reach.{IsReachable, at_start, by_step}
-use Rattle.scq_core.specs.Laws.{CountersRise, Busy, word_at, total}
-use Rattle.scq_core.proofs.UpdatedLemmas.{updated_here, updated_else, updated_or, updated_cases}
-use Rattle.scq_core.proofs.Turns.{turned, Begins, begins_put, begins_get, begins, awake}
+use Rattle.scq_core.specs.Laws.{word_at, total}
+use Rattle.scq_core.proofs.UpdatedLemmas.{updated_here, updated_else, updated_or}
+use Rattle.scq_core.proofs.Turns.{turned, begins}
 use Rattle.scq_core.proofs.Steady.{has, steady, keeps_none, either_way}
 use Rattle.scq_core.proofs.Ranks.{counters_rise}
 use Rattle.scq_core.proofs.Counts.{total_one}
-use Rattle.scq_law.proofs.Base.Ghosts.{Ghost, is_placed}
-use Rattle.scq_law.proofs.Base.BaseGroup.{Knows}
-use Rattle.scq_law.proofs.Base.Based.{IsBased, based, turn_knows}
-use Rattle.scq_law.proofs.Base.Traces.{has_trace}
 use Rattle.scq_law.proofs.Base.SeatSums.{total_le, total_plus}
+use Rattle.scq_law.proofs.Progress.CaughtUp.{Caught, Takes, caught_at, caught, takes_at}
 
--- a dequeue that catches up aims past its ticket, and Tail is past the ticket once it is done with it
-abbrev pub Caught : Cells → Phase → Type 0
-Caught m (AtD7 r h from to) = h < to
-Caught m (AtD9 r h from to) = h < to
-Caught m (AtD10 r h leaving) = h < m.tail r
-Caught m phase = Unit {0}
-
-caught_lasts : (m n : Cells) (phase : Phase) → CountersRise m n → Caught m phase → Caught n phase
-caught_lasts m n (AtD7 r h from to) up low = low
-caught_lasts m n (AtD9 r h from to) up low = low
-caught_lasts m n (AtD10 r h leaving) up low = let rises = up.tail r in omega arith
-caught_lasts m n phase up low = tt
-
-module _ (c : Setup) (m : Cells) (p : Part) where
-  abbrev CaughtThen : Phase → Type 0
-  CaughtThen turn = Caught (cells_after c turn m) (after c turn (read m (location_of c turn)) (beside m (location_of c turn)) p).phase
-
-  caught_turn : (turn : Phase) → (turn ≡ Idle → ⊥) → Busy c m p.hand turn → Caught m turn → CaughtThen turn
-  caught_turn Idle awake busy was = absurd (awake refl)
-  caught_turn (AtE1 r i w l) awake busy was = elim (cases_Bool (nat_le c.limit (m.tail r))) [ inl past ↦ rw past tt | inr under ↦ rw under tt ]
-  caught_turn (AtE2 r i w t l) awake busy was =
-      let x = word_at c m r t in
-      elim (cases_Bool (nat_lt (cycle_in (ring_slots c) x) (cycle c t) && is_none_in (ring_slots c) x)) [
-        | inl fits ↦
-            elim (cases_Bool (safe_in (ring_slots c) x == 1)) [ inl safe ↦ rw (fits, safe) tt | inr unsafe ↦ rw (fits, unsafe) tt ]
-        | inr fails ↦ rw fails tt
-      ]
-  caught_turn (AtE3 r i w t e) awake busy was = elim (cases_Bool (nat_le (m.head r) t)) [ inl low ↦ rw low tt | inr fails ↦ rw fails tt ]
-  caught_turn (AtE4 r i w t e) awake busy was = elim (cases_Bool (word_at c m r t == e)) [ inl hit ↦ rw hit tt | inr miss ↦ rw miss tt ]
-  caught_turn (AtE5 r i w t) awake busy was =
-      elim (cases_Bool (m.threshold r == reset_level c)) [ inl high ↦ rw high tt | inr low ↦ rw low tt ]
-  caught_turn (AtE6 r i w t) awake busy was = tt
-  caught_turn (AtD1 r) awake busy was = elim (cases_Bool (nat_lt (m.threshold r) zero_level)) [ inl low ↦ rw low tt | inr high ↦ rw high tt ]
-  caught_turn (AtD2 r l) awake busy was = elim (cases_Bool (nat_le c.limit (m.head r))) [ inl past ↦ rw past tt | inr under ↦ rw under tt ]
-  caught_turn (AtD3 r h l) awake busy was =
-      let x = word_at c m r h in
-      elim (cases_Bool (cycle_in (ring_slots c) x == cycle c h)) [
-        | inl same ↦ rw same tt
-        | inr other ↦
-            elim (cases_Bool (nat_lt (cycle_in (ring_slots c) x) (cycle c h))) [ inl lower ↦ rw (other, lower) tt | inr higher ↦ rw (other, higher) tt ]
-      ]
-  caught_turn (AtD4 r h) awake busy was = tt
-  caught_turn (AtD5 r h e) awake busy was = elim (cases_Bool (word_at c m r h == e)) [ inl hit ↦ rw hit tt | inr miss ↦ rw miss tt ]
-  caught_turn (AtD6 r h) awake busy was =
-      let same = updated_here m.tail r (m.tail r) in
-      elim (cases_Bool (nat_le (m.tail r) (h + 1))) [
-        | inl low ↦ rw low (omega arith)
-        | inr high ↦ let over = leb-false (m.tail r) (h + 1) high in rw high (omega arith)
-      ]
-  caught_turn (AtD7 r h from to) awake busy was =
-      let here = updated_here m.tail r to in
-      elim (cases_eq (m.tail r) from) [
-        | inl hit ↦ rw (eq-eqb (m.tail r) from hit) (omega arith)
-        | inr miss ↦ rw (ne_eqb (m.tail r) from miss) tt
-      ]
-  caught_turn (AtD8 r h from) awake busy was = let drawn = busy.1 in drawn.below
-  caught_turn (AtD9 r h from to) awake busy was =
-      let same = updated_here m.tail r (m.tail r) in
-      elim (cases_Bool (nat_le to (m.tail r))) [
-        | inl caught ↦ let le = leb-true to (m.tail r) caught in rw caught (omega arith)
-        | inr under ↦ rw under was
-      ]
-  caught_turn (AtD10 r h true) awake busy was = tt
-  caught_turn (AtD10 r h false) awake busy was =
-      elim (cases_Bool (nat_le (m.threshold r) zero_level)) [ inl low ↦ rw low tt | inr high ↦ rw high tt ]
-
-begun_caught : (c : Setup) (m : Cells) (hand : List ℕ) (turn : Phase) → Begins c hand turn → Caught m turn
-begun_caught c m hand turn (begins_put r i w low small held) = tt
-begun_caught c m hand turn (begins_get r low) = tt
-
--- an enabled turn has what its seat's phase has
-pub caught_at : (c : Setup) (m : Cells) (p : Part) (s : Step) (turn : Phase) → turn_of c p s ≡ Some turn → Caught m p.phase → Caught m turn
-caught_at c m p s turn enabled was =
-    elim (begins c p.hand p.spent p.phase s turn enabled) [
-      | inl same ↦ rw same was
-      | inr new ↦ begun_caught c m p.hand turn new.2
-    ]
-
-caught_step : (c : Setup) (m : Machine) (j : ℕ) (s : Step) (turn : Phase) → IsReachable c m → turn_of c (m.part j) s ≡ Some turn
-    → ((k : ℕ) → Caught m.cells (m.part k).phase) → (k : ℕ) → Caught (moved c m j turn).cells ((moved c m j turn).part k).phase
-caught_step c m j s turn reach enabled was k =
-    let all = steady c m reach in
-    let p = m.part j in
-    let busy = has c m.cells p s turn (all.busy j) enabled in
-    let n = cells_after c turn m.cells in
-    let up = counters_rise c m.cells p.hand turn busy in
-    updated_cases
-    (λ (_ : ℕ) (v : Part). Caught n v.phase)
-    m.part
-    j
-    (after c turn (read m.cells (location_of c turn)) (beside m.cells (location_of c turn)) p)
-    k
-    (λ _. caught_turn c m.cells p turn (awake c p.hand p.spent p.phase s turn enabled) busy (caught_at c m.cells p s turn enabled (was j)))
-    (λ _. caught_lasts m.cells n (m.part k).phase up (was k))
-
-pub caught : (c : Setup) (m : Machine) → IsReachable c m → (k : ℕ) → Caught m.cells (m.part k).phase
-caught c m (at_start opening full) k = tt
-caught c m (by_step {m = b} seat step reach low e) k =
-    let t = turned c b seat step m e in
-    rw t.next (caught_step c b seat step t.turn reach t.enabled (caught c b reach) k)
-
--- where a dequeue is about to take, Tail is past its ticket
-abbrev Takes : Cells → Phase → Type 0
-Takes m (AtD4 r h) = h < m.tail r
-Takes m phase = Unit {0}
-
-takes_turn : (c : Setup) (m : Machine) (g : Ghost) (turn : Phase) → IsBased c g m → Knows c m.cells.entries.word g.gets turn → Takes m.cells turn
-takes_turn c m g (AtD4 r h) base knows =
-    elim (cases_lt h (m.cells.tail r)) [
-      | inl less ↦ less
-      | inr high ↦
-          let live = base.booked.live r h knows in
-          let none : is_placed (g.puts r h) ≡ false = ap is_placed (base.drawn.tails r h high) in
-          let both : true ≡ false = sym live.0 ∙ none in
-          absurd (cc)
-    ]
-takes_turn c m g turn base knows = tt
-
-takes_at : (c : Setup) (m : Machine) (j : ℕ) (s : Step) (turn : Phase) → IsReachable c m → turn_of c (m.part j) s ≡ Some turn → Takes m.cells turn
-takes_at c m j s turn reach enabled =
-    let t = has_trace c m reach in
-    let base = based c t.time t.ghost m t.trace in
-    takes_turn c m t.ghost turn base (turn_knows c m.cells t.ghost (m.part j) s turn enabled (base.knows j))
-
--- the ticket of Head that a seat has on a ring: the one that it keeps, or the one that its dequeue looks at or gave up
+-- the ticket of Head that a seat has on a ring: the one that it keeps, or the one that its dequeue
+-- looks at or gave up
 abbrev pub ticket_held : ℕ → Option ℕ → Stance → Option ℕ
 ticket_held r (Some t) s = Some t
 ticket_held r None (trying q h) = if q == r then Some h else None
@@ -161,18 +35,22 @@ ticket_held r None s = None
 abbrev pub ticket_on : ℕ → Part → Option ℕ
 ticket_on r p = ticket_held r p.spent (stance_of p.phase)
 
-with_none : (r : ℕ) (o : Option ℕ) (s : Stance) (t : ℕ) → o ≡ None → ticket_held r None s ≡ Some t → ticket_held r o s ≡ Some t
+with_none : (r : ℕ) (o : Option ℕ) (s : Stance) (t : ℕ) → o ≡ None → ticket_held r None s ≡ Some t
+    → ticket_held r o s ≡ Some t
 with_none r o s t none is = rw none is
 
 held_is : (q r h t : ℕ) → (if q == r then Some h else None) ≡ Some t → (q ≡ r) × (h ≡ t)
 held_is q r h t e =
     elim (cases_eq q r) [
       | inl same ↦ let is : Some h ≡ Some t = rw (eq-eqb q r same) at e in (same, cc)
-      | inr other ↦ let is : ◌≡◌ {A = Option ℕ} None (Some t) = rw (ne_eqb q r other) at e in absurd (cc)
+      | inr other ↦
+          let is : ◌≡◌ {A = Option ℕ} None (Some t) = rw (ne_eqb q r other) at e in
+          absurd (cc)
     ]
 
 -- a ticket that Tail is past
-past_tail : (m : Cells) (q r h t : ℕ) → (if q == r then Some h else None) ≡ Some t → h < m.tail q → t < m.tail r
+past_tail : (m : Cells) (q r h t : ℕ) → (if q == r then Some h else None) ≡ Some t → h < m.tail q
+    → t < m.tail r
 past_tail m q r h t e low =
     let is = held_is q r h t e in
     let ticket = is.1 in
@@ -182,39 +60,49 @@ past_tail m q r h t e low =
 -- the seat of a turn keeps its ticket, or Tail is past that
 module _ (c : Setup) (m : Cells) (p : Part) (none : p.spent ≡ None) (r t : ℕ) where
   abbrev StaysFor : Phase → Type 0
-  StaysFor turn = (ticket_on r (after c turn (read m (location_of c turn)) (beside m (location_of c turn)) p) ≡ Some t) ⊎ (t < m.tail r)
+  StaysFor turn = (ticket_on r
+      (after c turn (read m (location_of c turn)) (beside m (location_of c turn)) p) ≡ Some t)
+      ⊎ (t < m.tail r)
 
   abbrev HasIt : Part → Type 0
   HasIt v = ticket_on r v ≡ Some t
 
-  stays_for : (turn : Phase) → Caught m turn → Takes m turn → ticket_held r None (stance_of turn) ≡ Some t → StaysFor turn
+  stays_for : (turn : Phase) → Caught m turn → Takes m turn
+      → ticket_held r None (stance_of turn) ≡ Some t → StaysFor turn
   stays_for (AtD3 q h l) low takes e =
       let x = word_at c m q h in
       inl
       (either_way HasIt (cycle_in (ring_slots c) x == cycle c h) _ _
       (with_none r p.spent (trying q h) t none e)
-      (either_way HasIt (nat_lt (cycle_in (ring_slots c) x) (cycle c h)) _ _ (with_none r p.spent (trying q h) t none e)
+      (either_way HasIt (nat_lt (cycle_in (ring_slots c) x) (cycle c h)) _ _
+      (with_none r p.spent (trying q h) t none e)
       (with_none r p.spent (gave_up q h false) t none e)))
   stays_for (AtD4 q h) low takes e = inr (past_tail m q r h t e takes)
   stays_for (AtD5 q h x) low takes e =
       inl
-      (either_way HasIt (word_at c m q h == x) _ _ (with_none r p.spent (gave_up q h false) t none e) (with_none r p.spent (trying q h) t none e))
+      (either_way HasIt (word_at c m q h == x) _ _
+      (with_none r p.spent (gave_up q h false) t none e)
+      (with_none r p.spent (trying q h) t none e))
   stays_for (AtD6 q h) low takes e =
       inl
-      (either_way HasIt (nat_le (m.tail q) (h + 1)) _ _ (with_none r p.spent (gave_up q h true) t none e)
+      (either_way HasIt (nat_le (m.tail q) (h + 1)) _ _
+      (with_none r p.spent (gave_up q h true) t none e)
       (with_none r p.spent (gave_up q h false) t none e))
   stays_for (AtD7 q h from to) low takes e =
       inl
-      (either_way HasIt (m.tail q == from) _ _ (with_none r p.spent (gave_up q h true) t none e) (with_none r p.spent (gave_up q h true) t none e))
+      (either_way HasIt (m.tail q == from) _ _ (with_none r p.spent (gave_up q h true) t none e)
+      (with_none r p.spent (gave_up q h true) t none e))
   stays_for (AtD8 q h from) low takes e = inl (with_none r p.spent (gave_up q h true) t none e)
   stays_for (AtD9 q h from to) low takes e =
       inl
-      (either_way HasIt (nat_le to (m.tail q)) _ _ (with_none r p.spent (gave_up q h true) t none e) (with_none r p.spent (gave_up q h true) t none e))
+      (either_way HasIt (nat_le to (m.tail q)) _ _ (with_none r p.spent (gave_up q h true) t none e)
+      (with_none r p.spent (gave_up q h true) t none e))
   stays_for (AtD10 q h leaving) low takes e = inr (past_tail m q r h t e low)
   stays_for turn low takes e = let clash : ◌≡◌ {A = Option ℕ} None (Some t) = e in absurd (cc)
 
 -- a turn's seat has the ticket that its part has
-turn_ticket : (c : Setup) (p : Part) (s : Step) (turn : Phase) (r t : ℕ) → turn_of c p s ≡ Some turn → p.spent ≡ None → ticket_on r p ≡ Some t
+turn_ticket : (c : Setup) (p : Part) (s : Step) (turn : Phase) (r t : ℕ) → turn_of c p s ≡ Some turn
+    → p.spent ≡ None → ticket_on r p ≡ Some t
     → ticket_held r None (stance_of turn) ≡ Some t
 turn_ticket c p s turn r t enabled none is =
     let plain : ticket_held r None (stance_of p.phase) ≡ Some t = rw none at is in
@@ -228,24 +116,26 @@ pub same_value : (f : ℕ → ℕ) (q r : ℕ) → updated f q (f q) r ≡ f r
 same_value f q r = elim (updated_or f q (f q) r) [ inl a ↦ a.1 ∙ ap f (sym a.0) | inr a ↦ a.1 ]
 
 -- a ticket that Head passes in a turn is the turn's seat's
-module _ (c : Setup) (m : Cells) (p : Part) (none : p.spent ≡ None) (r t : ℕ) (high : m.head r ≤ t) where
-  new_ticket : (turn : Phase) → t < (cells_after c turn m).head r
-      → ticket_on r (after c turn (read m (location_of c turn)) (beside m (location_of c turn)) p) ≡ Some t
-  new_ticket (AtE3 q i w u e) under = let same = same_value m.head q r in absurd (omega arith)
-  new_ticket (AtD8 q h from) under = let same = same_value m.head q r in absurd (omega arith)
-  new_ticket (AtD2 q l) under =
-      elim (updated_or m.head q (m.head q + 1) r) [
-        | inl a ↦
-            let new = a.1 in
-            let ring : m.head r ≡ m.head q = ap m.head a.0 in
-            let same : m.head q ≡ t = omega arith in
-            elim (cases_Bool (nat_le c.limit (m.head q))) [
-              | inl past ↦ rw past (ap (λ (x : ℕ). Some x) same)
-              | inr low ↦ rw (low, none, eq-eqb q r (sym a.0)) (ap (λ (x : ℕ). Some x) same)
-            ]
-        | inr a ↦ let old = a.1 in absurd (omega arith)
-      ]
-  new_ticket turn under = absurd (omega arith)
+module _ (c : Setup) (m : Cells) (p : Part) (none : p.spent ≡ None) (r t : ℕ) (high : m.head r ≤ t)
+  where
+    new_ticket : (turn : Phase) → t < (cells_after c turn m).head r
+        → ticket_on r (after c turn (read m (location_of c turn)) (beside m (location_of c turn)) p)
+        ≡ Some t
+    new_ticket (AtE3 q i w u e) under = let same = same_value m.head q r in absurd (omega arith)
+    new_ticket (AtD8 q h from) under = let same = same_value m.head q r in absurd (omega arith)
+    new_ticket (AtD2 q l) under =
+        elim (updated_or m.head q (m.head q + 1) r) [
+          | inl a ↦
+              let new = a.1 in
+              let ring : m.head r ≡ m.head q = ap m.head a.0 in
+              let same : m.head q ≡ t = omega arith in
+              elim (cases_Bool (nat_le c.limit (m.head q))) [
+                | inl past ↦ rw past (ap (λ (x : ℕ). Some x) same)
+                | inr low ↦ rw (low, none, eq-eqb q r (sym a.0)) (ap (λ (x : ℕ). Some x) same)
+              ]
+          | inr a ↦ let old = a.1 in absurd (omega arith)
+        ]
+    new_ticket turn under = absurd (omega arith)
 
 -- a seat has the ticket
 pub record HasTicket (c : Setup) (m : Machine) (r t : ℕ) : Type 0 where
@@ -256,7 +146,8 @@ pub record HasTicket (c : Setup) (m : Machine) (r t : ℕ) : Type 0 where
 abbrev pub TicketsHeld : Setup → Machine → Type 0
 TicketsHeld c m = (r t : ℕ) → m.cells.tail r ≤ t → t < m.cells.head r → HasTicket c m r t
 
-held_step : (c : Setup) (m : Machine) (j : ℕ) (s : Step) (turn : Phase) → j < c.seats → IsReachable c m → turn_of c (m.part j) s ≡ Some turn
+held_step : (c : Setup) (m : Machine) (j : ℕ) (s : Step) (turn : Phase) → j < c.seats
+    → IsReachable c m → turn_of c (m.part j) s ≡ Some turn
     → TicketsHeld c m → TicketsHeld c (moved c m j turn)
 held_step c m j s turn low reach enabled was r t high under =
     let all = steady c m reach in
@@ -264,32 +155,42 @@ held_step c m j s turn low reach enabled was r t high under =
     let busy = has c m.cells p s turn (all.busy j) enabled in
     let tail = (counters_rise c m.cells p.hand turn busy).tail r in
     let none = keeps_none c m j s turn all enabled in
-    let q = after c turn (read m.cells (location_of c turn)) (beside m.cells (location_of c turn)) p in
+    let q = after c turn (read m.cells (location_of c turn)) (beside m.cells (location_of c turn))
+    p in
     elim (cases_lt t (m.cells.head r)) [
       | inl old ↦
           let one = was r t (omega arith) old in
           elim (cases_eq one.seat j) [
             | inl own ↦
-                let mine : ticket_on r p ≡ Some t = sym (ap (λ (k : ℕ). ticket_on r (m.part k)) own) ∙ one.is in
+                let mine : ticket_on r p ≡ Some t =
+                sym (ap (λ (k : ℕ). ticket_on r (m.part k)) own) ∙ one.is in
                 elim
-                (stays_for c m.cells p none r t turn (caught_at c m.cells p s turn enabled (caught c m reach j)) (takes_at c m j s turn reach enabled)
+                (stays_for c m.cells p none r t turn
+                (caught_at c m.cells p s turn enabled (caught c m reach j))
+                (takes_at c m j s turn reach enabled)
                 (turn_ticket c p s turn r t enabled none mine)) [
                   | inl still ↦
-                      record { seat = j; low = low; is = ap (λ (v : Part). ticket_on r v) (updated_here m.part j q) ∙ still }
+                      record {
+                        seat = j;
+                        low = low;
+                        is = ap (λ (v : Part). ticket_on r v) (updated_here m.part j q) ∙ still;
+                      }
                   | inr past ↦ absurd (omega arith)
                 ]
             | inr other ↦
                 record {
                   seat = one.seat;
                   low = one.low;
-                  is = ap (λ (v : Part). ticket_on r v) (updated_else m.part j q one.seat other) ∙ one.is;
+                  is = ap (λ (v : Part). ticket_on r v) (updated_else m.part j q one.seat other)
+                      ∙ one.is;
                 }
           ]
       | inr new ↦
           record {
             seat = j;
             low = low;
-            is = ap (λ (v : Part). ticket_on r v) (updated_here m.part j q) ∙ new_ticket c m.cells p none r t new turn under;
+            is = ap (λ (v : Part). ticket_on r v) (updated_here m.part j q)
+                ∙ new_ticket c m.cells p none r t new turn under;
           }
     ]
 
@@ -297,8 +198,12 @@ pub tickets_held : (c : Setup) (m : Machine) → IsReachable c m → TicketsHeld
 tickets_held c m (at_start opening full) =
     λ r t high under.
     elim (cases_eq r 0) [
-      | inl first ↦ let low : ring_slots c + n_of c.order ≤ t = rw (eq-eqb r 0 first) at high in absurd (omega arith)
-      | inr later ↦ let low : ring_slots c ≤ t = rw (ne_eqb r 0 later) at high in absurd (omega arith)
+      | inl first ↦
+          let low : ring_slots c + n_of c.order ≤ t = rw (eq-eqb r 0 first) at high in
+          absurd (omega arith)
+      | inr later ↦
+          let low : ring_slots c ≤ t = rw (ne_eqb r 0 later) at high in
+          absurd (omega arith)
     ]
 tickets_held c m (by_step {m = b} seat step reach low e) =
     let t = turned c b seat step m e in
@@ -347,13 +252,15 @@ in_any a d None = let none = in_none a d in omega arith
 in_any a d (Some u) = in_one a d u
 
 -- so many tickets in a row, each of a seat, are of as many seats
-many_held : (f : Part → Option ℕ) (part : ℕ → Part) (n a d : ℕ) → ((t : ℕ) → a ≤ t → t < a + d → (k : ℕ) × (k < n) × (f (part k) ≡ Some t))
+many_held : (f : Part → Option ℕ) (part : ℕ → Part) (n a d : ℕ)
+    → ((t : ℕ) → a ≤ t → t < a + d → (k : ℕ) × (k < n) × (f (part k) ≡ Some t))
     → d ≤ total (λ p. is_in a d (f p)) part n
 many_held f part n a zero each = omega arith
 many_held f part n a (suc d) each =
     let rest = many_held f part n a d (λ t low under. each t low (omega arith)) in
     let last = each (a + d) (omega arith) (omega arith) in
-    let here : is_at (a + d) (f (part last.0)) ≡ 1 = ap (is_at (a + d)) last.2 ∙ rw (eq-eqb (a + d) (a + d) refl) refl in
+    let here : is_at (a + d) (f (part last.0)) ≡ 1 =
+    ap (is_at (a + d)) last.2 ∙ rw (eq-eqb (a + d) (a + d) refl) refl in
     let one = total_one (λ p. is_at (a + d) (f p)) part n last.0 last.1 in
     let sum = total_plus (λ p. is_in a d (f p)) (λ p. is_at (a + d) (f p)) part n in
     omega arith
@@ -362,11 +269,14 @@ many_held f part n a (suc d) each =
 abbrev pub holders : Setup → Machine → ℕ → ℕ
 holders c m r = total (λ p. is_any (ticket_on r p)) m.part c.seats
 
-pub head_gap : (c : Setup) (m : Machine) → IsReachable c m → (r : ℕ) → m.cells.head r ≤ m.cells.tail r + holders c m r
+pub head_gap : (c : Setup) (m : Machine) → IsReachable c m → (r : ℕ)
+    → m.cells.head r ≤ m.cells.tail r + holders c m r
 head_gap c m reach r =
     let a = m.cells.tail r in
     let d = m.cells.head r - m.cells.tail r in
     let many = many_held (ticket_on r) m.part c.seats a d
-    (λ t low under. let one = tickets_held c m reach r t low (omega arith) in (one.seat, one.low, one.is)) in
-    let few = total_le (λ p. is_in a d (ticket_on r p)) (λ p. is_any (ticket_on r p)) m.part (λ k. in_any a d (ticket_on r (m.part k))) c.seats in
+    (λ t low under. let one = tickets_held c m reach r t low (omega arith) in
+    (one.seat, one.low, one.is)) in
+    let few = total_le (λ p. is_in a d (ticket_on r p)) (λ p. is_any (ticket_on r p)) m.part
+    (λ k. in_any a d (ticket_on r (m.part k))) c.seats in
     omega arith

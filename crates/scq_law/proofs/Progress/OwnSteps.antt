@@ -1,5 +1,6 @@
--- Each step of a seat that doesn't end its call leaves it fewer. Plan: by turns; a failed exchange found an entry that had changed,
--- a failed ticket is one of those that are left, an attempt that goes on took one from Threshold.
+-- Each step of a seat that doesn't end its call leaves it fewer. Plan: by turns; a failed exchange
+-- found an entry that had changed, a failed ticket is one of those that are left, an attempt that
+-- goes on took one from Threshold.
 use Rattle.std.proofs.Common.{◌≡◌, ℕ, ◌+◌, ◌-◌, ◌<◌, ◌≤◌, true, false, ◌&&◌, refl, inl, inr, arith, eq-eqb, ne_eqb}
 use Rattle.std.specs.Prelude.{◌==◌, nat_lt, nat_le, min}
 use Rattle.std.proofs.lemmas.Bool.{cases_Bool, cases_eq, leb-false}
@@ -11,22 +12,32 @@ use Rattle.scq_core.specs.Machine.{Cells, Part, read, beside}
 use Rattle.scq_core.specs.Table.{ring_slots, cycle, slot, zero_level, reset_level, ring_of, location_of, after, cells_after}
 use Rattle.scq_core.specs.Laws.{Busy, word_at}
 use Rattle.scq_core.proofs.UpdatedLemmas.{updated_here, updated_entry_here}
-use Rattle.scq_law.proofs.Progress.Potential.{stale, lag, left, Quieter}
-use Rattle.scq_law.proofs.Progress.TurnEffects.{own_change}
+use Rattle.scq_law.proofs.Progress.Potential.{stale_fresh, lag, left, Leaves}
+use Rattle.scq_law.proofs.Progress.SeatCounts.{own_change}
 
+-- dm and bm are the counts of draws and of changes of all seats before the turn, dn and bn those
+-- after it
 module _ (c : Setup) (m : Cells) (p : Part) (dm bm : ℕ → ℕ) where
+  -- of a turn whose call goes on: where its ring has no more of anything, its seat's count of
+  -- changes moves as the phase says, and Tail and Head stand in the window and in the gap, fewer
+  -- steps are left
   abbrev FewerBy : Phase → Type 0
   FewerBy turn =
-      (dn bn : ℕ → ℕ) → ((after c turn (read m (location_of c turn)) (beside m (location_of c turn)) p).phase ≡ Idle → ⊥) → Quieter c m (cells_after c turn m) dm bm dn bn (ring_of turn)
-      → bn (ring_of turn) + own_change turn ≡ bm (ring_of turn) + own_change (after c turn (read m (location_of c turn)) (beside m (location_of c turn)) p).phase
+      (dn bn : ℕ → ℕ)
+      → ((after c turn (read m (location_of c turn)) (beside m (location_of c turn)) p).phase ≡ Idle
+      → ⊥)
+      → Leaves 0 c m (cells_after c turn m) dm bm dn bn (ring_of turn)
+      → bn (ring_of turn) + own_change turn
+      ≡ bm (ring_of turn)
+      + own_change (after c turn (read m (location_of c turn)) (beside m (location_of c turn))
+      p).phase
       → own_change turn ≤ bm (ring_of turn)
-      → min ((cells_after c turn m).tail (ring_of turn)) c.limit + 1 ≤ (cells_after c turn m).head (ring_of turn) + ring_slots c
+      → min ((cells_after c turn m).tail (ring_of turn)) c.limit + 1
+      ≤ (cells_after c turn m).head (ring_of turn) + ring_slots c
       → m.head (ring_of turn) + dm (ring_of turn) ≤ m.tail (ring_of turn) + c.seats
-      → left c (cells_after c turn m) dn bn (after c turn (read m (location_of c turn)) (beside m (location_of c turn)) p).phase < left c m dm bm turn
-
-  -- an entry that was loaded just now
-  fresh_entry : (r t : ℕ) (turn : Phase) → (cells_after c turn m).entries.word r (slot c t) ≡ word_at c m r t → stale c (cells_after c turn m) r t (word_at c m r t) ≡ 0
-  fresh_entry r t turn same = rw (same, eq-eqb (word_at c m r t) (word_at c m r t) refl) refl
+      → left c (cells_after c turn m) dn bn
+      (after c turn (read m (location_of c turn)) (beside m (location_of c turn)) p).phase
+      < left c m dm bm turn
 
   pub fewer : (turn : Phase) → (turn ≡ Idle → ⊥) → Busy c m p.hand turn → FewerBy turn
   fewer Idle awake busy = absurd (awake refl)
@@ -36,28 +47,38 @@ module _ (c : Setup) (m : Cells) (p : Part) (dm bm : ℕ → ℕ) where
         | inl past ↦ rw past (λ dn bn goes q bit some window gap. absurd (goes refl))
         | inr under ↦
             let low = leb-false c.limit (m.tail r) under in
-            rw under (λ dn bn goes q bit some window gap. let a = q.ends in let d = q.change in omega arith)
+            rw under (λ dn bn goes q bit some window gap.
+            let a = q.ends in let d = q.change in omega arith)
       ]
   fewer (AtE2 r i w t l) awake busy =
       let x = word_at c m r t in
-      let none = fresh_entry r t (AtE2 r i w t l) (updated_entry_here m.entries.word r (slot c t) x) in
-      elim (cases_Bool (nat_lt (cycle_in (ring_slots c) x) (cycle c t) && is_none_in (ring_slots c) x)) [
+      let none = stale_fresh c m (cells_after c (AtE2 r i w t l) m) r t
+      (updated_entry_here m.entries.word r (slot c t) x) in
+      elim (cases_Bool (nat_lt (cycle_in (ring_slots c) x) (cycle c t) && is_none_in (ring_slots c)
+      x)) [
         | inl fits ↦
             elim (cases_Bool (safe_in (ring_slots c) x == 1)) [
               | inl safe ↦
                   rw (fits, safe)
-                  (λ dn bn goes q bit some window gap. let a = q.ends in let b = q.tail in let d = q.change in omega arith)
+                  (λ dn bn goes q bit some window gap.
+                  let a = q.ends in let b = q.tail in let d = q.change in omega arith)
               | inr unsafe ↦
                   rw (fits, unsafe)
-                  (λ dn bn goes q bit some window gap. let a = q.ends in let b = q.tail in let d = q.change in omega arith)
+                  (λ dn bn goes q bit some window gap.
+                  let a = q.ends in let b = q.tail in let d = q.change in omega arith)
             ]
         | inr fails ↦
-            rw fails (λ dn bn goes q bit some window gap. let a = q.ends in let b = q.tail in let d = q.change in omega arith)
+            rw fails (λ dn bn goes q bit some window gap.
+            let a = q.ends in let b = q.tail in let d = q.change in omega arith)
       ]
   fewer (AtE3 r i w t e) awake busy =
       elim (cases_Bool (nat_le (m.head r) t)) [
-        | inl low ↦ rw low (λ dn bn goes q bit some window gap. let a = q.ends in let b = q.tail in let d = q.looks t e in omega arith)
-        | inr fails ↦ rw fails (λ dn bn goes q bit some window gap. let a = q.ends in let b = q.tail in let d = q.change in omega arith)
+        | inl low ↦ rw low
+            (λ dn bn goes q bit some window gap.
+            let a = q.ends in let b = q.tail in let d = q.looks t e in omega arith)
+        | inr fails ↦ rw fails
+            (λ dn bn goes q bit some window gap.
+            let a = q.ends in let b = q.tail in let d = q.change in omega arith)
       ]
   fewer (AtE4 r i w t e) awake busy =
       let x = word_at c m r t in
@@ -65,7 +86,8 @@ module _ (c : Setup) (m : Cells) (p : Part) (dm bm : ℕ → ℕ) where
         | inl hit ↦ rw (eq-eqb x e hit) (λ dn bn goes q bit some window gap. omega arith)
         | inr miss ↦
             rw (ne_eqb x e miss)
-            (λ dn bn goes q bit some window gap. let a = q.ends in let b = q.tail in let d = q.change in omega arith)
+            (λ dn bn goes q bit some window gap.
+            let a = q.ends in let b = q.tail in let d = q.change in omega arith)
       ]
   fewer (AtE5 r i w t) awake busy =
       elim (cases_Bool (m.threshold r == reset_level c)) [
@@ -76,22 +98,28 @@ module _ (c : Setup) (m : Cells) (p : Part) (dm bm : ℕ → ℕ) where
   fewer (AtD1 r) awake busy =
       elim (cases_Bool (nat_lt (m.threshold r) zero_level)) [
         | inl low ↦ rw low (λ dn bn goes q bit some window gap. absurd (goes refl))
-        | inr high ↦ rw high (λ dn bn goes q bit some window gap. let a = q.level in let d = q.change in omega arith)
+        | inr high ↦ rw high
+            (λ dn bn goes q bit some window gap.
+            let a = q.level in let d = q.change in omega arith)
       ]
   fewer (AtD2 r l) awake busy =
       elim (cases_Bool (nat_le c.limit (m.head r))) [
         | inl past ↦ rw past (λ dn bn goes q bit some window gap. absurd (goes refl))
-        | inr under ↦ rw under (λ dn bn goes q bit some window gap. let a = q.level in let d = q.change in omega arith)
+        | inr under ↦ rw under
+            (λ dn bn goes q bit some window gap.
+            let a = q.level in let d = q.change in omega arith)
       ]
   fewer (AtD3 r h l) awake busy =
       let x = word_at c m r h in
-      let none = fresh_entry r h (AtD3 r h l) (updated_entry_here m.entries.word r (slot c h) x) in
+      let none = stale_fresh c m (cells_after c (AtD3 r h l) m) r h
+      (updated_entry_here m.entries.word r (slot c h) x) in
       elim (cases_Bool (cycle_in (ring_slots c) x == cycle c h)) [
         | inl same ↦ rw same (λ dn bn goes q bit some window gap. omega arith)
         | inr other ↦
             elim (cases_Bool (nat_lt (cycle_in (ring_slots c) x) (cycle c h))) [
               | inl lower ↦
-                  rw (other, lower) (λ dn bn goes q bit some window gap. let a = q.level in let d = q.change in omega arith)
+                  rw (other, lower) (λ dn bn goes q bit some window gap.
+                  let a = q.level in let d = q.change in omega arith)
               | inr higher ↦ rw (other, higher) (λ dn bn goes q bit some window gap. omega arith)
             ]
       ]
@@ -101,32 +129,41 @@ module _ (c : Setup) (m : Cells) (p : Part) (dm bm : ℕ → ℕ) where
       elim (cases_eq x e) [
         | inl hit ↦ rw (eq-eqb x e hit) (λ dn bn goes q bit some window gap. omega arith)
         | inr miss ↦
-            rw (ne_eqb x e miss) (λ dn bn goes q bit some window gap. let a = q.level in let d = q.change in omega arith)
+            rw (ne_eqb x e miss) (λ dn bn goes q bit some window gap.
+            let a = q.level in let d = q.change in omega arith)
       ]
   fewer (AtD6 r h) awake busy =
       let same = updated_here m.tail r (m.tail r) in
-      let none : lag (cells_after c (AtD6 r h) m) r (m.tail r) ≡ 0 = rw (same, eq-eqb (m.tail r) (m.tail r) refl) refl in
+      let none : lag (cells_after c (AtD6 r h) m) r (m.tail r) ≡ 0 =
+      rw (same, eq-eqb (m.tail r) (m.tail r) refl) refl in
       elim (cases_Bool (nat_le (m.tail r) (h + 1))) [
         | inl low ↦ rw low (λ dn bn goes q bit some window gap. let a = q.ends in omega arith)
-        | inr high ↦ rw high (λ dn bn goes q bit some window gap. let a = q.level in let d = q.change in omega arith)
+        | inr high ↦ rw high
+            (λ dn bn goes q bit some window gap.
+            let a = q.level in let d = q.change in omega arith)
       ]
   fewer (AtD7 r h from to) awake busy =
       let up = busy.2 in
       let rises = up.rises in
       let behind_head = up.behind_head in
       elim (cases_eq (m.tail r) from) [
-        | inl hit ↦ rw (eq-eqb (m.tail r) from hit) (λ dn bn goes q bit some window gap. omega arith)
+        | inl hit ↦ rw (eq-eqb (m.tail r) from hit)
+            (λ dn bn goes q bit some window gap. omega arith)
         | inr miss ↦
             rw (ne_eqb (m.tail r) from miss)
             (λ dn bn goes q bit some window gap. let a = q.ends in let b = q.tail in omega arith)
       ]
-  fewer (AtD8 r h from) awake busy = λ dn bn goes q bit some window gap. let a = q.ends in let b = q.tail in omega arith
+  fewer (AtD8 r h from) awake busy = λ dn bn goes q bit some window gap.
+      let a = q.ends in let b = q.tail in omega arith
   fewer (AtD9 r h from to) awake busy =
       let same = updated_here m.tail r (m.tail r) in
-      let none : lag (cells_after c (AtD9 r h from to) m) r (m.tail r) ≡ 0 = rw (same, eq-eqb (m.tail r) (m.tail r) refl) refl in
+      let none : lag (cells_after c (AtD9 r h from to) m) r (m.tail r) ≡ 0 =
+      rw (same, eq-eqb (m.tail r) (m.tail r) refl) refl in
       elim (cases_Bool (nat_le to (m.tail r))) [
         | inl caught ↦ rw caught (λ dn bn goes q bit some window gap. omega arith)
-        | inr under ↦ rw under (λ dn bn goes q bit some window gap. let a = q.ends in let b = q.tail in omega arith)
+        | inr under ↦ rw under
+            (λ dn bn goes q bit some window gap.
+            let a = q.ends in let b = q.tail in omega arith)
       ]
   fewer (AtD10 r h true) awake busy = λ dn bn goes q bit some window gap. absurd (goes refl)
   fewer (AtD10 r h false) awake busy =

@@ -1,5 +1,5 @@
--- Lock-freedom: in every run some call ends soon. Plan: the sum of what is left to all seats falls with each step that ends no call,
--- and a call that ends raises it by no more than the bound.
+-- Lock-freedom: in every run some call ends soon. Plan: the sum of what is left to all seats falls
+-- with each step that ends no call, and a call that ends raises it by no more than the bound.
 use Rattle.std.proofs.Common.{◌≡◌, ◌≢◌, ℕ, zero, suc, ◌+◌, ◌*◌, ◌<◌, ◌≤◌, List, [], ◌∷◌, ◌++◌, length, length-append, refl, sym, ap, ◌∙◌, inl, inr, arith}
 use Rattle.std.specs.Prelude.{Some}
 use Rattle.std.specs.List.{All}
@@ -26,23 +26,25 @@ use Rattle.scq_law.proofs.Replays.RunLaws.{run_reaches}
 use Rattle.scq_law.proofs.Retries.StepLaws.{After, rests, goes, after_turn}
 use Rattle.scq_law.proofs.Tickets.TicketLaws.{within_window}
 use Rattle.scq_law.proofs.Progress.Potential.{draws_on, changes_on, left, others_left}
-use Rattle.scq_law.proofs.Progress.TurnEffects.{changes_move, change_some, quieter}
+use Rattle.scq_law.proofs.Progress.QuietTurns.{changes_move, change_some, quieter}
 use Rattle.scq_law.proofs.Progress.OwnSteps.{fewer}
 use Rattle.scq_law.proofs.Progress.LeftBounds.{gap, left_of, few_left, most_left, some_left}
 
 -- a step of seat j by an enabled turn
-module _ (c : Setup) (m : Machine) (j : ℕ) (s : Step) (turn : Phase) (low : j < c.seats) (reachable : IsReachable c m) (enabled : turn_of c (m.part j) s ≡ Some turn) where
-  abbrev part_of : Part
-  part_of = after c turn (read m.cells (location_of c turn)) (beside m.cells (location_of c turn)) (m.part j)
+module _ (c : Setup) (m : Machine) (j : ℕ) (s : Step) (turn : Phase) (low : j < c.seats)
+    (reachable : IsReachable c m) (enabled : turn_of c (m.part j) s ≡ Some turn) where
+  abbrev part_then : Part
+  part_then = after c turn (read m.cells (location_of c turn)) (beside m.cells (location_of c turn))
+      (m.part j)
 
   next_reaches : IsReachable c (moved c m j turn)
   next_reaches = turn_reaches c m j s turn low enabled reachable
 
-  phase_here : ((moved c m j turn).part j).phase ≡ part_of.phase
-  phase_here = ap (λ (v : Part). v.phase) (updated_here m.part j part_of)
+  phase_here : ((moved c m j turn).part j).phase ≡ part_then.phase
+  phase_here = ap (λ (v : Part). v.phase) (updated_here m.part j part_then)
 
   -- its own seat has less left, where its call goes on
-  pub own_less : (part_of.phase ≡ Idle → ⊥) → left_of c (moved c m j turn) j < left_of c m j
+  pub own_less : (part_then.phase ≡ Idle → ⊥) → left_of c (moved c m j turn) j < left_of c m j
   own_less goes_on =
       let p = m.part j in
       let n = moved c m j turn in
@@ -50,32 +52,47 @@ module _ (c : Setup) (m : Machine) (j : ℕ) (s : Step) (turn : Phase) (low : j 
       elim (begins c p.hand p.spent p.phase s turn enabled) [
         | inl same ↦
             let by =
-            fewer c m.cells p (draws_on c m) (changes_on c m) turn (awake c p.hand p.spent p.phase s turn enabled)
-            (has c m.cells p s turn ((steady c m reachable).busy j) enabled) (draws_on c n) (changes_on c n) goes_on
-            (quieter c m j s turn low reachable enabled r (λ _. goes_on)) (changes_move c m j s turn low reachable enabled goes_on)
-            (change_some c m j s turn low reachable enabled) ((within_window c n next_reaches).within r) (gap c m reachable r) in
-            let now : left_of c n j ≡ left c n.cells (draws_on c n) (changes_on c n) part_of.phase = ap (left c n.cells (draws_on c n) (changes_on c n)) phase_here in
-            let was : left_of c m j ≡ left c m.cells (draws_on c m) (changes_on c m) turn = ap (left c m.cells (draws_on c m) (changes_on c m)) (sym same) in
+            fewer c m.cells p (draws_on c m) (changes_on c m) turn
+            (awake c p.hand p.spent p.phase s turn enabled)
+            (has c m.cells p s turn ((steady c m reachable).busy j) enabled) (draws_on c n)
+            (changes_on c n) goes_on
+            (quieter c m j s turn low reachable enabled r (λ _. goes_on))
+            (changes_move c m j s turn low reachable enabled goes_on)
+            (change_some c m j s turn low reachable enabled)
+            ((within_window c n next_reaches).within r) (gap c m reachable r) in
+            let now : left_of c n j ≡ left c n.cells (draws_on c n) (changes_on c n)
+            part_then.phase = ap (left c n.cells (draws_on c n) (changes_on c n))
+            phase_here in
+            let was : left_of c m j ≡ left c m.cells (draws_on c m) (changes_on c m) turn =
+            ap (left c m.cells (draws_on c m) (changes_on c m)) (sym same) in
             omega arith
         | inr new ↦
             let few = few_left c n next_reaches j low (λ idle. goes_on (sym phase_here ∙ idle)) in
-            let was : left_of c m j ≡ quiet_steps c = ap (left c m.cells (draws_on c m) (changes_on c m)) new.0 in
+            let was : left_of c m j ≡ quiet_steps c =
+            ap (left c m.cells (draws_on c m) (changes_on c m)) new.0 in
             omega arith
       ]
 
   -- another seat has no more left, where no call on its ring ends
-  pub others_less : (k : ℕ) → k ≢ j → (ring_of turn ≡ ring_of (m.part k).phase → part_of.phase ≡ Idle → ⊥) → left_of c (moved c m j turn) k ≤ left_of c m k
+  pub others_less : (k : ℕ) → k ≢ j
+      → (ring_of turn ≡ ring_of (m.part k).phase → part_then.phase ≡ Idle → ⊥)
+      → left_of c (moved c m j turn) k ≤ left_of c m k
   others_less k other goes_on =
       let n = moved c m j turn in
-      let same : ((moved c m j turn).part k).phase ≡ (m.part k).phase = ap (λ (v : Part). v.phase) (updated_else m.part j part_of k other) in
-      let now : left_of c n k ≡ left c n.cells (draws_on c n) (changes_on c n) (m.part k).phase = ap (left c n.cells (draws_on c n) (changes_on c n)) same in
+      let same : ((moved c m j turn).part k).phase ≡ (m.part k).phase =
+      ap (λ (v : Part). v.phase) (updated_else m.part j part_then k other) in
+      let now : left_of c n k ≡ left c n.cells (draws_on c n) (changes_on c n) (m.part k).phase =
+      ap (left c n.cells (draws_on c n) (changes_on c n)) same in
       let most =
-      others_left c m.cells n.cells (draws_on c m) (changes_on c m) (draws_on c n) (changes_on c n) (m.part k).hand (m.part k).phase ((steady c m reachable).busy k)
+      others_left 0 c m.cells n.cells (draws_on c m) (changes_on c m) (draws_on c n)
+      (changes_on c n)
+      (m.part k).hand (m.part k).phase ((steady c m reachable).busy k)
       (quieter c m j s turn low reachable enabled (ring_of (m.part k).phase) goes_on) in
       omega arith
 
 -- sums over seats
-sum_less : (f g : ℕ → ℕ) (n j : ℕ) → j < n → g j < f j → ((k : ℕ) → k ≢ j → g k ≤ f k) → sum_to g n < sum_to f n
+sum_less : (f g : ℕ → ℕ) (n j : ℕ) → j < n → g j < f j → ((k : ℕ) → k ≢ j → g k ≤ f k)
+    → sum_to g n < sum_to f n
 sum_less f g zero j low less most = absurd (omega arith)
 sum_less f g (suc n) j low less most =
     elim (cases_eq n j) [
@@ -83,12 +100,18 @@ sum_less f g (suc n) j low less most =
           let rest = sum_most n f g (λ k under. most k (λ e. omega arith)) in
           let here : g n < f n = rw same less in
           omega arith
-      | inr apart ↦ let here = most n apart in let rest = sum_less f g n j (omega arith) less most in omega arith
+      | inr apart ↦
+          let here = most n apart in
+          let rest = sum_less f g n j (omega arith) less most in
+          omega arith
     ]
   where
     sum_most : (n : ℕ) (f g : ℕ → ℕ) → ((k : ℕ) → k < n → g k ≤ f k) → sum_to g n ≤ sum_to f n
     sum_most zero f g le = omega arith
-    sum_most (suc n) f g le = let here = le n (omega arith) in let rest = sum_most n f g (λ k under. le k (omega arith)) in omega arith
+    sum_most (suc n) f g le =
+        let here = le n (omega arith) in
+        let rest = sum_most n f g (λ k under. le k (omega arith)) in
+        omega arith
 
 sum_few : (f : ℕ → ℕ) (n b : ℕ) → ((k : ℕ) → k < n → f k ≤ b) → sum_to f n ≤ n * b
 sum_few f zero b few = omega arith
@@ -111,46 +134,61 @@ abbrev all_left : Setup → Machine → ℕ
 all_left c m = sum_to (left_of c m) c.seats
 
 all_few : (c : Setup) (m : Machine) → IsReachable c m → all_left c m ≤ progress_bound c
-all_few c m reachable = sum_few (left_of c m) c.seats (quiet_steps c) (λ k low. most_left c m reachable k low)
+all_few c m reachable = sum_few (left_of c m) c.seats (quiet_steps c)
+    (λ k low. most_left c m reachable k low)
 
 pub one_more : (n x : ℕ) → (n + 1) * x ≡ n * x + x
 one_more n x = grind arith
 
 -- a step, with the calls that have ended before and after it
-all_step : (c : Setup) (m : Machine) (j : ℕ) (s : Step) (turn : Phase) → j < c.seats → IsReachable c m → turn_of c (m.part j) s ≡ Some turn
-    → all_left c (moved c m j turn) + 1 + ended_calls c m * progress_bound c ≤ all_left c m + ended_calls c (moved c m j turn) * progress_bound c
+all_step : (c : Setup) (m : Machine) (j : ℕ) (s : Step) (turn : Phase) → j < c.seats
+    → IsReachable c m → turn_of c (m.part j) s ≡ Some turn
+    → all_left c (moved c m j turn) + 1 + ended_calls c m * progress_bound c
+    ≤ all_left c m + ended_calls c (moved c m j turn) * progress_bound c
 all_step c m j s turn low reachable enabled =
     let p = m.part j in
     let x = read m.cells (location_of c turn) in
     let y = beside m.cells (location_of c turn) in
     let n = moved c m j turn in
-    let counted = total_updated (λ (v : Part). length v.calls) m.part j (after c turn x y p) c.seats low in
-    by (after c turn x y p) counted (after_turn c x y p turn (awake c p.hand p.spent p.phase s turn enabled)) refl
+    let counted = total_updated (λ (v : Part). length v.calls) m.part j (after c turn x y p) c.seats
+    low in
+    by (after c turn x y p) counted
+    (after_turn c x y p turn (awake c p.hand p.spent p.phase s turn enabled)) refl
   where
-    by : (q : Part) → ended_calls c (moved c m j turn) + length (m.part j).calls ≡ ended_calls c m + length q.calls → After (m.part j) q
-        → q ≡ after c turn (read m.cells (location_of c turn)) (beside m.cells (location_of c turn)) (m.part j)
-        → all_left c (moved c m j turn) + 1 + ended_calls c m * progress_bound c ≤ all_left c m + ended_calls c (moved c m j turn) * progress_bound c
+    by : (q : Part) → ended_calls c (moved c m j turn) + length (m.part j).calls
+        ≡ ended_calls c m + length q.calls → After (m.part j) q
+        → q ≡ after c turn (read m.cells (location_of c turn)) (beside m.cells (location_of c turn))
+        (m.part j)
+        → all_left c (moved c m j turn) + 1 + ended_calls c m * progress_bound c
+        ≤ all_left c m + ended_calls c (moved c m j turn) * progress_bound c
     by q counted (rests idle more) is =
         let few = all_few c (moved c m j turn) (turn_reaches c m j s turn low enabled reachable) in
-        let some = sum_some (left_of c m) c.seats j low (some_left c m.cells (draws_on c m) (changes_on c m) (m.part j).phase) in
+        let some = sum_some (left_of c m) c.seats j low
+        (some_left c m.cells (draws_on c m) (changes_on c m) (m.part j).phase) in
         let next : ended_calls c (moved c m j turn) ≡ ended_calls c m + 1 = omega arith in
-        let product : ended_calls c (moved c m j turn) * progress_bound c ≡ ended_calls c m * progress_bound c + progress_bound c =
+        let product : ended_calls c (moved c m j turn) * progress_bound c
+        ≡ ended_calls c m * progress_bound c + progress_bound c =
         ap (λ (v : ℕ). v * progress_bound c) next ∙ one_more (ended_calls c m) (progress_bound c) in
         omega arith
     by q counted (goes busy same) is =
         let less =
         sum_less (left_of c m) (left_of c (moved c m j turn)) c.seats j low
-        (own_less c m j s turn low reachable enabled (λ idle. busy (ap (λ (v : Part). v.phase) is ∙ idle)))
-        (λ k other. others_less c m j s turn low reachable enabled k other (λ _ idle. busy (ap (λ (v : Part). v.phase) is ∙ idle))) in
+        (own_less c m j s turn low reachable enabled
+        (λ idle. busy (ap (λ (v : Part). v.phase) is ∙ idle)))
+        (λ k other. others_less c m j s turn low reachable enabled k other
+        (λ _ idle. busy (ap (λ (v : Part). v.phase) is ∙ idle))) in
         let next : ended_calls c (moved c m j turn) ≡ ended_calls c m = omega arith in
-        let product : ended_calls c (moved c m j turn) * progress_bound c ≡ ended_calls c m * progress_bound c =
+        let product : ended_calls c (moved c m j turn) * progress_bound c
+        ≡ ended_calls c m * progress_bound c =
         ap (λ (v : ℕ). v * progress_bound c) next in
         omega arith
 
 -- all along
-all_along_left : (c : Setup) (steps : List (ℕ × Step)) (r last : Recorded) → All (λ (x : ℕ × Step). x.0 < c.seats) steps → IsReachable c r.state
+all_along_left : (c : Setup) (steps : List (ℕ × Step)) (r last : Recorded)
+    → All (λ (x : ℕ × Step). x.0 < c.seats) steps → IsReachable c r.state
     → recorded_along c r steps ≡ Some last
-    → length steps + all_left c last.state + ended_calls c r.state * progress_bound c ≤ all_left c r.state + ended_calls c last.state * progress_bound c
+    → length steps + all_left c last.state + ended_calls c r.state * progress_bound c
+    ≤ all_left c r.state + ended_calls c last.state * progress_bound c
 all_along_left c [] r last seats reachable e = let same : r ≡ last = cc in rw (← same) (omega arith)
 all_along_left c (x ∷ xs) r last seats reachable e =
     let h = chained (λ next. recorded_along c next xs) (recorded_by c r x) last e in
@@ -158,15 +196,20 @@ all_along_left c (x ∷ xs) r last seats reachable e =
     let low = All-head (λ (y : ℕ × Step). y.0 < c.seats) x xs seats in
     let step = all_step c r.state x.0 x.1 t.turn low reachable t.enabled in
     let next_state : h.0.state ≡ moved c r.state x.0 t.turn = ap (λ (z : Recorded). z.state) t.is in
-    let next_reach : IsReachable c h.0.state = rw next_state (turn_reaches c r.state x.0 x.1 t.turn low t.enabled reachable) in
-    let rest = all_along_left c xs h.0 last (All-tail (λ (y : ℕ × Step). y.0 < c.seats) x xs seats) next_reach h.2 in
-    let left_is : all_left c h.0.state ≡ all_left c (moved c r.state x.0 t.turn) = ap (all_left c) next_state in
-    let ended_is : ended_calls c h.0.state * progress_bound c ≡ ended_calls c (moved c r.state x.0 t.turn) * progress_bound c =
+    let next_reach : IsReachable c h.0.state =
+    rw next_state (turn_reaches c r.state x.0 x.1 t.turn low t.enabled reachable) in
+    let rest = all_along_left c xs h.0 last (All-tail (λ (y : ℕ × Step). y.0 < c.seats) x xs seats)
+    next_reach h.2 in
+    let left_is : all_left c h.0.state ≡ all_left c (moved c r.state x.0 t.turn) =
+    ap (all_left c) next_state in
+    let ended_is : ended_calls c h.0.state * progress_bound c
+    ≡ ended_calls c (moved c r.state x.0 t.turn) * progress_bound c =
     ap (λ (z : Machine). ended_calls c z * progress_bound c) next_state in
     omega arith
 
 -- the steps behind a front of a run lead on from what is recorded of the front
-pub behind_front : (c : Setup) (opening : List (List ℕ)) (front more : List (ℕ × Step)) (was recorded : Recorded) → IsRun c opening front was
+pub behind_front : (c : Setup) (opening : List (List ℕ)) (front more : List (ℕ × Step))
+    (was recorded : Recorded) → IsRun c opening front was
     → IsRun c opening (front ++ more) recorded → recorded_along c was more ≡ Some recorded
 behind_front c opening front more was recorded one run =
     let first = recorded_first c opening in
@@ -176,18 +219,23 @@ behind_front c opening front more was recorded one run =
     let same : two.0 ≡ was = cc in
     rw (← same) two.2
 
-pub has_progress : (c : Setup) (opening : List (List ℕ)) (steps : List (ℕ × Step)) → HasProgress c opening steps
+pub has_progress : (c : Setup) (opening : List (List ℕ)) (steps : List (ℕ × Step))
+    → HasProgress c opening steps
 has_progress c opening steps =
     record {
       soon =
           λ front back was now one within front_run back_run.
           let whole : IsRun c opening (front ++ one.more) now = rw one.is at back_run in
           let low : All (λ (x : ℕ × Step). x.0 < c.seats) one.more =
-          rw (drop-append_seam front one.more) at (All-drop (λ (x : ℕ × Step). x.0 < c.seats) (length front) (front ++ one.more) whole.seats) in
+          rw (drop-append_seam front one.more)
+          at (All-drop (λ (x : ℕ × Step). x.0 < c.seats) (length front) (front ++ one.more)
+          whole.seats) in
           let reachable = run_reaches c opening front was front_run in
-          let along = all_along_left c one.more was now low reachable (behind_front c opening front one.more was now front_run whole) in
+          let along = all_along_left c one.more was now low reachable
+          (behind_front c opening front one.more was now front_run whole) in
           let few = all_few c was.state reachable in
-          let size : length back ≡ length front + length one.more = ap (λ (l : List (ℕ × Step)). length l) one.is ∙ length-append front one.more in
+          let size : length back ≡ length front + length one.more =
+          ap (λ (l : List (ℕ × Step)). length l) one.is ∙ length-append front one.more in
           let product = one_more (ended_calls c now.state) (progress_bound c) in
           omega arith;
     }

@@ -57,6 +57,10 @@ module _ (c : Setup) (x : ℕ) (y : List ℕ) (p : Part) where
   after_turn (AtD10 q h true) awake = rests refl (ended _)
   after_turn (AtD10 q h false) awake = either_way (After p) (nat_le x zero_level) _ _ (rests refl (ended _)) (goes (λ is. cc) refl)
 
+-- one step before the others
+pub steps-first : (k : ℕ) (x : ℕ × Step) (xs : List (ℕ × Step)) → steps_of k (x ∷ xs) ≡ (if x.0 == k then 1 else 0) + steps_of k xs
+steps-first k x xs = let sum = sum_by-append (λ (z : ℕ × Step). if z.0 == k then 1 else 0) (x ∷ []) xs in omega arith
+
 module _ (c : Setup) where
   -- the most steps of a call
   abbrev pub most : ℕ
@@ -128,10 +132,6 @@ module _ (c : Setup) where
             let same : made ((recorded_after c j turn r).state.part k) ≡ made (m.part k) = ap made there.1 in
             rw (ne_eqb j k (λ e. there.0 (sym e))) (omega arith)
       ]
-
-  -- one step before the others
-  steps-first : (k : ℕ) (x : ℕ × Step) (xs : List (ℕ × Step)) → steps_of k (x ∷ xs) ≡ (if x.0 == k then 1 else 0) + steps_of k xs
-  steps-first k x xs = let sum = sum_by-append (λ (z : ℕ × Step). if z.0 == k then 1 else 0) (x ∷ []) xs in omega arith
 
   made_along : (k : ℕ) (steps : List (ℕ × Step)) (r last : Recorded) → All (λ (x : ℕ × Step). x.0 < c.seats) steps → IsReachable c r.state
       → recorded_along c r steps ≡ Some last → made (r.state.part k) + steps_of k steps ≤ made (last.state.part k)
