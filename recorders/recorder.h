@@ -10,37 +10,95 @@
  *   3. `scq_get_start(&seat, queue)`, then get, then `scq_get_got(&seat, value)` or `scq_get_nothing(&seat)`.
  *   4. After the run `scq_seat_write(&seat, "1.log")` for each seat, and `scq judge 1.log 2.log ..`.
  *
- * Start and end are a step of the one counter and a store each. They keep the order that threads see: the counter's step of a
- * Start comes before the call's first access to the queue, that of an End after its last. Where a seat has no room left the event
- * is counted as lost and `scq_seat_write` fails.
+ * A queue that may hang or crash: `scq_seat_open` in place of `scq_seat_init`, and `scq_seat_close` at the end. Such a seat writes its
+ * file whenever its room is full, and what is left at `exit`, at `abort`, and at a signal that ends the program.
+ *
+ * A queue that isn't empty at the start: it holds the values `scq_opening(0)`, `scq_opening(1)`, .. in this order, and
+ * `scq_openings_write("0.log", count)` writes the file that stands first among those of `scq judge`.
+ *
+ * Calls that move several values at once: a seat of as many lanes (`scq_lanes_init`, `scq_lanes_open`), and `scq_puts_start`,
+ * `scq_puts_end`, `scq_gets_start`, `scq_gets_end` around the one call. Each lane is a seat of its own for the judge, so
+ * that the numbers from `number` on are taken.
+ *
+ * Stamps. By the processor's clock, where it is constant and its readings on all processors agree; else, and where
+ * `scq_recorder_init_as(&recorder, SCQ_COUNTER)` asks for it, by a counter that all threads share. A reading of the clock waits for the
+ * call's loads, and not until its stores are seen by others; of equal readings a Start comes before an End. A step of the counter is
+ * a full barrier, which makes the call's stores seen before its End, and so hides what a missing barrier does. Stamp and store are
+ * ordered as the thread sees them: that of a Start comes before the call's first access to the queue, that of an End after its last. Where a
+ * seat has no room left the event is counted as lost and `scq_seat_write` fails.
  */
 #ifndef SCQ_RECORDER_H
 #define SCQ_RECORDER_H
 
+#include <signal.h>
 #include <stdint.h>
 #include <stdio.h>
 #include <stdlib.h>
+#include <string.h>
+
+/* Files that are written as events come need POSIX (in C, no `-std=c11` without `_POSIX_C_SOURCE`). */
+#if defined(__GNUC__) && defined(__unix__) && defined(SIG_BLOCK)
+#define SCQ_HAS_FILES 1
+#include <fcntl.h>
+#include <pthread.h>
+#include <sched.h>
+#include <time.h>
+#include <unistd.h>
+#endif
+
+/* The clock is read on x86-64 with Linux. */
+#if defined(SCQ_HAS_FILES) && defined(__x86_64__) && defined(__linux__)
+#define SCQ_HAS_CLOCK 1
+#include <cpuid.h>
+#include <sys/syscall.h>
+#ifndef __cplusplus
+extern long syscall(long number, ...);
+#endif
+#endif
 
 #ifdef __cplusplus
 #include <atomic>
 typedef std::atomic<uint64_t> scq_counter;
-#define SCQ_STEP(c) (c)->fetch_add(1, std::memory_order_seq_cst)
-#define SCQ_ZERO(c) (c)->store(0, std::memory_order_seq_cst)
+#define SCQ_ADD(c, n) (c)->fetch_add(n, std::memory_order_seq_cst)
+#define SCQ_LOAD(c) (c)->load(std::memory_order_seq_cst)
+#define SCQ_STORE(c, n) (c)->store(n, std::memory_order_seq_cst)
 #else
 #include <stdatomic.h>
 typedef _Atomic uint64_t scq_counter;
-#define SCQ_STEP(c) atomic_fetch_add_explicit(c, 1, memory_order_seq_cst)
-#define SCQ_ZERO(c) atomic_store_explicit(c, 0, memory_order_seq_cst)
+#define SCQ_ADD(c, n) atomic_fetch_add_explicit(c, n, memory_order_seq_cst)
+#define SCQ_LOAD(c) atomic_load_explicit(c, memory_order_seq_cst)
+#define SCQ_STORE(c, n) atomic_store_explicit(c, n, memory_order_seq_cst)
 #endif
 
-/* A value is the number of its put, and above these bits its seat: seats are below 2^24, puts of a seat below 2^40. */
+/* Stores a count that a signal's handler may read. */
+#ifdef SCQ_HAS_FILES
+#define SCQ_PUBLISH(place, value) __atomic_store_n(place, value, __ATOMIC_RELEASE)
+#else
+#define SCQ_PUBLISH(place, value) (*(place) = (value))
+#endif
+
+/* A value is the number of its put, and above these bits its seat: seats are below 2^24 - 1, puts of a seat below 2^40. The seat 2^24 - 1
+ * stands for the opening tokens. */
 #define SCQ_NUMBER_BITS 40
+#define SCQ_OPENING_SEAT ((1ULL << 24) - 1)
+
+/* A stamp of the clock is its reading, then a bit that is set at an End, then the lane, of which a recorder gives out so many. */
+#define SCQ_LANE_BITS 12
+#define SCQ_LANES (1ULL << SCQ_LANE_BITS)
+
+/* The most bytes of a line. */
+#define SCQ_LINE 128
+
+typedef enum { SCQ_CLOCK, SCQ_COUNTER } scq_stamps;
 
 /* The counter has a line of the cache of its own. */
 typedef struct {
     char before[128];
     scq_counter next;
     char after[128];
+    scq_counter lanes; /* how many were given out */
+    scq_stamps stamps;
+    uint64_t first; /* the reading of the clock that counts as none */
 } scq_recorder;
 
 enum { SCQ_PUT, SCQ_GET, SCQ_DONE, SCQ_REFUSED, SCQ_GOT, SCQ_NOTHING };
@@ -48,86 +106,521 @@ enum { SCQ_PUT, SCQ_GET, SCQ_DONE, SCQ_REFUSED, SCQ_GOT, SCQ_NOTHING };
 typedef struct {
     uint64_t stamp;
     uint64_t what; /* the queue of a start, the value of a got */
-    uint32_t kind;
+    uint16_t kind;
+    uint16_t lane;
 } scq_event;
 
-typedef struct {
+/* What one thread records. It is never moved while files are written as events come. */
+typedef struct scq_log {
     scq_recorder *recorder;
     scq_event *events;
     size_t count, room, lost;
-    uint64_t seat, puts;
+    uint64_t seat, first_lane, lanes;
+    uint64_t last; /* the last reading of the clock */
+    uint64_t *puts; /* how many puts each lane began */
+    int file; /* -1 where none is open */
+    int bad; /* whether a write failed */
+    int writing;
+    uint64_t last_written;
+    struct scq_log *next_open;
     char after[128];
+} scq_log;
+
+typedef struct {
+    scq_log *log;
 } scq_seat;
 
-static inline void scq_recorder_init(scq_recorder *recorder) { SCQ_ZERO(&recorder->next); }
+/* --- the clock --- */
 
-/* Whether there was memory. Every page of the room is written, so that a run meets none for the first time. */
-static inline int scq_seat_init(scq_seat *seat, scq_recorder *recorder, uint32_t number, size_t room) {
-    seat->recorder = recorder;
-    seat->events = (scq_event *)malloc((room ? room : 1) * sizeof(scq_event));
-    seat->count = 0;
-    seat->room = seat->events ? room : 0;
-    seat->lost = 0;
-    seat->seat = number;
-    seat->puts = 0;
-    for (size_t i = 0; i < seat->room; i++) seat->events[i].stamp = 0;
-    return seat->events != NULL;
+#ifdef SCQ_HAS_CLOCK
+/* A reading that comes before all later loads and stores. */
+static inline uint64_t scq_clock_before(void) {
+    uint32_t low, high;
+    __asm__ volatile("rdtsc\n\tlfence" : "=a"(low), "=d"(high) : : "memory");
+    return (uint64_t)high << 32 | low;
 }
+
+/* A reading that comes after all earlier loads, and after earlier stores were made, though maybe not seen. */
+static inline uint64_t scq_clock_after(void) {
+    uint32_t low, high;
+    __asm__ volatile("lfence\n\trdtsc" : "=a"(low), "=d"(high) : : "memory");
+    return (uint64_t)high << 32 | low;
+}
+
+/* Whether the clock runs at one rate, whatever the processor does. */
+static inline int scq_clock_is_constant(void) {
+    unsigned a, b, c, d;
+    return __get_cpuid(0x80000007, &a, &b, &c, &d) && (d >> 8 & 1);
+}
+
+#define SCQ_PROCESSORS 1024
+#define SCQ_WORD_BITS (8 * sizeof(unsigned long))
+
+typedef struct {
+    scq_counter turn; /* odd: the other thread's */
+    uint64_t reading; /* of whose turn it was last */
+    unsigned long allowed[SCQ_PROCESSORS / (8 * sizeof(unsigned long))];
+    uint64_t rounds, contradictions;
+} scq_calibration;
+
+static inline void scq_wait_turn(scq_calibration *calibration, uint64_t turn) {
+    while (SCQ_LOAD(&calibration->turn) != turn) sched_yield();
+}
+
+/* One reading after the other's, which has to be no less. */
+static inline void scq_take_turn(scq_calibration *calibration, uint64_t turn) {
+    uint64_t reading = scq_clock_before();
+    if (reading < calibration->reading) calibration->contradictions++;
+    calibration->reading = scq_clock_after();
+    SCQ_STORE(&calibration->turn, turn + 1);
+}
+
+/* The other thread: on each processor in turn it answers some readings. */
+static inline void *scq_answer_readings(void *argument) {
+    scq_calibration *calibration = (scq_calibration *)argument;
+    uint64_t turn = 1;
+    for (size_t p = 0; p < SCQ_PROCESSORS; p++) {
+        unsigned long only[SCQ_PROCESSORS / SCQ_WORD_BITS] = {0};
+        if (!(calibration->allowed[p / SCQ_WORD_BITS] >> p % SCQ_WORD_BITS & 1)) continue;
+        only[p / SCQ_WORD_BITS] = 1UL << p % SCQ_WORD_BITS;
+        syscall(SYS_sched_setaffinity, 0, sizeof only, only);
+        for (uint64_t round = 0; round < calibration->rounds; round++, turn += 2) {
+            scq_wait_turn(calibration, turn);
+            scq_take_turn(calibration, turn);
+        }
+    }
+    return NULL;
+}
+
+/* Whether no reading is less than one that was taken before it on another processor. */
+static inline int scq_clocks_agree(void) {
+    scq_calibration calibration;
+    pthread_t other;
+    uint64_t turn = 0;
+    memset(calibration.allowed, 0, sizeof calibration.allowed);
+    SCQ_STORE(&calibration.turn, 0);
+    calibration.reading = calibration.contradictions = 0;
+    calibration.rounds = 32;
+    if (syscall(SYS_sched_getaffinity, 0, sizeof calibration.allowed, calibration.allowed) <= 0) return 0;
+    if (pthread_create(&other, NULL, scq_answer_readings, &calibration) != 0) return 0;
+    for (size_t p = 0; p < SCQ_PROCESSORS; p++) {
+        if (!(calibration.allowed[p / SCQ_WORD_BITS] >> p % SCQ_WORD_BITS & 1)) continue;
+        for (uint64_t round = 0; round < calibration.rounds; round++, turn += 2) {
+            scq_wait_turn(&calibration, turn);
+            scq_take_turn(&calibration, turn);
+        }
+    }
+    pthread_join(other, NULL);
+    return calibration.contradictions == 0;
+}
+#endif
+
+/* Why the clock can't be used, or NULL. */
+static inline const char *scq_clock_fault(void) {
+#ifdef SCQ_HAS_CLOCK
+    if (!scq_clock_is_constant()) return "the processor's clock isn't constant";
+    if (!scq_clocks_agree()) return "the clocks of two processors contradict each other";
+    return NULL;
+#else
+    return "there is no clock that this recorder knows";
+#endif
+}
+
+/* Begins a recording with stamps of the wanted kind. Where the clock can't be used it is the counter, and stderr says why. The kind
+ * that it is. */
+static inline scq_stamps scq_recorder_init_as(scq_recorder *recorder, scq_stamps wanted) {
+    const char *fault = wanted == SCQ_CLOCK ? scq_clock_fault() : NULL;
+    if (fault) fprintf(stderr, "scq recorder: stamps are of the shared counter, since %s\n", fault);
+    SCQ_STORE(&recorder->next, 0);
+    SCQ_STORE(&recorder->lanes, 0);
+    recorder->stamps = fault ? SCQ_COUNTER : wanted;
+    recorder->first = 0;
+#ifdef SCQ_HAS_CLOCK
+    /* A little before now, since another processor's reading may be less. */
+    recorder->first = scq_clock_before() - (1 << 20);
+#endif
+    return recorder->stamps;
+}
+
+static inline void scq_recorder_init(scq_recorder *recorder) { scq_recorder_init_as(recorder, SCQ_CLOCK); }
+
+/* --- seats --- */
 
 static inline void scq_seat_free(scq_seat *seat) {
-    free(seat->events);
-    seat->events = NULL;
-    seat->room = seat->count = 0;
+    if (!seat->log) return;
+    free(seat->log->events);
+    free(seat->log->puts);
+    free(seat->log);
+    seat->log = NULL;
 }
 
-static inline void scq_note(scq_seat *seat, uint32_t kind, uint64_t what) {
-    uint64_t stamp = SCQ_STEP(&seat->recorder->next);
-    if (seat->count == seat->room) {
-        seat->lost++;
+/* A seat of so many lanes, 1 or more, that takes as many numbers, from this one on. */
+static inline int scq_lanes_init(scq_seat *seat, scq_recorder *recorder, uint32_t number, uint32_t lanes, size_t room) {
+    scq_log *log = (scq_log *)calloc(1, sizeof *log);
+    seat->log = log;
+    if (!log) return 0;
+    log->recorder = recorder;
+    log->events = (scq_event *)malloc((room ? room : 1) * sizeof(scq_event));
+    log->puts = (uint64_t *)calloc(lanes ? lanes : 1, sizeof(uint64_t));
+    log->room = room;
+    log->seat = number;
+    log->first_lane = SCQ_ADD(&recorder->lanes, lanes);
+    log->lanes = lanes;
+    log->file = -1;
+    if (!log->events || !log->puts || lanes == 0 || log->first_lane + lanes > SCQ_LANES ||
+        (uint64_t)number + lanes > SCQ_OPENING_SEAT) {
+        scq_seat_free(seat);
+        return 0;
+    }
+    for (size_t i = 0; i < room; i++) log->events[i].stamp = 0;
+    return 1;
+}
+
+/* Whether there was memory, and the number is one of a seat. Every page of the room is written, so that a run meets none for the first
+ * time. A recorder has at most 4,096 seats, all lanes counted. */
+static inline int scq_seat_init(scq_seat *seat, scq_recorder *recorder, uint32_t number, size_t room) {
+    return scq_lanes_init(seat, recorder, number, 1, room);
+}
+
+/* A stamp for the event of this lane. */
+static inline uint64_t scq_stamp(scq_log *log, int is_end) {
+    uint64_t tick;
+#ifdef SCQ_HAS_CLOCK
+    if (log->recorder->stamps == SCQ_CLOCK) {
+        do {
+            tick = (is_end ? scq_clock_after() : scq_clock_before()) - log->recorder->first;
+        } while (tick <= log->last);
+        log->last = tick;
+        return (tick << 1 | (uint64_t)is_end) << SCQ_LANE_BITS | log->first_lane;
+    }
+#endif
+    (void)is_end;
+    tick = SCQ_ADD(&log->recorder->next, log->lanes);
+    return tick;
+}
+
+/* Events of the first lanes, with stamps one above the other. */
+static inline void scq_note(scq_log *log, uint32_t kind, uint64_t lane, uint64_t stamp, uint64_t what) {
+    if (log->count == log->room) {
+        log->lost++;
         return;
     }
-    scq_event *event = &seat->events[seat->count++];
-    event->stamp = stamp;
+    scq_event *event = &log->events[log->count];
+    event->stamp = stamp + lane;
     event->what = what;
-    event->kind = kind;
+    event->kind = (uint16_t)kind;
+    event->lane = (uint16_t)lane;
+    SCQ_PUBLISH(&log->count, log->count + 1);
+}
+
+static inline void scq_seat_ended(scq_log *log);
+
+static inline void scq_note_start(scq_seat *seat, uint32_t kind, uint64_t what) {
+    scq_note(seat->log, kind, 0, scq_stamp(seat->log, 0), what);
+}
+
+static inline void scq_note_end(scq_seat *seat, uint32_t kind, uint64_t what) {
+    scq_note(seat->log, kind, 0, scq_stamp(seat->log, 1), what);
+    scq_seat_ended(seat->log);
+}
+
+/* The value of the put that a lane begins. */
+static inline uint64_t scq_next_value(scq_log *log, uint64_t lane) {
+    return (log->seat + lane) << SCQ_NUMBER_BITS | ++log->puts[lane];
 }
 
 static inline uint64_t scq_put_start(scq_seat *seat, uint32_t queue) {
-    seat->puts++;
-    scq_note(seat, SCQ_PUT, queue);
-    return seat->seat << SCQ_NUMBER_BITS | seat->puts;
+    uint64_t value = scq_next_value(seat->log, 0);
+    scq_note_start(seat, SCQ_PUT, queue);
+    return value;
 }
 
-static inline void scq_put_done(scq_seat *seat) { scq_note(seat, SCQ_DONE, 0); }
-static inline void scq_put_refused(scq_seat *seat) { scq_note(seat, SCQ_REFUSED, 0); }
-static inline void scq_get_start(scq_seat *seat, uint32_t queue) { scq_note(seat, SCQ_GET, queue); }
-static inline void scq_get_got(scq_seat *seat, uint64_t value) { scq_note(seat, SCQ_GOT, value); }
-static inline void scq_get_nothing(scq_seat *seat) { scq_note(seat, SCQ_NOTHING, 0); }
+static inline void scq_put_done(scq_seat *seat) { scq_note_end(seat, SCQ_DONE, 0); }
+static inline void scq_put_refused(scq_seat *seat) { scq_note_end(seat, SCQ_REFUSED, 0); }
+static inline void scq_get_start(scq_seat *seat, uint32_t queue) { scq_note_start(seat, SCQ_GET, queue); }
+static inline void scq_get_got(scq_seat *seat, uint64_t value) { scq_note_end(seat, SCQ_GOT, value); }
+static inline void scq_get_nothing(scq_seat *seat) { scq_note_end(seat, SCQ_NOTHING, 0); }
 
-/* One line. The content is `-`: which put a value is from is all that it says. */
-static inline int scq_event_write(const scq_event *event, unsigned long long seat, FILE *file) {
-    unsigned long long stamp = event->stamp, what = event->what;
+/* --- calls that move several values: at most as many as the seat has lanes --- */
+
+/* A call begins that puts so many values, which are written here. */
+static inline void scq_puts_start(scq_seat *seat, uint32_t queue, uint64_t *values, size_t count) {
+    scq_log *log = seat->log;
+    for (size_t i = 0; i < count; i++) values[i] = scq_next_value(log, i);
+    uint64_t stamp = scq_stamp(log, 0);
+    for (size_t i = 0; i < count; i++) scq_note(log, SCQ_PUT, i, stamp, queue);
+}
+
+/* It has put the first `taken` of `count`, and the others were refused. */
+static inline void scq_puts_end(scq_seat *seat, size_t count, size_t taken) {
+    scq_log *log = seat->log;
+    uint64_t stamp = scq_stamp(log, 1);
+    for (size_t i = 0; i < count; i++) scq_note(log, i < taken ? SCQ_DONE : SCQ_REFUSED, i, stamp, 0);
+    scq_seat_ended(log);
+}
+
+/* A call begins that gets up to so many values. */
+static inline void scq_gets_start(scq_seat *seat, uint32_t queue, size_t count) {
+    scq_log *log = seat->log;
+    uint64_t stamp = scq_stamp(log, 0);
+    for (size_t i = 0; i < count; i++) scq_note(log, SCQ_GET, i, stamp, queue);
+}
+
+/* It has got `got` of `count`. `rest` says what fewer mean: SCQ_NOTHING that the queue was empty then, SCQ_REFUSED no such thing, as of a
+ * call that gets all or none. */
+static inline void scq_gets_end(scq_seat *seat, const uint64_t *values, size_t count, size_t got, uint32_t rest) {
+    scq_log *log = seat->log;
+    uint64_t stamp = scq_stamp(log, 1);
+    for (size_t i = 0; i < count; i++) scq_note(log, i < got ? (uint32_t)SCQ_GOT : rest, i, stamp, i < got ? values[i] : 0);
+    scq_seat_ended(log);
+}
+
+/* --- opening tokens --- */
+
+/* The value of the opening token of this number, from 0. Opening tokens stand in queue 0. */
+static inline uint64_t scq_opening(uint32_t number) { return (uint64_t)SCQ_OPENING_SEAT << SCQ_NUMBER_BITS | number; }
+
+/* Writes the file of so many opening tokens, which stands first among those that are judged. Whether it was written. */
+static inline int scq_openings_write(const char *name, uint32_t count) {
+    FILE *file = fopen(name, "w");
+    if (!file) return 0;
+    int good = 1;
+    for (uint32_t i = 0; i < count && good; i++) good = fputs("opening -\n", file) >= 0;
+    return fclose(file) == 0 && good;
+}
+
+/* --- lines --- */
+
+static inline char *scq_add_word(char *at, const char *word) {
+    while (*word) *at++ = *word++;
+    return at;
+}
+
+static inline char *scq_add_number(char *at, uint64_t number) {
+    char digits[20];
+    int count = 0;
+    do {
+        digits[count++] = (char)('0' + number % 10);
+        number /= 10;
+    } while (number);
+    while (count) *at++ = digits[--count];
+    return at;
+}
+
+/* The put of a value: `o J` or `S N`. */
+static inline char *scq_add_name(char *at, uint64_t value) {
+    uint64_t seat = value >> SCQ_NUMBER_BITS;
+    at = seat == SCQ_OPENING_SEAT ? scq_add_word(at, "o") : scq_add_number(at, seat);
+    at = scq_add_word(at, " ");
+    return scq_add_number(at, value & ((1ULL << SCQ_NUMBER_BITS) - 1));
+}
+
+/* One line of at most SCQ_LINE bytes; where it ends. The content is `-`: which put a value is from is all that it says. */
+static inline char *scq_add_line(char *at, const scq_event *event, uint64_t seat) {
+    at = scq_add_number(at, event->stamp);
+    at = scq_add_word(at, event->kind <= SCQ_GET ? " start " : " end ");
+    at = scq_add_number(at, seat + event->lane);
     switch (event->kind) {
-    case SCQ_PUT: return fprintf(file, "%llu start %llu put %llu -\n", stamp, seat, what);
-    case SCQ_GET: return fprintf(file, "%llu start %llu get %llu\n", stamp, seat, what);
-    case SCQ_DONE: return fprintf(file, "%llu end %llu done\n", stamp, seat);
-    case SCQ_REFUSED: return fprintf(file, "%llu end %llu spent\n", stamp, seat);
-    case SCQ_GOT:
-        return fprintf(file, "%llu end %llu got %llu %llu -\n", stamp, seat, what >> SCQ_NUMBER_BITS,
-                       what & ((1ULL << SCQ_NUMBER_BITS) - 1));
-    default: return fprintf(file, "%llu end %llu nothing\n", stamp, seat);
+    case SCQ_PUT: return scq_add_word(scq_add_number(scq_add_word(at, " put "), event->what), " -\n");
+    case SCQ_GET: return scq_add_word(scq_add_number(scq_add_word(at, " get "), event->what), "\n");
+    case SCQ_DONE: return scq_add_word(at, " done\n");
+    case SCQ_REFUSED: return scq_add_word(at, " spent\n");
+    case SCQ_GOT: return scq_add_word(scq_add_name(scq_add_word(at, " got "), event->what), " -\n");
+    default: return scq_add_word(at, " nothing\n");
     }
 }
 
 /* Whether the whole file was written and no event was lost. */
 static inline int scq_seat_write(const scq_seat *seat, const char *name) {
+    const scq_log *log = seat->log;
+    char line[SCQ_LINE];
     FILE *file = fopen(name, "w");
     if (!file) return 0;
     int good = 1;
-    for (size_t i = 0; i < seat->count && good; i++)
-        good = scq_event_write(&seat->events[i], (unsigned long long)seat->seat, file) > 0;
+    for (size_t i = 0; i < log->count && good; i++) {
+        size_t size = (size_t)(scq_add_line(line, &log->events[i], log->seat) - line);
+        good = fwrite(line, 1, size, file) == size;
+    }
     if (fclose(file) != 0) good = 0;
-    return good && seat->lost == 0;
+    return good && log->lost == 0;
 }
+
+/* --- files that are written as events come --- */
+
+#ifdef SCQ_HAS_FILES
+#define SCQ_BUFFER 4096
+
+/* The logs with open files, and what guards them; the program has one of each, however many of its files include this one. */
+__attribute__((weak)) scq_log *scq_open_logs;
+__attribute__((weak)) int scq_open_lock, scq_ending, scq_is_watching;
+__attribute__((weak)) struct sigaction scq_actions_before[32];
+
+static inline int scq_write_all(int file, const char *bytes, size_t size) {
+    while (size) {
+        ssize_t done = write(file, bytes, size);
+        if (done < 0) return 0;
+        bytes += done;
+        size -= (size_t)done;
+    }
+    return 1;
+}
+
+/* Writes those of the first `count` events whose stamps are at most this. Only calls that a signal's handler may make. */
+static inline int scq_write_events(const scq_log *log, size_t count, uint64_t until) {
+    char buffer[SCQ_BUFFER];
+    char *at = buffer;
+    for (size_t i = 0; i < count; i++) {
+        if (log->events[i].stamp > until) break;
+        at = scq_add_line(at, &log->events[i], log->seat);
+        if (at - buffer > SCQ_BUFFER - SCQ_LINE) {
+            if (!scq_write_all(log->file, buffer, (size_t)(at - buffer))) return 0;
+            at = buffer;
+        }
+    }
+    return scq_write_all(log->file, buffer, (size_t)(at - buffer));
+}
+
+/* How far the end of the program is: what is left is being written, and it was. */
+enum { SCQ_RUNS, SCQ_ENDS, SCQ_ENDED };
+
+static inline void scq_end_writing(scq_log *log, const sigset_t *before) {
+    __atomic_store_n(&log->writing, 0, __ATOMIC_SEQ_CST);
+    pthread_sigmask(SIG_SETMASK, before, NULL);
+}
+
+/* Locks out the end of the program. Where that has begun it waits until what is left is written, and answers false. */
+static inline int scq_begin_writing(scq_log *log, sigset_t *before) {
+    sigset_t all;
+    sigfillset(&all);
+    pthread_sigmask(SIG_BLOCK, &all, before);
+    __atomic_store_n(&log->writing, 1, __ATOMIC_SEQ_CST);
+    if (!__atomic_load_n(&scq_ending, __ATOMIC_SEQ_CST)) return 1;
+    scq_end_writing(log, before);
+    while (__atomic_load_n(&scq_ending, __ATOMIC_SEQ_CST) != SCQ_ENDED) sched_yield();
+    return 0;
+}
+
+/* The last stamp of a log. */
+static inline uint64_t scq_last_stamp(const scq_log *log) {
+    size_t count = __atomic_load_n(&log->count, __ATOMIC_SEQ_CST);
+    return count ? log->events[count - 1].stamp : log->last_written;
+}
+
+/* Writes what the log holds. */
+static inline void scq_empty_log(scq_log *log) {
+    sigset_t before;
+    if (!scq_begin_writing(log, &before)) return;
+    log->last_written = scq_last_stamp(log);
+    if (!scq_write_events(log, log->count, UINT64_MAX)) log->bad = 1;
+    __atomic_store_n(&log->count, 0, __ATOMIC_SEQ_CST);
+    scq_end_writing(log, &before);
+}
+
+static inline void scq_lock_logs(void) {
+    while (__atomic_exchange_n(&scq_open_lock, 1, __ATOMIC_SEQ_CST)) sched_yield();
+}
+
+static inline void scq_unlock_logs(void) { __atomic_store_n(&scq_open_lock, 0, __ATOMIC_SEQ_CST); }
+
+/* Waits for a thread that writes, for two seconds at most. */
+static inline void scq_wait_for_writer(const scq_log *log) {
+    struct timespec pause = {0, 1000000};
+    for (int i = 0; i < 2000 && __atomic_load_n(&log->writing, __ATOMIC_SEQ_CST); i++) nanosleep(&pause, NULL);
+}
+
+/* Writes what is left of each log, once, up to one moment: what was stamped later may be missing elsewhere. */
+static inline void scq_write_rest(void) {
+    uint64_t until = 0;
+    scq_log *log;
+    if (__atomic_exchange_n(&scq_ending, SCQ_ENDS, __ATOMIC_SEQ_CST)) return;
+    for (log = scq_open_logs; log; log = log->next_open) {
+        scq_wait_for_writer(log);
+        if (scq_last_stamp(log) > until) until = scq_last_stamp(log);
+    }
+    for (log = scq_open_logs; log; log = log->next_open)
+        scq_write_events(log, __atomic_load_n(&log->count, __ATOMIC_SEQ_CST), until);
+    __atomic_store_n(&scq_ending, SCQ_ENDED, __ATOMIC_SEQ_CST);
+}
+
+/* At a signal that ends the program: writes the rest, and lets the program end as it would have. */
+static inline void scq_on_signal(int number) {
+    scq_write_rest();
+    sigaction(number, &scq_actions_before[number], NULL);
+    raise(number);
+}
+
+static inline void scq_watch_signal(int number) {
+    struct sigaction action;
+    if (sigaction(number, NULL, &scq_actions_before[number]) != 0) return;
+    if (scq_actions_before[number].sa_handler == SIG_IGN) return;
+    memset(&action, 0, sizeof action);
+    action.sa_handler = scq_on_signal;
+    sigfillset(&action.sa_mask);
+    sigaction(number, &action, NULL);
+}
+
+/* Once: what is done at the end of the program, however it comes. */
+static inline void scq_watch(void) {
+    static const int ending[] = {SIGABRT, SIGSEGV, SIGBUS, SIGFPE, SIGILL, SIGINT, SIGTERM, SIGHUP, SIGQUIT};
+    if (__atomic_exchange_n(&scq_is_watching, 1, __ATOMIC_SEQ_CST)) return;
+    atexit(scq_write_rest);
+    for (size_t i = 0; i < sizeof ending / sizeof ending[0]; i++) scq_watch_signal(ending[i]);
+}
+
+/* Puts a log among the open ones, or takes it out. */
+static inline void scq_list_log(scq_log *log, int is_open) {
+    sigset_t all, before;
+    sigfillset(&all);
+    pthread_sigmask(SIG_BLOCK, &all, &before);
+    scq_lock_logs();
+    scq_log **at = &scq_open_logs;
+    if (is_open) {
+        log->next_open = scq_open_logs;
+    } else {
+        while (*at && *at != log) at = &(*at)->next_open;
+    }
+    if (is_open) *at = log;
+    else if (*at) *at = log->next_open;
+    scq_unlock_logs();
+    pthread_sigmask(SIG_SETMASK, &before, NULL);
+}
+
+/* A seat of so many lanes whose events go to this file: whenever its room is full, at the end of a call, and when it is closed or
+ * the program ends by `exit`, `abort` or a signal. SIGKILL and `_exit` leave out what wasn't written yet. Whether there was memory and
+ * the file could be made. */
+static inline int scq_lanes_open(scq_seat *seat, scq_recorder *recorder, uint32_t number, uint32_t lanes, size_t room, const char *name) {
+    size_t least = 4 * (size_t)lanes;
+    if (!scq_lanes_init(seat, recorder, number, lanes, room < least ? least : room)) return 0;
+    seat->log->file = open(name, O_WRONLY | O_CREAT | O_TRUNC, 0666);
+    if (seat->log->file < 0) {
+        scq_seat_free(seat);
+        return 0;
+    }
+    scq_watch();
+    scq_list_log(seat->log, 1);
+    return 1;
+}
+
+static inline int scq_seat_open(scq_seat *seat, scq_recorder *recorder, uint32_t number, size_t room, const char *name) {
+    return scq_lanes_open(seat, recorder, number, 1, room, name);
+}
+
+/* Writes the rest and frees the seat. Whether all was written. */
+static inline int scq_seat_close(scq_seat *seat) {
+    scq_log *log = seat->log;
+    scq_empty_log(log);
+    scq_list_log(log, 0);
+    int good = close(log->file) == 0 && !log->bad && log->lost == 0;
+    scq_seat_free(seat);
+    return good;
+}
+
+/* Behind the end of a call: makes room for the next. */
+static inline void scq_seat_ended(scq_log *log) {
+    if (log->file >= 0 && log->room - log->count < 2 * log->lanes) scq_empty_log(log);
+}
+#else
+static inline void scq_seat_ended(scq_log *log) { (void)log; }
+#endif
 
 #endif
