@@ -32,6 +32,7 @@ use Rattle.scq_band.specs.Standing.{Identity, Standing, in_hand, bytes_of, bytes
 use Rattle.scq_band.specs.Kept.{in_order, buffer_in, hand_of, identity_of, standing_from, standing_of, AllGiven, AreSmall, IsKept}
 use Rattle.scq_band.proofs.Slots.{times-append, times-without, length-without, put_hand}
 use Rattle.scq_law.proofs.Aspects.EmptyCalls.{empty_at_call}
+use Rattle.scq_band.proofs.DelayedCalls.{call_delayed}
 use Rattle.scq_band.proofs.RunShown.{began}
 use Rattle.scq_band.proofs.Exchanging.{Brought}
 use Rattle.scq_band.proofs.Gates.{none_awake, some_awake, ones_gone, gone_ones}
@@ -392,7 +393,10 @@ module _ {B : Type 0} where
   pub call_in_run : (opening : List (List ℕ)) (table later : TableId) (key : Key B) (me me' : Me (Slot B) Sight) → Went key.setup opening me.0 me'.0
       → (my me.0.known).part.phase ≡ Idle → (my me'.0.known).part.phase ≡ Idle → (my me'.0.known).number ≡ (my me.0.known).number
       → IsCallInRun key.setup opening (caller_of (standing_of table key me)) (caller_of (standing_of later key me'))
-  call_in_run opening table later key me me' went was is same =
+  call_in_run opening table later key me me' went rested rests same =
+      let seat = (my me.0.known).number in
+      let was = rests_after key.setup opening went.before (my me.0.known) seat went.was rested refl in
+      let now = rests_after key.setup opening went.after (my me'.0.known) seat went.now rests same in
       record {
         before = went.before;
         after = went.after;
@@ -402,8 +406,11 @@ module _ {B : Type 0} where
         last = went.last;
         ends = subst (λ (k : ℕ). EndsWith (k, went.last) went.after) same went.ends;
         has_seen = went.has_seen;
-        was = rests_after key.setup opening went.before (my me.0.known) (my me.0.known).number went.was was refl;
-        now = rests_after key.setup opening went.after (my me'.0.known) (my me.0.known).number went.now is same;
+        was = was;
+        now = now;
+        delayed =
+            call_delayed key.setup opening went.before went.after seat went.first (my me.0.known).part.calls
+            (my me'.0.known).part.calls went.begins was now;
       }
 
   -- the same, of the seat and the band as contracts see them

@@ -7,6 +7,7 @@ pub mod Learning
 pub mod Moves
 pub mod Grounds
 pub mod RunEnds
+pub mod DelayedCalls
 pub mod RunShown
 pub mod SeenCalls
 pub mod Operations
@@ -45,4 +46,3 @@ pub mod Keeping
 pub mod Putting
 pub mod Joining
 pub mod SeatsShared
-pub mod CallCosts

@@ -16,4 +16,3 @@ pub mod Homes
 pub mod Closing
 pub mod SeenCalls
 pub mod Making
-pub mod CallCosts

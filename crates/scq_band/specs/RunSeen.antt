@@ -8,6 +8,7 @@ use Rattle.scq_core.specs.declared.step.Step.{Step}
 use Rattle.scq_law.specs.EmptyCalls.{IsEmptyAtCall}
 use Rattle.scq_law.specs.Prefixes.{IsPrefix, AllPrefixes, IsRecordAfter}
 use Rattle.scq_law.specs.Run.{Recorded, IsRun}
+use Rattle.scq_law.specs.Progress.{WholeCallIsDelayedByEnds}
 
 -- the last of these steps is this one
 pub record EndsWith (step : ℕ × Step) (steps : List (ℕ × Step)) : Type 0 where
@@ -54,6 +55,9 @@ pub record IsCallInRun (c : Setup) (opening : List (List ℕ)) (old new : Caller
   -- the record is that of the run, at both ends
   pub was : IsRecordAfter c opening before old.seat old.calls
   pub now : IsRecordAfter c opening after old.seat new.calls
+  -- by the way in which the call ended: it made few steps for each call that ended on its ring meanwhile
+  pub delayed : (ended : Ended) → new.calls ≡ old.calls ++ ended ∷ []
+      → WholeCallIsDelayedByEnds c before after was.recorded.state now.recorded.state old.seat ended
 
 -- a get of ring r that found nothing, in the run: after the call's last step Head of the ring was at or past this number, and at some
 -- moment inside the call each finished put of the ring was claimed: a get that had begun got it, or gets of the ring that are still under

@@ -6,7 +6,6 @@ ghost use Rattle.scq_band.specs.Buffers.{LiesIn, opening_of};
 ghost use Rattle.scq_band.specs.Knowing.{EachViewKnowsTruth};
 ghost use Rattle.scq_band.specs.Layout.{HotWordsAreApart};
 ghost use Rattle.scq_band.specs.SeenCalls.{EachSeenCallComesFirst, EachCallInARunSeenComesFirst};
-ghost use Rattle.scq_band.specs.CallCosts.{EachCallIsDelayedByEnds};
 
 use scq_word::Buffer;
 
@@ -21,12 +20,6 @@ pub fn each_view_knows_the_truth<B: Buffer>()
 /// was made before each of its own; and where both are of one ring, it stands before it in the ring's one order.
 pub fn calls_seen_come_first()
     ensures { EachSeenCallComesFirst }
-{}
-
-/// A call of the band makes at most `6 * (R + n + k)` steps, as many more for each put of another seat that ends on its ring
-/// meanwhile, and 6 more for each get: for `k` seats, `n` indices and a Threshold that resets to `R`.
-pub fn calls_are_delayed_by_ends()
-    ensures { EachCallIsDelayedByEnds }
 {}
 
 /// The same of a call of any seat that stood in its record in a run that was seen, whoever had seen it end.
