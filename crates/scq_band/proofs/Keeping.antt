@@ -21,9 +21,9 @@ use Rattle.scq_band.specs.declared.slot.Slot.{Slot}
 use Rattle.scq_band.specs.declared.rule.Key.{Key}
 use Rattle.scq_band.specs.Numbers.{known_of, changed, finishes, sees, passes, drew, empties}
 use Rattle.scq_band.specs.Known.{Member, Known}
-use Rattle.scq_band.specs.Sights.{Sight, StandsAfter, Went, Looked, retired_ones, Raised}
+use Rattle.scq_band.specs.Sights.{Sight, StandsAfter, Went, Looked, retired_ones, WasShownRun}
 use Rattle.scq_law.specs.Prefixes.{IsRecordAfter}
-use Rattle.scq_band.specs.RunSeen.{Seen, Caller, EndsWith, IsCallInRun, WasEmptyInRun, IsReadingInRun, IsMomentInRun, AllHaveBeenSeenRetired}
+use Rattle.scq_band.specs.RunSeen.{Seen, Caller, EndsWith, IsCallInRun, WasEmptyInRun, IsReadingInRun, IsMomentInRun, AllWereSeenRetired}
 use Rattle.scq_band.specs.Steps.{my, bytes_in, front_bytes}
 use Rattle.scq_band.specs.Seats.{IsAlone, looked, HasGotAfter, with_part, seated, put_at, got_at, nothing_at, drew_head, spent_at}
 use Rattle.scq_band.specs.Turns.{Fronts}
@@ -505,33 +505,33 @@ module _ {B : Type 0} where
       (subst (λ (t : Standing B). IsReadingInRun key.setup opening t.retired (caller_of t) (caller_of (standing_of later key me')) found) is here)
 
 module _ {B : Type 0} where
-  -- the whole run as it was shown to a seat
+  -- the run that was shown to a seat is a moment of the seat's
   pub moment_seen : (contents : B → List ℕ) (table later shared_table : TableId) (key shared : Key B) (self : Identity B) (s : Standing B)
       (me me' : Me (Slot B) Sight) → standing_of table key me ≡ s → s.band ≡ self → identity_of shared_table shared ≡ self
       → IsAlone me.0.known → (my me.0.known).part.phase ≡ Idle → me'.0.known ≡ me.0.known
-      → Raised shared.setup (opening_of contents shared.given.value.items) me.0 me'.0
+      → WasShownRun shared.setup (opening_of contents shared.given.value.items) me.0 me'.0
       → IsMomentInRun self.setup (opening_of contents self.given) (caller_of s) (caller_of (standing_of later key me'))
   moment_seen contents table later shared_table key shared self s me me' is own shared_is alone rests same raised =
       let band : identity_of table key ≡ self = ap (λ (t : Standing B). t.band) is ∙ own in
       let opening = opening_of contents key.given.value.items in
-      let its : Raised key.setup opening me.0 me'.0 =
-      subst (λ (i : Identity B). Raised i.setup (opening_of contents i.given) me.0 me'.0) (shared_is ∙ sym band) raised in
+      let its : WasShownRun key.setup opening me.0 me'.0 =
+      subst (λ (i : Identity B). WasShownRun i.setup (opening_of contents i.given) me.0 me'.0) (shared_is ∙ sym band) raised in
       let x = my me.0.known in
       let calls : (my me'.0.known).part.calls ≡ x.part.calls = ap (λ (u : Known). (my u).part.calls) same in
       let here : IsMomentInRun key.setup opening (caller_of (standing_of table key me)) (caller_of (standing_of later key me')) = record {
-        whole = its.whole;
+        steps = its.steps;
         had_seen = its.had_seen;
         has_seen = its.has_seen;
         now =
-            subst (λ (l : List Ended). IsRecordAfter key.setup opening its.whole x.number l) (sym calls)
-            (rests_after key.setup opening its.whole x x.number (its.stands alone.seats) rests refl);
+            subst (λ (l : List Ended). IsRecordAfter key.setup opening its.steps x.number l) (sym calls)
+            (rests_after key.setup opening its.steps x x.number (its.stands alone.seats) rests refl);
       } in
       subst (λ (i : Identity B). IsMomentInRun i.setup (opening_of contents i.given) (caller_of s) (caller_of (standing_of later key me'))) band
       (subst (λ (t : Standing B). IsMomentInRun key.setup opening (caller_of t) (caller_of (standing_of later key me'))) is here)
 
 -- one who has seen all seats retired reads 0
 pub all_told : (c : Setup) (opening : List (List ℕ)) (own : Option ℕ) (old new : Caller) (found : ℕ) → IsReadingInRun c opening own old new found
-    → AllHaveBeenSeenRetired c old.seen → found ≡ 0
+    → AllWereSeenRetired c old.seen → found ≡ 0
 all_told c opening own old new zero reading all = refl
 all_told c opening own old new (suc n) reading all =
     let left = reading.some_left (omega arith) in

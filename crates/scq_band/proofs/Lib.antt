@@ -46,3 +46,5 @@ pub mod Keeping
 pub mod Putting
 pub mod Joining
 pub mod SeatsShared
+pub mod ComparablePrefixes
+pub mod Meeting

@@ -29,7 +29,7 @@ use Rattle.scq_band.specs.Known.{Member, Known}
 use Rattle.scq_band.specs.Shown.{Owns, Shown, awake, first_view}
 use Rattle.scq_band.specs.Standing.{IsReading}
 use Rattle.scq_band.specs.Seats.{IsAlone, looked, retired_at}
-use Rattle.scq_band.specs.Sights.{Sight, known_in, known_me, known_state, StandsAfter, Went, GoesOn, Looked, Raised, retired_ones, first_sight, ShowsRun}
+use Rattle.scq_band.specs.Sights.{Sight, known_in, known_me, known_state, StandsAfter, Went, GoesOn, Looked, WasShownRun, retired_ones, first_sight, ShowsRun}
 use Rattle.scq_band.specs.Steps.{my, my_of}
 use Rattle.scq_band.specs.Turns.{turned_member, MayTurn, Carries, Turned}
 use Rattle.scq_band.proofs.Moves.{Ground, moves_by}
@@ -250,7 +250,7 @@ module _ {S : Type 0} (Lies : ℕ → S → List ℕ → Type 0) where
       } in
       (w, keeps, tt, shown, ((refl, refl), refl))
 
-  -- the gate may be read: the reader has then seen the whole run
+  -- the gate may be read: the reader has then seen the rule's run
   pub looks_run : {opening : List (List ℕ)} (c : Setup) (slots id : ℕ) (me : Me S Sight)
       → Allows (ShowsRun Lies opening c) slots id me 0 (λ n. n)
       (λ n later. (later.0.known ≡ looked n me.0.known) × (later.1 ≡ me.1) × IsReading c.seats me.0.known.gate (my me.0.known).retired n
@@ -307,17 +307,17 @@ module _ {S : Type 0} (Lies : ℕ → S → List ℕ → Type 0) where
       } in
       (w, a.1, a.2, shown, (a.4.0, a.4.1, a.4.2, its))
 
-  -- the whole run may be shown to a seat
-  pub raises_run : {opening : List (List ℕ)} (c : Setup) (slots id : ℕ) (me : Me S Sight)
+  -- the rule's run may be shown to a seat
+  pub shows_run : {opening : List (List ℕ)} (c : Setup) (slots id : ℕ) (me : Me S Sight)
       → Allows (ShowsRun Lies opening c) slots id me 0 (λ n. n)
-      (λ n later. (later.0.known ≡ me.0.known) × (later.1 ≡ me.1) × Raised c opening me.0 later.0)
-  raises_run {opening} c slots id me s sh many here small =
+      (λ n later. (later.0.known ≡ me.0.known) × (later.1 ≡ me.1) × WasShownRun c opening me.0 later.0)
+  shows_run {opening} c slots id me s sh many here small =
       let there : get_elem? (map known_in s.views) id ≡ some me.0.known = known_at s.views id me.0 here in
       let w : Sight = record { known = me.0.known; seen = with_run sh.run me.0.seen } in
       let ws = slice_set s.words 0 (slice_index s.words 0) in
       let words : Shown Lies opening c sh.gone sh.run (record { words = ws; homes = s.homes; views = map known_in s.views }) =
       subst (λ (l : List ℕ). Shown Lies opening c sh.gone sh.run (record { words = l; homes = s.homes; views = map known_in s.views })) (sym
-          (set-get_or s.words 0 0)) sh.shown in
+      (set-get_or s.words 0 0)) sh.shown in
       let shown : ShowsRun Lies opening c (stepped s 0 (slice_index s.words 0) id me.1 w keeps) = record {
         run = sh.run;
         shown = subst (λ (vs : List Known). Shown Lies opening c sh.gone sh.run (record { words = ws; homes = s.homes; views = vs })) (sym
@@ -336,8 +336,8 @@ module _ {S : Type 0} (Lies : ℕ → S → List ℕ → Type 0) where
               | inr other ↦ sh.retirees j v other.1 p has
             ];
       } in
-      let its : Raised c opening me.0 w = record {
-        whole = sh.run;
+      let its : WasShownRun c opening me.0 w = record {
+        steps = sh.run;
         had_seen = sh.seen id me.0 here;
         has_seen = refl;
         stands = λ alone. stands_after opening c sh.gone sh.run (known_state s) id me.0.known sh.shown there alone;

@@ -1,4 +1,4 @@
--- A call that was seen to its end comes first: the run behind it is a prefix of the run before the other call.
+-- A call that had ended in a run that was seen comes first: that run is a prefix of the run before the other call.
 use Rattle.std.proofs.Common.{◌≡◌, ℕ, zero, suc, ◌+◌, ◌<◌, ◌≤◌, List, [], ◌∷◌, ◌++◌, length, take, refl, ◌∙◌, ap, subst, inl, inr, arith}
 use Rattle.std.specs.Prelude.{Option, Some, slice_index_or, unwrap_or}
 use Rattle.std.proofs.Math.Seq.{take-append_seam}
@@ -17,7 +17,7 @@ use Rattle.scq_law.proofs.Replays.RunPrefixes.{prefix_trans}
 use Rattle.scq_band.specs.SeenCalls.{EachSeenCallComesFirst, EachCallInARunSeenComesFirst}
 
 -- each of these lists is a prefix
-among : (ps : List (List (ℕ × Step))) (p steps : List (ℕ × Step)) → AllPrefixes ps steps → Contains ps p → IsPrefix p steps
+pub among : (ps : List (List (ℕ × Step))) (p steps : List (ℕ × Step)) → AllPrefixes ps steps → Contains ps p → IsPrefix p steps
 among ps p steps all has = at ps has.0 all has.1 has.2
   where
     at : (qs : List (List (ℕ × Step))) (k : ℕ) → AllPrefixes qs steps → k < length qs → slice_index_or qs k p ≡ p → IsPrefix p steps

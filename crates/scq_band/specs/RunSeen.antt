@@ -1,6 +1,6 @@
 -- What a seat, a pass or a note has seen of the run of all seats, and where in that run a call was made. The run is one list of steps,
 -- in the order in which they were made; what was seen of it is a list of its prefixes.
-use Rattle.std.specs.Prelude.{◌≡◌, ℕ, ◌<◌, ◌≤◌, List, [], ◌∷◌, ◌++◌, length, Option, Some, None}
+use Rattle.std.specs.Prelude.{◌≡◌, ◌⊎◌, ℕ, ◌<◌, ◌≤◌, List, [], ◌∷◌, ◌++◌, length, Option, Some, None}
 use Rattle.std.specs.List.{Contains}
 use Rattle.scq_word.specs.declared.setup.Setup.{Setup}
 use Rattle.scq_core.specs.declared.ended.Ended.{Ended}
@@ -31,7 +31,7 @@ with_run steps seen = record seen { runs = steps ∷ [] }
 abbrev pub both_seen : Seen → Seen → Seen
 both_seen one other = record { runs = one.runs ++ other.runs; retirees = one.retirees ++ other.retirees }
 
--- by one who retired itself: that it has, with so many calls made before
+-- and by one who retires: that it has, with so many calls made before
 abbrev pub with_retiree : ℕ × ℕ → Seen → Seen
 with_retiree one seen = record seen { retirees = one ∷ seen.retirees }
 
@@ -67,7 +67,7 @@ pub record WasEmptyInRun (c : Setup) (opening : List (List ℕ)) (r head : ℕ) 
   pub past : head ≤ call.now.recorded.state.cells.head r
   pub moment : IsEmptyAtCall opening call.was.recorded.events call.now.recorded.events old.seat r
 
--- a seat has seen these first calls of another to their end
+-- so many first calls of this seat had ended in a run that was seen
 pub record HasSeenCalls (c : Setup) (opening : List (List ℕ)) (seen : Seen) (seat calls : ℕ) : Type 0 where
   pub steps : List (ℕ × Step)
   pub among : Contains seen.runs steps
@@ -75,8 +75,9 @@ pub record HasSeenCalls (c : Setup) (opening : List (List ℕ)) (seen : Seen) (s
   pub is_run : IsRun c opening steps recorded
   pub made : calls ≤ length (recorded.state.part seat).calls
 
--- a reading of the gate in the run, by a seat that had retired itself where `own` is how many calls it had made then. The reader has seen the
--- whole run as it was, and all that had retired, those among them that it had seen retired before. The number read is 0 exactly where all had
+-- a reading of the gate in the run, by a seat that had retired itself where `own` is how many calls it had made then. The reader has now
+-- seen the run `after`, of which all that it had seen are prefixes, and seats that had retired, those among them that it had seen retired
+-- before. The number read is 0 exactly where these are all seats
 pub record IsReadingInRun (c : Setup) (opening : List (List ℕ)) (own : Option ℕ) (old new : Caller) (found : ℕ) : Type 0 where
   pub after : List (ℕ × Step)
   pub had_seen : AllPrefixes old.seen.runs after
@@ -89,14 +90,41 @@ pub record IsReadingInRun (c : Setup) (opening : List (List ℕ)) (own : Option 
   pub none_left : found ≡ 0 → (seat : ℕ) → seat < c.seats → (calls : ℕ) × Contains new.seen.retirees (seat, calls)
   pub some_left : 0 < found → (seat : ℕ) × (seat < c.seats) × ((calls : ℕ) → Contains new.seen.retirees (seat, calls) → ⊥)
 
--- a moment between calls, at which a seat was shown the whole run: all that it had seen are prefixes of it, its record is the run's, and the
--- run is what it has seen from then on
+-- a moment between two calls of a seat, at which these were the steps of the run: all that it had seen
+-- are prefixes of them, its record is the run's, and they are what it has seen from then on
 pub record IsMomentInRun (c : Setup) (opening : List (List ℕ)) (old new : Caller) : Type 0 where
-  pub whole : List (ℕ × Step)
-  pub had_seen : AllPrefixes old.seen.runs whole
-  pub has_seen : new.seen ≡ with_run whole old.seen
-  pub now : IsRecordAfter c opening whole old.seat new.calls
+  pub steps : List (ℕ × Step)
+  pub had_seen : AllPrefixes old.seen.runs steps
+  pub has_seen : new.seen ≡ with_run steps old.seen
+  pub now : IsRecordAfter c opening steps old.seat new.calls
 
 -- each seat was seen retired
-abbrev pub AllHaveBeenSeenRetired : Setup → Seen → Type 0
-AllHaveBeenSeenRetired c seen = (seat : ℕ) → seat < c.seats → (calls : ℕ) × Contains seen.retirees (seat, calls)
+abbrev pub AllWereSeenRetired : Setup → Seen → Type 0
+AllWereSeenRetired c seen =
+    (seat : ℕ) → seat < c.seats → (calls : ℕ) × Contains seen.retirees (seat, calls)
+
+-- of two runs that were seen, one is a prefix of the other
+abbrev pub AreComparable : List (ℕ × Step) → List (ℕ × Step) → Type 0
+AreComparable one other = IsPrefix one other ⊎ IsPrefix other one
+
+-- two prefixes of one run are comparable
+abbrev pub EachTwoPrefixesAreComparable : Type 0
+EachTwoPrefixesAreComparable =
+    (one other steps : List (ℕ × Step)) → IsPrefix one steps → IsPrefix other steps
+    → AreComparable one other
+
+-- of any two runs that two have seen, one is a prefix of the other
+abbrev pub HaveSeenOneRun : Seen → Seen → Type 0
+HaveSeenOneRun one other =
+    (p q : List (ℕ × Step)) → Contains one.runs p → Contains other.runs q → AreComparable p q
+
+-- one run behind all that two have seen when they meet: each had seen prefixes of these steps, and both
+-- have seen them from then on. They are a run, in which the first's record stands
+pub record HaveMet (c : Setup) (opening : List (List ℕ)) (one other one_now other_now : Caller)
+    : Type 0 where
+  pub steps : List (ℕ × Step)
+  pub one_had_seen : AllPrefixes one.seen.runs steps
+  pub other_had_seen : AllPrefixes other.seen.runs steps
+  pub one_has_seen : Contains one_now.seen.runs steps
+  pub other_has_seen : Contains other_now.seen.runs steps
+  pub now : IsRecordAfter c opening steps one.seat one.calls

@@ -16,7 +16,8 @@ pub record ComesFirst (run : Run) (seat call k x : ℕ) : Type 0 where
   pub in_order : (r : ℕ) (order : List Ordered) (a b : ℕ) → IsOneOrder run r order → slice_get order a ≡ Some (Call seat (call + 1))
       → slice_get order b ≡ Some (Call k (x + 1)) → a < b
 
--- a call that was seen to its end by a caller, who then began one of its own, comes before that one in the one run behind all calls
+-- where a caller had seen the very run that a call left behind it, and then began one of its own, that call comes before its own in the one
+-- run behind all calls
 abbrev pub EachSeenCallComesFirst : Type 0
 EachSeenCallComesFirst =
     (c : Setup) (opening : List (List ℕ)) (callers : List Caller) (a now b later : Caller) (all : IsOneRun c opening callers)
@@ -24,10 +25,12 @@ EachSeenCallComesFirst =
     → Contains b.seen.runs one.after → IsPrefix other.after all.steps
     → ComesFirst (run_of c opening all.steps) a.seat (length a.calls) b.seat (length b.calls)
 
--- a call of any seat that stood in its record in a run that a caller had seen, who then began one of its own, comes before that one in the one
--- run behind all calls, whether the caller saw it by its own calls, at a moment at which it was shown the whole run, by a mark or by a note
+-- a call of any seat, ended in a run that a caller had seen when it began one of its own, comes before
+-- that one in the one run behind all calls: by whatever the caller saw that run, a call or a reading of
+-- its own, a look, a mark or a note
 abbrev pub EachCallInARunSeenComesFirst : Type 0
 EachCallInARunSeenComesFirst =
-    (c : Setup) (opening : List (List ℕ)) (callers : List Caller) (b later : Caller) (seat call : ℕ) (all : IsOneRun c opening callers)
-    (other : IsCallInRun c opening b later) → HasSeenCalls c opening b.seen seat (call + 1) → IsPrefix other.after all.steps
+    (c : Setup) (opening : List (List ℕ)) (callers : List Caller) (b later : Caller) (seat call : ℕ)
+    (all : IsOneRun c opening callers) (other : IsCallInRun c opening b later)
+    → HasSeenCalls c opening b.seen seat (call + 1) → IsPrefix other.after all.steps
     → ComesFirst (run_of c opening all.steps) seat call b.seat (length b.calls)

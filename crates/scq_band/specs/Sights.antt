@@ -60,7 +60,7 @@ abbrev pub retired_ones : (ℕ → Option ℕ) → ℕ → List (ℕ × ℕ)
 retired_ones gone zero = []
 retired_ones gone (suc k) = retired_ones gone k ++ (if is_none (gone k) then [] else (k, unwrap_or (gone k) 0) ∷ [])
 
--- a reading of the gate by the one seat that stands in a view, which has now seen the whole run and all that have retired
+-- a reading of the gate by the one seat that stands in a view: it has now seen the rule's run, `after`, and all that have retired
 pub record Looked (c : Setup) (opening : List (List ℕ)) (old new : Sight) (found : ℕ) : Type 0 where
   pub after : List (ℕ × Step)
   pub had_seen : AllPrefixes old.seen.runs after
@@ -72,12 +72,13 @@ pub record Looked (c : Setup) (opening : List (List ℕ)) (old new : Sight) (fou
   pub made : (k n : ℕ) → gone k ≡ Some n → HasSeenCalls c opening new.seen k n
   pub awake_seats : found ≡ awake gone c.seats
 
--- the one seat that stands in a view was shown the whole run
-pub record Raised (c : Setup) (opening : List (List ℕ)) (old new : Sight) : Type 0 where
-  pub whole : List (ℕ × Step)
-  pub had_seen : AllPrefixes old.seen.runs whole
-  pub has_seen : new.seen ≡ with_run whole old.seen
-  pub stands : old.known.seats ≡ my old.known ∷ [] → StandsAfter c opening whole (my old.known)
+-- the one seat that stands in a view was shown the rule's run
+pub record WasShownRun (c : Setup) (opening : List (List ℕ)) (old new : Sight) : Type 0 where
+  pub steps : List (ℕ × Step)
+  pub had_seen : AllPrefixes old.seen.runs steps
+  pub has_seen : new.seen ≡ with_run steps old.seen
+  pub stands : old.known.seats ≡ my old.known ∷ []
+      → StandsAfter c opening steps (my old.known)
 
 -- a mark of a view: what it has seen, and nothing that it knows
 abbrev pub mark_with : Seen → Sight

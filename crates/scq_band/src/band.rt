@@ -3,7 +3,7 @@ ghost use Rattle.std.specs.Prelude.{◌≡◌, ℕ, ◌<◌, ◌≤◌, ◌==◌
 ghost use Rattle.scq_word.specs.Sizes.{n_of};
 ghost use Rattle.scq_band.specs.Rings.{IsRing};
 ghost use Rattle.scq_band.specs.Buffers.{opening_of};
-ghost use Rattle.scq_band.specs.RunSeen.{IsReadingInRun, with_retiree, AllHaveBeenSeenRetired};
+ghost use Rattle.scq_band.specs.RunSeen.{IsReadingInRun, with_retiree, AllWereSeenRetired};
 ghost use Rattle.scq_band.specs.Standing.{first_standings, after_look, having_seen, caller_of};
 
 use crate::gate::{read_gate, retire};
@@ -112,26 +112,27 @@ impl<B: Buffer> Band<B> {
         &self.rings[number as usize]
     }
 
-    /// The seat retires. Wait-free: one step.
+    /// The seat retires, and has seen that it has: so marks and notes of it carry that. Wait-free: one step.
     pub fn retire(&self, seat: &mut Seat<B>)
         requires seat { seat.old.band ≡ self.now }
         requires stays { seat.old.retired ≡ None }
         ensures { seat.new ≡ record seat.old {
-            retired = Some (length seat.old.calls);
-            seen = with_retiree (seat.old.number, length seat.old.calls) seat.old.seen;
+          retired = Some (length seat.old.calls);
+          seen = with_retiree (seat.old.number, length seat.old.calls) seat.old.seen;
         } }
     {
         retire(&self.table.shared, &mut seat.token);
     }
 
     /// Whether every seat had retired when the gate was read. The number that is read there, of the seats that haven't retired,
-    /// never rises. The seat has then seen the whole run, and with it all calls that seats made before they retired. Wait-free: one step.
+    /// never rises. The seat has then seen a run with all calls that the retired seats made before they retired. Where it had seen each
+    /// seat retired, by marks, notes or readings, the answer is true (the clause `told`). Wait-free: one step.
     pub fn gate_closed(&self, seat: &mut Seat<B>) -> bool
         requires seat { seat.old.band ≡ self.now }
         ensures looked { (found : ℕ) × (seat.new ≡ having_seen seat.new.seen (after_look found seat.old)) × (result ≡ (found == 0)) }
         ensures in_run { (found : ℕ) → seat.new.gate ≡ Some found
             → IsReadingInRun self.now.setup (opening_of B.contents self.now.given) seat.old.retired (caller_of seat.old) (caller_of seat.new) found }
-        ensures told { AllHaveBeenSeenRetired self.now.setup seat.old.seen → result ≡ true }
+        ensures told { AllWereSeenRetired self.now.setup seat.old.seen → result ≡ true }
         ensures fell { (last found : ℕ) → seat.old.gate ≡ Some last → seat.new.gate ≡ Some found → found ≤ last }
         ensures own { (calls found : ℕ) → seat.old.retired ≡ Some calls → seat.new.gate ≡ Some found → found < self.now.setup.seats }
     {

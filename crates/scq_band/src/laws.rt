@@ -5,6 +5,7 @@ ghost use Rattle.scq_word.specs.declared.setup.Setup.{Setup};
 ghost use Rattle.scq_band.specs.Buffers.{LiesIn, opening_of};
 ghost use Rattle.scq_band.specs.Knowing.{EachViewKnowsTruth};
 ghost use Rattle.scq_band.specs.Layout.{HotWordsAreApart};
+ghost use Rattle.scq_band.specs.RunSeen.{EachTwoPrefixesAreComparable};
 ghost use Rattle.scq_band.specs.SeenCalls.{EachSeenCallComesFirst, EachCallInARunSeenComesFirst};
 
 use scq_word::Buffer;
@@ -16,15 +17,22 @@ pub fn each_view_knows_the_truth<B: Buffer>()
     ensures { (given : List B) (c : Setup) → EachViewKnowsTruth (LiesIn B.contents B.IsSameBuffer given) (opening_of B.contents given) c }
 {}
 
-/// Where a seat had seen a call to its end when it began one of its own, by that call's own seat or by a note, each step of that call
-/// was made before each of its own; and where both are of one ring, it stands before it in the ring's one order.
+/// Where a seat had seen the very run that a call of some seat left behind it, and then began a call of its own, each step of that
+/// call was made before each of its own; and where both are of one ring, it stands before it in the ring's one order.
 pub fn calls_seen_come_first()
     ensures { EachSeenCallComesFirst }
 {}
 
-/// The same of a call of any seat that stood in its record in a run that was seen, whoever had seen it end.
+/// The same of each call, of whatever seat, that had ended in a run which the seat had seen when it
+/// began its own: by a call or a reading of its own, by a look, by a mark or by a note.
 pub fn calls_in_a_run_seen_come_first()
     ensures { EachCallInARunSeenComesFirst }
+{}
+
+/// Of two prefixes of one run one is a prefix of the other. So it is with the runs `before` and `after`
+/// of any two calls of two seats that have met since (`Band::meet`).
+pub fn prefixes_are_comparable()
+    ensures { EachTwoPrefixesAreComparable }
 {}
 
 /// The gate, and Tail, Head and Threshold of each ring, stand apart from each other and from all entries by the distance of the layout.

@@ -1,8 +1,9 @@
-//! Marks: what one seat has seen of the run of all seats, carried to another. A mark has no bytes when the program runs.
+//! Marks: what one seat has seen of the run of all seats, carried to another. A mark has no bytes when
+//! the program runs.
 ghost use Rattle.std.specs.Prelude.{◌≡◌, ◌<◌, [], ◌∷◌};
-ghost use Rattle.scq_band.specs.Sights.{mark_sight, Raised};
+ghost use Rattle.scq_band.specs.Sights.{mark_sight, WasShownRun};
 ghost use Rattle.scq_band.specs.Buffers.{opening_of};
-ghost use Rattle.scq_band.specs.RunSeen.{IsMomentInRun, both_seen};
+ghost use Rattle.scq_band.specs.RunSeen.{IsMomentInRun, HaveMet, HaveSeenOneRun, both_seen};
 ghost use Rattle.scq_band.specs.Standing.{having_seen, caller_of};
 
 use crate::badges::learn;
@@ -24,29 +25,33 @@ impl Split<View> for Marks {
     ghost right = { mark_sight };
 }
 
-/// A copy of what the seat has seen.
+/// A copy of what the seat has seen, which has no bytes.
 fn copy_seen<B: Buffer>(words: &Words<B>, token: &mut Token<B>) -> Badge<View>
     requires own { token.old.table_id ≡ words.now.table_id }
     requires room { 0 < words.now.table_id.words }
-    ensures own { (token.new.table_id ≡ token.old.table_id) × (token.new.id ≡ token.old.id) × (token.new.me ≡ token.old.me) }
-    ensures mark { (result.table_id ≡ token.old.table_id) × (result.views ≡ mark_sight token.old.me.0 ∷ []) }
+    ensures own { (token.new.table_id ≡ token.old.table_id) × (token.new.id ≡ token.old.id) }
+    ensures same { token.new.me ≡ token.old.me }
+    ensures mark { (result.table_id ≡ token.old.table_id)
+        × (result.views ≡ mark_sight token.old.me.0 ∷ []) }
 {
     words.split_seat::<Marks>(token).into_badge()
 }
 
-/// The seat is shown the whole run. Only the view changes: the gate is loaded, and its number isn't used.
+/// The seat is shown the rule's run. Only the view changes, which it does at a step of the table: the
+/// gate is loaded, and its number isn't used.
 fn look<B: Buffer>(words: &Words<B>, token: &mut Token<B>)
     requires own { token.old.table_id ≡ words.now.table_id }
     requires room { 0 < words.now.table_id.words }
     ensures own { (token.new.table_id ≡ token.old.table_id) × (token.new.id ≡ token.old.id) }
     ensures known { token.new.me.0.known ≡ token.old.me.0.known }
     ensures slots { token.new.me.1 ≡ token.old.me.1 }
-    ensures in_run { Raised words.now.key.setup (opening_of B.contents words.now.key.given.value.items) token.old.me.0 token.new.me.0 }
+    ensures in_run { WasShownRun words.now.key.setup
+        (opening_of B.contents words.now.key.given.value.items) token.old.me.0 token.new.me.0 }
 {
     words.load::<Brand>(token, GATE);
 }
 
-/// What a seat had seen of the run when the mark was made. It may be dropped.
+/// What a seat had seen when the mark was made. It may be dropped.
 #[derive(Drop)]
 pub struct Mark {
     badge: Badge<View>,
@@ -65,16 +70,19 @@ impl Model for Mark {
 }
 
 impl<B: Buffer> Band<B> {
-    /// The seat is shown the whole run of all seats. Wait-free: one step.
+    /// Shows the seat the run of all seats as it is now. All that the seat had seen are prefixes of it,
+    /// and it stands between two calls of the seat. It has the calls of other seats too, of those that
+    /// told this one nothing among them: this no clause says. Wait-free: one step.
     pub fn look(&self, seat: &mut Seat<B>)
         requires seat { seat.old.band ≡ self.now }
         ensures same { seat.new ≡ having_seen seat.new.seen seat.old }
-        ensures moment { IsMomentInRun self.now.setup (opening_of B.contents self.now.given) (caller_of seat.old) (caller_of seat.new) }
+        ensures moment { IsMomentInRun self.now.setup (opening_of B.contents self.now.given)
+            (caller_of seat.old) (caller_of seat.new) }
     {
         look(&self.table.shared, &mut seat.token);
     }
 
-    /// A mark of what the seat has seen. Wait-free: one step.
+    /// A mark of what the seat has seen: of the run, and of those that retired. Wait-free: one step.
     pub fn mark(&self, seat: &mut Seat<B>) -> Mark
         requires seat { seat.old.band ≡ self.now }
         ensures same { seat.new ≡ seat.old }
@@ -85,7 +93,9 @@ impl<B: Buffer> Band<B> {
         }
     }
 
-    /// From then on the seat has seen what the mark's seat had. Wait-free: one step.
+    /// The seat has seen what the mark's seat had. Each call that had ended in a run which that seat
+    /// had seen comes before each call that this one makes from now on
+    /// (`laws::calls_in_a_run_seen_come_first`). Wait-free: one step.
     pub fn heed(&self, seat: &mut Seat<B>, mark: Mark)
         requires seat { seat.old.band ≡ self.now }
         requires mark { mark.table ≡ self.now.table }
@@ -93,5 +103,24 @@ impl<B: Buffer> Band<B> {
     {
         let Mark { badge } = mark;
         learn(&self.table.shared, &mut seat.token, badge);
+    }
+
+    /// Two seats meet: what they had seen are prefixes of one run, which both have seen from now on. So
+    /// of any two runs that the one or the other had seen, one is a prefix of the other. Wait-free: five
+    /// steps.
+    pub fn meet(&self, one: &mut Seat<B>, other: &mut Seat<B>)
+        requires one { one.old.band ≡ self.now }
+        requires other { other.old.band ≡ self.now }
+        ensures one { one.new ≡ having_seen one.new.seen one.old }
+        ensures other { other.new ≡ having_seen other.new.seen other.old }
+        ensures met { HaveMet self.now.setup (opening_of B.contents self.now.given)
+            (caller_of one.old) (caller_of other.old) (caller_of one.new) (caller_of other.new) }
+        ensures comparable { HaveSeenOneRun one.old.seen other.old.seen }
+    {
+        let theirs = self.mark(other);
+        self.heed(one, theirs);
+        self.look(one);
+        let both = self.mark(one);
+        self.heed(other, both);
     }
 }

@@ -8,4 +8,3 @@ mod Ends
 pub mod HeldOnce
 pub mod PassesSent
 pub mod QueuesShared
-pub mod Meeting

@@ -3,4 +3,3 @@ pub mod Passes
 pub mod Closing
 pub mod Kept
 pub mod HoldsJust
-pub mod Meeting

@@ -35,8 +35,9 @@ impl<B: Buffer> Queue<B> {
         }
     }
 
-    /// From then on the pass knows the larger of each number, and has seen what the note's pass had: the calls that it had seen end
-    /// stand before each call that the pass makes from now on (`scq_law::orders::calls_seen_come_first`).
+    /// From then on the pass knows the larger of each number, and has seen what the note's pass had: each call, of any pass, that had
+    /// ended in a run which that pass had seen comes before each call that this one makes from now on
+    /// (`scq_band::laws::calls_in_a_run_seen_come_first`). A mark carries the same without the numbers.
     pub fn learn(&self, pass: &mut Pass<B>, note: Note)
         requires pass { pass.old.queue ≡ self.now }
         requires note { note.table ≡ self.now.table }

@@ -3,7 +3,7 @@ ghost use Rattle.std.specs.Prelude.{◌≡◌, ℕ, ◌<◌, ◌≤◌, ◌==◌
 ghost use Rattle.scq_word.specs.Sizes.{n_of};
 ghost use Rattle.scq_band.specs.Standing.{Standing};
 ghost use Rattle.scq_band.specs.Buffers.{opening_of};
-ghost use Rattle.scq_band.specs.RunSeen.{IsReadingInRun, with_retiree, AllHaveBeenSeenRetired};
+ghost use Rattle.scq_band.specs.RunSeen.{IsReadingInRun, with_retiree, AllWereSeenRetired};
 ghost use Rattle.scq_queue.specs.Passes.{first_passes, after_look, having_seen, caller_of, was_told};
 ghost use Rattle.scq_queue.specs.Kept.{pass_over};
 
@@ -116,27 +116,28 @@ impl<B: Buffer> Queue<B> {
         }
     }
 
-    /// The pass sends no more. It still lends, takes and gives back.
+    /// The pass sends no more. It still lends, takes and gives back. Marks and notes of it carry that it has retired.
     pub fn retire(&self, pass: &mut Pass<B>)
         requires pass { pass.old.queue ≡ self.now }
         requires stays { pass.old.retired ≡ None }
         ensures { pass.new ≡ record pass.old {
-            retired = Some (length pass.old.calls);
-            seen = with_retiree (pass.old.number, length pass.old.calls) pass.old.seen;
+          retired = Some (length pass.old.calls);
+          seen = with_retiree (pass.old.number, length pass.old.calls) pass.old.seen;
         } }
     {
         self.band.retire(&mut pass.seat);
     }
 
     /// Whether every pass had retired: so where the number of those that had not, as it was read at this call's one step, was 0. It is
-    /// kept, and never rises. The pass has then seen the whole run of all passes, and with it all calls that passes made before they
-    /// retired. Where a pass was told so, `close` says that every pass has retired.
+    /// kept, and never rises. The pass has then seen a run with all calls that the retired passes made before they retired. Where it had
+    /// seen each pass retired, by marks, notes or readings, the answer is true (the clause `told`). Where a pass was told so, `close` says
+    /// that every pass has retired.
     pub fn closed(&self, pass: &mut Pass<B>) -> bool
         requires pass { pass.old.queue ≡ self.now }
         ensures looked { (found : ℕ) × (pass.new ≡ having_seen pass.new.seen (after_look found pass.old)) × (result ≡ (found == 0)) }
         ensures in_run { (found : ℕ) → pass.new.gate ≡ Some found
             → IsReadingInRun self.now.setup (opening_of B.contents self.now.given) pass.old.retired (caller_of pass.old) (caller_of pass.new) found }
-        ensures told { AllHaveBeenSeenRetired self.now.setup pass.old.seen → result ≡ true }
+        ensures told { AllWereSeenRetired self.now.setup pass.old.seen → result ≡ true }
         ensures fell { (last found : ℕ) → pass.old.gate ≡ Some last → pass.new.gate ≡ Some found → found ≤ last }
         ensures own { (calls found : ℕ) → pass.old.retired ≡ Some calls → pass.new.gate ≡ Some found → found < self.now.setup.seats }
     {

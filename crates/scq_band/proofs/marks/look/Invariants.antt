@@ -1,6 +1,6 @@
 use Rattle.std.proofs.Common.{◌≡◌}
 use Rattle.scq_band.specs.Buffers.{opening_of}
-use Rattle.scq_band.specs.Sights.{Raised}
+use Rattle.scq_band.specs.Sights.{WasShownRun}
 use Rattle.scq_band.proofs.marks.look.Given as goal
 
 abbrev pub ghosts-load : goal.ghosts-load
@@ -9,5 +9,5 @@ ghosts-load g a =
       then =
           λ st me n later.
           (later.0.known ≡ me.0.known) × (later.1 ≡ me.1)
-          × Raised a.self.now.key.setup (opening_of g.B.Buffer.contents a.self.now.key.given.value.items) me.0 later.0;
+          × WasShownRun a.self.now.key.setup (opening_of g.B.Buffer.contents a.self.now.key.given.value.items) me.0 later.0;
     }

@@ -1,6 +1,6 @@
 use Rattle.std.proofs.Common.{List, subst, sym}
 use Rattle.scq_band.specs.Buffers.{opening_of}
-use Rattle.scq_band.specs.RunSeen.{Caller, IsReadingInRun, AllHaveBeenSeenRetired}
+use Rattle.scq_band.specs.RunSeen.{Caller, IsReadingInRun, AllWereSeenRetired}
 use Rattle.scq_band.specs.Standing.{Identity}
 use Rattle.scq_band.specs.Standing as band
 use Rattle.scq_queue.specs.Passes.{PassStanding, caller_of}
@@ -19,5 +19,5 @@ returns-clause-in_run g c found is =
 pub returns-clause-told : goal.returns-clause-told
 returns-clause-told g c all =
     c.gate_closed-closed.ensures.told
-    (subst (λ (q : Identity g.row.B.Denot). AllHaveBeenSeenRetired q.setup c.pass.inside.seat.seen) (sym c.self.view_is)
-    (subst (λ (p : PassStanding g.row.B.Denot). AllHaveBeenSeenRetired c.args.self.now.setup p.seen) (sym c.pass.view_is) all))
+    (subst (λ (q : Identity g.row.B.Denot). AllWereSeenRetired q.setup c.pass.inside.seat.seen) (sym c.self.view_is)
+    (subst (λ (p : PassStanding g.row.B.Denot). AllWereSeenRetired c.args.self.now.setup p.seen) (sym c.pass.view_is) all))
