@@ -19,11 +19,12 @@ use Rattle.scq_law.specs.Hands.{times, OneHand}
 use Rattle.scq_law.proofs.Places.HandLaws.{one_hand}
 use Rattle.scq_band.proofs.RunEnds.{reaches}
 use Rattle.scq_band.specs.Known.{Member, Known}
-use Rattle.scq_band.specs.Shown.{Scene, Has, Owns, IsView, Shown}
+use Rattle.scq_band.specs.Shown.{Scene, Has, Owns, IsView, Shown, StandsAmong}
 use Rattle.scq_band.specs.Steps.{my, front_index}
 use Rattle.scq_band.specs.Closing.{indices_of}
 use Rattle.scq_band.specs.Homes.{at_home, MayBring}
 use Rattle.scq_band.proofs.GoingHome.{contained_cases}
+use Rattle.scq_band.proofs.StandingSeats.{set_stands}
 use Rattle.scq_band.proofs.Handles.{has_else, in_hand_alone, hand_or_entry}
 
 -- what stands in a list has its index there
@@ -135,6 +136,11 @@ module _ {S : Type 0} (Lies : ℕ → S → List ℕ → Type 0) where
             let else : index_in (ring_slots c) (m.cells.entries.word r p) ≢ i =
             λ is. hand_or_entry Lies c m i k r p one low in_hand there is in
             has_else Lies s.homes i _ (some y) _ else (sh.stored r p there full);
+        all_stand =
+            λ j stands_low.
+            set_stands s.views id j v (at_home ((i, w) ∷ []) v) here
+            (λ a. let one : ((my v).number ≡ j) ⊎ ⊥ = subst (StandsAmong j) alone a in one)
+            (sh.all_stand j stands_low);
       }
     where
       seated : (v.seats ≡ []) ⊎ (length v.numbers ≡ c.rings) → ((at_home ((i, w) ∷ []) v).seats ≡ []) ⊎ (length v.numbers ≡ c.rings)

@@ -17,12 +17,13 @@ use Rattle.scq_core.specs.Machine.{Part}
 use Rattle.scq_core.specs.Updated.{updated}
 use Rattle.scq_core.proofs.UpdatedLemmas.{updated_here, updated_else}
 use Rattle.scq_band.specs.Known.{Member, Known}
-use Rattle.scq_band.specs.Shown.{Scene, Owns, IsView, Shown, awake}
+use Rattle.scq_band.specs.Shown.{Scene, Owns, IsView, Shown, StandsAmong, awake}
 use Rattle.scq_band.specs.Standing.{IsReading}
 use Rattle.scq_band.specs.Steps.{my, my_of}
 use Rattle.scq_band.specs.Seats.{IsAlone, looked, retired_at}
 use Rattle.scq_band.proofs.WordLemmas.{gate_shown}
 use Rattle.scq_band.proofs.Operations.{less_one}
+use Rattle.scq_band.proofs.StandingSeats.{set_stands}
 
 -- no more seats are awake than there are
 pub awake_few : (gone : ℕ → Option ℕ) (n : ℕ) → awake gone n ≤ n
@@ -198,6 +199,7 @@ module _ {S : Type 0} (Lies : ℕ → S → List ℕ → Type 0) where
               | inr other ↦ sh.views j v other.1
             ];
         stored = sh.stored;
+        all_stand = λ k low. set_stands s.views id k me.0 (looked (slice_index s.words 0) me.0) here (λ a. a) (sh.all_stand k low);
       }) in
       (looked (slice_index s.words 0) me.0, keeps, tt, shown, (refl, refl, reading c id me.0 s sh here))
 
@@ -290,6 +292,11 @@ module _ {S : Type 0} (Lies : ℕ → S → List ℕ → Type 0) where
                   })
             ];
         stored = sh.stored;
+        all_stand =
+            λ j low.
+            set_stands s.views id j me.0 (retired_at me.0) here
+            (λ a. let one : (x.number ≡ j) ⊎ ⊥ = subst (StandsAmong j) alone.seats a in one)
+            (sh.all_stand j low);
       } in (
         subst (λ (v : ℕ). Shown Lies opening c now run (stepped s 0 v id me.1 (retired_at me.0) keeps)) (sym wrote) shown,
         ap (λ (f : ℕ → Option ℕ). f k) (sym sh.gone_is) ∙ x_is.gone ∙ stays,

@@ -46,5 +46,6 @@ pub mod Keeping
 pub mod Putting
 pub mod Joining
 pub mod SeatsShared
+pub mod StandingSeats
 pub mod ComparablePrefixes
 pub mod Meeting

@@ -40,6 +40,7 @@ use Rattle.scq_core.proofs.Records.{calls_after}
 use Rattle.std.proofs.lemmas.List.{length-append}
 use Rattle.scq_band.specs.Steps.{my, my_of}
 use Rattle.scq_band.proofs.Learning.{learned_true, learned_length}
+use Rattle.scq_band.proofs.StandingSeats.{set_stands, turned_stands}
 
 -- what the laws of the machine give for a turn of a seat
 pub record Ground (c : Setup) (m : Machine) (k : ℕ) (t : Phase) : Type 0 where
@@ -207,6 +208,10 @@ module _ {S : Type 0} (Lies : ℕ → S → List ℕ → Type 0) where
                   })
             ];
         stored = h.stored;
+        all_stand =
+            λ j low.
+            set_stands s.views id j me.0 (made c t (read m.cells l) (beside m.cells l) me.0) here
+            (turned_stands c t (read m.cells l) (beside m.cells l) j me.0.seats) (sh.all_stand j low);
       }
 
 module _ {S : Type 0} (Lies : ℕ → S → List ℕ → Type 0) where

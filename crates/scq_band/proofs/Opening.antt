@@ -24,6 +24,7 @@ use Rattle.scq_band.specs.Layout.{gate_word}
 use Rattle.scq_band.specs.Making.{AreOpened}
 use Rattle.scq_band.specs.Numbers.{first_numbers_of, first_numbers, IsTrue}
 use Rattle.scq_band.specs.Known.{Known}
+use Rattle.scq_band.proofs.StandingSeats.{opened_stands}
 use Rattle.scq_band.specs.Shown.{Scene, Has, Owns, IsView, Shown, awake, first_members, first_view}
 
 -- the words of the start are those of any opening contents
@@ -107,6 +108,7 @@ module _ {S : Type 0} (Lies : ℕ → S → List ℕ → Type 0) where
         room = length_map xs ∙ many;
         views = λ j v e. only j v e (first_is z gate);
         stored = λ r s low full. stands r s low full;
+        all_stand = opened_stands c;
       }
     where
       length_map : (ys : List S) → length (map some ys) ≡ length ys

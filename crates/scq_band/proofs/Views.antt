@@ -20,6 +20,7 @@ use Rattle.scq_band.specs.Numbers.{before_places, IsTrue, larger, joined}
 use Rattle.scq_band.specs.Known.{Member, Known, nobody, note_of, behind_first, first_alone, others_of, first_of, lower_gate, both_of}
 use Rattle.scq_band.specs.Shown.{Scene, Owns, IsView, Shown}
 use Rattle.scq_band.proofs.Knowledge.{AllTrue}
+use Rattle.scq_band.proofs.StandingSeats.{set_stands, longer_stands, peeled_stands, joined_stands}
 
 -- the larger of two true numbers is true
 either_max : (P : ℕ → Type 0) (a b : ℕ) → P a → P b → P (max a b)
@@ -88,6 +89,7 @@ module _ {S : Type 0} (Lies : ℕ → S → List ℕ → Type 0) where
                   subst (λ (w : Known). IsView Lies c sh.scene s.homes (slice_index s.words 0) j w) new note
             ];
         stored = sh.stored;
+        all_stand = λ k low. longer_stands (slice_set s.views id v) (note_of v ∷ []) k (set_stands s.views id k v v here (λ a. a) (sh.all_stand k low));
       }
 
   -- a mark may be made of any view
@@ -112,6 +114,7 @@ module _ {S : Type 0} (Lies : ℕ → S → List ℕ → Type 0) where
                   subst (λ (w : Known). IsView Lies c sh.scene s.homes (slice_index s.words 0) j w) new mark
             ];
         stored = sh.stored;
+        all_stand = λ k low. longer_stands (slice_set s.views id v) (nobody ∷ []) k (set_stands s.views id k v v here (λ a. a) (sh.all_stand k low));
       }
 
   -- who stands where after a join: the seats of the other view in front of the first's
@@ -204,6 +207,7 @@ module _ {S : Type 0} (Lies : ℕ → S → List ℕ → Type 0) where
                   ]
             ];
         stored = sh.stored;
+        all_stand = λ k low. joined_stands s.views id other k v w here (sym (set_else s.views id other (both_of v w) apart) ∙ there) apart (sh.all_stand k low);
       }
     where
       all_rings : (c : Setup) (v : Known) → (v.seats ≡ [] → ⊥) → (v.seats ≡ []) ⊎ (length v.numbers ≡ c.rings) → length v.numbers ≡ c.rings
@@ -298,6 +302,7 @@ module _ {S : Type 0} (Lies : ℕ → S → List ℕ → Type 0) where
                   rw is (subst (λ (k : Known). IsView Lies c zz s.homes (slice_index s.words 0) new k) last.1 first)
             ];
         stored = sh.stored;
+        all_stand = λ k low. peeled_stands s.views id k v x xs seats here (sh.all_stand k low);
       }
     where
       index_low : (l : List Known) (i : ℕ) (a : Known) → get_elem? l i ≡ some a → i < length l

@@ -45,6 +45,18 @@ pub record ShowsWords (c : Setup) (words : List ℕ) (m : Cells) : Type 0 where
   pub count : length words ≡ word_count c
   pub shows : (l : Location) → IsLocation c l → slice_index words (at c l) ≡ read m l
 
+-- the seat of this number stands among these
+abbrev pub StandsAmong : ℕ → List Member → Type 0
+StandsAmong k [] = ⊥
+StandsAmong k (x ∷ xs) = (x.number ≡ k) ⊎ StandsAmong k xs
+
+-- it stands in one of these views
+pub record StandsInAView (k : ℕ) (views : List Known) : Type 0 where
+  pub id : ℕ
+  pub view : Known
+  pub there : get_elem? views id ≡ some view
+  pub stands : StandsAmong k view.seats
+
 -- Lies i y w: the value y of slot i is the buffer that was given for index i, with the bytes w
 module _ {S : Type 0} (Lies : ℕ → S → List ℕ → Type 0) where
   -- slot i is at home, with a buffer of these bytes
@@ -79,7 +91,8 @@ module _ {S : Type 0} (Lies : ℕ → S → List ℕ → Type 0) where
     pub last_gate : (n : ℕ) → v.gate ≡ Some n → word ≤ n
 
   -- `opening` has the contents of the opening puts, the run is the steps that all seats have made, and `gone` tells of each seat that
-  -- has retired how many calls it had made before
+  -- has retired how many calls it had made before. Each seat stands in some view (`all_stand`), and in no other nor twice there, since
+  -- the scene says in which view and how many stand behind it there (`owner` of `IsMember`)
   pub record Shown (opening : List (List ℕ)) (c : Setup) (gone : ℕ → Option ℕ) (run : List (ℕ × Step)) (s : State S Known) : Type 0 where
     pub scene : Scene
     pub leads : LeadsTo c opening run scene.state
@@ -90,6 +103,7 @@ module _ {S : Type 0} (Lies : ℕ → S → List ℕ → Type 0) where
     pub room : length s.homes ≡ n_of c.order
     pub views : (id : ℕ) (v : Known) → get_elem? s.views id ≡ some v → IsView c scene s.homes (slice_index s.words gate_word) id v
     pub stored : Stored c scene.state.cells.entries s.homes
+    pub all_stand : (k : ℕ) → k < c.seats → StandsInAView k s.views
 
 -- the view of the first seat of the table: all seats of the setup stand in it, idle with empty hands, the last one first
 abbrev pub first_members : ℕ → List Member
