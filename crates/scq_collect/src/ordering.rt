@@ -1,5 +1,5 @@
 //! The members of lists in order of file, line and part, where they lie.
-ghost use Rattle.std.specs.Prelude.{◌≡◌, ◌<◌, List, length, map, IfOk, IfSome, IsTrue};
+ghost use Rattle.std.specs.Prelude.{◌≡◌, ◌+◌, ◌*◌, ◌<◌, List, length, map, IfOk, IfSome, IsTrue};
 ghost use Rattle.std.specs.List.{All, Contains};
 ghost use Rattle.scq_collect.specs.declared.answered.Answered.{Answered as TheAnswered};
 ghost use Rattle.scq_collect.specs.Merging.{IsBefore, IsInOrder, IsMerged, members_in, position_of_part};
@@ -118,14 +118,16 @@ fn file_of(member: &Answered) -> usize
     (member.file as usize).min(FILES - 1)
 }
 
-/// Slots of which each that isn't free has a member of the lists.
+/// Slots of which each that isn't free has a member of the lists: at most four for each member and one.
 fn table_of<'a>(
     alloc: Global,
     lists: &'a [Vec<Answered>],
     starts: &[u64; FILES],
     slots: usize,
 ) -> Result<Vec<Option<&'a Answered>>, NoMemory>
-    ensures { IfOk result (λ table. All (λ slot. IfSome slot (λ m. Contains (members_in lists.entry.now) m.now)) table.items) }
+    requires few { slots < 4 * (length (members_in lists.now) + 1) }
+    ensures size { IfOk result (λ table. length table.items ≡ slots) }
+    ensures members { IfOk result (λ table. All (λ slot. IfSome slot (λ m. Contains (members_in lists.entry.now) m.now)) table.items) }
 {
     let mut table = Vec::from_elem(alloc, None, slots)?;
     'lists: for list in lists {
@@ -139,7 +141,8 @@ fn table_of<'a>(
 
 /// Puts a member into a slot, where there is such a one.
 fn put<'a>(table: &mut Vec<Option<&'a Answered>>, at: usize, member: &'a Answered)
-    ensures { (members : List TheAnswered) → All (λ slot. IfSome slot (λ m. Contains members m.now)) table.old.items → Contains members member.now
+    ensures size { length table.new.items ≡ length table.old.items }
+    ensures members { (members : List TheAnswered) → All (λ slot. IfSome slot (λ m. Contains members m.now)) table.old.items → Contains members member.now
         → All (λ slot. IfSome slot (λ m. Contains members m.now)) table.new.items }
 {
     if at < table.len() {

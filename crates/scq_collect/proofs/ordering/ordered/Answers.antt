@@ -15,7 +15,7 @@ returns-in-Some-2 c =
     let all = c.in-Some-2.all in
     let from = c.in_ok-all.ensures.from members
     (subst (λ (slots : List (Option (Bor Answered))). All (λ slot. IfSome slot (λ m. Contains members m.now)) slots) (sym c.as_slice.ensures.value)
-    c.in_ok-table.ensures) in
+    c.in_ok-table.ensures.members) in
     let Some : (Vec (Bor Answered) Global → Type 0) → Option (Vec (Bor Answered) Global) → Type 0 = λ P found. IfSome found P in
     merged-from position_of_part members (map now all.items)
     (subst (Some (λ all. IsInOrder position_of_part (map now all.items))) c.in-Some-2.is c.in_ok-all.ensures.in_order)

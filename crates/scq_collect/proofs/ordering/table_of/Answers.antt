@@ -1,4 +1,4 @@
-use Rattle.std.proofs.Common.{List, sym, subst}
+use Rattle.std.proofs.Common.{◌∙◌, List, sym, subst}
 use Rattle.std.specs.Prelude.{Vec}
 use Rattle.std.specs.Global.{Global}
 use Rattle.std.specs.List.{Contains}
@@ -15,4 +15,7 @@ members-preserved c =
     let is : Contains (members_in c.args.lists.now) m =
     contains-in c.args.lists.now c.lists.list-index c.list-item.result m c.lists-test.true
     (subst (λ (l : Vec Answered Global). Contains l.items m) c.list-item.is listed) in
-    c.put.ensures (members_in c.args.lists.now) c.members.invariant is
+    record {
+      size = c.put.ensures.size ∙ c.members.invariant.size;
+      members = c.put.ensures.members (members_in c.args.lists.now) c.members.invariant.members is;
+    }
