@@ -2,6 +2,7 @@ pub mod Lists
 pub mod Dealt
 pub mod FileLists
 pub mod SoFar
+pub mod InTurn
 pub mod ReadLemmas
 pub mod GivenLemmas
 pub mod DeskLemmas

@@ -4,7 +4,7 @@ use Rattle.scq_frames.specs.declared.fault.FrameFault.{FrameFault}
 use Rattle.scq_frames.specs.declared.fault.FrameFault.TheVariants as frame
 use Rattle.scq_files.specs.Ends.{AllEndFed, HasMoved, StopsAt}
 use Rattle.scq_files.specs.Files.{files_of}
-use Rattle.scq_files.specs.OwnFiles.{ids_of}
+use Rattle.scq_files.specs.OwnFiles.{StopsAtAFault, ids_of}
 use Rattle.scq_files.specs.Reading.{EndsSo, IsWhole}
 use Rattle.scq_files.specs.declared.desk.Desk.{Desk}
 use Rattle.scq_files.specs.declared.own_file.FileEnd.TheVariants.{Whole}
@@ -31,6 +31,10 @@ module _ {W S : Type 0} where
   -- each file was read to its end
   abbrev pub AllWhole : List (Desk W S) → Type 0
   AllWhole desks = All (λ d. All (λ f. f.end ≡ Whole) d.files.items) desks
+
+  -- no worker read a file behind one of its own that has a fault
+  abbrev pub AllStop : List (Desk W S) → Type 0
+  AllStop desks = All (λ d. StopsAtAFault d.files.items) desks
 
   -- the reading of each file ended as its desk has it
   abbrev pub AllEnded : ℕ → (S → ℕ) → (S → ℕ) → (S → Option (List ℕ)) → List (Desk W S) → Type 0

@@ -1,7 +1,7 @@
 //! What is gathered of the files of all workers once they have left.
 ghost use Rattle.std.specs.Prelude.{◌≡◌, ℕ, ◌^◌, ◌<◌, ◌≤◌, [], None, length, vec_len, vec_capacity};
-ghost use Rattle.scq_files.specs.Desks.{AllEnded, AllWhole, AreDealt, AreGathered, workers_at};
-ghost use Rattle.scq_files.specs.Ends.{end_fault, wanted_memory};
+ghost use Rattle.scq_files.specs.Desks.{AllEnded, AllStop, AllWhole, AreDealt, AreGathered, workers_at};
+ghost use Rattle.scq_files.specs.Ends.{StopsAtFaults, end_fault, wanted_memory};
 
 use crate::desk::Desk;
 use crate::own_file::{FileEnd, OwnFile};
@@ -71,6 +71,8 @@ pub fn gather<W, S: Source>(
         × (gathered.old.fault ≡ None) }
     ensures gathered { (size : ℕ) → AllEnded size S.faults S.ends S.left desks.old
         → AreGathered size S.faults S.ends S.left was.now.value.items gathered.new.sources.items gathered.new.fault gathered.new.starved }
+    ensures stops { (size : ℕ) → AllEnded size S.faults S.ends S.left desks.old → AllStop desks.old
+        → StopsAtFaults (length desks.old) size S.faults S.ends S.left was.now.value.items gathered.new.sources.items }
     ensures whole { gathered.new.fault ≡ None → AllWhole desks.old }
     ensures same { workers_at desks.new ≡ workers_at desks.old }
 {

@@ -1,19 +1,39 @@
-use Rattle.std.proofs.Common.{◌≡◌, ◌∙◌, sym, ap, subst, refl, arith, ℕ, ◌+◌, ◌%◌, ◌<◌, List, [], ◌∷◌, ◌++◌, length, drop, reverse, get_or, set}
+use Rattle.std.proofs.Common.{rules, ◌≡◌, ◌∙◌, sym, ap, subst, refl, arith, ℕ, ◌+◌, ◌%◌, ◌<◌, List, [], ◌∷◌, ◌++◌, length, map, drop, reverse, get_or, set}
 use Rattle.std.specs.Prelude.{slice_index_or}
 use Rattle.std.specs.List.{All}
-use Rattle.std.proofs.lemmas.List.{drop_all, length-set, length-drop, get_or_default, map-append}
+use Rattle.std.proofs.lemmas.List.{drop_all, length-set, length-drop, length-map, get_or_default, get_or-map, map-append, map-set}
 use Rattle.scq_files.specs.Desks.{AllEnded, AreDealt}
 use Rattle.scq_files.specs.Files.{files_of}
-use Rattle.scq_files.specs.OwnFiles.{ids_of}
+use Rattle.std.proofs.lemmas.List.Elements.{All-map}
+use Rattle.scq_files.specs.OwnFiles.{StopsAtAFault, ids_of}
 use Rattle.scq_files.specs.Reading.{EndsSo}
 use Rattle.scq_files.specs.declared.desk.Desk.{Desk}
 use Rattle.scq_files.specs.declared.own_file.OwnFile.{OwnFile}
 use Rattle.scq_files.proofs.Cleared.{whole-more, none-left}
 use Rattle.scq_files.proofs.Lists.{all-front, all-last, set-each, set-unseen}
 use Rattle.scq_files.proofs.DeskLemmas.{desk-empty, drop-at, other-first, own-first}
+use Rattle.scq_files.proofs.InTurn.{InTurn, in-turn-first, in-turn-more, in-turn-last}
 use Rattle.scq_files.proofs.SoFar.{snoc-parts, so-far-more}
 use Rattle.scq_files.proofs.gathering.gather.Goals as goal
 use Rattle.scq_files.proofs.gathering.gather.Goals.{in-Some, in_default}
+
+pub files-init : goal.files-init
+files-init g c =
+    let desks = c.args.desks.now in
+    let lists : Desk g.row.W.Denot g.row.S.Denot → List (OwnFile g.row.S.Denot) = λ d. d.files.items in
+    record {
+      long = refl;
+      dealt = c.requires.dealt;
+      ended = λ size each. each;
+      count = c.requires.empty.1;
+      capacity = refl;
+      so_far = λ size each. search rules;
+      in_turn = λ size each stop. rw c.requires.empty.0
+          (in-turn-first (length desks) size g.S.Source.faults g.S.Source.ends g.S.Source.left c.args.was.now.value.items (map lists desks)
+          (All-map StopsAtAFault lists desks stop));
+      whole = λ none each. each;
+      same = refl;
+    }
 
 pub files-preserved : goal.files-preserved
 files-preserved g c =
@@ -38,6 +58,7 @@ files-preserved g c =
     let mine : j ≡ at % workers = ap (λ m. at % m) (sym inv.long) in
     let IsOf : S → List (Desk W S) → Type 0 = λ x ds. (w : ℕ) (d : Desk W S) → w < length ds
     → ids_of (slice_index_or ds w d).files.items ≡ reverse (files_of (length ds) w (at + 1) (x ∷ drop (at + 1) was)) in
+    let lists : Desk W S → List (OwnFile S) = λ d. d.files.items in
     let first : (x : S) → slice_index_or was at x ≡ slice_index_or was at x = λ x. refl in
     elim c.match-lift.branch [
       | in-Some w ↦
@@ -77,6 +98,13 @@ files-preserved g c =
                 (so-far-more size faults end_count left was at c.files.gathered.sources.items c.files.gathered.fault
                 c.files.gathered.starved file.was.value file.source file.number file.end (inv.so_far size each) inside number
                 (λ d. get_or_default was at d file.was.value inside ∙ sym source) (all-last (EndedSo size) new.files.items file (all_ended size each)));
+            in_turn = λ size each stop. rw took.sources
+                (subst (InTurn (length c.args.desks.now) size faults end_count left was (at + 1) (c.files.gathered.sources.items ++ file.source ∷ []))
+                (sym (map-set lists desks j new))
+                (in-turn-more (length c.args.desks.now) size faults end_count left was at j c.files.gathered.sources.items (map lists desks) new.files.items file
+                (lists desk) (inv.so_far size each).count (omega (arith, within, length-map desks lists)) refl
+                (get_or-map lists desks j desk (lists desk) within ∙ is) (λ d. get_or_default was at d file.was.value inside ∙ sym source)
+                (all-last (EndedSo size) new.files.items file (all_ended size each)) (inv.in_turn size each stop)));
             whole = λ none each. whole-more desks j new desk file c.files.gathered.fault within is (sym took.fault ∙ none) inv.whole each;
             same = set-unseen (λ (e : Desk W S). e.worker) desks j new desk within c.lift.ensures.same ∙ inv.same;
           })
@@ -92,6 +120,13 @@ returns-clause-whole g c none =
     let was = c.args.was.now.value.items in
     let past : drop c.files.at was ≡ [] = drop_all c.files.at was (omega (arith, c.files-test.false, c.requires.count.0, c.args.was.now.value.ok.0)) in
     inv.whole none (none-left (c.files.at + 1) c.files.desks (subst (λ (rest : List S). AreDealt (c.files.at + 1) rest c.files.desks) past inv.dealt))
+
+pub returns-clause-stops : goal.returns-clause-stops
+returns-clause-stops g c size each stop =
+    let was = c.args.was.now.value.items in
+    let all : c.files.at ≡ length was = omega (arith, c.files-test.false, c.requires.count.0, c.args.was.now.value.ok.0) in
+    in-turn-last (length c.args.desks.now) size g.S.Source.faults g.S.Source.ends g.S.Source.left was c.files.at c.files.gathered.sources.items
+    (map (λ d. d.files.items) c.files.desks) all (c.files.invariant.in_turn size each stop)
 
 pub returns-clause-gathered : goal.returns-clause-gathered
 returns-clause-gathered g c size each =

@@ -1,6 +1,7 @@
-use Rattle.std.proofs.Common.{◌≡◌, ◌+◌, ℕ, None, length, drop}
+use Rattle.std.proofs.Common.{◌≡◌, ◌+◌, ℕ, None, length, map, drop}
 use Rattle.std.specs.Prelude.{vec_len, vec_capacity}
-use Rattle.scq_files.specs.Desks.{AllEnded, AllWhole, AreDealt, workers_at}
+use Rattle.scq_files.specs.Desks.{AllEnded, AllStop, AllWhole, AreDealt, workers_at}
+use Rattle.scq_files.proofs.InTurn.{InTurn}
 use Rattle.scq_files.proofs.SoFar.{SoFar}
 use Rattle.scq_files.proofs.gathering.gather.Given as goal
 
@@ -18,6 +19,8 @@ invariant-files g l =
       capacity : vec_capacity l.gathered.sources ≡ vec_capacity l.fn.gathered.sources;
       so_far : (size : ℕ) → AllEnded size faults end_count left l.fn.desks
           → SoFar size faults end_count left l.was.value.items l.at l.gathered.sources.items l.gathered.fault l.gathered.starved;
+      in_turn : (size : ℕ) → AllEnded size faults end_count left l.fn.desks → AllStop l.fn.desks
+          → InTurn (length l.fn.desks) size faults end_count left l.was.value.items l.at l.gathered.sources.items (map (λ d. d.files.items) l.desks);
       whole : l.gathered.fault ≡ None → AllWhole l.desks → AllWhole l.fn.desks;
       same : workers_at l.desks ≡ workers_at l.fn.desks;
     }
