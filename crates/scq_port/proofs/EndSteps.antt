@@ -1,6 +1,6 @@
 -- Each step keeps the rule of the table in which ports leave their passes, and what the table holds once it is closed.
 use Rattle.std.proofs.Common.{◌≡◌, ◌≢◌, ℕ, zero, suc, ◌+◌, ◌<◌, List, [], ◌∷◌, ◌++◌, map, length, replicate, refl, sym, ◌∙◌, ap, subst, inl, inr, arith}
-use Rattle.std.specs.Prelude.{◌⊎◌, Option, Some, None, slice_index, slice_set, All, sum_by}
+use Rattle.std.specs.Prelude.{◌⊎◌, Some, None, slice_index, slice_set, All, sum_by}
 use Rattle.std.specs.List.{Contains}
 use Rattle.std.proofs.lemmas.List.Elements.{All-nil, All-cons, All-head, All-tail, All-append, Contains-append_left, Contains-append_right}
 use Rattle.std.proofs.lemmas.List.Sums.{sum_by-cons}

@@ -1,14 +1,13 @@
 -- What becomes of a pass whose values are given back, from the last place on: what it still holds (LetsGo), and which values went (Goes).
-use Rattle.std.proofs.Common.{◌≡◌, ◌≢◌, ℕ, ◌+◌, ◌<◌, ◌≤◌, List, [], ◌∷◌, ◌++◌, length, refl, sym, ◌∙◌, ap, subst, inl, inr, arith}
+use Rattle.std.proofs.Common.{◌≡◌, ℕ, ◌≤◌, List, [], ◌∷◌, ◌++◌, length, refl, sym, ◌∙◌, ap, subst, inl, inr, arith}
 use Rattle.std.specs.Prelude.{◌⊎◌, Option, Some, None, slice_get, filter_map, reverse}
-use Rattle.std.specs.List.{Contains}
 use Rattle.std.proofs.lemmas.Bool.{cases_eq}
-use Rattle.std.proofs.lemmas.List.{reverse-append, append-nil, append_assoc}
+use Rattle.std.proofs.lemmas.List.{reverse-append, append_assoc}
 use Rattle.scq_law.specs.Hands.{times}
 use Rattle.scq_queue.specs.Passes.{PassStanding, IsHeldBy, WasGivenBack, without, after_put, after_spent_put, having_seen}
 use Rattle.scq_queue.proofs.HeldOnce.{IsAlike}
 use Rattle.scq_port.specs.declared.port_buffer.PortBuffer.{PortBuffer}
-use Rattle.scq_port.specs.Ports.{PortQueue, PortStanding, Value, bytes_of}
+use Rattle.scq_port.specs.Ports.{PortQueue, Value, bytes_of}
 use Rattle.scq_port.specs.Calls.{values_of, GaveBack, HasEnded}
 use Rattle.scq_port.specs.Kept.{Keeps, LetsGo, StandsAt}
 use Rattle.scq_queue.proofs.Leaving.{get_before, get_last, not_last}

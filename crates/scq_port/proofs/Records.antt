@@ -8,7 +8,7 @@ use Rattle.scq_band.specs.Standing.{IsAsGiven}
 use Rattle.scq_queue.specs.Passes.{PassStanding, lists_of, having_seen, caller_of}
 use Rattle.scq_port.specs.declared.port_buffer.PortBuffer.{PortBuffer}
 use Rattle.scq_port.specs.Ports.{PortStanding, PortQueue, Value, bytes_of, place_of}
-use Rattle.scq_port.specs.Calls.{Came, IsSpent, IsInRun}
+use Rattle.scq_port.specs.Calls.{Came, IsSpent}
 use Rattle.scq_band.specs.declared.calls.Spent.{Spent}
 use Rattle.scq_port.specs.Kept.{Keeps}
 use Rattle.scq_port.proofs.Lists.{set_back}

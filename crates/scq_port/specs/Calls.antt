@@ -1,13 +1,13 @@
 -- What each call makes of a port. What it makes of the port's pass is said in the words of the queue, for topic t and index i.
-use Rattle.std.specs.Prelude.{◌≡◌, ℕ, suc, ◌+◌, ◌<◌, ◌≤◌, List, [], ◌∷◌, ◌++◌, length, reverse, filter_map, Option, Some, None, slice_get, slice_set, replicate, map, All}
+use Rattle.std.specs.Prelude.{◌≡◌, ℕ, suc, ◌+◌, ◌<◌, ◌≤◌, List, [], ◌∷◌, ◌++◌, length, reverse, filter_map, Option, Some, None, slice_set, replicate, map}
 use Rattle.std.specs.List.{Contains}
 use Rattle.scq_word.specs.declared.setup.Setup.{Setup}
 use Rattle.scq_word.specs.Sizes.{n_of}
 use Rattle.scq_band.specs.Buffers.{opening_of}
 use Rattle.scq_band.specs.RunSeen.{IsCallInRun, WasEmptyInRun}
 use Rattle.scq_band.specs.Standing.{IsAsGiven}
-use Rattle.scq_queue.specs.Lists.{Lists, with_send, with_take, with_full}
-use Rattle.scq_queue.specs.Passes.{PassStanding, lists_of, known_on, WasLent, HasGot, WasGivenBack, FoundNothing, FoundFull, having_seen, caller_of, after_put, after_spent_put, after_spent_get, first_pass, first_passes}
+use Rattle.scq_queue.specs.Lists.{with_send, with_take, with_full}
+use Rattle.scq_queue.specs.Passes.{PassStanding, lists_of, known_on, WasLent, HasGot, WasGivenBack, FoundNothing, FoundFull, having_seen, caller_of, after_put, after_spent_put, after_spent_get, first_passes}
 use Rattle.scq_port.specs.declared.port_buffer.PortBuffer.{PortBuffer}
 use Rattle.scq_port.specs.declared.sight.Sight.{Sight}
 use Rattle.scq_port.specs.Ports.{PortStanding, PortQueue, Value, HasValue, Shows, bytes_of, place_of}

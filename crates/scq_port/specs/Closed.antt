@@ -1,5 +1,5 @@
 -- What the last port of a queue that closes is told: all that the queue's close says, of the passes of all ports as each of them closed.
-use Rattle.std.specs.Prelude.{◌≡◌, ℕ, List, [], length, All}
+use Rattle.std.specs.Prelude.{◌≡◌, ℕ, List, length, All}
 use Rattle.std.specs.List.{Contains}
 use Rattle.scq_band.specs.Buffers.{opening_of}
 use Rattle.scq_band.specs.Closing.{IsOneRunToTheEnd}

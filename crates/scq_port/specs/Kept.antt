@@ -1,6 +1,5 @@
 -- For private calls: what a port keeps.
 use Rattle.std.specs.Prelude.{◌≡◌, ℕ, ◌+◌, ◌<◌, ◌≤◌, List, [], length, Option, Some, None, slice_get}
-use Rattle.std.specs.List.{Contains}
 use Rattle.scq_law.specs.Hands.{times}
 use Rattle.scq_word.specs.Sizes.{n_of}
 use Rattle.scq_queue.specs.Passes.{PassStanding}

@@ -1,10 +1,9 @@
 -- What contracts see of a port: its pass, the values that it holds, and how many it may hold.
-use Rattle.std.specs.Prelude.{◌≡◌, ℕ, List, map, Option, Some, replicate, slice_get, length, All}
+use Rattle.std.specs.Prelude.{◌≡◌, ℕ, List, Option, Some, slice_get, length}
 use Rattle.std.specs.Vec.{vec_ptr}
 use denote.RawPtr.{Ptr}
-use Rattle.scq_word.specs.Sizes.{n_of}
 use Rattle.scq_band.specs.Standing.{Identity}
-use Rattle.scq_queue.specs.Passes.{PassStanding, HeldStanding, first_passes}
+use Rattle.scq_queue.specs.Passes.{PassStanding, HeldStanding}
 use Rattle.scq_port.specs.declared.port_buffer.PortBuffer.{PortBuffer}
 use Rattle.scq_port.specs.declared.sight.Sight.{Sight}
 

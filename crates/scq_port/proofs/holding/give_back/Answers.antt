@@ -1,11 +1,11 @@
-use Rattle.std.proofs.Common.{◌≡◌, ℕ, ◌+◌, ◌-◌, ◌≤◌, List, sym, ◌∙◌, ap, subst, refl}
+use Rattle.std.proofs.Common.{◌≡◌, ℕ, ◌-◌, ◌≤◌, List, sym, ◌∙◌, ap, subst, refl}
 use Rattle.std.specs.Prelude.{Option, Some, None, slice_get, slice_set}
 use Rattle.scq_queue.specs.Passes.{WasGivenBack, after_spent_put}
 use Rattle.scq_queue.proofs.HeldOnce.{put_refused}
 use Rattle.scq_port.specs.Ports.{Value, bytes_of}
 use Rattle.scq_port.specs.Kept.{seen_as}
 use Rattle.scq_port.specs.Calls.{IsSpentPut}
-use Rattle.scq_port.proofs.Lists.{set_here, set_back}
+use Rattle.scq_port.proofs.Lists.{set_here}
 use Rattle.scq_port.proofs.Keeping.{place_held, none_held, keeps_less, keeps_alike}
 use Rattle.scq_port.proofs.Records.{unspent, keeps_as, in_run, same_port, spent_of, put_back, kept_ticket}
 use Rattle.scq_port.proofs.holding.give_back.Goals as goal

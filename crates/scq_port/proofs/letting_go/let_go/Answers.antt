@@ -1,5 +1,5 @@
 use Rattle.std.proofs.Common.{◌≡◌, ℕ, ◌≤◌, List, [], ◌∷◌, ◌++◌, sym, ◌∙◌, ap, subst}
-use Rattle.std.specs.Prelude.{Option, Some, None, slice_get}
+use Rattle.std.specs.Prelude.{Option, Some, slice_get}
 use Rattle.scq_queue.specs.Passes.{PassStanding, IsHeldBy}
 use Rattle.scq_queue.proofs.HeldOnce.{put_refused}
 use Rattle.scq_port.specs.declared.port_buffer.PortBuffer.{PortBuffer}

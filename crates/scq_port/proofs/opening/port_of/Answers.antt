@@ -1,10 +1,7 @@
-use Rattle.std.proofs.Common.{rules, ◌≡◌, ℕ, ◌<◌, ◌≤◌, ◌+◌, [], map, replicate, IfOk, vec_len, ◌-◌, ◌*◌, length, ◌/◌, ◌%◌, Bool, true, false, nat_eq, nat_lt, List, ◌∷◌, ◌++◌, slice_index_or, slice_set, bit_and, bit_or, Fits, w8, w32, w64, Bor, MutBor}
+use Rattle.std.proofs.Common.{rules, ◌≡◌}
 use Rattle.std.specs.Arc.{arc_value}
 use Rattle.scq_word.specs.Sizes.{n_of}
-use Rattle.scq_queue.specs.Passes.{first_passes}
-use Rattle.scq_port.specs.Ports.{bytes_of}
-use Rattle.scq_port.specs.Calls.{AreOpened, new_port}
-use Rattle.scq_port.specs.Kept.{IsFresh, Keeps}
+use Rattle.scq_port.specs.Kept.{Keeps}
 use Rattle.scq_port.proofs.Keeping.{keeps_new}
 use Rattle.scq_port.proofs.opening.port_of.Goals as goal
 

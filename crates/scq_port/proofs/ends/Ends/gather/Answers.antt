@@ -1,5 +1,5 @@
-use Rattle.std.proofs.Common.{◌≡◌, ℕ, ◌+◌, ◌<◌, ◌≤◌, List, [], ◌∷◌, ◌++◌, length, sym, ◌∙◌, ap, subst, refl, arith}
-use Rattle.std.specs.Prelude.{Option, Some, None, All, slice_index, vec_capacity}
+use Rattle.std.proofs.Common.{◌≡◌, ℕ, ◌+◌, ◌<◌, ◌≤◌, List, [], ◌∷◌, ◌++◌, length, sym, ◌∙◌, ap, subst, arith}
+use Rattle.std.specs.Prelude.{Some, All, slice_index, vec_capacity}
 use Rattle.std.specs.Mem.Slots.{slots_items, slots_filled, slots_len}
 use mathlib.Core.Option.{some}
 use lib.ListN.{get_elem?}
@@ -9,7 +9,7 @@ use Rattle.scq_port.specs.declared.port_buffer.PortBuffer.{PortBuffer}
 use Rattle.scq_port.specs.Ends.{Laid, IsLeft}
 use Rattle.scq_port.proofs.EndSteps.{left_there, own_there, next_all, next_there}
 use Rattle.scq_port.proofs.ends.Ends.gather.Goals as goal
-use Rattle.scq_port.proofs.ends.Ends.gather.Goals.{then-word-eq2+in-Some, else-word-eq2}
+use Rattle.scq_port.proofs.ends.Ends.gather.Goals.{then-word-eq-LAID+in-Some, else-word-eq-LAID}
 
 pub unreachable-requires : goal.unreachable-requires
 unreachable-requires c =
@@ -19,7 +19,7 @@ unreachable-requires c =
     let words = ap slots_items (o.3 ∙ inv.2) in
     let word : slice_index (slots_items closed.words) c.loop-slot.slot ≡ 2 =
     read_word (slots_items closed.words) c.loop-slot.slot c.word.result
-    (subst (λ (l : List ℕ). get_elem? l c.loop-slot.slot ≡ some c.word.result) words c.word.ensures) ∙ c.if-word-eq2.true in
+    (subst (λ (l : List ℕ). get_elem? l c.loop-slot.slot ≡ some c.word.result) words c.word.ensures) ∙ c.if-word-eq-LAID.true in
     let at : get_elem? (slots_items closed.slots) c.loop-slot.slot ≡ some c.take-left.result =
     subst (λ (l : List Laid). get_elem? l c.loop-slot.slot ≡ some c.take-left.result) inv.0 c.take-left.ensures.value in
     let low : c.loop-slot.slot < length (slots_items closed.slots) =
@@ -42,19 +42,19 @@ loop-slot-preserved c =
     let low : i < length (slots_items closed.slots) =
     omega (arith, c.loop-slot-test.true, c.slot_count.ensures, inv.1, closed.slots.ok.0) in
     let less : i < slots_len c.loop-slot.closed.slots = omega (arith, c.loop-slot-test.true, c.slot_count.ensures) in
-    elim c.if-word-eq2.branch [
-      | then-word-eq2+in-Some w ↦
+    elim c.if-word-eq-LAID.branch [
+      | then-word-eq-LAID+in-Some w ↦
           let word : slice_index (slots_items closed.words) i ≡ 2 =
           read_word (slots_items closed.words) i c.word.result
-          (subst (λ (l : List ℕ). get_elem? l i ≡ some c.word.result) words c.word.ensures) ∙ w.if-word-eq2.true in
+          (subst (λ (l : List ℕ). get_elem? l i ≡ some c.word.result) words c.word.ensures) ∙ w.if-word-eq-LAID.true in
           let t = left_there queue c.args.token.id c.args.token.me.0 (slots_items closed.words) (slots_items closed.slots)
           c.close_with-closed.ensures.values.2 i c.take-left.result low word at in
           let q = w.in-Some.pass in
           let same : t.0 ≡ q = (let a = t.1 in let b = w.in-Some.is in cc) in
           let mine : IsLeft queue q = subst (λ (p : PassStanding PortBuffer). IsLeft queue p) same t.2 in
-          let more : c.if-word-eq2.passes.items ≡ c.loop-slot.passes.items ++ q ∷ [] =
+          let more : c.if-word-eq-LAID.passes.items ≡ c.loop-slot.passes.items ++ q ∷ [] =
           subst (λ v. v.items ≡ c.loop-slot.passes.items ++ q ∷ []) (sym w.passes-is) w.push_reserved.ensures.items in
-          let many : length c.if-word-eq2.passes.items ≡ length c.loop-slot.passes.items + 1 =
+          let many : length c.if-word-eq-LAID.passes.items ≡ length c.loop-slot.passes.items + 1 =
           ap length more ∙ length_next c.loop-slot.passes.items q in
           let here : get_elem? (slots_items closed.slots) i ≡ some (Some q) = at ∙ ap some w.in-Some.is in (
             o.0 ∙ inv.0,
@@ -63,14 +63,14 @@ loop-slot-preserved c =
             subst (λ v. vec_capacity v ≡ vec_capacity c.args.passes) (sym w.passes-is) (w.push_reserved.ensures.capacity ∙ inv.3),
             omega (arith, many, inv.4),
             omega (arith, less, o.2),
-            next_all queue c.loop-slot.passes.items c.if-word-eq2.passes.items q more inv.6 mine,
+            next_all queue c.loop-slot.passes.items c.if-word-eq-LAID.passes.items q more inv.6 mine,
             λ k under. rw o.1 (empty_next filled i inv.7 k under),
             λ k past under. rw o.1 (full_next filled i (slots_len c.loop-slot.closed.slots) inv.8 k past (omega (arith, under, o.2))),
             λ full k p under there.
-                next_there c.loop-slot.passes.items c.if-word-eq2.passes.items (slots_items closed.slots) i q more here inv.9
+                next_there c.loop-slot.passes.items c.if-word-eq-LAID.passes.items (slots_items closed.slots) i q more here inv.9
                 (omega (arith, full, many)) k p under there,
           )
-      | else-word-eq2 w ↦
+      | else-word-eq-LAID w ↦
           let same = w.passes-is in (
             o.0 ∙ inv.0,
             o.2 ∙ inv.1,

@@ -1,4 +1,4 @@
-use Rattle.std.proofs.Common.{◌≡◌, ◌∙◌, arith, length, ℕ, replicate, sym, refl}
+use Rattle.std.proofs.Common.{◌∙◌, arith}
 use Rattle.scq_port.proofs.EndSteps.{opens}
 use Rattle.scq_port.proofs.ends.Ends.new.Goals as goal
 

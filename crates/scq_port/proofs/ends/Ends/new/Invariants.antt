@@ -1,4 +1,4 @@
-use Rattle.std.proofs.Common.{◌≡◌, ◌≤◌, ◌-◌}
+use Rattle.std.proofs.Common.{◌≤◌, ◌-◌}
 use Rattle.std.specs.Prelude.{vec_len, vec_capacity}
 use Rattle.scq_port.proofs.ends.Ends.new.Given as goal
 

@@ -1,12 +1,12 @@
-use Rattle.std.proofs.Common.{◌≡◌, ℕ, List, [], length, refl, sym, ◌∙◌, ap, subst, arith}
-use Rattle.std.specs.Prelude.{Option, Some, None, All, map}
+use Rattle.std.proofs.Common.{List, sym, subst, arith}
+use Rattle.std.specs.Prelude.{All, map}
 use Rattle.scq_queue.specs.Passes.{PassStanding}
 use Rattle.scq_queue.specs.Closing.{AreTheHeld}
 use Rattle.scq_port.specs.declared.port_buffer.PortBuffer.{PortBuffer}
 use Rattle.scq_port.specs.Ports.{PortQueue, Value, bytes_of}
 use Rattle.scq_port.specs.Ends.{IsLeft}
 use Rattle.scq_port.specs.Closed.{HasClosed}
-use Rattle.scq_port.proofs.EndSteps.{none_held, holds_none}
+use Rattle.scq_port.proofs.EndSteps.{holds_none}
 use Rattle.scq_port.proofs.owner.Owner.close.Goals as goal
 
 pub close-requires-clause-held : goal.close-requires-clause-held
