@@ -6,13 +6,10 @@ use scq_port::{Port, open};
 use scq_word::Setup;
 use std::alloc::Global;
 
-/// Adds the index of what was lent and how many bytes it has, or why nothing was.
+/// Adds the index of what was lent, or why nothing was.
 fn lend(into: &mut String, port: &mut Port) -> Result<()> {
     match port.lend() {
-        Ok(sight) => {
-            let (index, len) = (sight.index, sight.len);
-            write!(into, "{index} of {len};")?;
-        }
+        Ok(index) => write!(into, "{index};")?,
         Err(refusal) => write!(into, "{refusal:?};")?,
     }
     Ok(())
@@ -21,10 +18,7 @@ fn lend(into: &mut String, port: &mut Port) -> Result<()> {
 /// Adds the place of what was taken and its index, or why nothing was.
 fn take(into: &mut String, port: &mut Port, topic: u32) -> Result<()> {
     match port.take(topic) {
-        Ok((place, sight)) => {
-            let index = sight.index;
-            write!(into, "{index} at {place};")?;
-        }
+        Ok((place, index)) => write!(into, "{index} at {place};")?,
         Err(refusal) => write!(into, "{refusal:?};")?,
     }
     Ok(())
@@ -76,14 +70,14 @@ fn number(call: &str, at: usize) -> Result<u32> {
     }
 }
 
-/// `LIMIT HOLD; PORT CALL ..; ..`, of two ports with one topic over two buffers of eight bytes, each of which may hold so many: what each
-/// call is answered. `drop` and `close` are of the last port.
+/// `LIMIT HOLD; PORT CALL ..; ..`, of two ports with one topic over two buffers, each of which may hold so many: what each call is
+/// answered. `drop` and `close` are of the last port.
 pub fn ported(alloc: Global, given: &str) -> Result<String> {
     let (setup, calls) = given.split_once("; ").context("a setup and calls")?;
     let limit = field(setup, 0).parse::<u64>()?;
     let hold = field(setup, 1).parse::<u32>()?;
     let setup = Setup::new(1, 2, 2, limit)?;
-    let mut ports = open(alloc, setup, 8, hold)?;
+    let mut ports = open(alloc, setup, hold)?;
     let mut text = String::new(alloc);
     for call in calls.split("; ") {
         match call {

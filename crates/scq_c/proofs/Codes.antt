@@ -1,15 +1,14 @@
 -- What each call answers, one lemma for each of its numbers.
 use Rattle.std.proofs.Common.{◌≡◌, ℕ, suc, ◌+◌, refl, inl, inr, arith}
-use Rattle.scq_port.specs.declared.sight.Sight.{Sight}
 use Rattle.scq_port.specs.Ports.{PortStanding}
 use Rattle.scq_port.specs.Calls.{IsLent, IsTaken, IsSent, IsGivenBack, WasFull, WasEmpty, IsSpentGet, IsSpentPut, HasNoRoom, HasNoTopic, HoldsNoSuch}
 use Rattle.scq_c.specs.declared.exports.Held.{Held}
 use Rattle.scq_c.specs.Answers.{OfLend, OfTake, OfSend, OfGiveBack, shown_at, with_place}
 
-pub lend_lent : (s : Sight) (before : Held) (old new : PortStanding) → IsLent s old new → OfLend 0 before (shown_at 0 s) old new
-lend_lent s before old new is =
+pub lend_lent : (index : ℕ) (before : Held) (old new : PortStanding) → IsLent index old new → OfLend 0 before (shown_at 0 index before) old new
+lend_lent index before old new is =
     record {
-      lent = λ e. (s, refl, is);
+      lent = λ e. (index, refl, is);
       full = λ e. absurd (omega (arith, e));
       spent = λ e. absurd (omega (arith, e));
       no_room = λ e. absurd (omega (arith, e));
@@ -46,10 +45,11 @@ lend_no_room before old new is =
       known = inr (inr (inr refl));
     }
 
-pub take_taken : (topic place : ℕ) (s : Sight) (before : Held) (old new : PortStanding) → IsTaken topic place s old new → OfTake topic 0 before (shown_at place s) old new
-take_taken topic place s before old new is =
+pub take_taken : (topic place index : ℕ) (before : Held) (old new : PortStanding) → IsTaken topic place index old new
+    → OfTake topic 0 before (shown_at place index before) old new
+take_taken topic place index before old new is =
     record {
-      taken = λ e. (place, s, refl, is);
+      taken = λ e. (place, index, refl, is);
       empty = λ e. absurd (omega (arith, e));
       spent = λ e. absurd (omega (arith, e));
       no_topic = λ e. absurd (omega (arith, e));

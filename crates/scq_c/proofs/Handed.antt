@@ -1,4 +1,4 @@
--- Handles and the ports that they have, as ports are put into them.
+-- C's ports and the ports that they have, as ports are put into them.
 use Rattle.std.proofs.Common.{◌≡◌, ℕ, zero, suc, ◌+◌, ◌<◌, ◌≤◌, List, [], ◌∷◌, ◌++◌, length, map, replicate, refl, sym, ◌∙◌, ap, subst, inl, inr, arith, append-nil, append_assoc, length-append}
 use Rattle.std.specs.Prelude.{◌⊎◌, All, Option, Some, None, slice_get, slice_set, slice_index_or, reverse}
 use Rattle.std.proofs.lemmas.List.{map-append, reverse-append, reverse-reverse, length-map}
@@ -9,31 +9,40 @@ use Rattle.scq_word.specs.declared.setup.Setup.{Setup}
 use Rattle.scq_queue.specs.Passes.{first_pass, first_passes}
 use Rattle.scq_port.specs.Calls.{AreOpened, new_port}
 use Rattle.scq_port.specs.Ports.{PortStanding, PortQueue}
-use Rattle.scq_c.specs.declared.handle.Handle.{Handle}
-use Rattle.scq_c.specs.Answers.{ports_of}
+use Rattle.scq_c.specs.declared.c_port.CPort.{CPort}
+use Rattle.scq_c.specs.declared.c_port.Memory.{Memory}
+use Rattle.scq_c.specs.Answers.{IsClosed, ports_of, memories_of}
 
 -- the port of the handle at a place
-pub port_at : (hs : List Handle) (k : ℕ) (h : Handle) → slice_get hs k ≡ Some h → slice_get (ports_of hs) k ≡ Some h.port
+pub port_at : (hs : List CPort) (k : ℕ) (h : CPort) → slice_get hs k ≡ Some h → slice_get (ports_of hs) k ≡ Some h.handle.port
 port_at [] k h is = absurd (cc)
-port_at (x ∷ xs) zero h is = let same : x ≡ h = cc in ap (λ (y : Handle). Some y.port) same
+port_at (x ∷ xs) zero h is = let same : x ≡ h = cc in ap (λ (y : CPort). Some y.handle.port) same
 port_at (x ∷ xs) (suc k) h is = port_at xs k h is
 
 -- one handle with another port
-pub ports_set : (hs : List Handle) (k : ℕ) (h : Handle) → ports_of (slice_set hs k h) ≡ slice_set (ports_of hs) k h.port
+pub ports_set : (hs : List CPort) (k : ℕ) (h : CPort) → ports_of (slice_set hs k h) ≡ slice_set (ports_of hs) k h.handle.port
 ports_set [] k h = refl
 ports_set (x ∷ xs) zero h = refl
-ports_set (x ∷ xs) (suc k) h = ap (λ (l : List (Option PortStanding)). x.port ∷ l) (ports_set xs k h)
+ports_set (x ∷ xs) (suc k) h = ap (λ (l : List (Option PortStanding)). x.handle.port ∷ l) (ports_set xs k h)
 
 set_same : (os : List (Option PortStanding)) (k : ℕ) (o : Option PortStanding) → slice_get os k ≡ Some o → slice_set os k o ≡ os
 set_same [] k o is = refl
 set_same (x ∷ xs) zero o is = let same : x ≡ o = cc in ap (λ y. y ∷ xs) (sym same)
 set_same (x ∷ xs) (suc k) o is = ap (λ l. x ∷ l) (set_same xs k o is)
 
-pub ports_same : (hs : List Handle) (k : ℕ) (old new : Handle) → slice_get hs k ≡ Some old → new.port ≡ old.port → ports_of (slice_set hs k new) ≡ ports_of hs
+pub ports_same : (hs : List CPort) (k : ℕ) (old new : CPort) → slice_get hs k ≡ Some old → new.handle.port ≡ old.handle.port → ports_of (slice_set hs k new) ≡ ports_of hs
 ports_same hs k old new is same =
-    ports_set hs k new ∙ ap (λ o. slice_set (ports_of hs) k o) same ∙ set_same (ports_of hs) k old.port (port_at hs k old is)
+    ports_set hs k new ∙ ap (λ o. slice_set (ports_of hs) k o) same ∙ set_same (ports_of hs) k old.handle.port (port_at hs k old is)
 
-pub length_ports : (hs : List Handle) → length (ports_of hs) ≡ length hs
+-- one of C's ports by another, which was told of the same memory
+pub memories_same : (hs : List CPort) (k : ℕ) (old new : CPort) → slice_get hs k ≡ Some old → new.memory ≡ old.memory
+    → memories_of (slice_set hs k new) ≡ memories_of hs
+memories_same [] k old new is same = refl
+memories_same (x ∷ xs) zero old new is same =
+    let first : x ≡ old = cc in ap (λ (m : Memory). m ∷ memories_of xs) (same ∙ ap (λ (p : CPort). p.memory) (sym first))
+memories_same (x ∷ xs) (suc k) old new is same = ap (λ (l : List Memory). x.memory ∷ l) (memories_same xs k old new is same)
+
+pub length_ports : (hs : List CPort) → length (ports_of hs) ≡ length hs
 length_ports [] = refl
 length_ports (x ∷ xs) = ap suc (length_ports xs)
 
@@ -41,18 +50,18 @@ length_ports (x ∷ xs) = ap suc (length_ports xs)
 abbrev pub NoneBelow : ℕ → List (Option PortStanding) → Type 0
 NoneBelow k os = (i : ℕ) → i < k → slice_get os i ≡ Some None
 
-pub all_closed : (hs : List Handle) → NoneBelow (length hs) (ports_of hs) → All (λ (h : Handle). h.port ≡ None) hs
+pub all_closed : (hs : List CPort) → NoneBelow (length hs) (ports_of hs) → All IsClosed hs
 all_closed [] none k d low = absurd (omega (arith, low))
-all_closed (x ∷ xs) none zero d low = let first : Some x.port ≡ Some None = none 0 (omega arith) in cc
+all_closed (x ∷ xs) none zero d low = let first : Some x.handle.port ≡ Some None = none 0 (omega arith) in cc
 all_closed (x ∷ xs) none (suc k) d low = all_closed xs (λ i lt. none (suc i) (omega (arith, lt))) k d (omega (arith, low))
 
-pub none_closed : (hs : List Handle) (k : ℕ) (h : Handle) → All (λ (h : Handle). h.port ≡ None) hs → slice_get hs k ≡ Some h → h.port ≡ None
+pub none_closed : (hs : List CPort) (k : ℕ) (h : CPort) → All IsClosed hs → slice_get hs k ≡ Some h → h.handle.port ≡ None
 none_closed [] k h all is = absurd (cc)
-none_closed (x ∷ xs) zero h all is = let same : x ≡ h = cc in subst (λ (y : Handle). y.port ≡ None) same (all 0 x (omega arith))
+none_closed (x ∷ xs) zero h all is = let same : x ≡ h = cc in subst (λ (y : CPort). y.handle.port ≡ None) same (all 0 x (omega arith))
 none_closed (x ∷ xs) (suc k) h all is = none_closed xs k h (λ i d low. all (suc i) d (omega (arith, low))) is
 
 -- the ports of handles that are closed
-pub closed_ports : (hs : List Handle) → All (λ (h : Handle). h.port ≡ None) hs → ports_of hs ≡ replicate (length hs) None
+pub closed_ports : (hs : List CPort) → All IsClosed hs → ports_of hs ≡ replicate (length hs) None
 closed_ports [] all = refl
 closed_ports (x ∷ xs) all =
     ap (λ (o : Option PortStanding). o ∷ ports_of xs) (all 0 x (omega arith))
@@ -97,17 +106,20 @@ one_handed f all left rest y out before last =
     sym (append_assoc (map f rest) (f y ∷ []) out) ∙ ap (λ l. l ++ out) (sym (map-append f rest (y ∷ []))) ∙ ap (λ l. map f l ++ out) (sym last) ∙ before
 
 -- handles with the ports of handles that are closed are closed
-pub closed_alike : (hs gs : List Handle) → ports_of hs ≡ ports_of gs → All (λ (h : Handle). h.port ≡ None) gs → All (λ (h : Handle). h.port ≡ None) hs
+pub closed_alike : (hs gs : List CPort) → ports_of hs ≡ ports_of gs → All IsClosed gs → All IsClosed hs
 closed_alike [] gs same all k d low = absurd (omega (arith, low))
 closed_alike (x ∷ xs) [] same all k d low = absurd (cc)
 closed_alike (x ∷ xs) (y ∷ ys) same all zero d low =
-    let first : x.port ≡ y.port = cc in first ∙ all 0 y (omega arith)
+    let first : x.handle.port ≡ y.handle.port = cc in first ∙ all 0 y (omega arith)
 closed_alike (x ∷ xs) (y ∷ ys) same all (suc k) d low =
     let rest : ports_of xs ≡ ports_of ys = cc in closed_alike xs ys rest (λ i e lt. all (suc i) e (omega (arith, lt))) k d (omega (arith, low))
 
 -- what is read at a place of a list
-pub read_at : (hs : List Handle) (k : ℕ) (h : Handle) → k < length hs → h ≡ slice_index_or hs k h → slice_get hs k ≡ Some h
+pub read_at : (hs : List CPort) (k : ℕ) (h : CPort) → k < length hs → h ≡ slice_index_or hs k h → slice_get hs k ≡ Some h
 read_at hs k h low is = slice_get_read hs (length hs) k h refl low is
+
+pub found_at : (hs : List CPort) (k : ℕ) (h : CPort) → k < length hs → h ≡ slice_index_or hs k h → slice_get hs k ≡ Some (slice_index_or hs k h)
+found_at hs k h low is = read_at hs k h low is ∙ ap (λ (p : CPort). Some p) is
 
 below_next : (i k : ℕ) → i < suc k → (i < k) ⊎ (i ≡ k)
 below_next zero zero low = inr refl
@@ -127,7 +139,7 @@ none_next k os none last i low =
     ]
 
 -- there is a handle for each port that is left
-pub length_filled : (hs : List Handle) (n k : ℕ) (rest : List (Option PortStanding)) → ports_of hs ≡ replicate n None ++ rest → n ≡ k + 1 → k < length hs
+pub length_filled : (hs : List CPort) (n k : ℕ) (rest : List (Option PortStanding)) → ports_of hs ≡ replicate n None ++ rest → n ≡ k + 1 → k < length hs
 length_filled hs n k rest is one =
     let long : length hs ≡ length (replicate n no_port) + length rest = sym (length_ports hs) ∙ ap length is ∙ length-append (replicate n None) rest in
     let many = filled n in
@@ -154,7 +166,7 @@ abbrev pub handed : Box Port Global → Option PortStanding
 handed b = Some b.value
 
 -- as many handles as there are ports
-pub length_alike : (hs gs : List Handle) → ports_of hs ≡ ports_of gs → length hs ≡ length gs
+pub length_alike : (hs gs : List CPort) → ports_of hs ≡ ports_of gs → length hs ≡ length gs
 length_alike hs gs same = sym (length_ports hs) ∙ ap length same ∙ length_ports gs
 
 first_many : (queue : PortQueue) (n : ℕ) → length (first_passes queue n) ≡ n
@@ -162,10 +174,41 @@ first_many queue zero = refl
 first_many queue (suc n) =
     let both = length-append (first_passes queue n) (first_pass queue n ∷ []) in let rest = first_many queue n in omega (arith, both, rest)
 
-pub length_opened : (c : Setup) (size hold : ℕ) (ports : List PortStanding) → AreOpened c size hold ports → length ports ≡ c.seats
-length_opened c size hold ports are =
+pub length_opened : (c : Setup) (hold : ℕ) (ports : List PortStanding) → AreOpened c hold ports → length ports ≡ c.seats
+length_opened c hold ports are =
     ap length are.ports ∙ length-map (first_passes are.queue c.seats) (new_port hold) ∙ first_many are.queue c.seats
 
 pub map_twice : {A B C : Type 0} (f : A → B) (g : B → C) (xs : List A) → map g (map f xs) ≡ map (λ x. g (f x)) xs
 map_twice f g [] = refl
 map_twice f g (x ∷ xs) = ap (λ l. g (f x) ∷ l) (map_twice f g xs)
+
+-- those below a place were told of this memory
+abbrev pub ToldBelow : ℕ → Memory → List CPort → Type 0
+ToldBelow k memory hs = (i : ℕ) (p : CPort) → i < k → slice_get hs i ≡ Some p → p.memory ≡ memory
+
+-- one more is told
+pub told_next : (hs : List CPort) (k : ℕ) (memory : Memory) (new : CPort) → ToldBelow k memory hs → new.memory ≡ memory
+    → ToldBelow (k + 1) memory (slice_set hs k new)
+told_next hs k memory new told is i p low at =
+    elim (below_next i k (omega (arith, low))) [
+      | inl lt ↦ told i p lt (sym (other hs i k new (let apart = lt in omega (arith, apart))) ∙ at)
+      | inr same ↦ let here : new ≡ p = set_here hs i k new p same at in subst (λ (q : CPort). q.memory ≡ memory) here is
+    ]
+  where
+    other : (hs : List CPort) (i k : ℕ) (h : CPort) → i < k → slice_get (slice_set hs k h) i ≡ slice_get hs i
+    other [] i k h lt = refl
+    other (x ∷ xs) i zero h lt = absurd (omega (arith, lt))
+    other (x ∷ xs) zero (suc k) h lt = refl
+    other (x ∷ xs) (suc i) (suc k) h lt = other xs i k h (omega (arith, lt))
+    set_here : (hs : List CPort) (i k : ℕ) (h p : CPort) → i ≡ k → slice_get (slice_set hs k h) i ≡ Some p → h ≡ p
+    set_here [] i k h p same at = absurd (cc)
+    set_here (x ∷ xs) zero zero h p same at = cc
+    set_here (x ∷ xs) zero (suc k) h p same at = absurd (omega (arith, same))
+    set_here (x ∷ xs) (suc i) zero h p same at = absurd (omega (arith, same))
+    set_here (x ∷ xs) (suc i) (suc k) h p same at = set_here xs i k h p (omega (arith, same)) at
+
+-- all are told
+pub all_told : (hs : List CPort) (memory : Memory) → ToldBelow (length hs) memory hs → All (λ (p : CPort). p.memory ≡ memory) hs
+all_told [] memory told k d low = absurd (omega (arith, low))
+all_told (x ∷ xs) memory told zero d low = told 0 x (omega arith) refl
+all_told (x ∷ xs) memory told (suc k) d low = all_told xs memory (λ i p lt at. told (suc i) p (omega (arith, lt)) at) k d (omega (arith, low))

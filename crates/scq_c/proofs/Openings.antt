@@ -1,13 +1,18 @@
 -- What an open answers, one lemma for each of its numbers.
-use Rattle.std.proofs.Common.{◌≡◌, ℕ, ◌+◌, ◌*◌, ◌^◌, ◌<◌, ◌≤◌, List, length, refl, inl, inr, arith}
-use Rattle.std.specs.Prelude.{All, None}
+use Rattle.std.proofs.Common.{◌≡◌, ℕ, ◌+◌, ◌*◌, ◌^◌, ◌<◌, ◌≤◌, ◌⊎◌, List, length, refl, inl, inr, arith}
+use Rattle.std.specs.Prelude.{All}
 use Rattle.scq_word.specs.Sizes.{n_of}
 use Rattle.scq_word.specs.Ranges.{IsOutside}
-use Rattle.scq_c.specs.declared.handle.Handle.{Handle}
-use Rattle.scq_c.specs.Answers.{OfOpen, HaveOpened, ports_of}
+use Rattle.scq_c.specs.declared.c_port.CPort.{CPort}
+use Rattle.scq_c.specs.declared.c_port.Memory.{Memory}
+use Rattle.scq_c.specs.Answers.{OfOpen, HaveOpened, IsClosed, ports_of, memories_of}
 
-module _ (order topics size hold limit : ℕ) (before after : List Handle) where
-  pub open_opened : HaveOpened order topics size hold limit before after → OfOpen order topics size hold limit 0 before after
+module _ (order topics hold limit : ℕ) (memory : Memory) (before after : List CPort) where
+  -- each of C's ports is as it was
+  abbrev Same : Type 0
+  Same = (ports_of after ≡ ports_of before) × (memories_of after ≡ memories_of before)
+
+  pub open_opened : HaveOpened order topics hold limit memory before after → OfOpen order topics hold limit memory 0 before after
   open_opened is =
       record {
         opened = λ e. is;
@@ -22,7 +27,7 @@ module _ (order topics size hold limit : ℕ) (before after : List Handle) where
         known = inl refl;
       }
 
-  pub open_no_memory : ports_of after ≡ ports_of before → OfOpen order topics size hold limit 8 before after
+  pub open_no_memory : Same → OfOpen order topics hold limit memory 8 before after
   open_no_memory same =
       record {
         opened = λ e. absurd (omega (arith, e));
@@ -37,7 +42,7 @@ module _ (order topics size hold limit : ℕ) (before after : List Handle) where
         known = inr (omega arith, omega arith);
       }
 
-  pub open_bad_order : ports_of after ≡ ports_of before → IsOutside 1 12 order → OfOpen order topics size hold limit 9 before after
+  pub open_bad_order : Same → IsOutside 1 12 order → OfOpen order topics hold limit memory 9 before after
   open_bad_order same is =
       record {
         opened = λ e. absurd (omega (arith, e));
@@ -52,7 +57,7 @@ module _ (order topics size hold limit : ℕ) (before after : List Handle) where
         known = inr (omega arith, omega arith);
       }
 
-  pub open_bad_topics : ports_of after ≡ ports_of before → IsOutside 1 17 topics → OfOpen order topics size hold limit 10 before after
+  pub open_bad_topics : Same → IsOutside 1 17 topics → OfOpen order topics hold limit memory 10 before after
   open_bad_topics same is =
       record {
         opened = λ e. absurd (omega (arith, e));
@@ -67,7 +72,7 @@ module _ (order topics size hold limit : ℕ) (before after : List Handle) where
         known = inr (omega arith, omega arith);
       }
 
-  pub open_bad_ports : ports_of after ≡ ports_of before → IsOutside 1 4096 (length before) → OfOpen order topics size hold limit 11 before after
+  pub open_bad_ports : Same → IsOutside 1 4096 (length before) → OfOpen order topics hold limit memory 11 before after
   open_bad_ports same is =
       record {
         opened = λ e. absurd (omega (arith, e));
@@ -82,7 +87,7 @@ module _ (order topics size hold limit : ℕ) (before after : List Handle) where
         known = inr (omega arith, omega arith);
       }
 
-  pub open_bad_limit : ports_of after ≡ ports_of before → IsOutside (8 * n_of order) (2 ^ 60) limit → OfOpen order topics size hold limit 12 before after
+  pub open_bad_limit : Same → IsOutside (8 * n_of order) (2 ^ 60) limit → OfOpen order topics hold limit memory 12 before after
   open_bad_limit same is =
       record {
         opened = λ e. absurd (omega (arith, e));
@@ -97,7 +102,7 @@ module _ (order topics size hold limit : ℕ) (before after : List Handle) where
         known = inr (omega arith, omega arith);
       }
 
-  pub open_bad_size : ports_of after ≡ ports_of before → size ≡ 0 → OfOpen order topics size hold limit 13 before after
+  pub open_bad_size : Same → (memory.len ≡ 0) ⊎ (memory.stride < memory.len) → OfOpen order topics hold limit memory 13 before after
   open_bad_size same is =
       record {
         opened = λ e. absurd (omega (arith, e));
@@ -112,7 +117,7 @@ module _ (order topics size hold limit : ℕ) (before after : List Handle) where
         known = inr (omega arith, omega arith);
       }
 
-  pub open_bad_hold : ports_of after ≡ ports_of before → IsOutside 1 (n_of order) hold → OfOpen order topics size hold limit 14 before after
+  pub open_bad_hold : Same → IsOutside 1 (n_of order) hold → OfOpen order topics hold limit memory 14 before after
   open_bad_hold same is =
       record {
         opened = λ e. absurd (omega (arith, e));
@@ -127,7 +132,7 @@ module _ (order topics size hold limit : ℕ) (before after : List Handle) where
         known = inr (omega arith, omega arith);
       }
 
-  pub open_is_open : ports_of after ≡ ports_of before → (All (λ (h : Handle). h.port ≡ None) before → ⊥) → OfOpen order topics size hold limit 15 before after
+  pub open_is_open : Same → (All IsClosed before → ⊥) → OfOpen order topics hold limit memory 15 before after
   open_is_open same is =
       record {
         opened = λ e. absurd (omega (arith, e));

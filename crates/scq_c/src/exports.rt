@@ -1,18 +1,19 @@
 //! What C calls.
-ghost use Rattle.std.specs.Prelude.{◌≡◌, ◌≢◌, ℕ, Some, None};
+ghost use Rattle.std.specs.Prelude.{◌≡◌, ℕ, Some, None};
 ghost use Rattle.scq_queue.specs.Lists.{counts_of};
 ghost use Rattle.scq_queue.specs.Passes.{lists_of};
 ghost use Rattle.scq_port.specs.Ports.{PortStanding};
 ghost use Rattle.scq_c.specs.Answers.{OfLend, OfTake, OfSend, OfGiveBack, OfOpen, OfEnd, shown_at};
 
 use crate::answers::{CLOSED, EMPTY, FULL, NO_ROOM, NO_TOPIC, NOT_HELD, OK, SPENT};
+use crate::c_port::{CPort, Memory};
 use crate::handle::{Handle, put, taken};
 use crate::opening::open;
-use scq_port::{GiveBackRefusal, LendRefusal, Port, SendRefusal, Sight, TakeRefusal};
+use scq_port::{GiveBackRefusal, LendRefusal, Port, SendRefusal, TakeRefusal};
 use std::alloc::Global;
 
-/// A buffer that a port holds: where its bytes lie, how many they are, the place at which it was taken (0 where it was lent), and its
-/// index. C may read and write the bytes.
+/// A buffer that a port holds: where its bytes lie and how many they are, which C finds by the index, and nothing here reads or writes; the
+/// place at which it was taken (0 where it was lent), and its index.
 #[repr(C)]
 #[derive(Drop)]
 pub struct Held {
@@ -41,48 +42,44 @@ pub struct End {
 /// The version of these calls.
 #[unsafe(no_mangle)]
 pub extern "C" fn scq_version() -> u32
-    ensures { result ≡ 1 }
+    ensures { result ≡ 2 }
 {
-    1
+    2
 }
 
-/// Opens a queue: the ports of a new one, in closed handles.
+/// Opens a queue: the ports of a new one, each of which is told where C has the buffers' bytes.
 #[unsafe(no_mangle)]
-pub extern "C" fn scq_open(
+pub extern "C" fn scq_open_over(
     alloc: Global,
     order: u32,
     topics: u32,
-    size: u32,
     hold: u32,
     limit: u64,
-    handles: &mut [Handle],
+    memory: &Memory,
+    ports: &mut [CPort],
 ) -> u32
-    ensures { OfOpen order topics size hold limit result handles.old handles.new }
+    ensures { OfOpen order topics hold limit memory.now result ports.old ports.new }
 {
-    open(alloc, order, topics, size, hold, limit, handles)
+    open(alloc, order, topics, hold, limit, memory, ports)
 }
 
-/// Writes out what is shown.
+/// Writes out the index of a value, and its place.
 #[inline(always)]
-fn show(sight: Sight, place: u64, out: &mut Held)
-    ensures { out.new ≡ shown_at place sight }
+fn show(index: u32, place: u64, out: &mut Held)
+    ensures { out.new ≡ shown_at place index out.old }
 {
-    *out = Held {
-        at: sight.at,
-        len: sight.len,
-        place,
-        index: sight.index,
-    };
+    out.place = place;
+    out.index = index;
 }
 
-/// Is lent a value, and shows it.
+/// Is lent a value, and tells its index.
 #[inline(always)]
 fn lend_into(port: &mut Port, out: &mut Held) -> u32
     ensures { OfLend result out.old out.new port.old port.new }
 {
     match port.lend() {
-        Ok(sight) => {
-            show(sight, 0, out);
+        Ok(index) => {
+            show(index, 0, out);
             OK
         }
         Err(LendRefusal::NoRoom) => NO_ROOM,
@@ -97,9 +94,9 @@ fn lend_into(port: &mut Port, out: &mut Held) -> u32
     }
 }
 
-/// Lends a buffer.
+/// Lends a buffer: tells its index.
 #[unsafe(no_mangle)]
-pub extern "C" fn scq_lend(alloc: Global, handle: &mut Handle, out: &mut Held) -> u32
+pub extern "C" fn scq_lend_index(alloc: Global, handle: &mut Handle, out: &mut Held) -> u32
     ensures closed { handle.old.port ≡ None → (result ≡ 4) × (handle.new.port ≡ None) × (out.new ≡ out.old) }
     ensures answered { (x : PortStanding) → handle.old.port ≡ Some x
         → (y : PortStanding) × (handle.new.port ≡ Some y) × OfLend result out.old out.new x y }
@@ -112,14 +109,14 @@ pub extern "C" fn scq_lend(alloc: Global, handle: &mut Handle, out: &mut Held) -
     answer
 }
 
-/// Takes a value, and shows it.
+/// Takes a value, and tells its index.
 #[inline(always)]
 fn take_into(port: &mut Port, topic: u32, out: &mut Held) -> u32
     ensures { OfTake topic result out.old out.new port.old port.new }
 {
     match port.take(topic) {
-        Ok((place, sight)) => {
-            show(sight, place, out);
+        Ok((place, index)) => {
+            show(index, place, out);
             OK
         }
         Err(TakeRefusal::NoTopic) => NO_TOPIC,
@@ -135,9 +132,14 @@ fn take_into(port: &mut Port, topic: u32, out: &mut Held) -> u32
     }
 }
 
-/// Takes a buffer from a topic.
+/// Takes a buffer from a topic: tells its index.
 #[unsafe(no_mangle)]
-pub extern "C" fn scq_take(alloc: Global, handle: &mut Handle, topic: u32, out: &mut Held) -> u32
+pub extern "C" fn scq_take_index(
+    alloc: Global,
+    handle: &mut Handle,
+    topic: u32,
+    out: &mut Held,
+) -> u32
     ensures closed { handle.old.port ≡ None → (result ≡ 4) × (handle.new.port ≡ None) × (out.new ≡ out.old) }
     ensures answered { (x : PortStanding) → handle.old.port ≡ Some x
         → (y : PortStanding) × (handle.new.port ≡ Some y) × OfTake topic result out.old out.new x y }
@@ -261,23 +263,6 @@ pub extern "C" fn scq_spent(alloc: Global, handle: &mut Handle, ticket: &mut u64
     }
 }
 
-/// Closes a port: what it holds is given back, as `Port::close` says, and the last port of a queue frees it. `scq_end` does the same, and
-/// tells what became of the queue.
-#[unsafe(no_mangle)]
-pub extern "C" fn scq_close(alloc: Global, handle: &mut Handle) -> u32
-    ensures closed { handle.new.port ≡ None }
-    ensures was_closed { handle.old.port ≡ None → result ≡ 4 }
-    ensures was_open { handle.old.port ≢ None → result ≡ 0 }
-{
-    match taken(handle, alloc) {
-        Some(port) => {
-            let _ended = Box::into_inner(port).close();
-            OK
-        }
-        None => CLOSED,
-    }
-}
-
 /// Closes a port, and tells whether the queue closed with it.
 fn end_of(port: Port, out: &mut End)
     ensures { OfEnd port out.new }
@@ -292,7 +277,7 @@ fn end_of(port: Port, out: &mut End)
     };
 }
 
-/// Closes a port as `scq_close` does, and tells whether the queue closed with it.
+/// Closes a port: what it holds is given back, as `Port::close` says, and the last port of a queue frees it, which is told.
 #[unsafe(no_mangle)]
 pub extern "C" fn scq_end(alloc: Global, handle: &mut Handle, out: &mut End) -> u32
     ensures closed { handle.new.port ≡ None }

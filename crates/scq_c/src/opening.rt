@@ -3,12 +3,13 @@ ghost use Rattle.std.specs.Prelude.{◌≡◌, ℕ, ◌+◌, ◌*◌, ◌^◌, �
 ghost use Rattle.scq_word.specs.Ranges.{IsOutside};
 ghost use Rattle.scq_word.specs.Sizes.{n_of};
 ghost use Rattle.scq_port.specs.Calls.{AreOpened};
-ghost use Rattle.scq_c.specs.Answers.{OfOpen, ports_of};
+ghost use Rattle.scq_c.specs.Answers.{OfOpen, IsClosed, ports_of, memories_of};
 
 use crate::answers::{
     BAD_HOLD, BAD_LIMIT, BAD_ORDER, BAD_PORTS, BAD_SIZE, BAD_TOPICS, IS_OPEN, NO_MEMORY, OK,
 };
-use crate::handle::{Handle, is_open, put};
+use crate::c_port::{CPort, Memory};
+use crate::handle::{is_open, put};
 use scq_port::{Port, open as open_ports};
 use scq_word::{Setup, SetupFault};
 use std::alloc::Global;
@@ -16,15 +17,16 @@ use std::alloc::Global;
 /// The most topics that a queue may have.
 const MOST_TOPICS: u32 = 17;
 
-/// Whether one of these handles has a port.
-fn any_open(handles: &mut [Handle], alloc: Global) -> bool
-    ensures same { ports_of handles.new ≡ ports_of handles.old }
-    ensures open { (result ≡ true) → All (λ h. h.port ≡ None) handles.old → ⊥ }
-    ensures closed { (result ≡ false) → All (λ h. h.port ≡ None) handles.old }
+/// Whether one of these ports is open.
+fn any_open(ports: &mut [CPort], alloc: Global) -> bool
+    ensures same { ports_of ports.new ≡ ports_of ports.old }
+    ensures memories { memories_of ports.new ≡ memories_of ports.old }
+    ensures open { (result ≡ true) → All IsClosed ports.old → ⊥ }
+    ensures closed { (result ≡ false) → All IsClosed ports.old }
 {
     let mut k = 0;
-    while k < handles.len() {
-        if is_open(&mut handles[k], alloc) {
+    while k < ports.len() {
+        if is_open(&mut ports[k].handle, alloc) {
             return true;
         }
         k += 1;
@@ -51,11 +53,11 @@ fn setup_of(order: u32, topics: u32, ports: usize, limit: u64) -> Result<Setup, 
 }
 
 /// The ports of a new queue in their order, each in a box.
-fn boxed(alloc: Global, setup: Setup, size: u32, hold: u32) -> Option<Vec<Box<Port>>>
+fn boxed(alloc: Global, setup: Setup, hold: u32) -> Option<Vec<Box<Port>>>
     requires { 2 ≤ setup.rings }
-    ensures { IfSome result (λ boxes. AreOpened setup size hold (map (λ b. b.value) boxes.items)) }
+    ensures { IfSome result (λ boxes. AreOpened setup hold (map (λ b. b.value) boxes.items)) }
 {
-    let Ok(mut ports) = open_ports(alloc, setup, size, hold) else {
+    let Ok(mut ports) = open_ports(alloc, setup, hold) else {
         return None;
     };
     let Ok(mut boxes) = Vec::with_capacity(alloc, ports.len()) else {
@@ -71,48 +73,70 @@ fn boxed(alloc: Global, setup: Setup, size: u32, hold: u32) -> Option<Vec<Box<Po
     Some(boxes)
 }
 
-/// Puts each of these ports into the handle of its number.
-fn fill(handles: &mut [Handle], mut boxes: Vec<Box<Port>>)
-    requires closed { All (λ h. h.port ≡ None) handles.old }
-    requires count { vec_len boxes ≡ length handles.old }
-    ensures { ports_of handles.new ≡ map (λ b. Some b.value) boxes.items }
+/// Tells a port where the buffers' bytes are.
+fn tell_one(port: &mut CPort, memory: &Memory)
+    ensures same { port.new.handle ≡ port.old.handle }
+    ensures told { port.new.memory ≡ memory.now }
 {
-    while let Some(port) = boxes.pop() {
-        put(&mut handles[boxes.len()], port);
+    port.memory = *memory;
+}
+
+/// Tells each of these ports where the buffers' bytes are.
+fn tell(ports: &mut [CPort], memory: &Memory)
+    ensures same { ports_of ports.new ≡ ports_of ports.old }
+    ensures told { All (λ p. p.memory ≡ memory.now) ports.new }
+{
+    let mut k = 0;
+    while k < ports.len() {
+        tell_one(&mut ports[k], memory);
+        k += 1;
     }
 }
 
-/// Opens a queue: the ports of a new one, in closed handles.
+/// Puts each of these ports into the handle of its number.
+fn fill(ports: &mut [CPort], mut boxes: Vec<Box<Port>>)
+    requires closed { All IsClosed ports.old }
+    requires count { vec_len boxes ≡ length ports.old }
+    ensures ports { ports_of ports.new ≡ map (λ b. Some b.value) boxes.items }
+    ensures memories { memories_of ports.new ≡ memories_of ports.old }
+{
+    while let Some(port) = boxes.pop() {
+        put(&mut ports[boxes.len()].handle, port);
+    }
+}
+
+/// Opens a queue: the ports of a new one, each of which is told where C has the buffers' bytes.
 pub(crate) fn open(
     alloc: Global,
     order: u32,
     topics: u32,
-    size: u32,
     hold: u32,
     limit: u64,
-    handles: &mut [Handle],
+    memory: &Memory,
+    ports: &mut [CPort],
 ) -> u32
-    ensures { OfOpen order topics size hold limit result handles.old handles.new }
+    ensures { OfOpen order topics hold limit memory.now result ports.old ports.new }
 {
-    if any_open(handles, alloc) {
-        return IS_OPEN;
-    }
-    let setup = match setup_of(order, topics, handles.len(), limit) {
+    let setup = match setup_of(order, topics, ports.len(), limit) {
         Ok(setup) => setup,
         Err(SetupFault::BadOrder) => return BAD_ORDER,
         Err(SetupFault::BadRings) => return BAD_TOPICS,
         Err(SetupFault::BadSeats) => return BAD_PORTS,
         Err(SetupFault::BadLimit) => return BAD_LIMIT,
     };
-    if size < 1 {
+    if memory.len < 1 || memory.stride < memory.len {
         return BAD_SIZE;
     }
     if hold < 1 || hold > setup.shape().n() {
         return BAD_HOLD;
     }
-    let Some(boxes) = boxed(alloc, setup, size, hold) else {
+    if any_open(ports, alloc) {
+        return IS_OPEN;
+    }
+    let Some(boxes) = boxed(alloc, setup, hold) else {
         return NO_MEMORY;
     };
-    fill(handles, boxes);
+    fill(ports, boxes);
+    tell(ports, memory);
     OK
 }

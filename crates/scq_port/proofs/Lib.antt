@@ -5,3 +5,4 @@ pub mod Going
 pub mod Opened
 pub mod Sent
 pub mod EndSteps
+mod CellsMemory

@@ -4,11 +4,10 @@ use Rattle.std.specs.Prelude.{Option, Some, None, Result, Err, slice_get, slice_
 use Rattle.scq_word.specs.Sizes.{n_of}
 use Rattle.scq_band.specs.Buffers.{opening_of}
 use Rattle.scq_band.specs.RunSeen.{IsCallInRun, WasEmptyInRun}
-use Rattle.scq_band.specs.Standing.{IsAsGiven}
 use Rattle.scq_queue.specs.Passes.{PassStanding, lists_of, having_seen, caller_of}
 use Rattle.scq_port.specs.declared.port_buffer.PortBuffer.{PortBuffer}
-use Rattle.scq_port.specs.Ports.{PortStanding, PortQueue, Value, bytes_of, place_of}
-use Rattle.scq_port.specs.Calls.{Came, IsSpent}
+use Rattle.scq_port.specs.Ports.{PortStanding, PortQueue, Value, bytes_of}
+use Rattle.scq_port.specs.Calls.{Came, IsSpent, IsInRun}
 use Rattle.scq_band.specs.declared.calls.Spent.{Spent}
 use Rattle.scq_port.specs.Kept.{Keeps}
 use Rattle.scq_port.proofs.Lists.{set_back}
@@ -41,19 +40,15 @@ pub empty_in_run : (queue : PortQueue) (ring head : ℕ) (old new : PassStanding
 empty_in_run queue ring head old new own is =
     subst (λ (q : PortQueue). WasEmptyInRun q.setup (opening_of bytes_of q.given) ring head (caller_of old) (caller_of new)) (sym own) is
 
-abbrev Same : PortBuffer → PortBuffer → Type 0
-Same a b = (place_of a ≡ place_of b) × (length (bytes_of a) ≡ length (bytes_of b))
-
 pub came_of : (queue : PortQueue) (old new : PortStanding) (h : Value) (used : ℕ) → old.pass.queue ≡ queue → used ≡ length old.pass.held → used < old.hold
     → new.slots ≡ slice_set old.slots h.index (Some h)
-    → new.hold ≡ old.hold → h.index < n_of queue.setup.order → IsAsGiven Same queue.given h.index h.buffer → Came old new h
-came_of queue old new h used own count room slots hold low given =
+    → new.hold ≡ old.hold → h.index < n_of queue.setup.order → Came old new h
+came_of queue old new h used own count room slots hold low =
     record {
       room = subst (λ (n : ℕ). n < old.hold) count room;
       slots = slots;
       hold = hold;
       index = subst (λ (q : PortQueue). h.index < n_of q.setup.order) (sym own) low;
-      given = subst (λ (q : PortQueue). IsAsGiven Same q.given h.index h.buffer) (sym own) given;
     }
 
 pub low_of : (queue : PortQueue) (old : PassStanding PortBuffer) (place : ℕ) → old.queue ≡ queue → place < queue.setup.limit → place < old.queue.setup.limit

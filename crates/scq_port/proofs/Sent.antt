@@ -48,10 +48,10 @@ usize_sent : IsSend usize
 usize_sent = search sendable
 
 pub buffer_sent : IsSend buffer.the_row
-buffer_sent = declared_send buffer.the_type (crossing.Box-send _ (vec_sent u8 (search sendable)), tt)
+buffer_sent = search (sendable, crossing.crosses) depth 20
 
 pub buffer_sync : IsSync buffer.the_row
-buffer_sync = declared_sync buffer.the_type (crossing.Box-sync _ (vec_sync u8 (search sendable)), tt)
+buffer_sync = search (sendable, crossing.crosses) depth 20
 
 slot_sent : IsSend (slot.the_row buffer.the_row)
 slot_sent = declared_send (slot.the_type buffer.the_row) (option_sent buffer.the_row buffer_sent, tt)

@@ -1,30 +1,27 @@
 -- What each call makes of a port. What it makes of the port's pass is said in the words of the queue, for topic t and index i.
-use Rattle.std.specs.Prelude.{◌≡◌, ℕ, suc, ◌+◌, ◌<◌, ◌≤◌, List, [], ◌∷◌, ◌++◌, length, reverse, filter_map, Option, Some, None, slice_set, replicate, map}
+use Rattle.std.specs.Prelude.{◌≡◌, ℕ, suc, ◌+◌, ◌<◌, ◌≤◌, List, [], ◌∷◌, ◌++◌, length, reverse, filter_map, Option, Some, None, slice_get, slice_set, replicate, map}
 use Rattle.std.specs.List.{Contains}
 use Rattle.scq_word.specs.declared.setup.Setup.{Setup}
 use Rattle.scq_word.specs.Sizes.{n_of}
 use Rattle.scq_band.specs.Buffers.{opening_of}
 use Rattle.scq_band.specs.RunSeen.{IsCallInRun, WasEmptyInRun}
-use Rattle.scq_band.specs.Standing.{IsAsGiven}
-use Rattle.scq_queue.specs.Lists.{with_send, with_take, with_full}
-use Rattle.scq_queue.specs.Passes.{PassStanding, lists_of, known_on, WasLent, HasGot, WasGivenBack, FoundNothing, FoundFull, having_seen, caller_of, after_put, after_spent_put, after_spent_get, first_passes}
+use Rattle.scq_queue.specs.Lists.{Lists, with_send, with_take, with_full}
+use Rattle.scq_queue.specs.Passes.{PassStanding, lists_of, known_on, WasLent, HasGot, WasGivenBack, FoundNothing, FoundFull, having_seen, caller_of, after_put, after_spent_put, after_spent_get, first_pass, first_passes}
 use Rattle.scq_port.specs.declared.port_buffer.PortBuffer.{PortBuffer}
-use Rattle.scq_port.specs.declared.sight.Sight.{Sight}
-use Rattle.scq_port.specs.Ports.{PortStanding, PortQueue, Value, HasValue, Shows, bytes_of, place_of}
+use Rattle.scq_port.specs.Numbers.{numbers_below}
+use Rattle.scq_port.specs.Ports.{PortStanding, PortQueue, Value, HasValue, bytes_of}
 
 -- the port holds the values that it held
 pub record HoldsAsBefore (old new : PortStanding) : Type 0 where
   pub slots : new.slots ≡ old.slots
   pub hold : new.hold ≡ old.hold
 
--- a value came, for which there was room: it is the one that the port holds at its index from then on, in the buffer that the queue was
--- given for this index
+-- a value came, for which there was room: it is the one that the port holds at its index from then on
 pub record Came (old new : PortStanding) (h : Value) : Type 0 where
   pub room : length old.pass.held < old.hold
   pub slots : new.slots ≡ slice_set old.slots h.index (Some h)
   pub hold : new.hold ≡ old.hold
   pub index : h.index < n_of old.pass.queue.setup.order
-  pub given : IsAsGiven (λ a b. (place_of a ≡ place_of b) × (length (bytes_of a) ≡ length (bytes_of b))) old.pass.queue.given h.index h.buffer
 
 -- a value that the port held went
 pub record Went (old new : PortStanding) (h : Value) : Type 0 where
@@ -36,20 +33,20 @@ pub record Went (old new : PortStanding) (h : Value) : Type 0 where
 abbrev pub IsInRun : PortStanding → PortStanding → Type 0
 IsInRun old new = IsCallInRun old.pass.queue.setup (opening_of bytes_of old.pass.queue.given) (caller_of old.pass) (caller_of new.pass)
 
--- a value was lent, and is shown
-pub record IsLent (s : Sight) (old new : PortStanding) : Type 0 where
+-- the value of an index was lent
+pub record IsLent (index : ℕ) (old new : PortStanding) : Type 0 where
   pub value : Value
-  pub shown : Shows s value
+  pub is : value.index ≡ index
   pub lent : WasLent bytes_of old.pass new.pass value
   pub came : Came old new value
   pub lists : lists_of new.pass ≡ lists_of old.pass
   pub unspent : old.pass.spent ≡ None
   pub run : IsInRun old new
 
--- a value was taken from a topic, at a place, and is shown
-pub record IsTaken (topic place : ℕ) (s : Sight) (old new : PortStanding) : Type 0 where
+-- the value of an index was taken from a topic, at a place
+pub record IsTaken (topic place index : ℕ) (old new : PortStanding) : Type 0 where
   pub value : Value
-  pub shown : Shows s value
+  pub is : value.index ≡ index
   pub there : topic + 1 < old.pass.queue.setup.rings
   pub got : HasGot bytes_of (suc topic) place old.pass new.pass value
   pub low : place < old.pass.queue.setup.limit
@@ -156,9 +153,9 @@ pub record HasEnded (old : PortStanding) (new : PassStanding PortBuffer) : Type 
 abbrev pub new_port : ℕ → PassStanding PortBuffer → PortStanding
 new_port hold p = record { pass = p; slots = replicate (n_of p.queue.setup.order) None; hold = hold }
 
--- the ports of a new queue of this setup, in the order of their numbers, each of whose buffers has so many zero bytes
-pub record AreOpened (c : Setup) (size hold : ℕ) (opened : List PortStanding) : Type 0 where
+-- the ports of a new queue of this setup, in the order of their numbers, over buffers that contain their numbers
+pub record AreOpened (c : Setup) (hold : ℕ) (opened : List PortStanding) : Type 0 where
   pub queue : PortQueue
   pub setup : queue.setup ≡ c
-  pub buffers : map bytes_of queue.given ≡ replicate (n_of c.order) (replicate size 0)
+  pub buffers : map bytes_of queue.given ≡ numbers_below (n_of c.order)
   pub ports : opened ≡ map (new_port hold) (first_passes queue c.seats)

@@ -3,3 +3,5 @@ pub mod Calls
 pub mod Kept
 pub mod Ends
 pub mod Closed
+pub mod Numbers
+pub mod Cells

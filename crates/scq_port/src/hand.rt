@@ -1,9 +1,8 @@
 //! The values that a port holds, each at its index.
 ghost use Rattle.std.specs.Prelude.{◌≡◌, ℕ, ◌<◌, length, Some, None, MatchOption, slice_get, slice_set};
-ghost use Rattle.scq_port.specs.Ports.{Value, Shows};
+ghost use Rattle.scq_port.specs.Ports.{Value};
 
 use crate::port_buffer::PortBuffer;
-use crate::sight::Sight;
 use scq_band::Lifted;
 use scq_queue::Held;
 use std::mem;
@@ -15,30 +14,18 @@ pub struct Hand {
     pub(crate) hold: u32,
 }
 
-/// Shows a value.
-#[inline(always)]
-fn sight_of(held: &Held<PortBuffer>) -> Sight
-    ensures { Shows result held.now }
-{
-    Sight {
-        index: held.index(),
-        at: held.buffer().as_ptr(),
-        len: held.bytes().len(),
-    }
-}
-
 impl Hand {
-    /// Puts a value at its index, where there is none, and shows it.
+    /// Puts a value at its index, where there is none: answers the index.
     #[inline(always)]
-    pub(crate) fn put_in(&mut self, held: Held<PortBuffer>) -> Sight
+    pub(crate) fn put_in(&mut self, held: Held<PortBuffer>) -> u32
         requires free { slice_get self.old.slots.items held.index ≡ Some None }
         ensures put { self.new.slots.items ≡ slice_set self.old.slots.items held.index (Some held) }
         ensures rest { (self.new.used ≡ self.old.used) × (self.new.hold ≡ self.old.hold) }
-        ensures shown { Shows result held }
+        ensures index { result ≡ held.index }
     {
-        let sight = sight_of(&held);
-        match mem::replace(&mut self.slots[sight.index as usize], Some(held)) {
-            None => sight,
+        let index = held.index();
+        match mem::replace(&mut self.slots[index as usize], Some(held)) {
+            None => index,
             Some(_) => unreachable!(),
         }
     }

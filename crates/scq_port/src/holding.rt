@@ -6,20 +6,19 @@ ghost use Rattle.scq_port.specs.Kept.{KeepsHand, seen_as};
 use crate::hand::Hand;
 use crate::port_buffer::PortBuffer;
 use crate::refusals::{GiveBackRefusal, LendRefusal, SendRefusal, TakeRefusal};
-use crate::sight::Sight;
 use scq_queue::{Pass, Queue};
 
-/// Is lent a value.
+/// Is lent a value: answers its index.
 #[inline(always)]
 pub(crate) fn lend(
     queue: &Queue<PortBuffer>,
     pass: &mut Pass<PortBuffer>,
     hand: &mut Hand,
-) -> Result<Sight, LendRefusal>
+) -> Result<u32, LendRefusal>
     requires kept { KeepsHand queue.now pass.old hand.old }
     requires room { hand.old.used < hand.old.hold }
     ensures kept { KeepsHand queue.now pass.new hand.new }
-    ensures lent { IfOk result (λ sight. IsLent sight (seen_as pass.old hand.old) (seen_as pass.new hand.new)) }
+    ensures lent { IfOk result (λ index. IsLent index (seen_as pass.old hand.old) (seen_as pass.new hand.new)) }
     ensures no_room { result ≢ Err LendRefusal.NoRoom }
     ensures full { (head : ℕ) → result ≡ Err (LendRefusal.Full head) → WasFull head (seen_as pass.old hand.old) (seen_as pass.new hand.new) }
     ensures spent { (ticket : ℕ) → result ≡ Err (LendRefusal.Spent ticket)
@@ -35,14 +34,14 @@ pub(crate) fn lend(
     }
 }
 
-/// Takes a value from a topic: answers its place too.
+/// Takes a value from a topic: answers its place and its index.
 #[inline(always)]
 pub(crate) fn take(
     queue: &Queue<PortBuffer>,
     pass: &mut Pass<PortBuffer>,
     topic: u32,
     hand: &mut Hand,
-) -> Result<(u64, Sight), TakeRefusal>
+) -> Result<(u64, u32), TakeRefusal>
     requires kept { KeepsHand queue.now pass.old hand.old }
     requires topic { topic + 1 < queue.now.setup.rings }
     requires room { hand.old.used < hand.old.hold }

@@ -6,6 +6,7 @@
 //! told what `Queue::close` says of them (`specs/Closed`). The layer above is `scq_c`, which gives ports to C.
 #![tactic(auto)]
 
+mod cells;
 mod crossing;
 mod ends;
 mod hand;
@@ -16,7 +17,6 @@ mod owner;
 mod port;
 mod port_buffer;
 mod refusals;
-mod sight;
 
 pub use crossing::port_crosses;
 pub use opening::open;
@@ -24,4 +24,3 @@ pub use owner::Owner;
 pub use port::Port;
 pub use port_buffer::PortBuffer;
 pub use refusals::{GiveBackRefusal, LendRefusal, SendRefusal, TakeRefusal};
-pub use sight::Sight;

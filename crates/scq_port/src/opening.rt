@@ -3,6 +3,7 @@ ghost use Rattle.std.specs.Prelude.{◌≡◌, ℕ, ◌<◌, ◌≤◌, ◌+◌,
 ghost use Rattle.std.specs.Arc.{arc_value};
 ghost use Rattle.scq_word.specs.Sizes.{n_of};
 ghost use Rattle.scq_queue.specs.Passes.{first_passes};
+ghost use Rattle.scq_port.specs.Numbers.{numbers_below};
 ghost use Rattle.scq_port.specs.Ports.{bytes_of};
 ghost use Rattle.scq_port.specs.Calls.{AreOpened, new_port};
 ghost use Rattle.scq_port.specs.Kept.{IsFresh};
@@ -16,13 +17,15 @@ use scq_word::{NoMemory, Setup};
 use std::alloc::Global;
 use std::sync::Arc;
 
-/// So many buffers of so many zero bytes.
-fn buffers(alloc: Global, count: u32, size: u32) -> Result<Vec<PortBuffer>, NoMemory>
-    ensures { IfOk result (λ made. map bytes_of made.items ≡ replicate count (replicate size 0)) }
+/// So many buffers, in the order of their numbers.
+fn buffers(alloc: Global, count: u32) -> Result<Vec<PortBuffer>, NoMemory>
+    ensures numbers { IfOk result (λ made. map bytes_of made.items ≡ numbers_below count) }
+    ensures count { IfOk result (λ made. vec_len made ≡ count) }
 {
     let mut made = Vec::with_capacity(alloc, count as usize)?;
     while made.len() < count as usize {
-        made.push(PortBuffer::new(alloc, size)?)?;
+        let number = made.len() as u32;
+        made.push_reserved(PortBuffer::new(number));
     }
     Ok(made)
 }
@@ -90,13 +93,13 @@ fn ports_of(
     Ok(ports)
 }
 
-/// A queue over 2^order buffers of `size` zero bytes, by its ports, as many as the setup has seats and in the order of their numbers, each
-/// of which may hold `hold` values. Topic t is ring t + 1, so there is one topic less than rings. Where memory is refused nothing is left.
-pub fn open(alloc: Global, setup: Setup, size: u32, hold: u32) -> Result<Vec<Port>, NoMemory>
+/// A queue over 2^order buffers, by its ports, as many as the setup has seats and in the order of their numbers, each of which may hold
+/// `hold` values. Topic t is ring t + 1, so there is one topic less than rings. Where memory is refused nothing is left.
+pub fn open(alloc: Global, setup: Setup, hold: u32) -> Result<Vec<Port>, NoMemory>
     requires rings { 2 ≤ setup.rings }
-    ensures { IfOk result (λ ports. AreOpened setup size hold ports.items) }
+    ensures { IfOk result (λ ports. AreOpened setup hold ports.items) }
 {
-    let buffers = buffers(alloc, setup.shape().n(), size)?;
+    let buffers = buffers(alloc, setup.shape().n())?;
     let Ok((queue, passes)) = Queue::make(alloc, setup, buffers) else {
         return Err(NoMemory);
     };

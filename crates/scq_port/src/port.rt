@@ -14,7 +14,6 @@ use crate::letting_go::let_go;
 use crate::owner::Owner;
 use crate::port_buffer::PortBuffer;
 use crate::refusals::{GiveBackRefusal, LendRefusal, SendRefusal, TakeRefusal};
-use crate::sight::Sight;
 use scq_queue::{Closed, Counts, Pass};
 use std::alloc::Global;
 use std::marker::Model;
@@ -45,12 +44,12 @@ impl Model for Port {
 }
 
 impl Port {
-    /// Lends a buffer that nobody holds, with whatever bytes stand in it, and shows it.
+    /// Lends a buffer that nobody holds: answers its index.
     ///
     /// NoRoom where the port holds as many values as it may. Full and Spent as with `scq_queue`.
     #[inline(always)]
-    pub fn lend(&mut self) -> Result<Sight, LendRefusal>
-        ensures lent { IfOk result (λ sight. IsLent sight self.old self.new) }
+    pub fn lend(&mut self) -> Result<u32, LendRefusal>
+        ensures lent { IfOk result (λ index. IsLent index self.old self.new) }
         ensures no_room { result ≡ Err LendRefusal.NoRoom → HasNoRoom self.old self.new }
         ensures full { (head : ℕ) → result ≡ Err (LendRefusal.Full head) → WasFull head self.old self.new }
         ensures spent { (ticket : ℕ) → result ≡ Err (LendRefusal.Spent ticket) → IsSpentGet 0 ticket self.old self.new }
@@ -61,11 +60,11 @@ impl Port {
         holding::lend(&self.owner.queue, &mut self.pass, &mut self.hand)
     }
 
-    /// Takes a value from a topic: answers its place, and shows it.
+    /// Takes a value from a topic: answers its place and its index.
     ///
     /// NoTopic where there are not so many topics, NoRoom as with `lend`. Empty and Spent as with `scq_queue`.
     #[inline(always)]
-    pub fn take(&mut self, topic: u32) -> Result<(u64, Sight), TakeRefusal>
+    pub fn take(&mut self, topic: u32) -> Result<(u64, u32), TakeRefusal>
         ensures taken { IfOk result (λ r. IsTaken topic r.0 r.1 self.old self.new) }
         ensures no_topic { result ≡ Err TakeRefusal.NoTopic → HasNoTopic topic self.old self.new }
         ensures no_room { result ≡ Err TakeRefusal.NoRoom → HasNoRoom self.old self.new }
@@ -81,7 +80,7 @@ impl Port {
         holding::take(&self.owner.queue, &mut self.pass, topic, &mut self.hand)
     }
 
-    /// Sends the value of an index on a topic, with the bytes that stand in it: answers its place.
+    /// Sends the value of an index on a topic: answers its place.
     ///
     /// NoTopic where there are not so many topics, NotHeld where the port holds no value of this index. Spent as with `scq_queue`; then
     /// the port still holds the value.

@@ -1,71 +1,58 @@
-//! The buffers of ports: bytes on the heap that stay at one address, no two of which share a line of the processor's cache.
-ghost use Rattle.std.specs.Prelude.{◌≡◌, length, replicate, IfOk};
+//! The buffers of ports: numbers. The bytes that are sent lie with the caller, who finds those of a number; nothing here knows where.
+ghost use Rattle.std.specs.Prelude.{◌≡◌, length};
+ghost use Rattle.std.specs.List.{refill, length_refill};
 ghost use Rattle.std.proofs.Common.{sym, refl, ◌∙◌};
-ghost use Rattle.std.specs.Box.{with_value};
-ghost use Rattle.std.specs.Vec.{vec_ptr, with_items};
 ghost use Rattle.scq_word.specs.Written.{rewritten};
+ghost use Rattle.scq_port.specs.Numbers.{number_bytes};
 
-use scq_word::{Buffer, NoMemory};
-use std::alloc::Global;
+use crate::cells::Cells;
+use scq_word::Buffer;
 
-/// How many bytes are left free behind each buffer: a line of the cache, so that threads that write neighbouring buffers don't write in
-/// one line.
-const LINE: usize = 64;
-
-/// Bytes on the heap. Two of them are the same buffer where they lie at one address and are equally many.
-///
-/// It is one pointer, so that a value is moved by words: where it were the three words of a vector, a send would read what a lend wrote
-/// just before in other pieces, and a processor waits for that.
+/// The number of a buffer, from 0, as four bytes, the lowest first. They are what the buffer contains, so that what the queue promises of
+/// bytes it promises of numbers: a take is a send of the same one. No call of a port writes them.
 #[derive(Drop)]
 pub struct PortBuffer {
-    bytes: Box<Vec<u8>>,
+    number: Cells<u8, 4>,
 }
 
 impl PortBuffer {
-    /// A buffer of `size` zero bytes.
-    pub fn new(alloc: Global, size: u32) -> Result<PortBuffer, NoMemory>
-        ensures { IfOk result (λ buffer. buffer.bytes.value.items ≡ replicate size 0) }
+    /// The buffer of a number.
+    pub(crate) fn new(number: u32) -> PortBuffer
+        ensures { result.number.xs ≡ number_bytes number }
     {
-        let mut bytes = Vec::with_capacity(alloc, size as usize + LINE)?;
-        bytes.resize(size as usize, 0)?;
-        let Ok(bytes) = Box::new(alloc, bytes) else {
-            return Err(NoMemory);
-        };
-        Ok(PortBuffer { bytes })
-    }
-
-    /// Where its bytes lie.
-    pub fn as_ptr(&self) -> *const u8
-        ensures { result ≡ vec_ptr self.now.bytes.value }
-    {
-        self.bytes.as_ptr()
+        PortBuffer {
+            number: Cells {
+                xs: number.to_le_bytes(),
+            },
+        }
     }
 }
 
 impl Buffer for PortBuffer {
-    ghost contents = { λ buffer. buffer.bytes.value.items };
+    ghost contents = { λ buffer. buffer.number.xs };
 
-    ghost IsSameBuffer = { λ a b. (vec_ptr a.bytes.value ≡ vec_ptr b.bytes.value) × (length a.bytes.value.items ≡ length b.bytes.value.items) };
+    // Bytes of a `Buffer` may be written, and it stays the same buffer: so these four bytes can't tell which it is.
+    ghost IsSameBuffer = { λ a b. length a.number.xs ≡ length b.number.xs };
 
-    ghost written = { λ buffer bytes. record { bytes = with_value buffer.bytes (with_items buffer.bytes.value bytes) } };
+    ghost written = { λ buffer bytes. record { number = record { xs = refill (length buffer.number.xs) buffer.number.xs bytes } } };
 
-    ghost same_as_itself = { λ a. (refl, refl) };
+    ghost same_as_itself = { λ a. refl };
 
-    ghost same_back = { λ a b same. (sym same.0, sym same.1) };
+    ghost same_back = { λ a b same. sym same };
 
-    ghost same_along = { λ a b c first second. (first.0 ∙ second.0, first.1 ∙ second.1) };
+    ghost same_along = { λ a b c first second. first ∙ second };
 
-    ghost same_length = { λ a b same. same.1 };
+    ghost same_length = { λ a b same. same };
 
-    ghost written_bytes = { λ a bytes same. rewritten a.bytes.value.items bytes a.bytes.value.len a.bytes.value.ok.0 same };
+    ghost written_bytes = { λ a bytes same. rewritten a.number.xs bytes (length a.number.xs) refl same };
 
-    ghost written_same = { λ a bytes. (refl, sym a.bytes.value.ok.0 ∙ (with_items a.bytes.value bytes).ok.0) };
+    ghost written_same = { λ a bytes. length_refill (length a.number.xs) a.number.xs bytes refl };
 
     fn bytes(&self) -> &[u8] {
-        self.bytes.as_slice()
+        self.number.xs.as_slice()
     }
 
     fn bytes_mut(&mut self) -> &mut [u8] {
-        self.bytes.as_mut_slice()
+        self.number.front_mut(4)
     }
 }

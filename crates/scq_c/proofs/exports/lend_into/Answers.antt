@@ -10,7 +10,7 @@ use Rattle.scq_c.proofs.exports.lend_into.Goals as goal
 pub returns-in-Ok : goal.returns-in-Ok
 returns-in-Ok c =
     subst (λ (o : Held). OfLend 0 c.args.out.now o c.args.port.now c.lend.new.self) (sym c.show.ensures)
-    (lend_lent c.in-Ok.sight c.args.out.now c.args.port.now c.lend.new.self c.in-Ok.ensures.lent)
+    (lend_lent c.in-Ok.index c.args.out.now c.args.port.now c.lend.new.self c.in-Ok.ensures.lent)
 
 pub returns-in-Err-NoRoom : goal.returns-in-Err-NoRoom
 returns-in-Err-NoRoom c =

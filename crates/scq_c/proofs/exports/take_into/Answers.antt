@@ -10,7 +10,7 @@ use Rattle.scq_c.proofs.exports.take_into.Goals as goal
 pub returns-in-Ok : goal.returns-in-Ok
 returns-in-Ok c =
     subst (λ (o : Held). OfTake c.args.topic 0 c.args.out.now o c.args.port.now c.take.new.self) (sym c.show.ensures)
-    (take_taken c.args.topic c.in-Ok.place c.in-Ok.sight c.args.out.now c.args.port.now c.take.new.self c.in-Ok.ensures.taken)
+    (take_taken c.args.topic c.in-Ok.place c.in-Ok.index c.args.out.now c.args.port.now c.take.new.self c.in-Ok.ensures.taken)
 
 pub returns-in-Err-NoTopic : goal.returns-in-Err-NoTopic
 returns-in-Err-NoTopic c =

@@ -7,7 +7,7 @@ use Rattle.scq_c.proofs.opening.boxed.Goals as goal
 pub loop-port-init : goal.loop-port-init
 loop-port-init c =
     let boxes = c.in-Ok-with_capacity.ensures in (
-      subst (λ (l : List PortStanding). AreOpened c.args.setup c.args.size c.args.hold l)
+      subst (λ (l : List PortStanding). AreOpened c.args.setup c.args.hold l)
           (begin_boxed inside c.in-Ok-with_capacity.boxes.items c.in-Ok.ports.items c.reverse.new.self.items boxes.items c.reverse.ensures.items)
           c.in-Ok.ensures,
       let none = boxes.len in let room = boxes.capacity in let turned = c.reverse.ensures.len in let many = c.len.ensures in
@@ -16,7 +16,7 @@ loop-port-init c =
 
 pub loop-port-preserved : goal.loop-port-preserved
 loop-port-preserved c = (
-  subst (λ (l : List PortStanding). AreOpened c.args.setup c.args.size c.args.hold l)
+  subst (λ (l : List PortStanding). AreOpened c.args.setup c.args.hold l)
       (one_boxed inside c.loop-port.boxes.items c.push_reserved.new.self.items c.loop-port.ports.items c.pop.new.self.items c.in-Some.port
       c.in-Ok-new.boxed c.in-Some.ensures.items c.push_reserved.ensures.items c.in-Ok-new.ensures.ok)
       c.loop-port.invariant.0,
@@ -26,6 +26,6 @@ loop-port-preserved c = (
 
 pub returns : goal.returns
 returns c =
-    subst (λ (l : List PortStanding). AreOpened c.args.setup c.args.size c.args.hold l)
+    subst (λ (l : List PortStanding). AreOpened c.args.setup c.args.hold l)
     (end_boxed inside c.loop-port.boxes.items c.loop-port.ports.items (sym c.loop-port.ports.ok.0 ∙ c.in_default-pop.ensures.cases.0))
     c.loop-port.invariant.0

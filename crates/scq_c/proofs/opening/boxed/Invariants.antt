@@ -5,7 +5,7 @@ use Rattle.scq_c.proofs.opening.boxed.Given as goal
 
 abbrev pub invariant-loop-port : goal.invariant-loop-port
 invariant-loop-port l =
-    AreOpened l.fn.setup l.size l.hold (map (λ b. b.value) l.boxes.items ++ reverse l.ports.items)
+    AreOpened l.fn.setup l.hold (map (λ b. b.value) l.boxes.items ++ reverse l.ports.items)
     × (vec_len l.boxes + vec_len l.ports ≤ vec_capacity l.boxes)
 
 abbrev pub decreases-loop-port : goal.decreases-loop-port

@@ -1,14 +1,14 @@
-use Rattle.std.proofs.Common.{◌≡◌, List, ◌++◌, length, map, replicate}
+use Rattle.std.proofs.Common.{◌≡◌, List, ◌++◌, map, replicate}
 use Rattle.std.specs.Prelude.{Option, Some, None, vec_len}
 use Rattle.scq_port.specs.Ports.{PortStanding}
-use Rattle.scq_c.specs.Answers.{ports_of}
+use Rattle.scq_c.specs.Answers.{ports_of, memories_of}
 use Rattle.scq_c.proofs.opening.fill.Given as goal
 
 abbrev pub invariant-loop-port : goal.invariant-loop-port
 invariant-loop-port l =
-    (length l.handles ≡ length l.fn.handles) × ((rest : List (Option PortStanding))
+    (memories_of l.ports ≡ memories_of l.fn.ports) × ((rest : List (Option PortStanding))
     × (map (λ b. Some b.value) l.boxes.items ++ rest ≡ map (λ b. Some b.value) l.fn.boxes.items)
-    × (ports_of l.handles ≡ replicate (vec_len l.boxes) None ++ rest))
+    × (ports_of l.ports ≡ replicate (vec_len l.boxes) None ++ rest))
 
 abbrev pub decreases-loop-port : goal.decreases-loop-port
 decreases-loop-port l = vec_len l.boxes

@@ -36,11 +36,11 @@ returns-in-Ok-clause-lent c =
     let none = unspent c.args.pass.now.spent (λ t some. let no = (c.in-Ok.ensures.kept t some).0 in cc) in
     record {
       value = c.in-Ok.held;
-      shown = c.put_in.ensures.shown;
+      is = sym c.put_in.ensures.index;
       lent = c.in-Ok.ensures.lent;
       came =
           came_of c.args.queue.now (seen_as c.args.pass.now c.args.hand.now) (seen_as c.lend.new.pass c.put_in.new.self) c.in-Ok.held
-          c.args.hand.now.used own c.requires.kept.used c.requires.room c.put_in.ensures.put c.put_in.ensures.rest.1 c.in-Ok.ensures.index c.in-Ok.ensures.given;
+          c.args.hand.now.used own c.requires.kept.used c.requires.room c.put_in.ensures.put c.put_in.ensures.rest.1 c.in-Ok.ensures.index;
       lists = c.in-Ok.ensures.lists;
       unspent = none;
       run = in_run c.args.queue.now c.args.pass.now c.lend.new.pass own (c.in-Ok.ensures.run none);

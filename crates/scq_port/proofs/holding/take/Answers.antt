@@ -36,14 +36,14 @@ returns-in-Ok-clause-taken c =
     let none = unspent c.args.pass.now.spent (λ t some. let no = (c.in-Ok.ensures.kept t some).0 in cc) in
     record {
       value = c.in-Ok.held;
-      shown = c.put_in.ensures.shown;
+      is = sym c.put_in.ensures.index;
       there = there_of c.args.queue.now c.args.pass.now c.args.topic own c.requires.topic;
       got = c.in-Ok.ensures.took;
       low = low_of c.args.queue.now c.args.pass.now c.in-Ok.place own c.in-Ok.ensures.place.0;
       known = c.in-Ok.ensures.place.1;
       came =
           came_of c.args.queue.now (seen_as c.args.pass.now c.args.hand.now) (seen_as c.take.new.pass c.put_in.new.self) c.in-Ok.held
-          c.args.hand.now.used own c.requires.kept.used c.requires.room c.put_in.ensures.put c.put_in.ensures.rest.1 c.in-Ok.ensures.index c.in-Ok.ensures.given;
+          c.args.hand.now.used own c.requires.kept.used c.requires.room c.put_in.ensures.put c.put_in.ensures.rest.1 c.in-Ok.ensures.index;
       lists = c.in-Ok.ensures.lists;
       unspent = none;
       run = in_run c.args.queue.now c.args.pass.now c.take.new.pass own (c.in-Ok.ensures.run none);

@@ -1,7 +1,8 @@
-use Rattle.std.proofs.Common.{ℕ, List, map, replicate, ◌∙◌, ap}
+use Rattle.std.proofs.Common.{◌≡◌, List, map, ◌∙◌, ap}
 use Rattle.scq_word.specs.Sizes.{n_of}
 use Rattle.scq_queue.specs.Passes.{PassStanding}
 use Rattle.scq_port.specs.declared.port_buffer.PortBuffer.{PortBuffer}
+use Rattle.scq_port.specs.Numbers.{numbers_below}
 use Rattle.scq_port.specs.Ports.{bytes_of}
 use Rattle.scq_port.specs.Calls.{AreOpened, new_port}
 use Rattle.scq_port.proofs.Opened.{if_ok}
@@ -10,12 +11,11 @@ use Rattle.scq_port.proofs.opening.open.Goals as goal
 pub returns : goal.returns
 returns c =
     let made = c.in-Ok.ensures in
-    let size = c.args.size in
-    if_ok c.ports_of.result _ (λ ports. AreOpened c.args.setup size c.args.hold ports.items) (λ ports is. record {
+    if_ok c.ports_of.result _ (λ ports. AreOpened c.args.setup c.args.hold ports.items) (λ ports is. record {
       queue = c.in-Ok.queue;
       setup = made.queue.0;
       buffers =
-          ap (λ (l : List PortBuffer). map bytes_of l) made.queue.1 ∙ c.in_ok-buffers.ensures
-          ∙ ap (λ (k : ℕ). replicate k (replicate size 0)) (c.n.ensures ∙ ap n_of c.shape.ensures);
+          ap (λ (l : List PortBuffer). map bytes_of l) made.queue.1 ∙ c.in_ok-buffers.ensures.numbers
+          ∙ ap numbers_below (c.n.ensures ∙ ap n_of c.shape.ensures);
       ports = is ∙ ap (λ (l : List (PassStanding PortBuffer)). map (new_port c.args.hold) l) made.passes;
     }) c.ports_of.ensures

@@ -1,13 +1,13 @@
 use Rattle.std.proofs.Common.{sym, ◌∙◌, subst}
 use Rattle.scq_port.specs.Ports.{PortStanding}
-use Rattle.scq_c.specs.Answers.{OfTake}
+use Rattle.scq_c.specs.Answers.{OfLend}
 use Rattle.scq_c.proofs.Somes.{same_value}
-use Rattle.scq_c.proofs.exports.scq_take.Goals as goal
+use Rattle.scq_c.proofs.exports.scq_lend_index.Goals as goal
 
 pub returns-clause-answered : goal.returns-clause-answered
 returns-clause-answered c x was =
     let from = c.deref_mut.ensures.value ∙ same_value c.in-Some.port.value x (sym c.in-Some.ensures.taken ∙ was) in (
-      c.take_into-answer.new.port,
+      c.lend_into-answer.new.port,
       c.put.ensures,
-      subst (λ (p : PortStanding). OfTake c.args.topic c.take_into-answer.result c.args.out.now c.take_into-answer.new.out p c.take_into-answer.new.port) from c.take_into-answer.ensures,
+      subst (λ (p : PortStanding). OfLend c.lend_into-answer.result c.args.out.now c.lend_into-answer.new.out p c.lend_into-answer.new.port) from c.lend_into-answer.ensures,
     )

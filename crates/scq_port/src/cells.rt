@@ -1,0 +1,23 @@
+//! An array that can be lent.
+ghost use Rattle.std.specs.Prelude.{◌≡◌, ◌≤◌, take};
+ghost use Rattle.std.specs.Borrow.{sem};
+
+/// An array in a struct of its own, so that a contract can say what a loan of its first elements leaves: the check finds no proof of that for
+/// an array among other fields.
+#[derive(Drop)]
+pub struct Cells<T, const N: usize> {
+    pub(crate) xs: [T; N],
+}
+
+impl<T, const N: usize> Cells<T, N> {
+    ghost use Rattle.scq_port.specs.Cells.{lends_front};
+
+    /// The first `len` elements, lent to be written.
+    pub(crate) fn front_mut(&mut self, len: usize) -> &mut [T]
+        requires { len ≤ N }
+        ensures* writes { sem 𝓛 (lends_front T.row N.row self.entry result) }
+        ensures value { result.now ≡ take len self.old.xs }
+    {
+        &mut self.xs[..len]
+    }
+}
