@@ -10,3 +10,5 @@ pub mod EndedTurns
 pub mod ProgressLaws
 pub mod CallsProgress
 pub mod WholeCalls
+pub mod AloneSteps
+pub mod AloneCalls

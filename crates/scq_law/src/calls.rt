@@ -8,7 +8,7 @@ ghost use Rattle.scq_core.specs.Reach.{IsReachable};
 ghost use Rattle.scq_law.specs.Run.{Recorded, IsRun};
 ghost use Rattle.scq_law.specs.Retries.{RetriesRise};
 ghost use Rattle.scq_law.specs.CallSteps.{CallsEnd, FewSteps};
-ghost use Rattle.scq_law.specs.Progress.{HasProgress, DelayedByEnds};
+ghost use Rattle.scq_law.specs.Progress.{HasProgress, DelayedByEnds, EndsAlone};
 
 /// Why each loop of a call ends, in its seat's steps. The exchanges with one ticket: a failed one found
 /// an entry of a higher rank, and is tried again only while that is below what the ticket's cycle has.
@@ -33,17 +33,28 @@ pub fn calls_take_few_steps()
         → IsRun c opening steps recorded → FewSteps c steps recorded.state }
 {}
 
-/// Lock-freedom, with a bound: some call ends soon, whatever the seats do. Let `b` be `6 * (R + n + k)`,
-/// for `n` indices, `k` seats and a Threshold that resets to `R`. Among any `k * b + 1` steps of a run
-/// that follow one another one ends a call. A call that ends with Spent counts as ended.
+/// Lock-freedom, with a bound: some call ends soon, whatever the seats do. Let `b` be
+/// `6 * (R + n + k)`, for `n` indices, `k` seats and a Threshold that resets to `R`. Among any
+/// `k * b + 1` steps of a run that follow one another one ends a call. A call that ends with Spent
+/// counts as ended.
 pub fn some_call_ends_soon()
-    ensures { (c : Setup) (opening : List (List ℕ)) (steps : List (ℕ × Step)) → HasProgress c opening steps }
+    ensures { (c : Setup) (opening : List (List ℕ)) (steps : List (ℕ × Step))
+        → HasProgress c opening steps }
 {}
 
-/// What delays a call: its seat makes at most `b` steps for it, `b` more for each put of another seat
-/// that ends with Done on its ring meanwhile, and 6 more for each get of another that ends there, got
-/// or nothing. An end with Spent, calls on other rings and seats that stopped cost it nothing. So each
-/// ring by itself is lock-free.
+/// What delays a call: its seat makes at most `b` steps for it, `b` more for each put of another
+/// seat that ends with Done on its ring meanwhile, and 6 more for each get of another that ends
+/// there, got or nothing. An end with Spent, calls on other rings and seats that stopped cost it
+/// nothing. So each ring by itself is lock-free.
 pub fn calls_are_delayed_by_ends()
-    ensures { (c : Setup) (opening : List (List ℕ)) (steps : List (ℕ × Step)) → DelayedByEnds c opening steps }
+    ensures { (c : Setup) (opening : List (List ℕ)) (steps : List (ℕ × Step))
+        → DelayedByEnds c opening steps }
+{}
+
+/// A call that runs alone ends within `10 * n + 3 * k + 3` steps, from any reachable state, also
+/// where all other seats stopped in the middle of theirs: among so many steps of a run that follow
+/// one another and are all of one seat, one ends a call of it.
+pub fn calls_alone_end_soon()
+    ensures { (c : Setup) (opening : List (List ℕ)) (steps : List (ℕ × Step))
+        → EndsAlone c opening steps }
 {}

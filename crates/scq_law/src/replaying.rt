@@ -16,7 +16,7 @@ ghost use Rattle.scq_law.specs.Spent.{SpentKept};
 ghost use Rattle.scq_law.specs.Kept.{Balanced, AllKept};
 ghost use Rattle.scq_law.specs.Retries.{RetriesRise};
 ghost use Rattle.scq_law.specs.CallSteps.{CallsEnd, FewSteps};
-ghost use Rattle.scq_law.specs.Progress.{HasProgress, DelayedByEnds};
+ghost use Rattle.scq_law.specs.Progress.{HasProgress, DelayedByEnds, EndsAlone};
 ghost use Rattle.scq_law.specs.Begun.{EnqueuesBegun};
 ghost use Rattle.scq_law.specs.Moments.{RisesThroughout};
 ghost use Rattle.scq_law.specs.Replay.{ShowsRun, StopsAt};
@@ -71,6 +71,7 @@ pub fn replay(
     // All along it.
     ensures progress { HasProgress setup opening.items steps.now }
     ensures delayed_by_ends { DelayedByEnds setup opening.items steps.now }
+    ensures ends_alone { EndsAlone setup opening.items steps.now }
     ensures rises { RisesThroughout setup opening.items steps.now }
     ensures places_last { PlacesLastThroughout setup opening.items steps.now }
 {

@@ -1,5 +1,5 @@
--- A dequeue takes or gives up only once Tail is past its ticket. Plan: one that catches up aims past its
--- ticket; one that is about to take found an index, which a put with that ticket placed.
+-- A dequeue takes or gives up only once Tail is past its ticket. Plan: one that catches up aims
+-- past its ticket; one that is about to take found an index, which a put with that ticket placed.
 use Rattle.std.proofs.Common.{◌≡◌, ℕ, ◌+◌, ◌<◌, true, false, ◌&&◌, List, refl, sym, ap, ◌∙◌, inl, inr, arith, eq-eqb, ne_eqb, leb-true}
 use Rattle.std.specs.Prelude.{◌==◌, nat_lt, nat_le, Some}
 use Rattle.std.proofs.lemmas.Bool.{cases_Bool, cases_eq, cases_lt, leb-false}

@@ -124,7 +124,7 @@ module _ (c : Setup) (m : Machine) (reachable : IsReachable c m) where
       let covers = reset_covers c in
       omega arith
 
-  lag_bit : (r from : ℕ) → lag m.cells r from ≤ 1
+  pub lag_bit : (r from : ℕ) → lag m.cells r from ≤ 1
   lag_bit r from = either_way (λ (v : ℕ). v ≤ 1) (m.cells.tail r == from) 0 1 (omega arith)
       (omega arith)
 

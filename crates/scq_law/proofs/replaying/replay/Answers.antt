@@ -31,6 +31,7 @@ use Rattle.scq_law.proofs.Replays.LastingPlaces.{places_last_throughout}
 use Rattle.scq_law.proofs.Replays.ReplayLaws.{of_state, of_history, of_fails, of_run}
 use Rattle.scq_law.proofs.Progress.ProgressLaws.{has_progress}
 use Rattle.scq_law.proofs.Progress.WholeCalls.{delayed_by_ends}
+use Rattle.scq_law.proofs.Progress.AloneCalls.{ends_alone}
 use Rattle.scq_law.proofs.replaying.replay.Goals as goal
 
 pub returns-clause-one_hand : goal.returns-clause-one_hand
@@ -181,3 +182,6 @@ returns-clause-progress c = has_progress c.args.setup c.args.opening.items c.arg
 
 pub returns-clause-delayed_by_ends : goal.returns-clause-delayed_by_ends
 returns-clause-delayed_by_ends c = delayed_by_ends c.args.setup c.args.opening.items c.args.steps.now
+
+pub returns-clause-ends_alone : goal.returns-clause-ends_alone
+returns-clause-ends_alone c = ends_alone c.args.setup c.args.opening.items c.args.steps.now
