@@ -25,6 +25,7 @@ use Rattle.scq_law.proofs.Order.OrderExists.{order_exists}
 use Rattle.scq_law.proofs.Order.OrderLaw.{one_order}
 use Rattle.scq_law.proofs.Progress.ProgressLaws.{has_progress}
 use Rattle.scq_law.proofs.Progress.WholeCalls.{delayed_by_ends}
+use Rattle.scq_law.proofs.Progress.AloneCalls.{ends_alone}
 use Rattle.scq_band.specs.declared.numbers.Numbers.{Numbers}
 use Rattle.scq_band.specs.declared.slot.Slot.{Slot}
 use Rattle.scq_band.specs.Buffers.{LiesIn, opening_of}
@@ -227,6 +228,7 @@ module _ {B : Type 0} (contents : B → List ℕ) (IsSame : B → B → Type 0) 
         aspects = has_aspects c opening is_run.full recorded (tied_run c opening run recorded is_run.full is_run.seats is_run);
         progress = has_progress c opening run;
         delayed = delayed_by_ends c opening run;
+        alone = ends_alone c opening run;
         history = records_shown c opening run recorded is_run;
         orders =
             λ r.

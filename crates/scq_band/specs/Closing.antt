@@ -20,7 +20,7 @@ use Rattle.scq_law.specs.ShownCalls.{HistoryShowsRecords}
 use Rattle.scq_law.specs.Order.{IsLinearization, IsOneOrder}
 use Rattle.scq_law.specs.declared.ordered.Ordered.{Ordered}
 use Rattle.scq_law.specs.Prefixes.{AllPrefixes}
-use Rattle.scq_law.specs.Progress.{HasProgress, DelayedByEnds}
+use Rattle.scq_law.specs.Progress.{HasProgress, DelayedByEnds, EndsAlone}
 use Rattle.scq_band.specs.RunSeen.{Caller}
 use Rattle.scq_band.specs.declared.numbers.Numbers.{Numbers}
 use Rattle.scq_band.specs.Numbers.{known_of}
@@ -201,10 +201,10 @@ pub record AreTheLifted {B : Type 0} (IsSame : B → B → Type 0) (band : Ident
   pub same : (o : ℕ × B) → Contains out o → IsAsGiven IsSame band.given o.0 o.1
 
 -- one run behind all calls. Its calls have all ended, each seat is one of these callers, and each caller's record is the run's; all that
--- any of them had seen are prefixes of it. Its history has the four aspects, and shows each seat's calls as its record has them; some call
--- ends among so many steps of it that follow one another, and calls are delayed by what others finish on their ring alone; and the
--- calls of each ring stand in one order, in which every reply is a plain queue's, and which keeps each call behind those that ended
--- before it began
+-- any of them had seen are prefixes of it. Its history has the four aspects, and shows each seat's calls as its record has them. Some
+-- call ends among so many steps of it that follow one another; calls are delayed by what others finish on their ring, and by nothing
+-- else; and a call that runs alone ends soon. The calls of each ring stand in one order, in which every reply is a plain queue's, and
+-- which keeps each call behind those that ended before it began
 pub record IsOneRun (c : Setup) (opening : List (List ℕ)) (callers : List Caller) : Type 0 where
   pub steps : List (ℕ × Step)
   pub finished : IsFinishedRun (run_of c opening steps)
@@ -216,6 +216,7 @@ pub record IsOneRun (c : Setup) (opening : List (List ℕ)) (callers : List Call
   pub aspects : HistoryHasAspects opening finished.recorded
   pub progress : HasProgress c opening steps
   pub delayed : DelayedByEnds c opening steps
+  pub alone : EndsAlone c opening steps
   pub history : HistoryShowsRecords finished.recorded
   pub orders : (r : ℕ) → (order : List Ordered) × IsLinearization (run_of c opening steps) r order × IsOneOrder (run_of c opening steps) r order
 
