@@ -52,14 +52,7 @@ fn try_take<B: Buffer>(
         if entry.cycle > cycle {
             return None;
         }
-        if exchange(
-            words,
-            token,
-            word,
-            found,
-            passed(ring.shape, ticket, found),
-        ) == found
-        {
+        if exchange(words, token, word, found, passed(ring.shape, ticket, found)) == found {
             return None;
         }
     }
