@@ -200,11 +200,13 @@ pub record AreTheLifted {B : Type 0} (IsSame : B → B → Type 0) (band : Ident
   pub lifted : (i : ℕ) → times i (indices_of out) ≡ sum_by (λ (s : Standing B). times i (lifted_of s.hand)) seats
   pub same : (o : ℕ × B) → Contains out o → IsAsGiven IsSame band.given o.0 o.1
 
--- one run behind all calls. Its calls have all ended, each seat is one of these callers, and each caller's record is the run's; all that
--- any of them had seen are prefixes of it. Its history has the four aspects, and shows each seat's calls as its record has them. Some
--- call ends among so many steps of it that follow one another; calls are delayed by what others finish on their ring, and by nothing
--- else; and a call that runs alone ends soon. The calls of each ring stand in one order, in which every reply is a plain queue's, and
--- which keeps each call behind those that ended before it began
+-- one run behind all calls. Its calls have all ended, each seat is one of these callers, and each
+-- caller's record is the run's; all that any of them had seen are prefixes of it. Its history has
+-- the four aspects, and shows each seat's calls as its record has them. Some call ends among so
+-- many steps of it that follow one another; calls are delayed by what others finish on their ring,
+-- and by nothing else; and a call that runs alone ends soon. The calls of each ring stand in one
+-- order, in which every reply is a plain queue's, and which keeps each call behind those that ended
+-- before it began
 pub record IsOneRun (c : Setup) (opening : List (List ℕ)) (callers : List Caller) : Type 0 where
   pub steps : List (ℕ × Step)
   pub finished : IsFinishedRun (run_of c opening steps)

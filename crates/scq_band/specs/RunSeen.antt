@@ -55,7 +55,7 @@ pub record IsCallInRun (c : Setup) (opening : List (List ℕ)) (old new : Caller
   -- the record is that of the run, at both ends
   pub was : IsRecordAfter c opening before old.seat old.calls
   pub now : IsRecordAfter c opening after old.seat new.calls
-  -- by the way in which the call ended: it made few steps for each call that ended on its ring meanwhile
+  -- and, by how it ended: it made few steps for each call that ended on its ring meanwhile
   pub delayed : (ended : Ended) → new.calls ≡ old.calls ++ ended ∷ []
       → WholeCallIsDelayedByEnds c before after was.recorded.state now.recorded.state old.seat ended
 

@@ -1,10 +1,11 @@
-//! The calls on a ring: enqueue (`enq`, and `put`, which lays a buffer first) and dequeue (`deq`). They are lock-free, with a
-//! bound: among any `k b + 1` steps of a run one ends a call, for `k` seats and `b` of `scq_law`'s `specs/Progress`, and what
-//! others end on its ring alone delays a call (field `delayed` of `IsCallInRun`). None waits for another seat. As tickets are
-//! finite each also ends after a bounded number of its own steps, which the field calls wait-free; but that bound is
-//! astronomical. The linearization points are those of `scq_law`'s `specs/Points`: of an enqueue mostly the step that drew its
-//! place, of a dequeue the one that drew its own or the enqueue's point, whichever is later, and of an Empty the step that
-//! decided it.
+//! The calls on a ring: enqueue (`enq`, and `put`, which lays a buffer first) and dequeue (`deq`).
+//! They are lock-free, with a bound: among any `k b + 1` steps of a run one ends a call, for `k`
+//! seats and `b` of `scq_law`'s `specs/Progress`, and only what others end on its ring delays a
+//! call (field `delayed` of `IsCallInRun`). None waits for another seat. As tickets are finite each
+//! also ends after a bounded number of its own steps, which the field calls wait-free; but that
+//! bound is astronomical. The linearization points are those of `scq_law`'s `specs/Points`: of an
+//! enqueue mostly the step that drew its place, of a dequeue the one that drew its own or the
+//! enqueue's point, whichever is later, and of an Empty the step that decided it.
 ghost use Rattle.std.specs.Prelude.{◌≡◌, ℕ, ◌<◌, ◌≤◌, List, [], ◌∷◌, ◌++◌, Some, None, Err, IfOk, IfErr, length, vec_capacity};
 ghost use Rattle.scq_word.specs.Sizes.{n_of};
 ghost use Rattle.scq_band.specs.Buffers.{opening_of};
