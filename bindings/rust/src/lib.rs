@@ -40,12 +40,16 @@
 //! - No buffer overtakes one whose send had ended before its own send began.
 //! - [`TakeError::Empty`] and [`LendError::Full`] come only where they are right at a moment inside the call.
 //! - No call takes a lock or waits for another thread's, and only [`Queue::new`] takes memory.
+//! - The calls are lock-free, with a bound: for n buffers, k ports and b = 6 (2n - 1 + max(n, k) + n + k), among any k b + 1 atomic steps
+//!   one ends a call, whichever threads make them. What delays a call is what others finish on its topic, a send by at most b steps and a
+//!   take by 6; a thread that stopped delays none.
 //! - A buffer stays where it is, and is in one pair of hands at a time: this the borrow checker sees to.
 //! - A buffer whose guard was forgotten (`std::mem::forget`) is given back when its port is dropped.
 //!
 //! # What isn't
 //!
-//! - That a call ends soon, or that all threads get their share. A take that finds nothing doesn't wait: ask again, or do something else.
+//! - That a thread gets to run, that all threads get their share, or how long a call takes in time. A take that finds nothing doesn't wait:
+//!   ask again, or do something else.
 //! - Tickets run out at the [limit](Setup::limit) of the setup: a call that needs one past it is refused, and so is each later lend,
 //!   take, send and give-back of that port. What a port holds by then it keeps: those buffers are freed with the queue.
 //! - A thread that stops in the middle of a call, or keeps a buffer, keeps it from the others.
