@@ -1,8 +1,9 @@
-//! Two threads on one queue of two buffers, twice. First they hand each other notes, so that each call stands behind the one before it
-//! (`rounds`). Then one sends the numbers from 1 to 100, and sums itself those for which no buffer is free; the other takes numbers and
+//! Two passes on one thread, of which one takes behind a mark of the other (`marks`). And two threads on one queue of two buffers, twice.
+//! First they hand each other notes, so that each call stands behind the one before it (`rounds`). Then one sends the numbers from 1 to 100, and sums itself those for which no buffer is free; the other takes numbers and
 //! sums them; what is left when both are done is taken then. Who sums a number differs from run to run, and the sum doesn't.
 #![tactic(auto)]
 
+mod marks;
 mod rounds;
 
 ghost use Rattle.std.specs.Prelude.{◌≡◌, ◌<◌, ◌≤◌, [], ◌∷◌, ◌++◌, IfOk, vec_len, vec_capacity};
@@ -12,6 +13,7 @@ ghost use Rattle.scq_queue.specs.HoldsJust.{HoldsJust};
 ghost use Rattle.example_queue.specs.Values.{values_in};
 
 use anyhow::{Result, anyhow};
+use marks::tell_by_a_mark;
 use rounds::{NUMBERS, make_rounds};
 use scq_queue::{Closed, HeapBuffer, Held, Pass, Queue};
 use scq_word::Setup;
@@ -276,8 +278,23 @@ fn hand_over<R: Threads + Wait + Sync>(
     ))
 }
 
+/// A number that goes from one pass to another behind a mark, on a queue of its own.
+fn mark_and_take(alloc: Global) -> Result<u8> {
+    let values = Vec::with_capacity(alloc, 2)?;
+    let (queue, passes) = match made(alloc) {
+        Ok(made) => made,
+        Err(fault) => {
+            values.destroy_empty();
+            return Err(fault);
+        }
+    };
+    tell_by_a_mark(queue, passes, values).ok_or(anyhow!("nothing was taken"))
+}
+
 fn main(rt: HostRuntime) -> Result<()> {
     let alloc = rt.alloc();
+    let number = mark_and_take(alloc)?;
+    println!(rt; "behind a mark: take {number}")?;
     let (sends, takes) = hand_over(&rt, alloc)?;
     for (send, take) in sends.iter().zip(takes.iter()) {
         println!(rt; "send {send}, take {take}")?;

@@ -1,0 +1,91 @@
+//! Two passes on one thread, and what each can say of the other. The first sends a number; the second
+//! heeds a mark of the first before it takes; then the two meet.
+ghost use Rattle.std.specs.Prelude.{◌≡◌, ◌≤◌, [], ◌∷◌, None, IfOk, IfErr, vec_capacity};
+ghost use Rattle.std.specs.Option.{option_to_list};
+ghost use Rattle.scq_band.specs.Buffers.{opening_of};
+ghost use Rattle.scq_queue.specs.HoldsJust.{HoldsJust};
+ghost use Rattle.scq_band.specs.RunSeen.{IsCallInRun, both_seen};
+ghost use Rattle.scq_queue.specs.Passes.{first_passes, having_seen, caller_of};
+
+use crate::{give_in, sent};
+use scq_queue::{HeapBuffer, Held, Mark, Pass, Queue, TakeRefusal};
+use scq_word::Buffer;
+
+/// The number that is sent.
+const NUMBER: u8 = 7;
+
+/// Sends the number. Where tickets have run out the buffer comes back.
+fn number_sent(queue: &Queue<HeapBuffer>, pass: &mut Pass<HeapBuffer>) -> Option<Held<HeapBuffer>>
+    requires rings { queue.now.setup.rings ≡ 2 }
+    requires pass { HoldsJust queue.now pass.old [] }
+    ensures { HoldsJust queue.now pass.new (option_to_list result) }
+{
+    match sent(queue, pass, NUMBER) {
+        Ok(_) => None,
+        Err(held) => Some(held),
+    }
+}
+
+/// Takes behind a mark: all that the two passes had seen lies in the run before this take. So where it
+/// finds nothing, each send that had ended there was taken, or was claimed by a take under way.
+fn taken_behind<B: Buffer>(
+    queue: &Queue<B>,
+    pass: &mut Pass<B>,
+    mark: Mark,
+) -> Result<(u64, Held<B>), TakeRefusal>
+    requires rings { queue.now.setup.rings ≡ 2 }
+    requires pass { HoldsJust queue.now pass.old [] }
+    requires mark { mark.table ≡ queue.now.table }
+    ensures took { IfOk result (λ r. HoldsJust queue.now pass.new (r.1 ∷ [])) }
+    ensures refused { IfErr result (λ _. HoldsJust queue.now pass.new []) }
+    ensures behind { pass.old.spent ≡ None
+        → IsCallInRun queue.now.setup (opening_of B.contents queue.now.given)
+        (caller_of (having_seen (both_seen pass.old.seen mark.seen) pass.old)) (caller_of pass.new) }
+{
+    queue.heed(pass, mark);
+    queue.take(pass, 0)
+}
+
+/// Takes a number behind a mark, and the value that the pass then holds.
+fn number_behind(
+    queue: &Queue<HeapBuffer>,
+    pass: &mut Pass<HeapBuffer>,
+    mark: Mark,
+) -> (Option<u8>, Option<Held<HeapBuffer>>)
+    requires rings { queue.now.setup.rings ≡ 2 }
+    requires pass { HoldsJust queue.now pass.old [] }
+    requires mark { mark.table ≡ queue.now.table }
+    ensures { HoldsJust queue.now pass.new (option_to_list result.1) }
+{
+    match taken_behind(queue, pass, mark) {
+        Ok((_, held)) => (held.bytes().first().copied(), Some(held)),
+        Err(_) => (None, None),
+    }
+}
+
+/// The first pass sends, the second takes behind its mark, and they meet: from now on, of any two runs
+/// that they had seen, one is a prefix of the other. The number that was taken.
+pub fn tell_by_a_mark(
+    queue: Queue<HeapBuffer>,
+    mut passes: Vec<Pass<HeapBuffer>>,
+    mut values: Vec<Held<HeapBuffer>>,
+) -> Option<u8>
+    requires setup { (queue.setup.rings ≡ 2) × (queue.setup.seats ≡ 2) }
+    requires passes { passes.items ≡ first_passes queue 2 }
+    requires values { (values.items ≡ []) × (2 ≤ vec_capacity values) }
+{
+    let Some(mut second) = passes.pop() else {
+        unreachable!()
+    };
+    let Some(mut first) = passes.pop() else {
+        unreachable!()
+    };
+    let kept = number_sent(&queue, &mut first);
+    let mark = queue.mark(&mut first);
+    let (number, held) = number_behind(&queue, &mut second, mark);
+    queue.meet(&mut first, &mut second);
+    give_in(first, kept, &mut passes, &mut values);
+    give_in(second, held, &mut passes, &mut values);
+    let _closed = queue.close(passes, values);
+    number
+}
