@@ -2,8 +2,11 @@
  *
  * A queue has 2^order buffers of the same size and up to 17 topics, each a first-in-first-out queue of its own over these buffers. A thread
  * makes its calls with a port of its own: it is lent a buffer, writes it where it lies and sends it on a topic; or it takes one from a topic,
- * reads it and gives it back. No call takes a lock or waits for another thread's, and only scq_open takes memory. What is called is proved:
- * docs/QUEUE.md says what that means, and docs/PROMISES.md has the promise of each call.
+ * reads it and gives it back. No call takes a lock or waits for another thread's, and only scq_open and scq_open_over take memory. What the
+ * library does is proved: docs/QUEUE.md says what that means, and docs/PROMISES.md has the promise of each call.
+ *
+ * The library passes numbers of buffers from port to port. The bytes are the caller's: it is given no pointer that it follows to them, and
+ * reads and writes none of them. Where the bytes of a number lie is worked out by the functions that stand whole in this file.
  *
  * Compile with this file, C99 or C++, and link with libscq.a and nothing else.
  *
@@ -30,18 +33,57 @@
 
 #include <stddef.h>
 #include <stdint.h>
+#include <stdlib.h>
 
 #ifdef __cplusplus
 extern "C" {
 #endif
 
+/* For this file alone: a function whose answer has to be looked at; a conversion; the number of an address; and null. */
+#if defined(__GNUC__)
+#define SCQ_ANSWERED __attribute__((warn_unused_result))
+#else
+#define SCQ_ANSWERED
+#endif
+#ifdef __cplusplus
+#define SCQ_TO(type, value) static_cast<type>(value)
+#define SCQ_ADDRESS(pointer) reinterpret_cast<uintptr_t>(pointer)
+#else
+#define SCQ_TO(type, value) ((type)(value))
+#define SCQ_ADDRESS(pointer) ((uintptr_t)(pointer))
+#endif
+#if defined(__cplusplus) && __cplusplus >= 201103L
+#define SCQ_NULL nullptr
+#else
+#define SCQ_NULL NULL
+#endif
+
+/* Where the bytes of a queue's buffers lie: those of the buffer with the number i are the `len` bytes that begin at base + i * stride. */
+typedef struct scq_memory {
+    unsigned char *base;
+    size_t stride; /* not less than `len` */
+    size_t len;
+    void *block; /* what scq_open took, which begins with the number of ports that are open; null where the memory is the caller's */
+} scq_memory;
+
 /* What a thread makes its calls with. */
 typedef struct scq_port {
-    void *at; /* null where it is closed; what it points to is the library's */
+    void *at;          /* null where it is closed; what it points to is the library's */
+    scq_memory memory; /* where its queue's buffers lie */
 } scq_port;
 
-/* A port that is closed: `scq_port port = SCQ_NONE;` */
-#define SCQ_NONE { NULL }
+/* A port that is closed: `scq_port port = SCQ_NONE;`, or `port = SCQ_NONE;` later. One of static storage begins so by itself. */
+#ifndef __cplusplus
+#define SCQ_NONE ((scq_port){NULL, {NULL, 0, 0, NULL}})
+#elif __cplusplus >= 201103L
+#define SCQ_NONE (scq_port{nullptr, {nullptr, 0, 0, nullptr}})
+#else
+static inline scq_port scq_none() {
+    const scq_port none = {NULL, {NULL, 0, 0, NULL}};
+    return none;
+}
+#define SCQ_NONE scq_none()
+#endif
 
 /* A buffer that a port holds. */
 typedef struct scq_held {
@@ -58,6 +100,11 @@ typedef struct scq_counts {
     uint64_t full;  /* how often it was answered SCQ_FULL */
 } scq_counts;
 
+/* What became of a queue when a port was closed. */
+typedef struct scq_ended {
+    uint32_t last; /* 1 where this was its last port, and the queue closed with it; else 0 */
+} scq_ended;
+
 /* The answers. */
 enum {
     SCQ_OK = 0,
@@ -73,16 +120,23 @@ enum {
     SCQ_BAD_TOPICS = 10, /* the topics aren't from 1 to 17 */
     SCQ_BAD_PORTS = 11,  /* the ports aren't from 1 to 4096 */
     SCQ_BAD_LIMIT = 12,  /* the limit isn't from 8 * 2^order to SCQ_MAX_LIMIT */
-    SCQ_BAD_SIZE = 13,   /* a buffer has no bytes */
+    SCQ_BAD_SIZE = 13,   /* a buffer has no bytes, or more than lie between it and the next */
     SCQ_BAD_HOLD = 14,   /* what a port may hold isn't from 1 to 2^order */
     SCQ_IS_OPEN = 15     /* one of the ports is open */
 };
 
 /* The largest limit. A billion tickets a second come to it after 36 years. */
-#define SCQ_MAX_LIMIT ((uint64_t)1 << 60)
+#define SCQ_MAX_LIMIT (UINT64_C(1) << 60)
+
+/* The largest order. */
+#define SCQ_MAX_ORDER 12
+
+/* A line of the processor's cache, in bytes. scq_open begins each buffer at a line of its own, so that threads that write neighbouring
+ * buffers don't write in one line. */
+#define SCQ_LINE 64
 
 /* What scq_version answers, of the library that this file is of. */
-#define SCQ_VERSION 1
+#define SCQ_VERSION 2
 
 /* The text of an answer, which is there as long as the program. */
 static inline const char *scq_text(uint32_t answer) {
@@ -100,7 +154,7 @@ static inline const char *scq_text(uint32_t answer) {
     case SCQ_BAD_TOPICS: return "the topics aren't from 1 to 17";
     case SCQ_BAD_PORTS: return "the ports aren't from 1 to 4096";
     case SCQ_BAD_LIMIT: return "the limit isn't from 8 * 2^order to 2^60";
-    case SCQ_BAD_SIZE: return "a buffer has no bytes";
+    case SCQ_BAD_SIZE: return "a buffer has no bytes, or more than lie between it and the next";
     case SCQ_BAD_HOLD: return "what a port may hold isn't from 1 to 2^order";
     case SCQ_IS_OPEN: return "one of the ports is open";
     default: return "no answer of this library";
@@ -110,35 +164,90 @@ static inline const char *scq_text(uint32_t answer) {
 /* The version of the library: SCQ_VERSION, where this file is of it. */
 uint32_t scq_version(void);
 
-/* Makes a queue of 2^order buffers of `size` zero bytes, with `topics` topics, and opens `n` ports, each of which may hold up to `hold` buffers
- * at a time. Each topic, and the stock of free buffers, counts its puts and its gets by tickets up to `limit`; SCQ_MAX_LIMIT is the plain choice.
+/* Makes a queue of 2^order buffers, with `topics` topics, and opens `n` ports, each of which may hold up to `hold` buffers at a time. Each
+ * topic, and the stock of free buffers, counts its puts and its gets by tickets up to `limit`; SCQ_MAX_LIMIT is the plain choice. A port takes
+ * some 1,470 bytes, and 16 for each buffer of the queue.
  *
- * Asks: that each of the n ports is SCQ_NONE or open.
- * Tested: that none is open; each of the numbers.
- * Answers: SCQ_OK; SCQ_IS_OPEN, SCQ_BAD_TOPICS, SCQ_BAD_SIZE, SCQ_BAD_ORDER, SCQ_BAD_PORTS, SCQ_BAD_LIMIT, SCQ_BAD_HOLD; SCQ_NO_MEMORY where
+ * The buffers lie where *memory says, in memory of the caller's: huge pages, a pool, a mapping. It may be reused once all ports are closed. A
+ * buffer begins with the bytes that stand there. This is for the bytes alone: a queue is of one process.
+ *
+ * Asks: that each of the n ports is SCQ_NONE or open; that 2^order times `stride` bytes may be written at `base`; that `block` is null.
+ * Tested: each of the numbers, `len` and `stride` among them; that no port is open.
+ * Answers: SCQ_OK; SCQ_BAD_TOPICS, SCQ_BAD_ORDER, SCQ_BAD_PORTS, SCQ_BAD_LIMIT, SCQ_BAD_SIZE, SCQ_BAD_HOLD; SCQ_IS_OPEN; SCQ_NO_MEMORY where
  * an allocation was refused. Where it isn't SCQ_OK no port is changed, and nothing is left of the queue. */
-uint32_t scq_open(uint32_t order, uint32_t topics, uint32_t size, uint32_t hold, uint64_t limit, scq_port *ports, size_t n);
+SCQ_ANSWERED uint32_t scq_open_over(uint32_t order, uint32_t topics, uint32_t hold, uint64_t limit, const scq_memory *memory, scq_port *ports,
+    size_t n);
+
+/* The same, over memory that it takes: the buffers have `size` zero bytes, each at a multiple of SCQ_LINE. None of them is touched before it
+ * is used. scq_close frees them with the last port, by whichever thread that is closed.
+ *
+ * Answers besides: SCQ_NO_MEMORY where the buffers are more than a size_t counts. */
+static inline SCQ_ANSWERED uint32_t scq_open(uint32_t order, uint32_t topics, uint32_t size, uint32_t hold, uint64_t limit, scq_port *ports,
+    size_t n) {
+    const size_t line = SCQ_LINE;
+    scq_memory memory = {SCQ_NULL, 0, size, SCQ_NULL};
+    size_t buffers;
+    uint32_t answer;
+    if (order < 1 || order > SCQ_MAX_ORDER) return SCQ_BAD_ORDER;
+    if (size < 1) return SCQ_BAD_SIZE;
+    buffers = SCQ_TO(size_t, 1) << order;
+    if (memory.len > (SIZE_MAX - 2 * line) / buffers - line) return SCQ_NO_MEMORY;
+    memory.stride = (memory.len + line - 1) / line * line;
+    memory.block = calloc(1, sizeof(uint32_t) + line - 1 + buffers * memory.stride);
+    if (memory.block == SCQ_NULL) return SCQ_NO_MEMORY;
+    *SCQ_TO(uint32_t *, memory.block) = SCQ_TO(uint32_t, n);
+    memory.base = SCQ_TO(unsigned char *, memory.block) + sizeof(uint32_t);
+    memory.base += (line - SCQ_ADDRESS(memory.base) % line) % line;
+    answer = scq_open_over(order, topics, hold, limit, &memory, ports, n);
+    if (answer != SCQ_OK) free(memory.block);
+    return answer;
+}
+
+/* The calls that the next two functions are made of: they write the buffer's index and place to `out`, and not where it lies. */
+SCQ_ANSWERED uint32_t scq_lend_index(scq_port *port, scq_held *out);
+SCQ_ANSWERED uint32_t scq_take_index(scq_port *port, uint32_t topic, scq_held *out);
+
+/* Writes to `out` where the buffer of its index lies, or null and 0 where there is none. */
+static inline void scq_locate(const scq_port *port, uint32_t answer, scq_held *out) {
+    if (answer == SCQ_OK) {
+        out->at = port->memory.base + port->memory.stride * out->index;
+        out->len = port->memory.len;
+    } else {
+        out->at = SCQ_NULL;
+        out->len = 0;
+    }
+}
 
 /* Lends a buffer that nobody holds: writes to `out` where it lies, with whatever bytes its last user left.
  *
  * Tested: that the port is open, and holds fewer buffers than it may.
  * Answers: SCQ_OK; SCQ_CLOSED; SCQ_NO_ROOM; SCQ_FULL where no buffer was free, and out->place is the head of the stock: each buffer that was
- * given back at a place below it has been lent, or is being lent; SCQ_SPENT, and out->place is the ticket. */
-uint32_t scq_lend(scq_port *port, scq_held *out);
+ * given back at a place below it has been lent, or is being lent; SCQ_SPENT, and out->place is the ticket. Where it isn't SCQ_OK, out->at is
+ * null and out->len 0. */
+static inline SCQ_ANSWERED uint32_t scq_lend(scq_port *port, scq_held *out) {
+    const uint32_t answer = scq_lend_index(port, out);
+    scq_locate(port, answer, out);
+    return answer;
+}
 
 /* Takes a buffer off a topic: writes to `out` where it lies, and the place at which it was sent. Its bytes are those that were sent.
  *
  * Tested: that the port is open, the topic, and that the port holds fewer buffers than it may.
  * Answers: SCQ_OK; SCQ_CLOSED; SCQ_NO_TOPIC; SCQ_NO_ROOM; SCQ_EMPTY where nothing was on the topic, and out->place is its head: each buffer that
- * was sent at a place below it has been taken, or is being taken; SCQ_SPENT, and out->place is the ticket. */
-uint32_t scq_take(scq_port *port, uint32_t topic, scq_held *out);
+ * was sent at a place below it has been taken, or is being taken; SCQ_SPENT, and out->place is the ticket. Where it isn't SCQ_OK, out->at is
+ * null and out->len 0. */
+static inline SCQ_ANSWERED uint32_t scq_take(scq_port *port, uint32_t topic, scq_held *out) {
+    const uint32_t answer = scq_take_index(port, topic, out);
+    scq_locate(port, answer, out);
+    return answer;
+}
 
 /* Sends the buffer of this index on a topic, and writes to `place` at which place. Places rise in the order of sends that follow one another;
  * no two buffers of a topic have the same.
  *
  * Tested: that the port is open, the topic, and that the port holds a buffer of this index.
  * Answers: SCQ_OK, and the port doesn't hold the buffer; SCQ_CLOSED; SCQ_NO_TOPIC; SCQ_NOT_HELD; SCQ_SPENT, and *place is the ticket. */
-uint32_t scq_send(scq_port *port, uint32_t index, uint32_t topic, uint64_t *place);
+SCQ_ANSWERED uint32_t scq_send(scq_port *port, uint32_t index, uint32_t topic, uint64_t *place);
 
 /* Gives the buffer of this index back, so that it can be lent again. It need not have been sent.
  *
@@ -159,12 +268,35 @@ uint32_t scq_counts_of(scq_port *port, scq_counts *out);
  * Answers: SCQ_SPENT, and *ticket is the ticket; SCQ_OK where it keeps none; SCQ_CLOSED. */
 uint32_t scq_spent(scq_port *port, uint64_t *ticket);
 
-/* Closes the port: gives back what it holds (where its tickets have run out, those buffers stay with the queue, which lends them to nobody),
- * and sets it to SCQ_NONE. The last port of a queue that is closed frees the queue, with what stands on its topics.
+/* Closes the port, and tells whether it was the queue's last. It gives back what it holds; where its tickets have run out, those buffers stay
+ * with the queue, which lends them to nobody. The last port of a queue frees what the library took, with what stands on the topics; and it is told
+ * so, unless some port closed with buffers that stayed, for then nobody is told. port->memory is left as it was.
  *
  * Tested: that the port is open.
  * Answers: SCQ_OK; SCQ_CLOSED. */
-uint32_t scq_close(scq_port *port);
+uint32_t scq_end(scq_port *port, scq_ended *out);
+
+/* What is left to be done with a port that scq_end closed: sets it to SCQ_NONE, and frees what scq_open took, where it was the queue's last. */
+static inline void scq_free(scq_port *port) {
+    void *const block = port->memory.block;
+    *port = SCQ_NONE;
+    if (block != SCQ_NULL && __atomic_sub_fetch(SCQ_TO(uint32_t *, block), 1, __ATOMIC_ACQ_REL) == 0) free(block);
+}
+
+/* Both in one: closes the port.
+ *
+ * Answers: SCQ_OK; SCQ_CLOSED. */
+static inline uint32_t scq_close(scq_port *port) {
+    scq_ended ended;
+    const uint32_t answer = scq_end(port, &ended);
+    if (answer == SCQ_OK) scq_free(port);
+    return answer;
+}
+
+#undef SCQ_ANSWERED
+#undef SCQ_TO
+#undef SCQ_ADDRESS
+#undef SCQ_NULL
 
 #ifdef __cplusplus
 }

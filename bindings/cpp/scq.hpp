@@ -9,8 +9,9 @@
 //     }
 //     if (scq::Taken taken = ports[1].take(0)) std::putchar(taken[0]);
 //
-// Nothing here throws, and only Queue::open takes memory: a call that was refused says so in what it returns. What scq.h asks of a caller
-// holds here too; the owners see to it that a port is not copied, and that a buffer is sent or given back once. What they leave to you:
+// Nothing here throws: a call that was refused says so in what it returns. Only Queue::open takes memory, which the last port to close frees.
+// What scq.h asks of a caller holds here too; the owners see to it that a port is not copied, and that a buffer is sent or given back once. What
+// they leave to you:
 //
 // - One thread at a time uses a port and the buffers that it holds.
 // - A Lent or Taken ends before its port does, and before that is moved. (Where the port was closed or moved, but is still there, its
@@ -176,12 +177,12 @@ public:
     Port() noexcept = default;
     Port(const Port &) = delete;
     Port &operator=(const Port &) = delete;
-    Port(Port &&other) noexcept : port_(other.port_) { other.port_.at = nullptr; }
+    Port(Port &&other) noexcept : port_(other.port_) { other.port_ = SCQ_NONE; }
     Port &operator=(Port &&other) noexcept {
         if (this != &other) {
             scq_close(&port_);
             port_ = other.port_;
-            other.port_.at = nullptr;
+            other.port_ = SCQ_NONE;
         }
         return *this;
     }

@@ -29,17 +29,20 @@ static const uint64_t most = SCQ_MAX_LIMIT;
 
 /* A port that was never opened, or was closed. */
 static void closed_ones(scq_port *port) {
-    scq_held held = {NULL, 0, 77, 0};
+    unsigned char byte = 7;
+    scq_held held = {&byte, 1, 77, 0};
     scq_counts counts = {7, 7, 7};
     uint64_t number = 77;
-    CHECK(lend(port, &held) == SCQ_CLOSED);
-    CHECK(take(port, 0, &held) == SCQ_CLOSED);
+    CHECK(lend(port, &held) == SCQ_CLOSED && held.at == NULL && held.len == 0);
+    held.at = &byte;
+    CHECK(take(port, 0, &held) == SCQ_CLOSED && held.at == NULL && held.len == 0);
     CHECK(send(port, 0, 0, &number) == SCQ_CLOSED);
     CHECK(give_back(port, 0) == SCQ_CLOSED);
     CHECK(counts_of(port, &counts) == SCQ_CLOSED);
     CHECK(spent(port, &number) == SCQ_CLOSED);
     CHECK(close_(port) == SCQ_CLOSED);
-    CHECK(port->at == NULL && held.at == NULL && held.place == 77 && number == 77 && counts.sent == 7);
+    CHECK(port->at == NULL && port->memory.base == NULL && port->memory.block == NULL);
+    CHECK(held.place == 77 && number == 77 && counts.sent == 7);
 }
 
 static void openings(void) {
@@ -61,6 +64,7 @@ static void openings(void) {
     CHECK(open_(1, 1, 8, 2, UINT64_MAX, ports, 3) == SCQ_BAD_LIMIT);
     CHECK(open_(1, 1, 8, 2, most, ports, 0) == SCQ_BAD_PORTS);
     CHECK(open_(1, 1, 8, 2, most, many, 4097) == SCQ_BAD_PORTS);
+    CHECK(open_(1, 1, 8, 2, most, ports, SIZE_MAX) == SCQ_BAD_PORTS); /* none of them is looked at */
     for (int i = 0; i < 3; i++) CHECK(ports[i].at == NULL);
     CHECK(open_(12, 17, 1, 4096, most, many, 4096) == SCQ_OK);
     for (int i = 0; i < 4096; i++) CHECK(close_(&many[i]) == SCQ_OK);
@@ -94,7 +98,7 @@ static void round_of(scq_port *one, scq_port *two) {
     CHECK(take(two, 0, &taken) == SCQ_EMPTY);
     CHECK(take(two, 1, &taken) == SCQ_OK && taken.place == place && taken.index == lent.index && taken.at == lent.at && taken.len == 8);
     CHECK(memcmp(taken.at, "message", 8) == 0);
-    CHECK(take(two, 1, &lent) == SCQ_EMPTY && lent.place > place && lent.index == taken.index);
+    CHECK(take(two, 1, &lent) == SCQ_EMPTY && lent.place > place && lent.at == NULL && lent.len == 0);
     CHECK(send(two, taken.index, 0, &place) == SCQ_OK);
     CHECK(take(one, 0, &lent) == SCQ_OK && lent.at == taken.at && lent.place == place && memcmp(lent.at, "message", 8) == 0);
     CHECK(give_back(one, lent.index) == SCQ_OK && give_back(one, lent.index) == SCQ_NOT_HELD);
@@ -110,8 +114,8 @@ static void several(void) {
     uint64_t place, before = 0;
     CHECK(open_(2, 1, 100, 3, most, ports, 2) == SCQ_OK);
     for (int i = 0; i < 3; i++) CHECK(lend(&ports[0], &held[i]) == SCQ_OK && held[i].place == 0);
-    CHECK(lend(&ports[0], &held[3]) == SCQ_NO_ROOM && take(&ports[0], 0, &held[3]) == SCQ_NO_ROOM);
-    CHECK(lend(&ports[1], &held[3]) == SCQ_OK && lend(&ports[1], &held[4]) == SCQ_FULL);
+    CHECK(lend(&ports[0], &held[3]) == SCQ_NO_ROOM && take(&ports[0], 0, &held[3]) == SCQ_NO_ROOM && held[3].at == NULL && held[3].len == 0);
+    CHECK(lend(&ports[1], &held[3]) == SCQ_OK && lend(&ports[1], &held[4]) == SCQ_FULL && held[4].at == NULL && held[4].len == 0);
     for (int i = 0; i < 4; i++) {
         memset(held[i].at, 'a' + i, 100);
         for (int j = 0; j < i; j++) CHECK(held[i].index != held[j].index);
@@ -196,7 +200,7 @@ static void queues(void) {
     for (uint32_t index = 0; index < 8; index++) CHECK(send(&two[0], index, 0, &place) == SCQ_NOT_HELD);
     CHECK(send(&one[0], held.index, 0, &place) == SCQ_OK && take(&two[1], 0, &other) == SCQ_EMPTY);
     scq_port moved = one[1];
-    one[1].at = NULL;
+    one[1] = SCQ_NONE;
     closed_ones(&one[1]);
     CHECK(take(&moved, 0, &other) == SCQ_OK && other.at == held.at);
     CHECK(close_(&one[0]) == SCQ_OK && close_(&moved) == SCQ_OK);

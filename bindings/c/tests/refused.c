@@ -7,8 +7,9 @@
 
 #include <errno.h>
 
-/* How many allocations are to go well before one gets nothing, where that is counted. */
-static long before_it = -1;
+/* How many allocations are to go well before one gets nothing, where that is counted. It is volatile, as a compiler takes it that no allocation
+ * changes it. */
+static volatile long before_it = -1;
 
 static int fails(void) { return before_it >= 0 && before_it-- == 0; }
 

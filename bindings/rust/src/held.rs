@@ -19,11 +19,10 @@ pub(crate) struct Held<'p> {
 }
 
 impl<'p> Held<'p> {
-    /// What a call that answered OK wrote.
+    /// The buffer of an index, which lies there.
     #[inline]
-    pub(crate) fn new(port: &'p Port, out: sys::scq_held) -> Held<'p> {
-        let at = NonNull::new(out.at).expect("a buffer lies somewhere");
-        Held { port, at, len: out.len, index: out.index, bytes: PhantomData }
+    pub(crate) fn new(port: &'p Port, index: u32, at: NonNull<u8>, len: usize) -> Held<'p> {
+        Held { port, at, len, index, bytes: PhantomData }
     }
 
     #[inline]

@@ -34,12 +34,14 @@
 //!
 //! The queue, its ports and the library's calls are written in Rattle, which is Rust with contracts, and each function is proved to meet its
 //! contract, however the threads meet; `docs/QUEUE.md` and `docs/PROMISES.md` of the repository have the clauses. This crate is a thin layer of
-//! plain Rust over those calls, tested and not proved.
+//! plain Rust over those calls, tested and not proved. The library passes the numbers of buffers from port to port and follows no pointer to their
+//! bytes, which are this crate's: it finds those of a number.
 //!
 //! - A take gives a buffer that was sent on this topic, with the bytes and the place of that send; none is taken twice.
 //! - No buffer overtakes one whose send had ended before its own send began.
 //! - [`TakeError::Empty`] and [`LendError::Full`] come only where they are right at a moment inside the call.
-//! - No call takes a lock or waits for another thread's, and only [`Queue::new`] takes memory.
+//! - No call takes a lock or waits for another thread's, and only [`Queue::new`] takes memory: for the buffers one block of zeros, of which no
+//!   byte is touched before it is used.
 //! - The calls are lock-free, with a bound: for n buffers, k ports and b = 6 (2n - 1 + max(n, k) + n + k), among any k b + 1 atomic steps
 //!   one ends a call, whichever threads make them. What delays a call is what others finish on its topic, a send by at most b steps and a
 //!   take by 6; a thread that stopped delays none.
@@ -58,6 +60,7 @@
 
 mod error;
 mod held;
+mod memory;
 mod port;
 mod queue;
 mod sys;

@@ -1,10 +1,10 @@
 //! Ports: what a thread makes its calls with.
 use crate::error::{LendError, TakeError};
 use crate::held::{Held, Lent, Taken};
-use crate::sys;
+use crate::{memory, sys};
 use std::cell::UnsafeCell;
 use std::fmt;
-use std::ptr;
+use std::ptr::NonNull;
 
 /// What a port did so far.
 #[derive(Clone, Copy, Debug, PartialEq, Eq, Hash)]
@@ -50,12 +50,22 @@ unsafe impl Send for Port {}
 impl Port {
     /// A port that isn't open.
     pub(crate) fn none() -> Port {
-        Port { handle: UnsafeCell::new(sys::scq_port { at: ptr::null_mut() }) }
+        Port { handle: UnsafeCell::new(sys::scq_port::NONE) }
     }
 
     /// The handle. A port isn't `Sync`, and no call comes back into this crate, so one call at a time is made with it.
     pub(crate) fn handle(&self) -> *mut sys::scq_port {
         self.handle.get()
+    }
+
+    /// A buffer that the port was given, by what the call wrote: it lies where its index says.
+    #[inline]
+    fn held(&self, out: &sys::scq_held) -> Held<'_> {
+        // SAFETY: no call is made with the handle meanwhile.
+        let memory = unsafe { (*self.handle()).memory };
+        // SAFETY: there are more buffers than the index says, and none lies at null.
+        let at = unsafe { NonNull::new_unchecked(memory.base.add(out.index as usize * memory.stride)) };
+        Held::new(self, out.index, at, memory.len)
     }
 
     /// Is lent a buffer that nobody holds, with whatever bytes stand in it.
@@ -68,12 +78,12 @@ impl Port {
     pub fn lend(&self) -> Result<Lent<'_>, LendError> {
         let mut out = sys::scq_held::NONE;
         // SAFETY: one call at a time is made with the handle, and `out` is apart from it.
-        match unsafe { sys::scq_lend(self.handle(), &mut out) } {
-            sys::OK => Ok(Lent::new(Held::new(self, out))),
+        match unsafe { sys::scq_lend_index(self.handle(), &mut out) } {
+            sys::OK => Ok(Lent::new(self.held(&out))),
             sys::FULL => Err(LendError::Full { head: out.place }),
             sys::NO_ROOM => Err(LendError::NoRoom),
             sys::SPENT => Err(LendError::Spent { ticket: out.place }),
-            answer => unreachable!("scq_lend answered {}", answer),
+            answer => unreachable!("scq_lend_index answered {}", answer),
         }
     }
 
@@ -87,16 +97,13 @@ impl Port {
     pub fn take(&self, topic: u32) -> Result<Taken<'_>, TakeError> {
         let mut out = sys::scq_held::NONE;
         // SAFETY: one call at a time is made with the handle, and `out` is apart from it.
-        match unsafe { sys::scq_take(self.handle(), topic, &mut out) } {
-            sys::OK => {
-                let place = out.place;
-                Ok(Taken::new(Held::new(self, out), place))
-            }
+        match unsafe { sys::scq_take_index(self.handle(), topic, &mut out) } {
+            sys::OK => Ok(Taken::new(self.held(&out), out.place)),
             sys::EMPTY => Err(TakeError::Empty { head: out.place }),
             sys::NO_ROOM => Err(TakeError::NoRoom),
             sys::NO_TOPIC => Err(TakeError::NoTopic),
             sys::SPENT => Err(TakeError::Spent { ticket: out.place }),
-            answer => unreachable!("scq_take answered {}", answer),
+            answer => unreachable!("scq_take_index answered {}", answer),
         }
     }
 
@@ -130,7 +137,11 @@ impl fmt::Debug for Port {
 
 impl Drop for Port {
     fn drop(&mut self) {
+        let mut ended = sys::scq_ended { last: 0 };
         // SAFETY: nothing borrows the port. Where it isn't open, as in a queue that wasn't made, the call answers so.
-        let _ = unsafe { sys::scq_close(self.handle()) };
+        if unsafe { sys::scq_end(self.handle(), &mut ended) } == sys::OK {
+            // SAFETY: the port was opened over this memory, and its buffers are in nobody's hands.
+            unsafe { memory::leave(self.handle.get_mut().memory) };
+        }
     }
 }

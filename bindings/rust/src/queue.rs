@@ -1,5 +1,6 @@
 //! A queue, as its ports.
 use crate::error::OpenError;
+use crate::memory;
 use crate::port::Port;
 use crate::sys;
 use std::vec;
@@ -16,7 +17,7 @@ pub struct Setup {
     pub order: u32,
     /// How many topics there are, each a queue of its own over the same buffers: from 1 to 17.
     pub topics: u32,
-    /// How many bytes each buffer has: from 1.
+    /// How many bytes each buffer has: from 1. A buffer begins at a multiple of 64, so as many as the next one are taken for it.
     pub size: u32,
     /// How many buffers a port may hold at a time: from 1 to 2^`order`.
     pub hold: u32,
@@ -67,8 +68,13 @@ impl Queue {
         all.try_reserve_exact(ports).map_err(|_| OpenError::NoMemory)?;
         all.resize_with(ports, Port::none);
         let Setup { order, topics, size, hold, limit } = setup;
-        // SAFETY: a `Port` is a handle by its layout, all begin as SCQ_NONE, and there are so many of them.
-        let answer = unsafe { sys::scq_open(order, topics, size, hold, limit, all.as_mut_ptr().cast(), all.len()) };
+        let memory = memory::take(order, size, ports)?;
+        // SAFETY: a `Port` is an `scq_port` by its layout, all begin as SCQ_NONE, and there are so many of them.
+        let answer = unsafe { sys::scq_open_over(order, topics, hold, limit, &memory, all.as_mut_ptr().cast(), all.len()) };
+        if answer != sys::OK {
+            // SAFETY: no port was opened over it.
+            unsafe { memory::free(memory) };
+        }
         match answer {
             sys::OK => Ok(Queue { ports: all }),
             sys::NO_MEMORY => Err(OpenError::NoMemory),
@@ -78,7 +84,7 @@ impl Queue {
             sys::BAD_LIMIT => Err(OpenError::Limit),
             sys::BAD_SIZE => Err(OpenError::Size),
             sys::BAD_HOLD => Err(OpenError::Hold),
-            answer => unreachable!("scq_open answered {}", answer),
+            answer => unreachable!("scq_open_over answered {}", answer),
         }
     }
 

@@ -4,8 +4,18 @@
 #![allow(dead_code)]
 
 #[repr(C)]
+#[derive(Clone, Copy)]
+pub struct scq_memory {
+    pub base: *mut u8,
+    pub stride: usize,
+    pub len: usize,
+    pub block: *mut u8,
+}
+
+#[repr(C)]
 pub struct scq_port {
     pub at: *mut u8,
+    pub memory: scq_memory,
 }
 
 #[repr(C)]
@@ -23,24 +33,36 @@ pub struct scq_counts {
     pub full: u64,
 }
 
+#[repr(C)]
+pub struct scq_ended {
+    pub last: u32,
+}
+
+impl scq_port {
+    pub const NONE: scq_port = scq_port {
+        at: std::ptr::null_mut(),
+        memory: scq_memory { base: std::ptr::null_mut(), stride: 0, len: 0, block: std::ptr::null_mut() },
+    };
+}
+
 impl scq_held {
     pub const NONE: scq_held = scq_held { at: std::ptr::null_mut(), len: 0, place: 0, index: 0 };
 }
 
 extern "C" {
-    pub fn scq_open(order: u32, topics: u32, size: u32, hold: u32, limit: u64, ports: *mut scq_port, n: usize) -> u32;
-    pub fn scq_lend(port: *mut scq_port, out: *mut scq_held) -> u32;
-    pub fn scq_take(port: *mut scq_port, topic: u32, out: *mut scq_held) -> u32;
+    pub fn scq_open_over(order: u32, topics: u32, hold: u32, limit: u64, memory: *const scq_memory, ports: *mut scq_port, n: usize) -> u32;
+    pub fn scq_lend_index(port: *mut scq_port, out: *mut scq_held) -> u32;
+    pub fn scq_take_index(port: *mut scq_port, topic: u32, out: *mut scq_held) -> u32;
     pub fn scq_send(port: *mut scq_port, index: u32, topic: u32, place: *mut u64) -> u32;
     pub fn scq_give_back(port: *mut scq_port, index: u32) -> u32;
     pub fn scq_counts_of(port: *mut scq_port, out: *mut scq_counts) -> u32;
     pub fn scq_spent(port: *mut scq_port, ticket: *mut u64) -> u32;
-    pub fn scq_close(port: *mut scq_port) -> u32;
+    pub fn scq_end(port: *mut scq_port, out: *mut scq_ended) -> u32;
     pub fn scq_version() -> u32;
 }
 
 /// The version of the library that this crate is written for.
-pub const VERSION: u32 = 1;
+pub const VERSION: u32 = 2;
 
 pub const OK: u32 = 0;
 pub const EMPTY: u32 = 1;

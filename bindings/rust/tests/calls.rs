@@ -59,6 +59,27 @@ fn a_setup_out_of_range_is_refused() {
 }
 
 #[test]
+fn buffers_lie_apart_and_at_lines() {
+    for size in [1, 63, 64, 65, 200] {
+        let ports = ports(Setup { order: 3, size, hold: 8, ..SMALL }, 1);
+        let mut all: Vec<_> = (0..8).map(|_| ports[0].lend().unwrap()).collect();
+        for (at, lent) in all.iter_mut().enumerate() {
+            assert_eq!((lent.len(), lent.as_ptr() as usize % 64), (size as usize, 0));
+            lent.fill(at as u8);
+        }
+        for (at, lent) in all.iter().enumerate() {
+            assert!(lent.iter().all(|&byte| byte == at as u8));
+        }
+    }
+}
+
+#[test]
+fn more_bytes_than_there_are_is_refused() {
+    let refused = Queue::new(Setup { order: 12, size: u32::MAX, hold: 1, ..SMALL }, 1).expect_err("it is refused");
+    assert_eq!(refused, OpenError::NoMemory);
+}
+
+#[test]
 fn a_stock_that_is_lent_out_is_full() {
     let ports = ports(SMALL, 2);
     let all = [ports[0].lend().unwrap(), ports[0].lend().unwrap()];

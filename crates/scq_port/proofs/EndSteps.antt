@@ -1,10 +1,6 @@
 -- Each step keeps the rule of the table in which ports leave their passes, and what the table holds once it is closed.
-use Rattle.std.proofs.Common.{◌≡◌, ◌≢◌, ℕ, zero, suc, ◌+◌, ◌<◌, List, [], ◌∷◌, ◌++◌, map, length, replicate, refl, sym, ◌∙◌, ap, subst, inl, inr, arith}
-use Rattle.std.specs.Prelude.{◌⊎◌, Some, None, slice_index, slice_set, All, sum_by}
-use Rattle.std.specs.List.{Contains}
-use Rattle.std.proofs.lemmas.List.Elements.{All-nil, All-cons, All-head, All-tail, All-append, Contains-append_left, Contains-append_right}
-use Rattle.std.proofs.lemmas.List.Sums.{sum_by-cons}
-use Rattle.scq_law.specs.Hands.{times}
+use Rattle.std.proofs.Common.{◌≡◌, ◌≢◌, ℕ, zero, suc, ◌<◌, List, [], ◌∷◌, ◌++◌, map, length, replicate, refl, sym, ◌∙◌, ap, subst, inl, inr, arith}
+use Rattle.std.specs.Prelude.{◌⊎◌, Some, None, slice_index, slice_set}
 use Rattle.std.proofs.lemmas.Bool.{cases_eq}
 use Rattle.std.proofs.lemmas.List.{length-set, length-map, get_or-set_same, get_or-set_other}
 use mathlib.Core.Option.{some, none, some-injective, some-ne-none}
@@ -14,10 +10,9 @@ use Rattle.atomic_table.specs.Table.{State, Me, Allows, Arrives, Final, Seen, ke
 use Rattle.atomic_table.specs.Table as table
 use Rattle.atomic_table.proofs.Lists.{at_set, set_here, set_else, some_there}
 use Rattle.scq_queue.specs.Passes.{PassStanding}
-use Rattle.scq_queue.specs.Closing.{AreTheHeld}
 use Rattle.scq_port.specs.declared.port_buffer.PortBuffer.{PortBuffer}
 use Rattle.scq_port.specs.Ports.{PortQueue}
-use Rattle.scq_port.specs.Ends.{Laid, Claim, no_claim, claimed_at, laid_at, home_of, IsLeft, IsTrueClaim, EndsHold, HasClaimed, HasLaid}
+use Rattle.scq_port.specs.Ends.{Laid, Claim, no_claim, claimed_at, laid_at, home_of, IsPassOf, IsTrueClaim, EndsHold, HasClaimed, HasLaid}
 
 at_end : {A : Type 0} (l : List A) (a b : A) (j : ℕ) → get_elem? (l ++ a ∷ []) j ≡ some b → (get_elem? l j ≡ some b) ⊎ ((j ≡ length l) × (a ≡ b))
 at_end [] a b zero e = inr (refl, some-injective a b e)
@@ -184,7 +179,7 @@ Laying queue slots id i me =
 
 -- the pass of a port is laid in its slot
 pub lays : (queue : PortQueue) (slots id i : ℕ) (me : Me Laid Claim) (p : PassStanding PortBuffer) → i < slots → me ≡ (claimed_at i, (i, Some p) ∷ [])
-    → IsLeft queue p → Laying queue slots id i me
+    → IsPassOf queue i p → Laying queue slots id i me
 unfolding first_laid
 lays queue slots id i me p low is ok = subst (λ (m : Me Laid Claim). Laying queue slots id i m) (sym is) laid
   where
@@ -231,7 +226,7 @@ lays queue slots id i me p low is ok = subst (λ (m : Me Laid Claim). Laying que
               left =
                   λ k there two.
                   elim (cases_eq k i) [
-                    | inl same ↦ (p, ap (λ (j : ℕ). get_elem? homes j) same ∙ at_home, ok)
+                    | inl same ↦ (p, ap (λ (j : ℕ). get_elem? homes j) same ∙ at_home, subst (λ (j : ℕ). IsPassOf queue j p) (sym same) ok)
                     | inr apart ↦
                         let q = g.left k (let l = length-set s.homes i (some (Some p)) in omega (arith, there, l)) (sym (as_was k apart) ∙ two) in
                         (q.0, set_else s.homes i k (some (Some p)) apart ∙ q.1, q.2)
@@ -261,7 +256,7 @@ lays queue slots id i me p low is ok = subst (λ (m : Me Laid Claim). Laying que
 
 -- what lies in a slot of the closed table whose word is 2
 pub left_there : (queue : PortQueue) (id : ℕ) (b : Claim) (words : List ℕ) (slots : List Laid) → Final (Seen (EndsHold queue) id b) words slots
-    → (k : ℕ) (x : Laid) → k < length slots → slice_index words k ≡ 2 → get_elem? slots k ≡ some x → (p : PassStanding PortBuffer) × (x ≡ Some p) × IsLeft queue p
+    → (k : ℕ) (x : Laid) → k < length slots → slice_index words k ≡ 2 → get_elem? slots k ≡ some x → (p : PassStanding PortBuffer) × (x ≡ Some p) × IsPassOf queue k p
 left_there queue id b words slots final k x low two at =
     let s = final.0 in
     let g = final.1.0 in
@@ -275,37 +270,3 @@ pub own_there : (queue : PortQueue) (id : ℕ) (b : Claim) (words : List ℕ) (s
 own_there queue id b words slots final k p is =
     let t = final.1.0.claims id b k final.1.1 (ap (λ (x : Claim). x.at) is) in
     final.4 k (Some p) (t.home ∙ ap (λ (x : Claim). some (home_of x.pass)) is)
-
--- one more pass that was left
-pub next_all : (queue : PortQueue) (passes more : List (PassStanding PortBuffer)) (q : PassStanding PortBuffer) → more ≡ passes ++ q ∷ []
-    → All (IsLeft queue) passes → IsLeft queue q → All (IsLeft queue) more
-next_all queue passes more q is all one =
-    subst (λ (l : List (PassStanding PortBuffer)). All (IsLeft queue) l) (sym is)
-    (All-append (IsLeft queue) passes (q ∷ []) all (All-cons (IsLeft queue) q [] one (All-nil (IsLeft queue))))
-
-pub next_there : (passes more : List (PassStanding PortBuffer)) (slots : List Laid) (i : ℕ) (q : PassStanding PortBuffer) → more ≡ passes ++ q ∷ []
-    → get_elem? slots i ≡ some (Some q)
-    → (length passes ≡ i → (k : ℕ) (p : PassStanding PortBuffer) → k < i → get_elem? slots k ≡ some (Some p) → Contains passes p)
-    → length passes ≡ i → (k : ℕ) (p : PassStanding PortBuffer) → k < i + 1 → get_elem? slots k ≡ some (Some p) → Contains more p
-next_there passes more slots i q is here before many k p low at =
-    subst (λ (l : List (PassStanding PortBuffer)). Contains l p) (sym is)
-    (elim (cases_eq k i) [
-      | inl same ↦
-          let both : Some q ≡ Some p = some-injective (Some q) (Some p) (sym here ∙ ap (λ (j : ℕ). get_elem? slots j) (sym same) ∙ at) in
-          Contains-append_right passes (q ∷ []) p (0, omega arith, some_is both)
-      | inr other ↦ Contains-append_left passes (q ∷ []) p (before many k p (omega arith) at)
-    ])
-
--- values that are held: none
-pub none_held : (queue : PortQueue) (passes : List (PassStanding PortBuffer)) (i : ℕ) → All (IsLeft queue) passes
-    → 0 ≡ sum_by (λ (p : PassStanding PortBuffer). times i p.held) passes
-none_held queue [] i all = refl
-none_held queue (p ∷ ps) i all =
-    let rest = none_held queue ps i (All-tail (IsLeft queue) p ps all) in
-    let one : times i p.held ≡ 0 = ap (λ (l : List ℕ). times i l) (All-head (IsLeft queue) p ps all).none in
-    let cons = sum_by-cons (λ (q : PassStanding PortBuffer). times i q.held) p ps in
-    omega (arith, rest, one, cons)
-
-pub holds_none : (queue : PortQueue) (passes : List (PassStanding PortBuffer)) → All (IsLeft queue) passes → AreTheHeld queue passes []
-holds_none queue passes all =
-    record { queue_of = λ k h at. let no : None ≡ Some h = at in absurd (cc); all = λ i. none_held queue passes i all }

@@ -1,6 +1,6 @@
 -- What becomes of a pass whose values are given back, from the last place on: what it still holds (LetsGo), and which values went (Goes).
 use Rattle.std.proofs.Common.{◌≡◌, ℕ, ◌≤◌, List, [], ◌∷◌, ◌++◌, length, refl, sym, ◌∙◌, ap, subst, inl, inr, arith}
-use Rattle.std.specs.Prelude.{◌⊎◌, Option, Some, None, slice_get, filter_map, reverse}
+use Rattle.std.specs.Prelude.{◌⊎◌, Option, Some, None, filter_map, reverse}
 use Rattle.std.proofs.lemmas.Bool.{cases_eq}
 use Rattle.std.proofs.lemmas.List.{reverse-append, append_assoc}
 use Rattle.scq_law.specs.Hands.{times}
@@ -90,19 +90,35 @@ gives queue old new slots h place w before is =
 
 -- it can't be given back, since a ticket is spent: what is left is held as before
 pub leaves : (queue : PortQueue) (old new : PassStanding PortBuffer) (slots : List (Option Value)) → LetsGo queue old slots → IsAlike old new
-    → (i : ℕ) (h : Value) → slice_get slots i ≡ Some (Some h) → (h.index ≡ i) × IsHeldBy new h
-leaves queue old new slots before is i h at =
-    let stands = before.here i h at in (
-      stands.index,
-      record {
-        queue = stands.queue_of ∙ sym (is.queue ∙ before.own);
-        pass = stands.pass ∙ sym is.number;
-        holds =
-            contains_times new.held h.index
-            (let one : times h.index new.held ≡ 1 = ap (times h.index) is.held ∙ ap (λ k. times k old.held) stands.index ∙ stands.holds in
-            omega (arith, one));
-      },
-    )
+    → LetsGo new.queue new slots
+leaves queue old new slots before is =
+    record {
+      own = refl;
+      here =
+          λ i h at.
+          let stands = before.here i h at in
+          record {
+            queue_of = stands.queue_of ∙ sym (is.queue ∙ before.own);
+            pass = stands.pass ∙ sym is.number;
+            index = stands.index;
+            holds = ap (times i) is.held ∙ stands.holds;
+          };
+      free = λ i at. ap (times i) is.held ∙ before.free i at;
+      past = λ i at. ap (times i) is.held ∙ before.past i at;
+    }
+
+-- one that holds nothing has no values at any places
+pub holds_none : (p : PassStanding PortBuffer) → p.held ≡ [] → LetsGo p.queue p []
+holds_none p none =
+    record {
+      own = refl;
+      here = λ i h at. absurd (let no : None ≡ Some (Some h) = at in cc);
+      free = λ i at. absurd (none_some at);
+      past = λ i at. ap (times i) none;
+    }
+  where
+    none_some : {x : Option Value} → None ≡ Some x → ⊥
+    none_some {x} e = let no = e in cc
 
 -- all are given back
 pub ends : (queue : PortQueue) (p : PassStanding PortBuffer) (slots : List (Option Value)) → LetsGo queue p slots → length slots ≡ 0 → p.held ≡ []

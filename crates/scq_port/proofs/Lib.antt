@@ -2,7 +2,9 @@ pub mod Lists
 pub mod Keeping
 pub mod Records
 pub mod Going
+pub mod Unpacking
 pub mod Opened
 pub mod Sent
 pub mod EndSteps
+pub mod Gathering
 mod CellsMemory

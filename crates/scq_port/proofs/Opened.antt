@@ -1,12 +1,16 @@
 -- The ports of a new queue, made one by one.
-use Rattle.std.proofs.Common.{◌≡◌, ℕ, zero, suc, List, [], ◌∷◌, ◌++◌, length, map, refl, sym, ◌∙◌, ap, subst, arith, append_assoc}
-use Rattle.std.specs.Prelude.{All, reverse, Result, Ok, Err, IfOk}
-use Rattle.std.proofs.lemmas.List.{reverse-append, length-append}
+use Rattle.std.proofs.Common.{◌≡◌, ℕ, zero, suc, List, [], ◌∷◌, ◌++◌, length, map, refl, sym, ◌∙◌, ap, subst, inl, inr, arith, append_assoc}
+use Rattle.std.specs.Prelude.{All, reverse, Result, Ok, Err, IfOk, Some, None, slice_get}
+use Rattle.std.proofs.lemmas.Bool.{cases_eq}
+use Rattle.std.proofs.lemmas.List.{reverse-append, length-append, length-map, map-append}
 use Rattle.std.proofs.lemmas.List.Elements.{All-cons}
 use Rattle.scq_queue.specs.Passes.{PassStanding, first_pass, first_passes}
 use Rattle.scq_port.specs.declared.port_buffer.PortBuffer.{PortBuffer}
-use Rattle.scq_port.specs.Ports.{PortQueue}
+use Rattle.scq_port.specs.Ports.{PortQueue, PortStanding}
+use Rattle.scq_port.specs.Calls.{new_port}
 use Rattle.scq_port.specs.Kept.{IsFresh}
+use Rattle.scq_queue.proofs.Leaving.{get_last}
+use Rattle.scq_port.proofs.Unpacking.{before_last}
 
 -- the passes of a new queue hold nothing, from the last to the first
 pub all_fresh : (queue : PortQueue) (n : ℕ) → All (IsFresh queue) (reverse (first_passes queue n))
@@ -38,6 +42,45 @@ one_more f made more left rest x y all before last new is =
     ap (λ l. l ++ map f (reverse rest)) new ∙ append_assoc made (y ∷ []) (map f (reverse rest))
     ∙ ap (λ z. made ++ z ∷ map f (reverse rest)) is
     ∙ ap (λ l. made ++ map f l) (sym (reverse-append rest (x ∷ []))) ∙ ap (λ l. made ++ map f (reverse l)) (sym last) ∙ before
+
+get_middle : {A : Type 0} (xs ys : List A) (y : A) → slice_get (xs ++ y ∷ ys) (length xs) ≡ Some y
+get_middle [] ys y = refl
+get_middle (x ∷ xs) ys y = get_middle xs ys y
+
+-- the pass of each port of a new queue has the port's number
+new_number : (queue : PortQueue) (hold n k : ℕ) (s : PortStanding) → slice_get (map (new_port hold) (first_passes queue n)) k ≡ Some s → s.pass.number ≡ k
+new_number queue hold zero k s at = absurd (let no : None ≡ Some s = at in cc)
+new_number queue hold (suc n) k s at =
+    elim (cases_eq k (length before)) [
+      | inl last ↦
+          let both : Some (new_port hold (first_pass queue n)) ≡ Some s =
+          sym (get_last before (new_port hold (first_pass queue n)))
+          ∙ ap (λ (i : ℕ). slice_get (before ++ new_port hold (first_pass queue n) ∷ []) i) (sym last) ∙ here in
+          let same : new_port hold (first_pass queue n) ≡ s = cc in
+          sym (ap (λ (t : PortStanding). t.pass.number) same) ∙ sym many ∙ sym last
+      | inr other ↦ new_number queue hold n k s (sym (before_last before (new_port hold (first_pass queue n)) k other) ∙ here)
+    ]
+  where
+    before : List PortStanding
+    before = map (new_port hold) (first_passes queue n)
+
+    many : length before ≡ n
+    many = length-map (first_passes queue n) (new_port hold) ∙ first_passes_length queue n
+
+    here : slice_get (before ++ new_port hold (first_pass queue n) ∷ []) k ≡ Some s
+    here =
+        ap (λ (l : List PortStanding). slice_get l k) (sym (map-append (new_port hold) (first_passes queue n) (first_pass queue n ∷ []))) ∙ at
+
+-- the next of those that are made from the last of what is left
+pub next_number : (queue : PortQueue) (hold n : ℕ) (made : List PortStanding) (all left rest : List (PassStanding PortBuffer)) (x : PassStanding PortBuffer)
+    → made ++ map (new_port hold) (reverse left) ≡ map (new_port hold) all → all ≡ first_passes queue n → left ≡ rest ++ x ∷ [] → x.number ≡ length made
+next_number queue hold n made all left rest x before first last =
+    new_number queue hold n (length made) (new_port hold x)
+    (ap (λ (l : List PortStanding). slice_get l (length made))
+    (sym (before ∙ ap (λ (l : List (PassStanding PortBuffer)). map (new_port hold) l) first)
+    ∙ ap (λ (l : List (PassStanding PortBuffer)). made ++ map (new_port hold) (reverse l)) last
+    ∙ ap (λ (l : List (PassStanding PortBuffer)). made ++ map (new_port hold) l) (reverse-append rest (x ∷ [])))
+    ∙ get_middle made (map (new_port hold) (reverse rest)) (new_port hold x))
 
 -- where it went well
 pub if_ok : {A E : Type 0} (r : Result A E) (P Q : A → Type 0) → ((a : A) → P a → Q a) → IfOk r P → IfOk r Q

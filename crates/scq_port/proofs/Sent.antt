@@ -1,11 +1,13 @@
 -- A port may go to another thread: so may its pass and its values, and the queue may go and be shared; and buffers may go and be shared.
-use denote.Builtin.{u8, u64, usize, bool}
+use denote.Builtin.{u8, u32, u64, usize, bool}
+use denote.RattleType.{RattleType}
 use denote.Param.Send.{IsSend, IsSync, sendable, view_send, view_sync}
 use denote.Param.SendFields.{declared_send, declared_sync}
 use Rattle.std.proofs.Crossing as crossing
 use Rattle.std.proofs.alloc.Global.TheSendSync as heap
 use Rattle.std.specs.contracts.alloc.Global as alloc
 use Rattle.std.specs.contracts.option.Option as option
+use Rattle.std.specs.contracts.vec.Vec as vec
 use Rattle.std.specs.contracts.impls.GlobalAllocator.TheImpl.{ghosts}
 use Rattle.atomic_table.proofs.shared.Shared.TheSendSync as words
 use Rattle.atomic_table.proofs.send_lease.SendLease.TheSendSync as lease
@@ -36,10 +38,12 @@ use Rattle.scq_queue.specs.contracts.pass.Pass.TheInside as pass_inside
 use Rattle.scq_port.specs.contracts.ends.Ends as ends
 use Rattle.scq_port.specs.contracts.ends.Knows as knows
 use Rattle.scq_port.specs.contracts.ends.EndRule as end_rule
-use Rattle.scq_port.specs.contracts.ends.EndRuleTableRuleOptionPassPortBufferKnowsSnapshotQueuePortBuffer.TheImpl as end_rules
+use Rattle.scq_port.specs.contracts.ends.EndRuleTableRuleOptionLeavingKnowsSnapshotQueuePortBuffer.TheImpl as end_rules
 use Rattle.scq_port.specs.contracts.port_buffer.PortBuffer as buffer
 use Rattle.scq_port.specs.contracts.port_buffer.PortBufferBuffer.TheImpl as buffers
 use Rattle.scq_port.specs.contracts.hand.Hand as hand
+use Rattle.scq_port.specs.contracts.leaving.Leaving as leaving
+use Rattle.scq_port.specs.contracts.leaving.Leaving.TheInside as leaving_inside
 use Rattle.scq_port.specs.contracts.owner.Owner as owner
 use Rattle.scq_port.specs.contracts.port.Port as port
 use Rattle.scq_port.specs.contracts.port.Port.TheInside as port_inside
@@ -106,36 +110,52 @@ queue_sent =
 usize_sync : IsSync usize
 usize_sync = search sendable
 
-left_sent : IsSend (option.the_row (pass.the_row buffer.the_row buffers.ghosts))
-left_sent = option_sent (pass.the_row buffer.the_row buffers.ghosts) (pass_sent buffer.the_row buffers.ghosts buffer_sent)
+held_sent : IsSend (held.the_row buffer.the_row buffers.ghosts)
+held_sent =
+    view_send (held_inside.the_row buffer.the_row buffers.ghosts) _ _ _ _
+    (declared_send (held_inside.the_type buffer.the_row buffers.ghosts) (
+      u32_sent,
+      (buffer_sent, (snapshot_sent (seat.the_row buffer.the_row buffers.ghosts), tt)),
+    ))
 
-end_table_sent : IsSend (table.the_row (option.the_row (pass.the_row buffer.the_row buffers.ghosts)) knows.the_row (snapshot.the_row (queue.the_row buffer.the_row buffers.ghosts)) end_rule.the_row alloc.the_row end_rules.ghosts ghosts)
+values_sent : IsSend (vec.the_row (option.the_row (held.the_row buffer.the_row buffers.ghosts)) alloc.the_row ghosts)
+values_sent = vec_sent (option.the_row (held.the_row buffer.the_row buffers.ghosts)) (option_sent (held.the_row buffer.the_row buffers.ghosts) held_sent)
+
+leaving_sent : IsSend leaving.the_row
+leaving_sent =
+    view_send leaving_inside.the_row _ _ _ _
+    (declared_send leaving_inside.the_type (pass_sent buffer.the_row buffers.ghosts buffer_sent, (values_sent, tt)))
+
+left_sent : IsSend (option.the_row leaving.the_row)
+left_sent = option_sent leaving.the_row leaving_sent
+
+end_table_sent : IsSend (table.the_row (option.the_row leaving.the_row) knows.the_row (snapshot.the_row (queue.the_row buffer.the_row buffers.ghosts)) end_rule.the_row alloc.the_row end_rules.ghosts ghosts)
 end_table_sent =
-    declared_send (table.the_type (option.the_row (pass.the_row buffer.the_row buffers.ghosts)) knows.the_row (snapshot.the_row (queue.the_row buffer.the_row buffers.ghosts)) end_rule.the_row alloc.the_row end_rules.ghosts ghosts) (
-      words.the_send (option.the_row (pass.the_row buffer.the_row buffers.ghosts)) knows.the_row (snapshot.the_row (queue.the_row buffer.the_row buffers.ghosts)) end_rule.the_row end_rules.ghosts left_sent,
+    declared_send (table.the_type (option.the_row leaving.the_row) knows.the_row (snapshot.the_row (queue.the_row buffer.the_row buffers.ghosts)) end_rule.the_row alloc.the_row end_rules.ghosts ghosts) (
+      words.the_send (option.the_row leaving.the_row) knows.the_row (snapshot.the_row (queue.the_row buffer.the_row buffers.ghosts)) end_rule.the_row end_rules.ghosts left_sent,
       (
         usize_sent,
         (
           usize_sent,
           (
             lease.the_send u64 alloc.the_row ghosts heap.the_send crossing.frees,
-            (lease.the_send (option.the_row (pass.the_row buffer.the_row buffers.ghosts)) alloc.the_row ghosts heap.the_send crossing.frees, (heap.the_send, tt)),
+            (lease.the_send (option.the_row leaving.the_row) alloc.the_row ghosts heap.the_send crossing.frees, (heap.the_send, tt)),
           ),
         ),
       ),
     )
 
-end_table_sync : IsSync (table.the_row (option.the_row (pass.the_row buffer.the_row buffers.ghosts)) knows.the_row (snapshot.the_row (queue.the_row buffer.the_row buffers.ghosts)) end_rule.the_row alloc.the_row end_rules.ghosts ghosts)
+end_table_sync : IsSync (table.the_row (option.the_row leaving.the_row) knows.the_row (snapshot.the_row (queue.the_row buffer.the_row buffers.ghosts)) end_rule.the_row alloc.the_row end_rules.ghosts ghosts)
 end_table_sync =
-    declared_sync (table.the_type (option.the_row (pass.the_row buffer.the_row buffers.ghosts)) knows.the_row (snapshot.the_row (queue.the_row buffer.the_row buffers.ghosts)) end_rule.the_row alloc.the_row end_rules.ghosts ghosts) (
-      words.the_sync (option.the_row (pass.the_row buffer.the_row buffers.ghosts)) knows.the_row (snapshot.the_row (queue.the_row buffer.the_row buffers.ghosts)) end_rule.the_row end_rules.ghosts left_sent,
+    declared_sync (table.the_type (option.the_row leaving.the_row) knows.the_row (snapshot.the_row (queue.the_row buffer.the_row buffers.ghosts)) end_rule.the_row alloc.the_row end_rules.ghosts ghosts) (
+      words.the_sync (option.the_row leaving.the_row) knows.the_row (snapshot.the_row (queue.the_row buffer.the_row buffers.ghosts)) end_rule.the_row end_rules.ghosts left_sent,
       (
         usize_sync,
         (
           usize_sync,
           (
             lease.the_sync u64 alloc.the_row ghosts heap.the_send crossing.frees,
-            (lease.the_sync (option.the_row (pass.the_row buffer.the_row buffers.ghosts)) alloc.the_row ghosts heap.the_send crossing.frees, (heap.the_sync, tt)),
+            (lease.the_sync (option.the_row leaving.the_row) alloc.the_row ghosts heap.the_send crossing.frees, (heap.the_sync, tt)),
           ),
         ),
       ),
@@ -159,6 +179,20 @@ pass_sync =
     (declared_sync (pass_inside.the_type buffer.the_row buffers.ghosts)
     (seat_sync buffer.the_row buffers.ghosts buffer_sent, (fulls_sync, (counts_sync, (bool_sync, tt)))))
 
+snapshot_sync : (Y : RattleType) → IsSync (snapshot.the_row Y)
+snapshot_sync Y = search (sendable, crossing.crosses)
+
+u32_sync : IsSync u32
+u32_sync = search sendable
+
+held_sync : IsSync (held.the_row buffer.the_row buffers.ghosts)
+held_sync =
+    view_sync (held_inside.the_row buffer.the_row buffers.ghosts) _ _ _ _
+    (declared_sync (held_inside.the_type buffer.the_row buffers.ghosts) (
+      u32_sync,
+      (buffer_sync, (snapshot_sync (seat.the_row buffer.the_row buffers.ghosts), tt)),
+    ))
+
 ends_sent : IsSend ends.the_row
 ends_sent = declared_send ends.the_type (end_table_sent, tt)
 
@@ -169,26 +203,30 @@ owner_sent : IsSend owner.the_row
 owner_sent =
     declared_send owner.the_type (
       queue_sent,
-      (ends_sent, (vec_sent (pass.the_row buffer.the_row buffers.ghosts) (pass_sent buffer.the_row buffers.ghosts buffer_sent), (heap.the_send, tt))),
+      (
+        ends_sent,
+        (
+          vec_sent (pass.the_row buffer.the_row buffers.ghosts) (pass_sent buffer.the_row buffers.ghosts buffer_sent),
+          (vec_sent (held.the_row buffer.the_row buffers.ghosts) held_sent, (heap.the_send, tt)),
+        ),
+      ),
     )
 
 owner_sync : IsSync owner.the_row
 owner_sync =
     declared_sync owner.the_type (
       queue_sync buffer.the_row buffers.ghosts buffer_sent buffer_sync,
-      (ends_sync, (vec_sync (pass.the_row buffer.the_row buffers.ghosts) pass_sync, (heap.the_sync, tt))),
+      (
+        ends_sync,
+        (
+          vec_sync (pass.the_row buffer.the_row buffers.ghosts) pass_sync,
+          (vec_sync (held.the_row buffer.the_row buffers.ghosts) held_sync, (heap.the_sync, tt)),
+        ),
+      ),
     )
 
-held_sent : IsSend (held.the_row buffer.the_row buffers.ghosts)
-held_sent =
-    view_send (held_inside.the_row buffer.the_row buffers.ghosts) _ _ _ _
-    (declared_send (held_inside.the_type buffer.the_row buffers.ghosts) (
-      u32_sent,
-      (buffer_sent, (snapshot_sent (seat.the_row buffer.the_row buffers.ghosts), tt)),
-    ))
-
 hand_sent : IsSend hand.the_row
-hand_sent = declared_send hand.the_type (vec_sent (option.the_row (held.the_row buffer.the_row buffers.ghosts)) (option_sent (held.the_row buffer.the_row buffers.ghosts) held_sent), (u32_sent, (u32_sent, tt)))
+hand_sent = declared_send hand.the_type (values_sent, (u32_sent, (u32_sent, tt)))
 
 pub port_sent : IsSend port.the_row
 port_sent =

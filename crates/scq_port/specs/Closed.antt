@@ -1,25 +1,26 @@
--- What the last port of a queue that closes is told: all that the queue's close says, of the passes of all ports as each of them closed.
-use Rattle.std.specs.Prelude.{◌≡◌, ℕ, List, length, All}
-use Rattle.std.specs.List.{Contains}
+-- What the last port of a queue that closes is told: all that the queue's close says, of the passes
+-- of all ports as each of them closed.
+use Rattle.std.specs.Prelude.{ℕ, List}
 use Rattle.scq_band.specs.Buffers.{opening_of}
-use Rattle.scq_band.specs.Closing.{IsOneRunToTheEnd}
+use Rattle.scq_band.specs.Closing.{IsOneRunToTheEnd, EachIsInOneHand}
 use Rattle.scq_queue.specs.Passes.{PassStanding}
 use Rattle.scq_queue.specs.Closing.{EachTakeIsASend, NoPlaceIsSentTwice, NoPlaceIsTakenTwice}
-use Rattle.scq_queue.specs.Closing.{IsBalance, EachSendPassedIsTaken, AllFullsStand}
-use Rattle.scq_queue.specs.Closing.{EachKeptIsPastTheBound, NoneIsKeptWithinTheLimit}
-use Rattle.scq_queue.specs.Closing.{records_of, all_held, callers_of}
+use Rattle.scq_queue.specs.Closing.{IsBalance, EachSendPassedIsTaken, IsAllThere}
+use Rattle.scq_queue.specs.Closing.{AllFullsStand, EachKeptIsPastTheBound}
+use Rattle.scq_queue.specs.Closing.{NoneIsKeptWithinTheLimit, records_of, all_held, callers_of}
 use Rattle.scq_port.specs.declared.port_buffer.PortBuffer.{PortBuffer}
-use Rattle.scq_port.specs.Ports.{PortQueue, bytes_of}
-use Rattle.scq_port.specs.Ends.{IsLeft}
+use Rattle.scq_port.specs.Ports.{PortQueue, Value, bytes_of}
+use Rattle.scq_port.specs.Ends.{AreAll}
 
--- all passes of the queue are these, none of which holds a value, and the port that closed last had this one. One run stands behind all
--- their calls: it has the four aspects, and each ring's calls stand in one order in which every reply is a plain queue's
+-- all passes of the queue are these, in the order of their numbers, with the values that couldn't be
+-- given back, as a ticket was spent; the port that closed last had this pass. One run stands behind
+-- all their calls: it has the four aspects, and each ring's calls stand in one order in which every
+-- reply is a plain queue's
 pub record HasClosed (queue : PortQueue) (last : PassStanding PortBuffer)
     (passes : List (PassStanding PortBuffer)) (left : List ℕ) (bytes : List (List ℕ))
     : Type 0 where
-  pub own : All (IsLeft queue) passes
-  pub all : length passes ≡ queue.setup.seats
-  pub its : Contains passes last
+  pub values : List Value
+  pub are_all : AreAll queue last passes values
   pub run : IsOneRunToTheEnd queue.setup (opening_of bytes_of queue.given) (callers_of passes)
       (records_of passes) (all_held passes) bytes
   pub takes : EachTakeIsASend passes
@@ -27,6 +28,8 @@ pub record HasClosed (queue : PortQueue) (last : PassStanding PortBuffer)
   pub taken_once : NoPlaceIsTakenTwice passes
   pub balance : IsBalance queue.setup passes left
   pub passed : EachSendPassedIsTaken passes
+  pub all_there : IsAllThere queue.setup values left
+  pub hands : EachIsInOneHand queue.setup (all_held passes)
   pub fulls : AllFullsStand passes
   pub kept : EachKeptIsPastTheBound queue.setup passes
   pub limits : NoneIsKeptWithinTheLimit queue.setup passes

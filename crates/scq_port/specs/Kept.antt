@@ -1,11 +1,15 @@
 -- For private calls: what a port keeps.
-use Rattle.std.specs.Prelude.{◌≡◌, ℕ, ◌+◌, ◌<◌, ◌≤◌, List, [], length, Option, Some, None, slice_get}
+use Rattle.std.specs.Prelude.{◌≡◌, ℕ, ◌+◌, ◌<◌, ◌≤◌, List, [], length, map, Option, Some, None, slice_get}
 use Rattle.scq_law.specs.Hands.{times}
 use Rattle.scq_word.specs.Sizes.{n_of}
 use Rattle.scq_queue.specs.Passes.{PassStanding}
 use Rattle.scq_port.specs.declared.port_buffer.PortBuffer.{PortBuffer}
 use Rattle.scq_port.specs.declared.hand.Hand.{Hand}
 use Rattle.scq_port.specs.Ports.{PortStanding, PortQueue, Value}
+
+-- the indices of values
+abbrev pub indices : List Value → List ℕ
+indices values = map (λ (h : Value). h.index) values
 
 -- a value stands at its index, and is one that this pass of the queue holds
 pub record StandsAt (queue : PortQueue) (p : PassStanding PortBuffer) (i : ℕ) (h : Value) : Type 0 where
@@ -28,10 +32,12 @@ pub record Keeps (queue : PortQueue) (p : PassStanding PortBuffer) (slots : List
 abbrev pub KeepsHand : PortQueue → PassStanding PortBuffer → Hand → Type 0
 KeepsHand queue p hand = Keeps queue p hand.slots.items hand.used hand.hold
 
--- a port's pass and values, and how many topics its queue has
-pub record IsPort (queue : PortQueue) (p : PassStanding PortBuffer) (hand : Hand) (many number : ℕ) : Type 0 where
+-- a port's pass and values, how many topics its queue has, and the number of its pass
+pub record IsPort (queue : PortQueue) (p : PassStanding PortBuffer) (hand : Hand)
+    (many number : ℕ) : Type 0 where
   pub keeps : KeepsHand queue p hand
   pub topics : many + 1 ≡ queue.setup.rings
+  pub number_is : p.number ≡ number
   pub low : number < queue.setup.seats
 
 -- what contracts see of a port with this pass and these values
@@ -50,3 +56,10 @@ pub record LetsGo (queue : PortQueue) (p : PassStanding PortBuffer) (slots : Lis
   pub here : (i : ℕ) (h : Value) → slice_get slots i ≡ Some (Some h) → StandsAt queue p i h
   pub free : (i : ℕ) → slice_get slots i ≡ Some None → times i p.held ≡ 0
   pub past : (i : ℕ) → slice_get slots i ≡ None → times i p.held ≡ 0
+
+-- the values that a pass of the queue holds were put behind others
+pub record AreAdded (queue : PortQueue) (p : PassStanding PortBuffer) (before after : List Value)
+    : Type 0 where
+  pub own : ((k : ℕ) (h : Value) → slice_get before k ≡ Some h → h.queue ≡ queue)
+      → (k : ℕ) (h : Value) → slice_get after k ≡ Some h → h.queue ≡ queue
+  pub more : (i : ℕ) → times i (indices after) ≡ times i (indices before) + times i p.held

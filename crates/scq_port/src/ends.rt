@@ -1,18 +1,17 @@
 //! Where ports leave their passes when they close, so that the last one finds all of them.
-ghost use Rattle.std.specs.Prelude.{◌≡◌, ◌<◌, ◌≤◌, [], All, IfOk, IfSome};
-ghost use Rattle.std.specs.Prelude.{vec_len, vec_capacity};
-ghost use Rattle.std.specs.List.{Contains};
-ghost use Rattle.scq_port.specs.Ends.{laid_at, IsLeft};
+ghost use Rattle.std.specs.Prelude.{◌≡◌, ◌<◌, ◌≤◌, [], IfOk, IfSome, vec_capacity};
+ghost use Rattle.scq_port.specs.Ends.{laid_at, IsPassOf, AreAll};
 
+use crate::leaving::{Leaving, drop_values};
 use crate::port_buffer::PortBuffer;
 use atomic_table::{Play, Refused, Seat, Table, TableRule};
-use scq_queue::{Pass, Queue};
+use scq_queue::{Held, Pass, Queue};
 use scq_word::NoMemory;
 use std::alloc::Global;
 use std::marker::Model;
 use std::snapshot::Snapshot;
 
-/// The word of a slot whose port has begun to close, and of one in which its pass lies. It is 0 before.
+/// The word of a slot whose port has begun to close, and of one in which its pass lies; 0 before.
 const BEGUN: u64 = 1;
 
 const LAID: u64 = 2;
@@ -31,7 +30,7 @@ impl Model for Knows {
 /// In each slot whose word is 2 lies a pass of the queue. The key is the queue.
 pub struct EndRule {}
 
-impl TableRule<Option<Pass<PortBuffer>>, Knows, Snapshot<Queue<PortBuffer>>> for EndRule {
+impl TableRule<Option<Leaving>, Knows, Snapshot<Queue<PortBuffer>>> for EndRule {
     ghost use Rattle.scq_port.specs.Ends.{EndsHold, no_claim};
 
     ghost holds = { λ key. EndsHold key.value };
@@ -42,7 +41,7 @@ impl TableRule<Option<Pass<PortBuffer>>, Knows, Snapshot<Queue<PortBuffer>>> for
 /// The step by which a port claims its slot.
 struct Claims;
 
-impl Play<Option<Pass<PortBuffer>>, Knows> for Claims {
+impl Play<Option<Leaving>, Knows> for Claims {
     ghost use Rattle.scq_port.specs.Ends.{HasClaimed};
 
     ghost then = { λ st me n later. HasClaimed st.word n later };
@@ -51,40 +50,35 @@ impl Play<Option<Pass<PortBuffer>>, Knows> for Claims {
 /// The step by which a port leaves what it laid in its slot.
 struct Leaves;
 
-impl Play<Option<Pass<PortBuffer>>, Knows> for Leaves {
+impl Play<Option<Leaving>, Knows> for Leaves {
     ghost use Rattle.scq_port.specs.Ends.{HasLaid};
 
     ghost then = { λ st me n later. HasLaid st.word me.1 later.0 };
 }
 
-pub type EndToken = Seat<Option<Pass<PortBuffer>>, Knows>;
+pub type EndToken = Seat<Option<Leaving>, Knows>;
 
 /// A slot for each port of a queue.
 #[derive(Drop)]
 pub struct Ends {
-    pub(crate) table: Table<
-        Option<Pass<PortBuffer>>,
-        Knows,
-        Snapshot<Queue<PortBuffer>>,
-        EndRule,
-        Global,
-    >,
-    ghost sized: { table.shared.table_id.words ≡ table.shared.table_id.slots },
+    pub(crate) table: Table<Option<Leaving>, Knows, Snapshot<Queue<PortBuffer>>, EndRule, Global>,
+    ghost words: { table.shared.table_id.words ≡ table.shared.table_id.slots },
+    ghost slots: { table.shared.table_id.slots ≡ table.shared.key.value.setup.seats },
 }
 
 impl Ends {
-    /// Slots for so many ports of a queue, in which nothing lies.
+    /// Slots for the ports of a queue, as many as it has seats, in which nothing lies.
     pub(crate) fn new(
         alloc: Global,
         queue: &Queue<PortBuffer>,
-        count: u32,
+        seats: u32,
     ) -> Result<Ends, NoMemory>
-        ensures queue { IfOk result (λ made. made.table.shared.key.value ≡ queue.now) }
-        ensures count { IfOk result (λ made. made.table.shared.table_id.slots ≡ count) }
+        requires seats { seats ≡ queue.now.setup.seats }
+        ensures { IfOk result (λ made. made.table.shared.key.value ≡ queue.now) }
     {
-        let words: Vec<u64> = Vec::from_elem(alloc, 0, count as usize)?;
-        let mut slots: Vec<Option<Pass<PortBuffer>>> = Vec::with_capacity(alloc, count as usize)?;
-        while slots.len() < count as usize {
+        let words: Vec<u64> = Vec::from_elem(alloc, 0, seats as usize)?;
+        let mut slots: Vec<Option<Leaving>> = Vec::with_capacity(alloc, seats as usize)?;
+        while slots.len() < seats as usize {
             slots.push_reserved(None);
         }
         let key = Snapshot::of(queue);
@@ -96,11 +90,11 @@ impl Ends {
 
     /// Leaves the pass of a port in the slot of its number. None where one was left there, which
     /// no port meets, as each closes once.
-    pub(crate) fn leave(&self, number: u32, pass: Pass<PortBuffer>) -> Option<EndToken>
-        requires pass { IsLeft self.now.table.shared.key.value pass }
+    pub(crate) fn leave(&self, number: u32, leaving: Leaving) -> Option<EndToken>
+        requires pass { IsPassOf self.now.table.shared.key.value number leaving }
         requires low { number < self.now.table.shared.table_id.slots }
         ensures own { IfSome result (λ t. t.table_id ≡ self.now.table.shared.table_id) }
-        ensures laid { IfSome result (λ t. t.me.0 ≡ laid_at number pass) }
+        ensures laid { IfSome result (λ t. t.me.0 ≡ laid_at number leaving) }
     {
         let shared = &self.table.shared;
         let slot = number as usize;
@@ -108,42 +102,48 @@ impl Ends {
         if found != 0 {
             return None;
         }
-        drop(shared.exchange(&mut token, slot, Some(pass)));
+        drop(shared.exchange(&mut token, slot, Some(leaving)));
         shared.store::<Leaves>(&mut token, slot, LAID);
         Some(token)
     }
 
-    /// All passes that were left, put into an empty list with room. Where they are all, that of
-    /// the token is among them.
+    /// All passes, in the order of their numbers, with that of the token, and the values that they
+    /// hold, put into empty lists with room. None where one of them was not left, or where there
+    /// isn't room for the values: the last port meets neither.
+    #[tactic(auto, using(crate::proofs::Gathering::gathered_none))]
     pub(crate) fn gather(
         self,
         token: EndToken,
         mut passes: Vec<Pass<PortBuffer>>,
-        number: u32,
-        last: Snapshot<Pass<PortBuffer>>,
-    ) -> Vec<Pass<PortBuffer>>
+        mut values: Vec<Held<PortBuffer>>,
+        last: Snapshot<Leaving>,
+    ) -> Option<(Vec<Pass<PortBuffer>>, Vec<Held<PortBuffer>>)>
         requires own { token.table_id ≡ self.table.shared.table_id }
-        requires laid { token.me.0 ≡ laid_at number last.value }
-        requires low { number < self.table.shared.table_id.slots }
-        requires empty { passes.items ≡ [] }
+        requires laid { token.me.0 ≡ laid_at last.value.number last.value }
+        requires low { last.value.number < self.table.shared.table_id.slots }
+        requires empty { (passes.items ≡ []) × (values.items ≡ []) }
         requires room { self.table.shared.table_id.slots ≤ vec_capacity passes }
-        ensures passes { All (IsLeft self.table.shared.key.value) result.items }
-        ensures few { vec_len result ≤ self.table.shared.table_id.slots }
-        ensures all { vec_len result ≡ self.table.shared.table_id.slots
-            → Contains result.items last.value }
+        ensures { IfSome result (λ found.
+            AreAll self.table.shared.key.value last.value found.0.items found.1.items) }
     {
         let Ends { table } = self;
         let mut closed = table.close_with(token);
         let mut slot = 0;
         while slot < closed.slot_count() {
-            let left = closed.take(slot);
+            let laid = closed.take(slot);
             if closed.word(slot) == LAID {
-                let Some(pass) = left else { unreachable!() };
-                passes.push_reserved(pass);
+                let Some(leaving) = laid else { unreachable!() };
+                if let Some(pass) = leaving.unpack(&mut values) {
+                    passes.push_reserved(pass);
+                }
             }
             slot += 1;
         }
         closed.free();
-        passes
+        if passes.len() < slot {
+            drop_values(values);
+            return None;
+        }
+        Some((passes, values))
     }
 }

@@ -18,6 +18,7 @@ pub(crate) fn lend(
     requires kept { KeepsHand queue.now pass.old hand.old }
     requires room { hand.old.used < hand.old.hold }
     ensures kept { KeepsHand queue.now pass.new hand.new }
+    ensures number { pass.new.number ≡ pass.old.number }
     ensures lent { IfOk result (λ index. IsLent index (seen_as pass.old hand.old) (seen_as pass.new hand.new)) }
     ensures no_room { result ≢ Err LendRefusal.NoRoom }
     ensures full { (head : ℕ) → result ≡ Err (LendRefusal.Full head) → WasFull head (seen_as pass.old hand.old) (seen_as pass.new hand.new) }
@@ -46,6 +47,7 @@ pub(crate) fn take(
     requires topic { topic + 1 < queue.now.setup.rings }
     requires room { hand.old.used < hand.old.hold }
     ensures kept { KeepsHand queue.now pass.new hand.new }
+    ensures number { pass.new.number ≡ pass.old.number }
     ensures taken { IfOk result (λ r. IsTaken topic r.0 r.1 (seen_as pass.old hand.old) (seen_as pass.new hand.new)) }
     ensures tested { (result ≢ Err TakeRefusal.NoTopic) × (result ≢ Err TakeRefusal.NoRoom) }
     ensures empty { (head : ℕ) → result ≡ Err (TakeRefusal.Empty head)
@@ -75,6 +77,7 @@ pub(crate) fn send(
     requires kept { KeepsHand queue.now pass.old hand.old }
     requires topic { topic + 1 < queue.now.setup.rings }
     ensures kept { KeepsHand queue.now pass.new hand.new }
+    ensures number { pass.new.number ≡ pass.old.number }
     ensures sent { IfOk result (λ place. IsSent index topic place (seen_as pass.old hand.old) (seen_as pass.new hand.new)) }
     ensures topic { result ≢ Err SendRefusal.NoTopic }
     ensures not_held { result ≡ Err SendRefusal.NotHeld → HoldsNoSuch index (seen_as pass.old hand.old) (seen_as pass.new hand.new) }
@@ -108,6 +111,7 @@ pub(crate) fn give_back(
 ) -> Result<(), GiveBackRefusal>
     requires kept { KeepsHand queue.now pass.old hand.old }
     ensures kept { KeepsHand queue.now pass.new hand.new }
+    ensures number { pass.new.number ≡ pass.old.number }
     ensures given { IfOk result (λ _. IsGivenBack index (seen_as pass.old hand.old) (seen_as pass.new hand.new)) }
     ensures not_held { result ≡ Err GiveBackRefusal.NotHeld → HoldsNoSuch index (seen_as pass.old hand.old) (seen_as pass.new hand.new) }
     ensures spent { (ticket : ℕ) → result ≡ Err (GiveBackRefusal.Spent ticket)

@@ -45,7 +45,7 @@ fn empty_hand(alloc: Global, places: u32, hold: u32) -> Result<Hand, NoMemory>
     })
 }
 
-/// A port over a pass that holds nothing, which may hold so many values.
+/// A port over the pass of this number, which holds nothing; it may hold so many values.
 fn port_of(
     alloc: Global,
     owner: &Arc<Owner, Global>,
@@ -57,6 +57,7 @@ fn port_of(
     requires setup { (arc_value owner.now).queue.setup ≡ setup }
     requires rings { 2 ≤ setup.rings }
     requires low { number < setup.seats }
+    requires number { pass.number ≡ number }
     requires fresh { IsFresh (arc_value owner.now).queue pass }
     ensures { IfOk result (λ port. port ≡ new_port hold pass) }
 {
@@ -87,7 +88,7 @@ fn ports_of(
     let mut ports = Vec::with_capacity(alloc, passes.len())?;
     passes.reverse();
     while let Some(pass) = passes.pop() {
-        let number = passes.len() as u32;
+        let number = ports.len() as u32;
         ports.push(port_of(alloc, owner, pass, setup, hold, number)?)?;
     }
     Ok(ports)
@@ -103,6 +104,6 @@ pub fn open(alloc: Global, setup: Setup, hold: u32) -> Result<Vec<Port>, NoMemor
     let Ok((queue, passes)) = Queue::make(alloc, setup, buffers) else {
         return Err(NoMemory);
     };
-    let owner = Arc::new(alloc, Owner::new(alloc, queue, setup.seats())?)?;
+    let owner = Arc::new(alloc, Owner::new(alloc, queue, setup)?)?;
     ports_of(alloc, &owner, passes, setup, hold)
 }

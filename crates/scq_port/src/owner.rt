@@ -1,55 +1,61 @@
 //! The queue that ports share.
 ghost use Rattle.std.specs.Prelude.{◌≡◌, ◌<◌, ◌≤◌, [], map, IfOk, IfSome, vec_capacity};
+ghost use Rattle.scq_queue.specs.Lists.{counts_of};
+ghost use Rattle.scq_queue.specs.Passes.{lists_of};
 ghost use Rattle.scq_port.specs.Ports.{bytes_of};
 ghost use Rattle.scq_port.specs.Ends.{laid_at};
 ghost use Rattle.scq_port.specs.Closed.{HasClosed};
 
 use crate::ends::{EndToken, Ends};
+use crate::leaving::Leaving;
 use crate::port_buffer::PortBuffer;
-use scq_queue::{Closed, Pass, Queue};
-use scq_word::NoMemory;
+use scq_queue::{Closed, Held, Pass, Queue};
+use scq_word::{NoMemory, Setup};
 use std::alloc::Global;
 use std::snapshot::Snapshot;
 
-/// A queue, and the slots in which its ports leave their passes when they close. Where the last port
-/// closes it ends in `close`; where it is let go of otherwise, it is let go of without a word.
+/// A queue, and the slots in which its ports leave their passes when they close. Where the last
+/// port closes it ends in `close`; where it is dropped, nobody is told.
 ///
-/// `passes` is an empty list, with room for what `close` needs.
+/// `passes` and `values` are empty lists, with room for what `close` needs.
 pub struct Owner {
     pub(crate) queue: Queue<PortBuffer>,
     pub(crate) ends: Ends,
     passes: Vec<Pass<PortBuffer>>,
-    alloc: Global,
+    values: Vec<Held<PortBuffer>>,
+    pub(crate) alloc: Global,
     pub ghost own: { ends.table.shared.key.value ≡ queue },
-    pub ghost slots: { ends.table.shared.table_id.slots ≡ queue.setup.seats },
-    ghost empty: { passes.items ≡ [] },
+    ghost empty: { (passes.items ≡ []) × (values.items ≡ []) },
     ghost room: { queue.setup.seats ≤ vec_capacity passes },
 }
 
 impl Owner {
-    /// An owner of a queue with so many seats.
+    /// An owner of a queue of this setup.
     pub(crate) fn new(
         alloc: Global,
         queue: Queue<PortBuffer>,
-        seats: u32,
+        setup: Setup,
     ) -> Result<Owner, NoMemory>
-        requires seats { seats ≡ queue.setup.seats }
+        requires setup { setup ≡ queue.setup }
         ensures { IfOk result (λ owner. owner.queue ≡ queue) }
     {
-        let Ok(passes) = Vec::with_capacity(alloc, seats as usize) else {
-            queue.abandon();
-            return Err(NoMemory);
-        };
-        match Ends::new(alloc, &queue, seats) {
-            Ok(ends) => Ok(Owner {
+        match make_rooms(alloc, &queue, setup) {
+            Ok(
+                Rooms {
+                    ends,
+                    passes,
+                    values,
+                },
+            ) => Ok(Owner {
                 queue,
                 ends,
                 passes,
+                values,
                 alloc,
             }),
-            Err(_) => {
+            Err(refused) => {
                 queue.abandon();
-                Err(NoMemory)
+                Err(refused)
             }
         }
     }
@@ -61,30 +67,57 @@ impl Owner {
     pub(crate) fn close(
         self,
         token: EndToken,
-        number: u32,
-        last: Snapshot<Pass<PortBuffer>>,
+        last: Snapshot<Leaving>,
     ) -> Option<Closed<PortBuffer>>
         requires own { token.table_id ≡ self.ends.table.shared.table_id }
-        requires laid { token.me.0 ≡ laid_at number last.value }
-        requires low { number < self.queue.setup.seats }
-        ensures { IfSome result (λ closed.
+        requires laid { token.me.0 ≡ laid_at last.value.number last.value }
+        requires low { last.value.number < self.queue.setup.seats }
+        ensures closed { IfSome result (λ closed.
             HasClosed self.queue last.value closed.passes.value.items closed.left.items
             (map bytes_of closed.buffers.items)) }
+        ensures counts { IfSome result (λ closed.
+            closed.counts.items ≡ map (λ p. counts_of (lists_of p)) closed.passes.value.items) }
     {
         let Owner {
             queue,
             ends,
             passes,
-            alloc,
+            values,
+            alloc: _,
         } = self;
-        let count = ends.table.slot_count();
-        let passes = ends.gather(token, passes, number, last);
-        if passes.len() != count {
-            queue.abandon();
-            return None;
+        match ends.gather(token, passes, values, last) {
+            Some((passes, values)) => Some(queue.close(passes, values)),
+            None => {
+                queue.abandon();
+                None
+            }
         }
-        Some(queue.close(passes, Vec::new(alloc)))
     }
+}
+
+/// What an owner has beside its queue.
+struct Rooms {
+    ends: Ends,
+    passes: Vec<Pass<PortBuffer>>,
+    values: Vec<Held<PortBuffer>>,
+}
+
+/// Slots for the ports of a queue of this setup, and empty lists with room for its passes and for
+/// as many values as it has buffers.
+fn make_rooms(alloc: Global, queue: &Queue<PortBuffer>, setup: Setup) -> Result<Rooms, NoMemory>
+    requires setup { setup ≡ queue.now.setup }
+    ensures ends { IfOk result (λ made. made.ends.table.shared.key.value ≡ queue.now) }
+    ensures empty { IfOk result (λ made. (made.passes.items ≡ []) × (made.values.items ≡ [])) }
+    ensures room { IfOk result (λ made. queue.now.setup.seats ≤ vec_capacity made.passes) }
+{
+    let ends = Ends::new(alloc, queue, setup.seats())?;
+    let passes = Vec::with_capacity(alloc, setup.seats() as usize)?;
+    let values = Vec::with_capacity(alloc, setup.shape().n() as usize)?;
+    Ok(Rooms {
+        ends,
+        passes,
+        values,
+    })
 }
 
 impl Drop for Owner {
@@ -93,8 +126,10 @@ impl Drop for Owner {
             queue,
             ends: _ends,
             passes: _passes,
+            values,
             alloc: _,
         } = self;
+        values.destroy_empty();
         queue.abandon();
     }
 }

@@ -133,13 +133,15 @@ impl Port {
     /// alone what its pass was then. The last port of a queue that closes closes the queue, and is
     /// told of all passes together.
     ///
-    /// Where the pass keeps a spent ticket, or draws one, what can't be given back stays with the
-    /// queue until that is freed, and nobody is told of all passes.
+    /// Where the pass keeps a spent ticket, or draws one, what can't be given back goes with it,
+    /// and back to the queue where that closes.
     pub fn close(self) -> (Snapshot<Pass<PortBuffer>>, Option<Closed<PortBuffer>>)
         ensures ended { HasEnded self result.0.value }
         ensures closed { IfSome result.1 (λ closed.
             HasClosed self.pass.queue result.0.value closed.passes.value.items
             closed.left.items (map bytes_of closed.buffers.items)) }
+        ensures counts { IfSome result.1 (λ closed.
+            closed.counts.items ≡ map (λ p. counts_of (lists_of p)) closed.passes.value.items) }
     {
         let Port {
             owner,
@@ -161,24 +163,24 @@ fn end(
     number: u32,
 ) -> (Snapshot<Pass<PortBuffer>>, Option<Closed<PortBuffer>>)
     requires kept { KeepsHand (arc_value owner).queue pass hand }
+    requires number { pass.number ≡ number }
     requires low { number < (arc_value owner).queue.setup.seats }
     ensures ended { HasEnded (seen_as pass hand) result.0.value }
     ensures closed { IfSome result.1 (λ closed.
         HasClosed (arc_value owner).queue result.0.value closed.passes.value.items
         closed.left.items (map bytes_of closed.buffers.items)) }
+    ensures counts { IfSome result.1 (λ closed.
+        closed.counts.items ≡ map (λ p. counts_of (lists_of p)) closed.passes.value.items) }
 {
-    let (ended, left) = let_go(&owner.queue, pass, hand);
-    let Some(pass) = left else {
-        return (ended, None);
-    };
-    let last = Snapshot::of(&pass);
-    let Some(token) = owner.ends.leave(number, pass) else {
+    let (ended, leaving) = let_go(owner.alloc, &owner.queue, pass, hand);
+    let last = Snapshot::of(&leaving);
+    let Some(token) = owner.ends.leave(number, leaving) else {
         return (ended, None);
     };
     let Some(owner) = Arc::into_inner(owner) else {
         return (ended, None);
     };
-    let closed = owner.close(token, number, last);
+    let closed = owner.close(token, last);
     (ended, closed)
 }
 

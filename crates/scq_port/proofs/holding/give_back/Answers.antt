@@ -1,7 +1,8 @@
 use Rattle.std.proofs.Common.{◌≡◌, ℕ, ◌-◌, ◌≤◌, List, sym, ◌∙◌, ap, subst, refl}
 use Rattle.std.specs.Prelude.{Option, Some, None, slice_get, slice_set}
-use Rattle.scq_queue.specs.Passes.{WasGivenBack, after_spent_put}
+use Rattle.scq_queue.specs.Passes.{PassStanding, WasGivenBack, after_spent_put}
 use Rattle.scq_queue.proofs.HeldOnce.{put_refused}
+use Rattle.scq_port.specs.declared.port_buffer.PortBuffer.{PortBuffer}
 use Rattle.scq_port.specs.Ports.{Value, bytes_of}
 use Rattle.scq_port.specs.Kept.{seen_as}
 use Rattle.scq_port.specs.Calls.{IsSpentPut}
@@ -114,3 +115,11 @@ returns-in-Err-clause-spent c ticket is =
     (c.in-Some.ensures.some c.in-Some.held refl).0 (c.in-Some.ensures.some c.in-Some.held refl).1 c.in-Err.ensures.back
     (c.requires.kept.here c.args.index c.in-Some.held (c.in-Some.ensures.some c.in-Some.held refl).0).index c.put_in.ensures.put)
     (c.put_in.ensures.rest.1 ∙ c.take_out.ensures.rest.1))
+
+pub returns-in-Ok-clause-number : goal.returns-in-Ok-clause-number
+returns-in-Ok-clause-number c = ap (λ (p : PassStanding PortBuffer). p.number) c.in-Ok.ensures.given.pass
+
+pub returns-in-Err-clause-number : goal.returns-in-Err-clause-number
+returns-in-Err-clause-number c =
+    (put_refused 0 c.in-Err.spent.ticket c.args.pass.now c.give_back.new.pass (λ none. (c.in-Err.ensures.spent none).0)
+    (λ ticket some. (c.in-Err.ensures.kept ticket some).1)).number

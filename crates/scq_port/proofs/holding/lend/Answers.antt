@@ -2,8 +2,9 @@ use Rattle.std.proofs.Common.{◌≡◌, ℕ, ◌+◌, ap, subst, refl}
 use Rattle.std.specs.Prelude.{Err}
 use Rattle.scq_queue.specs.declared.calls.LendRefusal.{LendRefusal}
 use Rattle.scq_queue.specs.declared.calls.LendRefusal.TheVariants.{Full, Spent}
-use Rattle.scq_queue.specs.Passes.{after_spent_get}
+use Rattle.scq_queue.specs.Passes.{PassStanding, after_spent_get}
 use Rattle.scq_queue.proofs.HeldOnce.{lend_refused}
+use Rattle.scq_port.specs.declared.port_buffer.PortBuffer.{PortBuffer}
 use Rattle.scq_port.specs.Ports.{bytes_of}
 use Rattle.scq_port.specs.Kept.{seen_as}
 use Rattle.scq_port.specs.Calls.{WasFull, IsSpentGet}
@@ -93,3 +94,16 @@ returns-in-Err-Spent-clause-spent c ticket is =
     (c.in-Err-Spent.ensures.spent c.in-Err-Spent.ticket here) c.in-Err-Spent.ensures.run
     (λ t some. (let e = (c.in-Err-Spent.ensures.kept t some).0 in let at = is_spent in cc, (c.in-Err-Spent.ensures.kept t some).1))
     (c.in-Err-Spent.ensures.spent_lists c.in-Err-Spent.ticket here) refl refl)
+
+pub returns-in-Ok-clause-number : goal.returns-in-Ok-clause-number
+returns-in-Ok-clause-number c = ap (λ (p : PassStanding PortBuffer). p.number) c.in-Ok.ensures.lent.got.pass
+
+pub returns-in-Err-Full-clause-number : goal.returns-in-Err-Full-clause-number
+returns-in-Err-Full-clause-number c =
+    (lend_refused c.args.pass.now c.lend.new.pass c.in-Err-Full.field-0 (λ head is. c.in-Err-Full.ensures.full head (ap (λ (r : LendRefusal). Err r) is))
+    (λ ticket is none. (c.in-Err-Full.ensures.spent ticket (ap (λ (r : LendRefusal). Err r) is) none).0) (λ ticket some. (c.in-Err-Full.ensures.kept ticket some).1)).number
+
+pub returns-in-Err-Spent-clause-number : goal.returns-in-Err-Spent-clause-number
+returns-in-Err-Spent-clause-number c =
+    (lend_refused c.args.pass.now c.lend.new.pass c.in-Err-Spent.field-0 (λ head is. c.in-Err-Spent.ensures.full head (ap (λ (r : LendRefusal). Err r) is))
+    (λ ticket is none. (c.in-Err-Spent.ensures.spent ticket (ap (λ (r : LendRefusal). Err r) is) none).0) (λ ticket some. (c.in-Err-Spent.ensures.kept ticket some).1)).number

@@ -2,8 +2,9 @@ use Rattle.std.proofs.Common.{◌≡◌, ℕ, suc, ◌+◌, ap, subst, refl}
 use Rattle.std.specs.Prelude.{Err}
 use Rattle.scq_queue.specs.declared.calls.TakeRefusal.{TakeRefusal}
 use Rattle.scq_queue.specs.declared.calls.TakeRefusal.TheVariants.{Empty, Spent}
-use Rattle.scq_queue.specs.Passes.{after_spent_get}
+use Rattle.scq_queue.specs.Passes.{PassStanding, after_spent_get}
 use Rattle.scq_queue.proofs.HeldOnce.{take_refused}
+use Rattle.scq_port.specs.declared.port_buffer.PortBuffer.{PortBuffer}
 use Rattle.scq_port.specs.Ports.{bytes_of}
 use Rattle.scq_port.specs.Kept.{seen_as}
 use Rattle.scq_port.specs.Calls.{WasEmpty, IsSpentGet}
@@ -97,3 +98,16 @@ returns-in-Err-Spent-clause-spent c ticket is =
     (c.in-Err-Spent.ensures.spent c.in-Err-Spent.ticket here) c.in-Err-Spent.ensures.run
     (λ t some. (let e = (c.in-Err-Spent.ensures.kept t some).0 in let at = is_spent in cc, (c.in-Err-Spent.ensures.kept t some).1))
     c.in-Err-Spent.ensures.refused_lists refl refl)
+
+pub returns-in-Ok-clause-number : goal.returns-in-Ok-clause-number
+returns-in-Ok-clause-number c = ap (λ (p : PassStanding PortBuffer). p.number) c.in-Ok.ensures.took.pass
+
+pub returns-in-Err-Empty-clause-number : goal.returns-in-Err-Empty-clause-number
+returns-in-Err-Empty-clause-number c =
+    (take_refused c.args.topic c.args.pass.now c.take.new.pass c.in-Err-Empty.field-0 (λ head is. c.in-Err-Empty.ensures.empty head (ap (λ (r : TakeRefusal). Err r) is))
+    (λ ticket is none. (c.in-Err-Empty.ensures.spent ticket (ap (λ (r : TakeRefusal). Err r) is) none).0) (λ ticket some. (c.in-Err-Empty.ensures.kept ticket some).1)).number
+
+pub returns-in-Err-Spent-clause-number : goal.returns-in-Err-Spent-clause-number
+returns-in-Err-Spent-clause-number c =
+    (take_refused c.args.topic c.args.pass.now c.take.new.pass c.in-Err-Spent.field-0 (λ head is. c.in-Err-Spent.ensures.empty head (ap (λ (r : TakeRefusal). Err r) is))
+    (λ ticket is none. (c.in-Err-Spent.ensures.spent ticket (ap (λ (r : TakeRefusal). Err r) is) none).0) (λ ticket some. (c.in-Err-Spent.ensures.kept ticket some).1)).number

@@ -1,12 +1,12 @@
-use Rattle.std.proofs.Common.{◌≡◌, ℕ, ◌≤◌, List, [], ◌∷◌, ◌++◌, sym, ◌∙◌, ap, subst}
-use Rattle.std.specs.Prelude.{Option, Some, slice_get}
-use Rattle.scq_queue.specs.Passes.{PassStanding, IsHeldBy}
+use Rattle.std.proofs.Common.{◌≤◌, List, [], ◌∷◌, ◌++◌, refl, sym, ◌∙◌, ap, subst}
+use Rattle.std.specs.Prelude.{Option}
+use Rattle.scq_queue.specs.Passes.{PassStanding}
 use Rattle.scq_queue.proofs.HeldOnce.{put_refused}
 use Rattle.scq_port.specs.declared.port_buffer.PortBuffer.{PortBuffer}
 use Rattle.scq_port.specs.Calls.{HasEnded}
 use Rattle.scq_port.specs.Ports.{PortQueue, Value, bytes_of}
 use Rattle.scq_port.specs.Kept.{LetsGo}
-use Rattle.scq_port.proofs.Going.{Goes, begins, skips, holds_last, gives, leaves, ends, goes_first, goes_past, goes_back, ends_refused, ends_all}
+use Rattle.scq_port.proofs.Going.{Goes, begins, skips, holds_last, gives, ends, goes_first, goes_past, goes_back, ends_refused, ends_all}
 use Rattle.scq_port.proofs.Records.{unspent}
 use Rattle.scq_port.proofs.letting_go.let_go.Goals as goal
 
@@ -15,6 +15,7 @@ loop-slot-init c =
     let hand = c.args.hand in (
       begins c.args.queue.now c.args.pass hand.slots.items hand.used hand.hold c.requires.kept,
       goes_first hand.slots.items c.args.pass,
+      refl,
     )
 
 pub give_back-requires-clause-held : goal.give_back-requires-clause-held
@@ -23,23 +24,6 @@ give_back-requires-clause-held c κs =
     let last = c.in-Some.ensures.items ∙ ap (λ (o : Option Value). left ++ o ∷ []) c.in-Some-slot.is in
     holds_last c.args.queue.now c.loop-slot.pass left c.in-Some-slot.held
     (subst (λ (l : List (Option Value)). LetsGo c.args.queue.now c.loop-slot.pass l) last c.loop-slot.invariant.0)
-
-pub leave-requires-clause-pass : goal.leave-requires-clause-pass
-leave-requires-clause-pass c κs =
-    let alike = put_refused 0 c.in-Err.field-0-1.ticket c.loop-slot.pass c.give_back.new.pass (λ none. (c.in-Err.ensures.spent none).0)
-    (λ t some. (c.in-Err.ensures.kept t some).1) in
-    alike.queue ∙ c.loop-slot.invariant.0.own
-
-pub leave-requires-clause-held : goal.leave-requires-clause-held
-leave-requires-clause-held c κs =
-    let left = c.pop.new.self.items in
-    let last = c.in-Some.ensures.items ∙ ap (λ (o : Option Value). left ++ o ∷ []) c.in-Some-slot.is in
-    let alike = put_refused 0 c.in-Err.field-0-1.ticket c.loop-slot.pass c.give_back.new.pass (λ none. (c.in-Err.ensures.spent none).0)
-    (λ t some. (c.in-Err.ensures.kept t some).1) in
-    let lets = subst (λ (l : List (Option Value)). LetsGo c.args.queue.now c.loop-slot.pass l) last c.loop-slot.invariant.0 in
-    let again = c.push_reserved.ensures.items ∙ ap (λ (v : Value). left ++ Some v ∷ []) c.in-Err.ensures.back in
-    subst (λ (l : List (Option Value)). (i : ℕ) (v : Value) → slice_get l i ≡ Some (Some v) → (v.index ≡ i) × IsHeldBy c.give_back.new.pass v) (sym again)
-    (leaves c.args.queue.now c.loop-slot.pass c.give_back.new.pass (left ++ Some c.in-Some-slot.held ∷ []) lets alike)
 
 pub returns-in-Err : goal.returns-in-Err
 returns-in-Err c =
@@ -51,14 +35,18 @@ returns-in-Err c =
     let ticket = c.in-Err.field-0-1.ticket in
     record {
       ended =
-          subst (λ (p : PassStanding PortBuffer). HasEnded (record { pass = first; slots = all; hold = c.args.hand.hold }) p) (sym c.of-ended.ensures)
+          subst (λ (p : PassStanding PortBuffer). HasEnded (record { pass = first; slots = all; hold = c.args.hand.hold }) p) (sym c.of.ensures)
           (ends_refused all left h first c.loop-slot.pass c.give_back.new.pass ticket c.args.hand.hold
           (subst (λ (l : List (Option Value)). Goes all first l c.loop-slot.pass) last c.loop-slot.invariant.1)
           (λ none. (
             (c.in-Err.ensures.spent none).0,
             subst (λ (q : PortQueue). q.setup.limit ≤ ticket) (sym c.requires.kept.own) (c.in-Err.ensures.spent none).1,
           )) (λ t some. (c.in-Err.ensures.kept t some).1));
-      left = tt;
+      left = sym c.of.ensures;
+      own =
+          let alike = put_refused 0 ticket c.loop-slot.pass c.give_back.new.pass (λ none. (c.in-Err.ensures.spent none).0)
+          (λ t some. (c.in-Err.ensures.kept t some).1) in
+          record { own = alike.queue ∙ c.loop-slot.invariant.0.own; number = alike.number ∙ c.loop-slot.invariant.2 };
     }
 
 pub loop-slot-preserved-in_default-give_back : goal.loop-slot-preserved-in_default-give_back
@@ -74,6 +62,7 @@ loop-slot-preserved-in_default-give_back c =
           (subst (λ (l : List (Option Value)). LetsGo c.args.queue.now c.loop-slot.pass l) last c.loop-slot.invariant.0) given.pass,
       goes_back all left h first c.loop-slot.pass c.give_back.new.pass
           (subst (λ (l : List (Option Value)). Goes all first l c.loop-slot.pass) last c.loop-slot.invariant.1) none given,
+      ap (λ (p : PassStanding PortBuffer). p.number) given.pass ∙ c.loop-slot.invariant.2,
     )
 
 pub loop-slot-preserved : goal.loop-slot-preserved
@@ -86,6 +75,7 @@ loop-slot-preserved c =
           (subst (λ (l : List (Option Value)). LetsGo c.args.queue.now c.loop-slot.pass l) last c.loop-slot.invariant.0),
       goes_past all left first c.loop-slot.pass
           (subst (λ (l : List (Option Value)). Goes all first l c.loop-slot.pass) last c.loop-slot.invariant.1),
+      c.loop-slot.invariant.2,
     )
 
 pub returns : goal.returns
@@ -94,8 +84,9 @@ returns c =
     let none = ends c.args.queue.now c.loop-slot.pass c.loop-slot.slots.items c.loop-slot.invariant.0 empty in
     record {
       ended =
-          subst (λ (p : PassStanding PortBuffer). HasEnded (record { pass = c.args.pass; slots = c.args.hand.slots.items; hold = c.args.hand.hold }) p) (sym c.of-last.ensures)
+          subst (λ (p : PassStanding PortBuffer). HasEnded (record { pass = c.args.pass; slots = c.args.hand.slots.items; hold = c.args.hand.hold }) p) (sym c.of-2.ensures)
           (ends_all c.args.hand.slots.items c.loop-slot.slots.items c.args.pass c.loop-slot.pass c.args.hand.hold c.loop-slot.invariant.1 empty
           (λ unspent. none));
-      left = (sym c.of-last.ensures, record { own = c.loop-slot.invariant.0.own; none = none });
+      left = sym c.of-2.ensures;
+      own = record { own = c.loop-slot.invariant.0.own; number = c.loop-slot.invariant.2 };
     }

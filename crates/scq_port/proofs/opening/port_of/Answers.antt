@@ -18,4 +18,4 @@ keeps c =
 
 -- src/opening.rt:62:5
 pub invariant_of-result : goal.invariant_of-result
-invariant_of-result c = record { keeps = rw (same c) (keeps c); topics = rw (same c, c.requires.setup) (search rules); low = rw (same c, c.requires.setup) (c.requires.low) }
+invariant_of-result c = record { keeps = rw (same c) (keeps c); topics = rw (same c, c.requires.setup) (search rules); number_is = c.requires.number; low = rw (same c, c.requires.setup) (c.requires.low) }

@@ -1,0 +1,109 @@
+/* ends QUEUES: ports that are closed in threads of their own, as it happens: of each queue just one is told that it was the last; and once it is
+ * closed nothing is left of what the opening took. Link with -Wl,--wrap=malloc,--wrap=realloc,--wrap=calloc,--wrap=free. */
+#include "scq.h"
+
+#include "check.h"
+
+#include <pthread.h>
+#include <stdatomic.h>
+
+enum { THREADS = 8, ROUNDS = 200, ORDER = 5, BUFFERS = 1 << ORDER };
+
+/* How many blocks there are that the library or the header took and nobody freed. */
+static atomic_long blocks;
+
+static void *counted(void *block) {
+    if (block != NULL) atomic_fetch_add(&blocks, 1);
+    return block;
+}
+
+void *__real_malloc(size_t size);
+void *__real_realloc(void *old, size_t size);
+void *__real_calloc(size_t count, size_t size);
+void __real_free(void *block);
+void *__wrap_malloc(size_t size);
+void *__wrap_realloc(void *old, size_t size);
+void *__wrap_calloc(size_t count, size_t size);
+void __wrap_free(void *block);
+
+void *__wrap_malloc(size_t size) { return counted(__real_malloc(size)); }
+void *__wrap_calloc(size_t count, size_t size) { return counted(__real_calloc(count, size)); }
+
+void *__wrap_realloc(void *old, size_t size) {
+    void *const block = __real_realloc(old, size);
+    return old == NULL ? counted(block) : block;
+}
+
+void __wrap_free(void *block) {
+    if (block != NULL) atomic_fetch_sub(&blocks, 1);
+    __real_free(block);
+}
+
+/* A port, and what its end told; `told` says whether it is asked. */
+struct job {
+    scq_port port;
+    int told;
+    scq_ended ended;
+};
+
+/* Passes buffers on and keeps some, until it closes. Where tickets run out it goes on, and is refused. */
+static void *work(void *handed) {
+    struct job *job = handed;
+    scq_held held;
+    uint64_t place;
+    for (int n = 0; n < ROUNDS; n++) {
+        if (scq_lend(&job->port, &held) == SCQ_OK && n % 3 != 0 && scq_send(&job->port, held.index, 0, &place) != SCQ_OK) continue;
+        if (scq_take(&job->port, 0, &held) == SCQ_OK && n % 5 != 0) scq_give_back(&job->port, held.index);
+    }
+    if (job->told) {
+        CHECK(scq_end(&job->port, &job->ended) == SCQ_OK && job->port.at == NULL && scq_end(&job->port, &job->ended) == SCQ_CLOSED);
+        scq_free(&job->port);
+    } else {
+        CHECK(scq_close(&job->port) == SCQ_OK);
+    }
+    CHECK(job->port.at == NULL && job->port.memory.base == NULL && scq_close(&job->port) == SCQ_CLOSED);
+    return NULL;
+}
+
+/* One queue, whose threads are asked to tell. */
+static void queue_of(int told, uint64_t limit) {
+    struct job jobs[THREADS];
+    scq_port ports[THREADS];
+    pthread_t threads[THREADS];
+    uint32_t last = 0;
+    CHECK(atomic_load(&blocks) == 0);
+    for (int i = 0; i < THREADS; i++) ports[i] = SCQ_NONE;
+    CHECK(scq_open(ORDER, 1, 16, BUFFERS, limit, ports, THREADS) == SCQ_OK && atomic_load(&blocks) > 0);
+    for (int i = 0; i < THREADS; i++) {
+        jobs[i].port = ports[i];
+        jobs[i].told = told;
+        jobs[i].ended.last = 9;
+        CHECK(pthread_create(&threads[i], NULL, work, &jobs[i]) == 0);
+    }
+    for (int i = 0; i < THREADS; i++) CHECK(pthread_join(threads[i], NULL) == 0);
+    for (int i = 0; told && i < THREADS; i++) {
+        CHECK(jobs[i].ended.last <= 1);
+        last += jobs[i].ended.last;
+    }
+    CHECK((!told || last == 1) && atomic_load(&blocks) == 0);
+}
+
+/* An opening that is refused leaves nothing. */
+static void refused(void) {
+    scq_port port = SCQ_NONE;
+    CHECK(scq_open(ORDER, 0, 16, 1, SCQ_MAX_LIMIT, &port, 1) == SCQ_BAD_TOPICS && atomic_load(&blocks) == 0);
+    CHECK(scq_open(ORDER, 1, 16, 1, SCQ_MAX_LIMIT, &port, 1) == SCQ_OK && scq_open(ORDER, 1, 16, 1, SCQ_MAX_LIMIT, &port, 1) == SCQ_IS_OPEN);
+    CHECK(scq_close(&port) == SCQ_OK && atomic_load(&blocks) == 0);
+}
+
+int main(int count, char **words) {
+    CHECK(count == 2);
+    const long queues = strtol(words[1], NULL, 10);
+    refused();
+    for (long i = 0; i < queues; i++) queue_of(1, SCQ_MAX_LIMIT);
+    for (long i = 0; i < queues; i++) queue_of(0, SCQ_MAX_LIMIT);
+    /* Tickets run out while ports hold buffers. */
+    for (long i = 0; i < queues; i++) queue_of(0, 8 * BUFFERS);
+    printf("of %ld queues just one port each was told that it was the last, and of %ld nothing was left\n", queues, 3 * queues);
+    return 0;
+}
