@@ -200,6 +200,7 @@ told_next hs k memory new told is i p low at =
     other (x ∷ xs) i zero h lt = absurd (omega (arith, lt))
     other (x ∷ xs) zero (suc k) h lt = refl
     other (x ∷ xs) (suc i) (suc k) h lt = other xs i k h (omega (arith, lt))
+
     set_here : (hs : List CPort) (i k : ℕ) (h p : CPort) → i ≡ k → slice_get (slice_set hs k h) i ≡ Some p → h ≡ p
     set_here [] i k h p same at = absurd (cc)
     set_here (x ∷ xs) zero zero h p same at = cc
