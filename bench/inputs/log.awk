@@ -1,7 +1,8 @@
-# A log-like file of about 100 MB and 2.5 million lines: what bench/service and bench/waiting measure on.
+# A log-like file of about 40 bytes a line, and 2.5 million lines if `lines` isn't said.
 BEGIN {
+    if (!lines) lines = 2500000
     srand(1)
-    for (i = 0; i < 2500000; i++) {
+    for (i = 0; i < lines; i++) {
         n = int(rand() * 1000000)
         kind = i % 8
         if (kind == 0) print "get /index.html?id=" n " 200 " n % 977 " bytes in 12 ms to 10.0.3." n % 256

@@ -1,0 +1,29 @@
+# What `scq run` writes with these four topics, for any files.
+BEGIN {
+    n = split("get=words err=echo put=len tick=sum", declared, " ")
+    for (i = 1; i <= n; i++) {
+        split(declared[i], part, "=")
+        name[i] = part[1]
+        kind[part[1]] = part[2]
+    }
+}
+FNR == 1 { file++ }
+length($0) {
+    space = index($0, " ")
+    topic = space ? substr($0, 1, space - 1) : $0
+    payload = space ? substr($0, space + 1) : ""
+    if (!(topic in kind)) topic = "-"
+    if (kind[topic] == "echo") reply = payload
+    else if (kind[topic] == "words") reply = split(payload, parts)
+    else if (kind[topic] == "sum") {
+        reply = 0
+        for (i = split(payload, parts, " "); i > 0; i--) reply += parts[i]
+    } else reply = length(payload)
+    print file ":" FNR " " topic " " reply
+    count[topic]++
+    bytes[topic] += length(payload)
+}
+END {
+    for (i = 1; i <= n; i++) printf "total %s %d %d\n", name[i], count[name[i]], bytes[name[i]]
+    printf "total - %d %d\n", count["-"], bytes["-"]
+}

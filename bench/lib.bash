@@ -1,0 +1,335 @@
+# shellcheck shell=bash disable=SC2034
+# What the scripts of bench/ have in common, who read this file first: a folder of their own, which
+# is removed at their end; rounds in turn, medians, ratios and verdicts; the program that is
+# measured; threads that keep to a processor each; drivers in Rattle, which are proved first; and
+# results as text. The script goes on in its folder, with `top` and `bench` as the names of the
+# repository and of bench/.
+#
+# From the environment, for each script:
+#   SHORT=1   a short run, to see that it works: one round, and a fiftieth of each size
+#   ROUNDS    how often each program is run, in place of the script's own number
+#   JOBS      how many checks may run side by side where a driver is proved (1)
+#   RESULTS   the folder for results: bench/results where neither SHORT nor ROUNDS is set, else none
+#   PRIORITY  of real time, with which the programs that are timed run; none where it isn't set
+set -eu
+export LC_ALL=C
+bench=$(dirname "$(readlink -f "${BASH_SOURCE[0]}")")
+top=$(dirname "$bench")
+script=$(basename "$0")
+scratch=$(mktemp -d)
+folder=$scratch
+missed=0
+round=1
+# What functions below find: programs, and the name of a crate.
+scq='' scq_wait='' archive='' ours='' crate=''
+results=${RESULTS-}
+[ -n "${RESULTS-}${SHORT-}${ROUNDS-}" ] || results=$bench/results
+cd "$folder"
+# shellcheck source=../dist/sources.bash
+. "$top/dist/sources.bash"
+
+# What has to be done at the end, before the folder is removed.
+at_end=:
+end() {
+    local status=$?
+    $at_end
+    cd / && rm -rf "$scratch"
+    exit "$status"
+}
+trap end EXIT
+
+# Why a script ends with 2: it can't do its work here.
+stop() {
+    echo "$script: $1" >&2
+    exit 2
+}
+
+# A script whose builds are kept: without words it builds and measures, with `build FOLDER` and with
+# `run FOLDER` it does one of them there. Sets `builds` and `runs`.
+kept_in() {
+    builds=yes runs=yes
+    [ $# != 0 ] || return 0
+    case $#-$1 in
+        2-build) runs= ;;
+        2-run) builds= ;;
+        *) stop "not understood; bench/$script [build FOLDER | run FOLDER]" ;;
+    esac
+    folder=$(mkdir -p "$2" && cd "$2" && pwd)
+    cd "$folder"
+}
+
+# So many, or in a short run a fiftieth, and in one of rounds one.
+many() { [ -z "${SHORT-}" ] && echo "$1" || echo $(($1 < 50 ? 1 : $1 / 50)); }
+rounds() { echo "${ROUNDS:-$([ -z "${SHORT-}" ] && echo "$1" || echo 1)}"; }
+
+# Calls a command with each of these names, so many times; who was first is last in the next round.
+in_turn() {
+    local last=$1 command=$2 name
+    shift 2
+    for ((round = 1; round <= last; round++)); do
+        for name; do "$command" "$name"; done
+        set -- "${@:2}" "$1"
+    done
+}
+
+# Notes a number of this round under a key.
+note() { echo "$1 $round $2" >>"$folder/samples"; }
+
+# The median of a key's numbers, and the largest of them.
+median() { numbers "$1" | awk '{ it[NR] = $1 } END { print it[int((NR + 1) / 2)] }'; }
+most() { numbers "$1" | tail -n 1; }
+numbers() { awk -v key="$1" '$1 == key { print $3 }' "$folder/samples" | sort -g; }
+
+# The median of a key's numbers, and in brackets the lowest and the highest.
+spread() {
+    numbers "$1" | awk '{ it[NR] = $1 }
+        END { if (NR) print it[int((NR + 1) / 2)] " (" it[1] "-" it[NR] ")"; else print "-" }'
+}
+
+# The median of the rounds' ratios of a key to another, and with `spread` the lowest and the highest.
+ratio() {
+    awk -v key="$1" -v other="$2" '
+        $1 == key { mine[$2] = $3 }
+        $1 == other { its[$2] = $3 }
+        END { for (r in mine) if (its[r] > 0) printf "%.2f\n", mine[r] / its[r] }' "$folder/samples" |
+        sort -g | awk -v spread="${3-}" '
+            { it[NR] = $1 }
+            END {
+                at = NR ? it[int((NR + 1) / 2)] : "-"
+                print spread && NR ? at " (" it[1] "-" it[NR] ")" : at
+            }'
+}
+
+# What awk makes of a formula, with two digits behind the point.
+calc() { awk "BEGIN { printf \"%.2f\", $1 }"; }
+
+# Whether a number is in this sense what is aimed at: >=, <=, < or ==.
+verdict() {
+    local aim=$1 number=$2 sense=$3 wanted=$4 word=met
+    awk "BEGIN { exit !(${number:-0} $sense $wanted) }" || word=missed
+    [ "$word" = met ] || missed=$((missed + 1))
+    echo "$word: $aim: $number, wanted $sense $wanted"
+}
+
+# A case that went wrong.
+miss() {
+    echo "missed: $1"
+    missed=$((missed + 1))
+}
+
+# The end of a script: how many verdicts were missed, and a status that says whether any was.
+finish() {
+    echo "$script: $missed went wrong"
+    [ "$missed" = 0 ]
+    exit
+}
+
+# Runs a command once. Its seconds of the processor and by the clock, and the most memory that it
+# held in KB, are notes KEY.time, KEY.wall and KEY.memory; what it writes is the file KEY.out.
+once() {
+    local key=$1 user system memory wall
+    shift
+    /usr/bin/time -q -f '%U %S %M %e' -o "$folder/spent" "$@" >"$key.out"
+    read -r user system memory wall < <(tail -n 1 "$folder/spent")
+    note "$key.time" "$(calc "$user + $system")"
+    note "$key.memory" "$memory"
+    note "$key.wall" "$wall"
+}
+
+# Whether a file of dist/ is of these sources, and is what dist/RECORD says.
+is_fresh() { ! "$top/dist/make" --fresh 2>&1 | grep -q "^dist/make: dist/x86_64-linux/$1 "; }
+
+# The program scq or scq_wait: that of dist/, or where it is of other sources the one that its
+# launcher proves and builds. Its path is the variable of this name.
+program() {
+    local crate=$1 path=$top/dist/x86_64-linux/$1
+    is_fresh "$1" || {
+        [ "$1" != scq ] || crate=scq_main
+        "$top/$1" run /dev/null >"$folder/built" || stop "$1 can't be built"
+        path=$top/crates/$crate/out/$crate
+    }
+    printf -v "$1" %s "$path"
+    echo "$1 is $(named "$path")"
+}
+
+# libscq.a, likewise, to the variable `archive`: the one that ARCHIVE names, or that of dist/, or what
+# dist/make makes of these sources in a copy.
+archive() {
+    archive=${ARCHIVE:-$top/dist/x86_64-linux/libscq.a}
+    [ -n "${ARCHIVE-}" ] || is_fresh libscq.a || {
+        command -v rt >/dev/null || stop 'dist/x86_64-linux/libscq.a is of other sources'
+        copied "$folder/tree"
+        "$folder/tree/dist/make" || stop "libscq.a can't be made"
+        archive=$folder/tree/dist/x86_64-linux/libscq.a
+    }
+    [ -f "$archive" ] || stop "no archive $archive"
+    archive=$(readlink -f "$archive")
+    echo "libscq.a is $(named "$archive")"
+}
+
+# How a file of the repository, or another, is told in a result.
+named() { echo "${1#"$top"/}, $(sum_of_file "$1" | cut -c 1-12)"; }
+
+# Copies the repository as it stands, but what git ignores.
+copied() {
+    mkdir -p "$1"
+    (cd "$top" && git ls-files -z --cached --others --exclude-standard |
+        xargs -0 cp --parents -t "$1" 2>/dev/null) || true
+}
+
+# A file of a library in C that is loaded before a program.
+preload() {
+    cc -std=gnu11 -O2 -Wall -Wextra -Werror -shared -fPIC "$bench/preload/$1.c" -o "$1.so" -ldl
+}
+
+# Runs a program with its threads each on a processor of its own, so many and the last ones; where
+# there are more threads than processors, wherever the kernel lays them.
+pinned() {
+    local threads=$1 processors at list='' words=()
+    shift
+    [ -z "${PRIORITY-}" ] || words=(chrt -f "$PRIORITY")
+    [ -e pin.so ] || preload pin
+    mapfile -t processors < <(taskset -cp $$ | sed 's/.*: //; s/,/\n/g' |
+        while IFS=- read -r first last; do seq "$first" "${last:-$first}"; done)
+    at=$((${#processors[@]} - threads))
+    [ "$at" -lt 0 ] || list=${processors[*]:at}
+    "${words[@]}" env LD_PRELOAD="$folder/pin.so" PIN="$list" "$@"
+}
+
+# The crate that a text of bench/proved/ says in its first line how to lay out, with the crates that
+# it stands on, as a repository in this folder. In the text a line `== FILE` begins a file of the
+# crate; where names stand behind it, one for each name, with the name in place of each @.
+laid_out() {
+    local text=$bench/proved/$1.txt line below it part
+    line=$(sed -n '1s/^crate //p' "$text")
+    crate=${line%%:*}
+    # shellcheck disable=SC2086
+    mapfile -t below < <(crates_of ${line#*:})
+    git init -q .
+    for it in "${below[@]}"; do
+        mkdir -p "crates/$it"
+        for part in src specs proofs; do
+            rm -rf "crates/$it/$part"
+            cp -r "$top/crates/$it/$part" "crates/$it/$part"
+        done
+    done
+    { lines_of "${below[@]}" && echo "$line"; } >crates.txt
+    cp "$top/HANDLES" .
+    awk -v into="crates/$crate/" '
+        FNR == 1 && NR == 1 { next }
+        /^== / {
+            count = NF > 2 ? NF - 2 : 1
+            for (i = 1; i <= count; i++) {
+                name[i] = NF > 2 ? $(i + 2) : "@"
+                path[i] = into $2
+                gsub(/@/, name[i], path[i])
+                parent = path[i]
+                sub(/[^\/]*$/, "", parent)
+                system("mkdir -p " parent)
+                printf "" >path[i]
+            }
+            next
+        }
+        { for (i = 1; i <= count; i++) { line = $0; gsub(/@/, name[i], line); print line >path[i] } }
+    ' "$text"
+}
+
+# Proves and compiles such a crate, and runs it with these words. Sets `ours`, its program.
+proved() {
+    laid_out "$1"
+    shift
+    (cd "crates/$crate" && rt run --jobs "${JOBS:-1}" -- "$@") >rt.log 2>&1 || {
+        tail -n 40 rt.log >&2
+        stop "$crate isn't proved, or its program ends wrong"
+    }
+    ours=$folder/crates/$crate/out/$crate
+}
+
+# Compiles a C++ file as the kit compiles its programs: by its clang, with g++'s headers.
+by_kit() {
+    local program=$1 clang headers flags=() it
+    shift
+    clang=$(dirname "$(rt doc)")/toolchain/bin/clang
+    mapfile -t headers < <(g++ -E -x c++ -v /dev/null 2>&1 | sed -n '/^#include </,/^End/s/^ //p')
+    for it in "${headers[@]}"; do flags+=(-isystem "$it"); done
+    "$clang" -x c++ -std=c++17 -O3 -march=x86-64-v2 -Wall -Wextra -Werror -nostdinc "${flags[@]}" \
+        "$@" -c -o "$program.o"
+    g++ -pthread -o "$program" "$program.o"
+}
+
+# Unpacks packages of Debian to the folder `packages`; nothing is installed. Fails where one isn't to be
+# had. `registry` is where their crates are, or where those of installed packages are.
+packages() {
+    local it
+    mkdir -p packages
+    for it; do
+        [ ! -e "packages/$it.there" ] || continue
+        (cd packages && apt-get download -q "$it" && dpkg -x "$it"_*.deb .) >packages.log 2>&1 || return 1
+        ls packages/"$it"_*.deb >"packages/$it.there"
+    done
+    registry=$folder/packages/usr/share/cargo/registry
+}
+registry=/usr/share/cargo/registry
+
+# Makes of a folder with src/ a crate of this name, over crates of Debian's packages, which need no
+# network; the lines of Cargo.toml from the dependencies on.
+cargo_of_debian() {
+    local name=$1
+    shift
+    mkdir -p "$name/.cargo"
+    printf '[source.crates-io]\nreplace-with = "debian"\n[source.debian]\ndirectory = "%s"\n' \
+        "$registry" >"$name/.cargo/config.toml"
+    printf '%s\n' '[package]' "name = \"$name\"" 'version = "0.0.0"' 'edition = "2021"' \
+        '[dependencies]' "$@" '[profile.release]' 'lto = true' 'codegen-units = 1' 'panic = "abort"' \
+        >"$name/Cargo.toml"
+}
+
+# Has what is said from here on written to a result too, below the date, the machine and versions.
+result() {
+    [ -n "$results" ] || return 0
+    read -r busy stolen all own < <(ticks)
+    exec {screen}>&1 > >(tee "$scratch/said" >&"$screen")
+    tee=$!
+    at_end=write_result
+    echo "bench/$script, $(date -u '+%F %R') UTC, $(commit)"
+    echo "machine: $(sed -n 's/^model name.*: //p' /proc/cpuinfo | head -n 1), $(nproc) processors," \
+        "$(awk '/^MemTotal/ { printf "%.0f GB", $2 / 1e6 }' /proc/meminfo), $(uname -sr)"
+    echo "versions: $(versions "$@")"
+    echo "load at the start: $(cut -d ' ' -f 1-3 /proc/loadavg)"
+}
+
+commit() {
+    echo "of commit $(git -C "$top" rev-parse --short=12 HEAD)$(
+        git -C "$top" diff --quiet HEAD -- crates dist bench bindings || echo ' and changes'
+    )"
+}
+
+# The kit's version, and those of these commands.
+versions() {
+    local it
+    recorded kit
+    for it; do
+        if command -v "$it" >/dev/null; then "$it" --version 2>&1 || "$it" -W version 2>&1; else echo "no $it"; fi |
+            sed '/^$/d' | head -n 1
+    done
+} 
+
+# Ticks since the machine started, of all processors: busy, stolen, all; and this script's own.
+ticks() {
+    awk 'FILENAME == "/proc/stat" && /^cpu / {
+            busy = $2 + $3 + $4 + $7 + $8
+            printf "%d %d %d ", busy, $9, busy + $5 + $6 + $9
+        }
+        FILENAME != "/proc/stat" { sub(/.*\) /, ""); print $12 + $13 + $14 + $15 }' /proc/stat "/proc/$$/stat"
+}
+
+write_result() {
+    local now_busy now_stolen now_all now_own spent
+    read -r now_busy now_stolen now_all now_own < <(ticks)
+    spent=$((now_all - all > 0 ? now_all - all : 1))
+    echo "load at the end: $(cut -d ' ' -f 1-3 /proc/loadavg); of the processors' time meanwhile others had" \
+        "$((100 * (now_busy - busy - now_own + own) / spent)) %, and $((100 * (now_stolen - stolen) / spent)) % was stolen"
+    exec >&"$screen"
+    wait "$tee"
+    mkdir -p "$results" && cp "$scratch/said" "$results/$script.txt"
+}

@@ -1,0 +1,132 @@
+# shellcheck shell=bash disable=SC2034,SC2154
+# What bench/rings, bench/queue, bench/c and bench/peers have in common, who read this file behind
+# lib.bash: programs that make calls on a queue (calls.cpp, or a driver that takes the same words), run
+# in turn, each thread on a processor of its own.
+#
+# From the environment: PAIRS, how many pairs of calls one thread makes in a run (4000000; other runs in
+# proportion); LIMIT, in how many seconds a run has to end (50).
+pairs=$(many "${PAIRS:-4000000}")
+limit=${LIMIT:-50}
+declare -A title=(
+    [one]='one thread' [pair]='one to one' [two]='two to two' [four]='four threads'
+    [many]='sixteen threads' [empty]='on empty'
+)
+
+# Compiles calls.cpp over this queue, with these flags behind it.
+calls_over() {
+    local queue=$1 program=$2
+    shift 2
+    g++ -std=c++17 -O3 -march=x86-64-v2 -pthread -Wall -Wextra -Werror -I "$bench/queues" \
+        -I "$top/bindings/c" -DQUEUE="\"$queue.hpp\"" "$bench/queues/calls.cpp" "$@" -o "$program"
+}
+
+# The plain C++ of the step table, over the rings or the queue: by the kit's compiler, as `ours` is.
+plain_over() {
+    local program
+    for program in plain seated; do
+        by_kit "$program" -I "$bench/queues" -DBARE -DQUEUE="\"$1.hpp\"" \
+            "$([ "$program" = plain ] || echo -DSEATED)" "$bench/queues/calls.cpp"
+    done
+}
+
+# The same over a queue in Rust, with the features behind it too: `array` is ArrayQueue of Debian's
+# packages, `scq` the crate of bindings/rust over `archive`. Fails where there is no cargo or no package.
+rust_over() {
+    local kind=$1 program=$2 crate=rust_$1 needs="scq = { path = \"$top/bindings/rust\" }"
+    shift 2
+    command -v cargo >/dev/null || return 1
+    if [ "$kind" = array ]; then
+        packages librust-{crossbeam-queue,crossbeam-utils,cfg-if}-dev || return 1
+        needs='crossbeam-queue = "0.3"'
+    fi
+    mkdir -p "$crate/src" library
+    cp "$bench"/queues/rust/*.rs "$crate/src"
+    [ -z "$archive" ] || cp "$archive" library/libscq.a
+    cargo_of_debian "$crate" "$needs" '[lib]' 'crate-type = ["staticlib"]' \
+        '[features]' 'array = []' 'scq = []' 'bare = []'
+    (cd "$crate" && SCQ_LIB_DIR=$folder/library RUSTFLAGS='-C target-cpu=x86-64-v2' \
+        cargo build -q --release --offline --features "$kind $*")
+    [ "$*" != bare ] || set -- -DBARE
+    calls_over rust "$program" "$@" "$crate/target/release/lib$crate.a" -ldl
+}
+
+# Runs a program once, PROGRAM.MODE.ORDER, and notes what it says under this key: million pairs a second;
+# of the time of a pair the parts in nanoseconds; of stops how many were felt and the longest wait.
+run_once() {
+    local key=$1 program mode order threads=1 total=$pairs figures status=0
+    IFS=. read -r program mode order <<<"$key"
+    case $mode in
+        one) ;;
+        empty) total=$((pairs * 12)) ;;
+        pair) threads=2 total=$((pairs / 4)) ;;
+        two) threads=4 total=$((pairs / 4)) ;;
+        four) threads=4 total=$((pairs / 4)) ;;
+        many) threads=16 total=$((pairs / 4)) ;;
+        busy) threads=4 total=$((pairs / 20)) ;;
+        calm) threads=2 total=$((pairs / 100)) ;;
+        order) threads=4 total=$((pairs / 40)) ;;
+        stop) threads=3 total=$(($(many 150) * 3)) ;;
+    esac
+    local each=$((total / threads))
+    [ "$mode" != pair ] && [ "$mode" != two ] || each=$((2 * each))
+    pinned "$threads" timeout "$limit" "./$program" "$mode" "$order" "$each" >answer || status=$?
+    read -ra figures <answer || true
+    case $status-$mode in
+        0-busy | 0-calm)
+            note "$key.50" "${figures[2]}"
+            note "$key.99" "${figures[3]}"
+            note "$key.999" "${figures[4]}"
+            ;;
+        0-stop)
+            note "$key.held" "${figures[2]}"
+            note "$key.longest" "$((figures[3] / 1000000))"
+            ;;
+        0-*)
+            note "$key" "$(calc "$total * 1000 / ${figures[2]}")"
+            same_sum "$mode" "$order" "${figures[3]}"
+            ;;
+        124-*) note "$key.endless" 1 ;;
+        *) miss "$key ends with $status" ;;
+    esac
+}
+
+# What one thread saw is told by the calls alone.
+declare -A sums=()
+same_sum() {
+    [ "$1" = one ] || [ "$1" = empty ] || return 0
+    [ "${sums[$1.$2]-$3}" = "$3" ] || miss "$1, order $2: saw $3 and not ${sums[$1.$2]}"
+    sums[$1.$2]=$3
+}
+
+# All keys of these modes, orders and programs.
+keys() {
+    local mode order program
+    for order in $2; do
+        for mode in $1; do
+            for program in $3; do echo "$program.$mode.$order"; done
+        done
+    done
+}
+
+# Runs the programs in turn, each mode at each order, and says how fast they are: medians, and in brackets
+# the lowest and the highest; and how many times as fast as the first, by rounds.
+measure() {
+    local modes=$1 orders=$2 programs=$3 first=${3%% *} mode order program
+    for ((round = 1; round <= turns; round++)); do
+        for mode in $(keys "$modes" "$orders" "$programs"); do run_once "$mode"; done
+        programs="${programs#* } ${programs%% *}"
+    done
+    for mode in $modes; do
+        for order in $orders; do
+            printf '%-46s %s\n' "${title[$mode]}, order $order, million a second" "times of $first"
+            for program in $3; do row "$program.$mode.$order" "$first.$mode.$order"; done
+        done
+    done
+}
+
+row() {
+    local endless
+    endless=$(numbers "$1.endless" | wc -l)
+    printf '  %-16s %-27s %s%s\n' "${1%%.*}" "$(spread "$1")" "$(ratio "$1" "$2" spread)" \
+        "$([ "$endless" = 0 ] || echo "; of $turns runs $endless did not end in $limit s")"
+}

@@ -1,0 +1,168 @@
+// The step table of the rings in plain C++, over the layout of words of `scq_band`.
+#pragma once
+
+using Word = std::atomic<uint64_t>;
+
+constexpr uint64_t ZERO_LEVEL = uint64_t(1) << 32;
+
+// How many words the gate, Tail, Head and Threshold stand apart, as in `scq_band`; 1 packs the
+// words.
+#ifndef DISTANCE
+#define DISTANCE size_t(16)
+#endif
+
+// A ring: its Tail, Head and Threshold, behind which the entries stand by slot, and what a call
+// needs of the setup.
+struct Ring {
+    Word *tail, *head, *threshold;
+    uint32_t order;
+    uint64_t limit, level;
+
+    uint64_t slots() const { return uint64_t(2) << order; }
+    uint64_t mark() const { return slots() - 1; }
+    uint64_t cycle(uint64_t ticket) const { return ticket >> (order + 1); }
+    uint64_t cycle_in(uint64_t entry) const { return entry >> (order + 2); }
+    bool is_safe(uint64_t entry) const { return entry & slots(); }
+    bool has_index(uint64_t entry) const { return (entry & mark()) != mark(); }
+    uint64_t packed(uint64_t cycle, uint64_t safe, uint64_t index) const {
+        return cycle << (order + 2) | safe | index;
+    }
+    uint64_t slot(uint64_t ticket) const {
+        const uint64_t rest = ticket & mark();
+        return order < 3 ? rest : (rest & (slots() / 8 - 1)) * 8 + (rest >> (order - 2));
+    }
+    Word &entry(uint64_t ticket) const { return threshold[DISTANCE + slot(ticket)]; }
+};
+
+// All rings, in one list of words. Ring 0 has all indices.
+struct Rings {
+    std::vector<Word> words;
+    uint32_t order;
+    uint64_t limit, level;
+
+    Rings(uint32_t order, uint32_t rings, uint32_t seats)
+        : words(DISTANCE + rings * ring_words(order)), order(order), limit(uint64_t(1) << 60) {
+        const uint64_t n = uint64_t(1) << order;
+        level = ZERO_LEVEL + 2 * n - 1 + (n > seats ? n : seats);
+        words[0] = seats;
+        for (uint32_t number = 0; number < rings; number++) {
+            const Ring r = ring(number);
+            *r.tail = number == 0 ? r.slots() + n : r.slots();
+            *r.head = r.slots();
+            *r.threshold = number == 0 ? level : ZERO_LEVEL - 1;
+            for (uint64_t ticket = 0; ticket < r.slots(); ticket++) {
+                const bool is_full = number == 0 && ticket < n;
+                r.entry(ticket) = r.packed(is_full ? 1 : 0, r.slots(), is_full ? ticket : r.mark());
+            }
+        }
+    }
+    static size_t ring_words(uint32_t order) { return 4 * DISTANCE - 1 + (size_t(2) << order); }
+    Ring ring(uint32_t number) {
+        Word *tail = words.data() + DISTANCE + number * ring_words(order);
+        return Ring{tail, tail + DISTANCE, tail + 2 * DISTANCE, order, limit, level};
+    }
+};
+
+// Whether the index was put, at the place.
+static INLINE bool enq(const Ring r, uint32_t index, uint64_t &place) {
+    for (;;) {
+        const uint64_t ticket = r.tail->fetch_add(1);
+        if (ticket >= r.limit) return false;
+        Word &entry = r.entry(ticket);
+        for (;;) {
+            uint64_t found = entry.load();
+            if (r.cycle_in(found) >= r.cycle(ticket) || r.has_index(found)) break;
+            if (!r.is_safe(found) && r.head->load() > ticket) break;
+            if (entry.compare_exchange_strong(found, r.packed(r.cycle(ticket), r.slots(), index))) {
+                if (r.threshold->load() != r.level) r.threshold->store(r.level);
+                place = ticket;
+                return true;
+            }
+        }
+    }
+}
+
+enum class Got { Index, Nothing, Spent };
+
+// An index, and its place.
+static INLINE Got deq(const Ring r, uint64_t &place, uint32_t &index) {
+    if (r.threshold->load() < ZERO_LEVEL) return Got::Nothing;
+    for (;;) {
+        const uint64_t ticket = r.head->fetch_add(1);
+        if (ticket >= r.limit) return Got::Spent;
+        Word &entry = r.entry(ticket);
+        for (;;) {
+            uint64_t found = entry.load();
+            if (r.cycle_in(found) == r.cycle(ticket)) {
+                index = uint32_t(entry.fetch_or(r.mark()) & r.mark());
+                place = ticket;
+                return Got::Index;
+            }
+            if (r.cycle_in(found) > r.cycle(ticket)) break;
+            const uint64_t left = r.has_index(found)
+                                      ? found & ~r.slots()
+                                      : r.packed(r.cycle(ticket), found & r.slots(), r.mark());
+            if (entry.compare_exchange_strong(found, left)) break;
+        }
+        uint64_t tail = r.tail->load();
+        if (tail <= ticket + 1) {
+            uint64_t to = ticket + 1;
+            while (!r.tail->compare_exchange_strong(tail, to)) {
+                to = r.head->load();
+                tail = r.tail->load();
+                if (tail >= to) break;
+            }
+            r.threshold->fetch_sub(1);
+            return Got::Nothing;
+        }
+        if (r.threshold->fetch_sub(1) <= ZERO_LEVEL) return Got::Nothing;
+    }
+}
+
+// The indices in a thread's hand, and what it knows of each ring, as the seats of `scq_band` keep
+// them; without -DSEATED nothing of it.
+struct Seat {
+#ifdef SEATED
+    struct Known {
+        uint64_t finished, seen, head;
+    };
+    std::vector<uint32_t> hand;
+    std::vector<Known> known;
+
+    Seat(uint32_t order, uint32_t rings) : known(rings, Known{0, 0, 0}) {
+        hand.reserve(size_t(1) << order);
+    }
+    static void raise(uint64_t &a, uint64_t b) {
+        if (a < b) a = b;
+    }
+    void gets(uint32_t ring, uint64_t place, uint32_t index) {
+        hand.push_back(index);
+        raise(known[ring].head, place + 1);
+        raise(known[ring].seen, place);
+    }
+    void finds_none(uint32_t ring) { raise(known[ring].head, known[ring].finished + 1); }
+    void lets_go(uint32_t index) {
+        size_t at = hand.size() - 1;
+        while (hand[at] != index) at--;
+        hand.erase(hand.begin() + static_cast<long>(at));
+    }
+    void puts(uint32_t ring, uint64_t place) {
+        raise(known[ring].finished, place);
+        raise(known[ring].seen, place);
+    }
+    void count(uint64_t &what) { what++; }
+#else
+    Seat(uint32_t, uint32_t) {}
+    void gets(uint32_t, uint64_t, uint32_t) {}
+    void finds_none(uint32_t) {}
+    void lets_go(uint32_t) {}
+    void puts(uint32_t, uint64_t) {}
+    void count(uint64_t &) {}
+#endif
+};
+
+#ifdef SEATED
+constexpr const char *NAME = "seated";
+#else
+constexpr const char *NAME = "plain";
+#endif
