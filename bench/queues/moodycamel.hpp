@@ -1,0 +1,16 @@
+// moodycamel::ConcurrentQueue: a queue for each producer, so that the whole is not one of
+// first in, first out. It has no bound; that is the number of buffers.
+#include <concurrentqueue/concurrentqueue.h>
+
+constexpr const char *NAME = "moodycamel";
+
+struct Ring {
+    moodycamel::ConcurrentQueue<Buffer *> queue;
+
+    explicit Ring(size_t n) : queue(8 * n) {}
+    INLINE bool push(Buffer *buffer) { return queue.enqueue(buffer); }
+    INLINE bool pop(Buffer *&buffer) { return queue.try_dequeue(buffer); }
+};
+
+using Queue = Two<Ring>;
+using Port = PortOfTwo<Ring>;

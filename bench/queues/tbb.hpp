@@ -1,0 +1,15 @@
+// tbb::concurrent_bounded_queue.
+#include <tbb/concurrent_queue.h>
+
+constexpr const char *NAME = "tbb";
+
+struct Ring {
+    tbb::concurrent_bounded_queue<Buffer *> queue;
+
+    explicit Ring(size_t n) { queue.set_capacity(static_cast<std::ptrdiff_t>(n)); }
+    INLINE bool push(Buffer *buffer) { return queue.try_push(buffer); }
+    INLINE bool pop(Buffer *&buffer) { return queue.try_pop(buffer); }
+};
+
+using Queue = Two<Ring>;
+using Port = PortOfTwo<Ring>;
