@@ -269,8 +269,10 @@ uint32_t scq_counts_of(scq_port *port, scq_counts *out);
 uint32_t scq_spent(scq_port *port, uint64_t *ticket);
 
 /* Closes the port, and tells whether it was the queue's last. It gives back what it holds; where its tickets have run out, those buffers stay
- * with the queue, which lends them to nobody. The last port of a queue frees what the library took, with what stands on the topics; and it is told
- * so, unless some port closed with buffers that stayed, for then nobody is told. port->memory is left as it was.
+ * with the queue, which lends them to nobody. The last port of a queue frees what the library took, with what stands on the topics, and it is told
+ * so. Then all calls that were made with all ports of the queue stand in one run of the proved machine, with their answers: each buffer that was
+ * taken was sent on that topic at that place, no place of a topic was sent at or taken at twice, what was sent less what was taken is what was left,
+ * and each topic's calls stand in one order in which every answer is a plain queue's. port->memory is left as it was.
  *
  * Tested: that the port is open.
  * Answers: SCQ_OK; SCQ_CLOSED. */
