@@ -103,7 +103,7 @@ int main(int count, char **words) {
     for (long i = 0; i < queues; i++) queue_of(1, SCQ_MAX_LIMIT);
     for (long i = 0; i < queues; i++) queue_of(0, SCQ_MAX_LIMIT);
     /* Tickets run out while ports hold buffers. */
-    for (long i = 0; i < queues; i++) queue_of(0, 8 * BUFFERS);
-    printf("of %ld queues just one port each was told that it was the last, and of %ld nothing was left\n", queues, 3 * queues);
+    for (long i = 0; i < queues; i++) queue_of(1, 8 * BUFFERS);
+    printf("of %ld queues just one port each was told that it was the last, and of %ld nothing was left\n", 2 * queues, 3 * queues);
     return 0;
 }
