@@ -133,7 +133,7 @@ enum {
 
 /* A line of the processor's cache, in bytes. scq_open begins each buffer at a line of its own, so that threads that write neighbouring
  * buffers don't write in one line. */
-#define SCQ_LINE 64
+#define SCQ_CACHE_LINE 64
 
 /* What scq_version answers, of the library that this file is of. */
 #define SCQ_VERSION 2
@@ -178,13 +178,13 @@ uint32_t scq_version(void);
 SCQ_ANSWERED uint32_t scq_open_over(uint32_t order, uint32_t topics, uint32_t hold, uint64_t limit, const scq_memory *memory, scq_port *ports,
     size_t n);
 
-/* The same, over memory that it takes: the buffers have `size` zero bytes, each at a multiple of SCQ_LINE. None of them is touched before it
- * is used. scq_close frees them with the last port, by whichever thread that is closed.
+/* The same, over memory that it takes: the buffers have `size` zero bytes, each at a multiple of SCQ_CACHE_LINE. None of them is touched before
+ * it is used. scq_close frees them with the last port, by whichever thread that is closed.
  *
  * Answers besides: SCQ_NO_MEMORY where the buffers are more than a size_t counts. */
 static inline SCQ_ANSWERED uint32_t scq_open(uint32_t order, uint32_t topics, uint32_t size, uint32_t hold, uint64_t limit, scq_port *ports,
     size_t n) {
-    const size_t line = SCQ_LINE;
+    const size_t line = SCQ_CACHE_LINE;
     scq_memory memory = {SCQ_NULL, 0, size, SCQ_NULL};
     size_t buffers;
     uint32_t answer;

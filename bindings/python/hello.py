@@ -9,15 +9,22 @@ The calls and what a caller has to uphold stand in scq(3).
 import ctypes
 import sys
 
-VERSION = 1
+VERSION = 2
 OK = 0
 MAX_LIMIT = 1 << 60
+ORDER, SIZE = 6, 64
+
+
+class Memory(ctypes.Structure):
+    """Where the bytes of the buffers lie: those of a number begin at base + number * stride."""
+
+    _fields_ = [("base", ctypes.c_void_p), ("stride", ctypes.c_size_t), ("len", ctypes.c_size_t), ("block", ctypes.c_void_p)]
 
 
 class Port(ctypes.Structure):
     """What a thread makes its calls with; null where it is closed. An open one is never copied."""
 
-    _fields_ = [("at", ctypes.c_void_p)]
+    _fields_ = [("at", ctypes.c_void_p), ("memory", Memory)]
 
 
 class Held(ctypes.Structure):
@@ -28,12 +35,12 @@ class Held(ctypes.Structure):
 
 CALLS = {
     "scq_version": [],
-    "scq_open": [ctypes.c_uint32] * 4 + [ctypes.c_uint64, ctypes.POINTER(Port), ctypes.c_size_t],
-    "scq_lend": [ctypes.POINTER(Port), ctypes.POINTER(Held)],
-    "scq_take": [ctypes.POINTER(Port), ctypes.c_uint32, ctypes.POINTER(Held)],
+    "scq_open_over": [ctypes.c_uint32] * 3 + [ctypes.c_uint64, ctypes.POINTER(Memory), ctypes.POINTER(Port), ctypes.c_size_t],
+    "scq_lend_index": [ctypes.POINTER(Port), ctypes.POINTER(Held)],
+    "scq_take_index": [ctypes.POINTER(Port), ctypes.c_uint32, ctypes.POINTER(Held)],
     "scq_send": [ctypes.POINTER(Port), ctypes.c_uint32, ctypes.c_uint32, ctypes.POINTER(ctypes.c_uint64)],
     "scq_give_back": [ctypes.POINTER(Port), ctypes.c_uint32],
-    "scq_close": [ctypes.POINTER(Port)],
+    "scq_end": [ctypes.POINTER(Port), ctypes.POINTER(ctypes.c_uint32)],
 }
 
 
@@ -57,17 +64,19 @@ def done(answer):
 
 def main():
     scq = opened(sys.argv[1] if len(sys.argv) > 1 else f"libscq.so.{VERSION}")
-    ports, held, place = (Port * 2)(), Held(), ctypes.c_uint64()
-    done(scq.scq_open(6, 1, 64, 1, MAX_LIMIT, ports, len(ports)))
+    ports, held, place, last = (Port * 2)(), Held(), ctypes.c_uint64(), ctypes.c_uint32()
+    block = ctypes.create_string_buffer(SIZE << ORDER)
+    memory = Memory(ctypes.addressof(block), SIZE, SIZE, None)
+    done(scq.scq_open_over(ORDER, 1, 1, MAX_LIMIT, ctypes.byref(memory), ports, len(ports)))
     sender, taker = ctypes.byref(ports[0]), ctypes.byref(ports[1])
-    done(scq.scq_lend(sender, ctypes.byref(held)))
-    ctypes.memmove(held.at, b"hello from Python\0", 18)
+    done(scq.scq_lend_index(sender, ctypes.byref(held)))
+    ctypes.memmove(memory.base + held.index * SIZE, b"hello from Python\0", 18)
     done(scq.scq_send(sender, held.index, 0, ctypes.byref(place)))
-    done(scq.scq_take(taker, 0, ctypes.byref(held)))
-    print(ctypes.string_at(held.at).decode())
+    done(scq.scq_take_index(taker, 0, ctypes.byref(held)))
+    print(ctypes.string_at(memory.base + held.index * SIZE).decode())
     done(scq.scq_give_back(taker, held.index))
-    done(scq.scq_close(sender))
-    done(scq.scq_close(taker))
+    done(scq.scq_end(sender, ctypes.byref(last)))
+    done(scq.scq_end(taker, ctypes.byref(last)))
 
 
 main()

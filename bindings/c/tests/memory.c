@@ -39,8 +39,8 @@ static void lines(void) {
     for (uint32_t size = 1; size <= 200; size++) {
         scq_port ports[2] = {SCQ_NONE, SCQ_NONE};
         CHECK(scq_open(ORDER, 1, size, BUFFERS, SCQ_MAX_LIMIT, ports, 2) == SCQ_OK);
-        CHECK((uintptr_t)ports[0].memory.base % SCQ_LINE == 0 && ports[0].memory.stride % SCQ_LINE == 0);
-        CHECK(ports[0].memory.stride >= size && ports[0].memory.stride < size + SCQ_LINE);
+        CHECK((uintptr_t)ports[0].memory.base % SCQ_CACHE_LINE == 0 && ports[0].memory.stride % SCQ_CACHE_LINE == 0);
+        CHECK(ports[0].memory.stride >= size && ports[0].memory.stride < size + SCQ_CACHE_LINE);
         for (size_t at = 0; at < BUFFERS * ports[0].memory.stride; at++) CHECK(ports[0].memory.base[at] == 0);
         pass_all(&ports[0], &ports[1], size);
         CHECK(scq_close(&ports[0]) == SCQ_OK && scq_close(&ports[1]) == SCQ_OK && ports[1].memory.block == NULL);
