@@ -1,11 +1,13 @@
 //! Runs the machine over rows that stand in files: steps made one by one, schedules replayed, and orders of their calls. It prints each
-//! row whose answer is another, and how many rows of each file ran. `rows_text` has the form of a row.
+//! row whose answer is another, and how many rows of each file ran. `rows_text` has the form of a row. Of a file `*.schedule`, which is
+//! a schedule as `scq replay` reads it, it prints how long no call ends.
 #![tactic(auto)]
 
 mod orders;
 mod replays;
 mod schedules;
 mod steps;
+mod windows;
 
 use anyhow::{Result, anyhow};
 use orders::ordered;
@@ -14,6 +16,7 @@ use rows_text::{Calls, run_rows};
 use std::alloc::Global;
 use std::{env, fs};
 use steps::stepped_through;
+use windows::longest_window;
 
 /// The calls of the machine.
 struct Machine;
@@ -32,8 +35,13 @@ impl Calls for Machine {
 fn main(rt: HostRuntime) -> Result<()> {
     for name in env::args(&rt)?.skip(1) {
         let text = fs::read_to_string(&rt, &name)?;
-        let rows = run_rows(&rt, rt.alloc(), &Machine, &name, &text)?;
-        println!(rt; "{name}: {rows} rows")?;
+        if name.ends_with(".schedule") {
+            let window = longest_window(rt.alloc(), &text)?;
+            println!(rt; "{name}: {window}")?;
+        } else {
+            let rows = run_rows(&rt, rt.alloc(), &Machine, &name, &text)?;
+            println!(rt; "{name}: {rows} rows")?;
+        }
     }
     Ok(())
 }
