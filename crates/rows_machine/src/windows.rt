@@ -6,8 +6,7 @@ use std::alloc::Global;
 
 /// Whether the line of a step says a reply.
 fn ends_a_call(line: &str) -> bool {
-    line.split(' ')
-        .any(|word| matches!(word, "done" | "got" | "nothing" | "spent"))
+    line.split(' ').any(|word| matches!(word, "done" | "got" | "nothing" | "spent"))
 }
 
 /// How many steps a schedule makes, how many of them at most follow one another of which none ends a call, and the line of the
