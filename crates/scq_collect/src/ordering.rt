@@ -118,7 +118,8 @@ fn file_of(member: &Answered) -> usize
     (member.file as usize).min(FILES - 1)
 }
 
-/// Slots of which each that isn't free has a member of the lists: at most four for each member and one.
+/// Slots of which each that isn't free has a member of the lists: at most four for each member
+/// and one.
 fn table_of<'a>(
     alloc: Global,
     lists: &'a [Vec<Answered>],

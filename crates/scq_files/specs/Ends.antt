@@ -55,14 +55,18 @@ abbrev pub AllEndFed : {S : Type 0} → ℕ → (S → ℕ) → (S → ℕ) → 
 AllEndFed {S} size faults end_count left olds news =
     (k : ℕ) (d : S) → k < length olds → EndsFed size faults end_count left (slice_index_or olds k d) (slice_index_or news k d)
 
--- each worker read its files in turn, and none behind one at which it stopped. How the reading of each file ended stands in the order of the
--- files. File k, from 0, is that of worker k mod their number
-pub record StopsAtFaults {S : Type 0} (workers size : ℕ) (faults end_count : S → ℕ) (left : S → Option (List ℕ)) (olds news : List S) : Type 0 where
+-- each worker read its files in turn, and none behind one at which it stopped. How the reading of
+-- each file ended stands in the order of the files. File k, from 0, is that of worker k mod their
+-- number
+pub record StopsAtFaults {S : Type 0} (workers size : ℕ) (faults end_count : S → ℕ)
+    (left : S → Option (List ℕ)) (olds news : List S) : Type 0 where
   pub end_of : List FileEnd
   pub count : length end_of ≡ length olds
   pub ends : (k : ℕ) (d : S) (e : FileEnd) → k < length olds
-      → EndsSo size faults end_count left (slice_index_or olds k d) (slice_index_or news k d) (slice_index_or end_of k e)
-  pub stops : (i j : ℕ) (e : FileEnd) (fault : FrameFault) → i < j → j < length olds → i % workers ≡ j % workers → slice_index_or end_of i e ≡ Stopped fault
+      → EndsSo size faults end_count left (slice_index_or olds k d) (slice_index_or news k d)
+      (slice_index_or end_of k e)
+  pub stops : (i j : ℕ) (e : FileEnd) (fault : FrameFault) → i < j → j < length olds
+      → i % workers ≡ j % workers → slice_index_or end_of i e ≡ Stopped fault
       → slice_index_or end_of j e ≡ Unread
 
 -- what all sources have left, where that of each is visible

@@ -72,7 +72,8 @@ pub fn gather<W, S: Source>(
     ensures gathered { (size : ℕ) → AllEnded size S.faults S.ends S.left desks.old
         → AreGathered size S.faults S.ends S.left was.now.value.items gathered.new.sources.items gathered.new.fault gathered.new.starved }
     ensures stops { (size : ℕ) → AllEnded size S.faults S.ends S.left desks.old → AllStop desks.old
-        → StopsAtFaults (length desks.old) size S.faults S.ends S.left was.now.value.items gathered.new.sources.items }
+        → StopsAtFaults (length desks.old) size S.faults S.ends S.left
+        was.now.value.items gathered.new.sources.items }
     ensures whole { gathered.new.fault ≡ None → AllWhole desks.old }
     ensures same { workers_at desks.new ≡ workers_at desks.old }
 {
