@@ -185,15 +185,15 @@ preload() {
 # Runs a program with its threads each on a processor of its own, so many and the last ones; where
 # there are more threads than processors, wherever the kernel lays them.
 pinned() {
-    local threads=$1 processors at list='' words=()
+    local threads=$1 processors at list='' under=()
     shift
-    [ -z "${PRIORITY-}" ] || words=(chrt -f "$PRIORITY")
+    [ -z "${PRIORITY-}" ] || under=(chrt -f "$PRIORITY")
     [ -e pin.so ] || preload pin
     mapfile -t processors < <(taskset -cp $$ | sed 's/.*: //; s/,/\n/g' |
         while IFS=- read -r first last; do seq "$first" "${last:-$first}"; done)
     at=$((${#processors[@]} - threads))
     [ "$at" -lt 0 ] || list=${processors[*]:at}
-    "${words[@]}" env LD_PRELOAD="$folder/pin.so" PIN="$list" "$@"
+    "${under[@]}" env LD_PRELOAD="$folder/pin.so" PIN="$list" "$@"
 }
 
 # The crate that a text of bench/proved/ says in its first line how to lay out, with the crates that
@@ -247,12 +247,12 @@ proved() {
 
 # Compiles a C++ file as the kit compiles its programs: by its clang, with g++'s headers.
 by_kit() {
-    local program=$1 clang headers flags=() it
+    local program=$1 clang headers including=() it
     shift
     clang=$(dirname "$(rt doc)")/toolchain/bin/clang
     mapfile -t headers < <(g++ -E -x c++ -v /dev/null 2>&1 | sed -n '/^#include </,/^End/s/^ //p')
-    for it in "${headers[@]}"; do flags+=(-isystem "$it"); done
-    "$clang" -x c++ -std=c++17 -O3 -march=x86-64-v2 -Wall -Wextra -Werror -nostdinc "${flags[@]}" \
+    for it in "${headers[@]}"; do including+=(-isystem "$it"); done
+    "$clang" -x c++ -std=c++17 -O3 -march=x86-64-v2 -Wall -Wextra -Werror -nostdinc "${including[@]}" \
         "$@" -c -o "$program.o"
     g++ -pthread -o "$program" "$program.o"
 }
