@@ -1,4 +1,4 @@
-use Rattle.std.proofs.Common.{◌≡◌, ℕ, suc, ◌+◌, ap, subst, refl}
+use Rattle.std.proofs.Common.{sym, ◌≡◌, ℕ, suc, ◌+◌, ap, subst, refl}
 use Rattle.std.specs.Prelude.{Err}
 use Rattle.scq_queue.specs.declared.calls.TakeRefusal.{TakeRefusal}
 use Rattle.scq_queue.specs.declared.calls.TakeRefusal.TheVariants.{Empty, Spent}
