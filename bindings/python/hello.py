@@ -1,7 +1,7 @@
 """Sends a message and takes it, by the shared object alone: neither header nor compiler is needed. So any language can that opens a shared
 object by name, as dlopen does.
 
-    python3 hello.py [libscq.so.1]
+    python3 hello.py [libscq.so.2]
 
 The calls and what a caller has to uphold stand in scq(3).
 """
