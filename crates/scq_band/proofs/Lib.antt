@@ -15,6 +15,7 @@ pub mod Outcomes
 pub mod RingLemmas
 pub mod RingLists
 pub mod PutOutcomes
+pub mod RingWords
 pub mod Placing
 pub mod Ending
 pub mod Drawing

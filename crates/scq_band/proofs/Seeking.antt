@@ -49,9 +49,9 @@ module _ {S : Type 0} (Lies : ℕ → S → List ℕ → Type 0) (c : Setup) (me
 
 -- an entry that is neither of the ticket's cycle nor of a later one
 pub earlier_cycle_of : (c : Setup) (order t x cyc : ℕ) (entry : Entry) → order ≡ c.order → entry ≡ entry_in order x → cyc ≡ cycle_of (slots_of order) t
-    → entry.cycle ≢ cyc → entry.cycle ≤ cyc → cycle_in (ring_slots c) x < cycle c t
+    → cycle_in (ring_slots c) x ≢ cycle c t → entry.cycle ≤ cyc → cycle_in (ring_slots c) x < cycle c t
 earlier_cycle_of c order t x cyc entry same is drawn apart low =
     let a : entry.cycle ≡ cycle_in (slots_of order) x = ap (λ (e : Entry). e.cycle) is in
-    let here : cycle_in (slots_of order) x < cycle_of (slots_of order) t =
-    elim (cases_eq entry.cycle cyc) [ inl e ↦ absurd (apart e) | inr other ↦ omega (arith, other, low, a, drawn) ] in
-    subst (λ (o : ℕ). cycle_in (slots_of o) x < cycle_of (slots_of o) t) same here
+    let here : cycle_in (slots_of order) x ≤ cycle_of (slots_of order) t = omega (arith, low, a, drawn) in
+    let le = subst (λ (o : ℕ). cycle_in (slots_of o) x ≤ cycle_of (slots_of o) t) same here in
+    elim (cases_eq (cycle_in (ring_slots c) x) (cycle c t)) [ inl e ↦ absurd (apart e) | inr other ↦ omega (arith, other, le) ]

@@ -128,6 +128,13 @@ module _ {S : Type 0} where
                 there = there;
               }
 
+  -- where a slot stands first, there is an index
+  pub some_in_order : (ms : List (ℕ × S)) (i : ℕ) (x : S) (others : List (ℕ × S)) → ms ≡ (i, x) ∷ others → (hs : List ℕ) → hs ≡ in_order ms → 0 < length hs
+  some_in_order ms i x others is hs order =
+      let l = ap length (order ∙ ap in_order is) in
+      let m = length-append (in_order others) (i ∷ []) in
+      omega (arith, l, m)
+
   length-in_order : (xs : List (ℕ × S)) → length (in_order xs) ≡ length xs
   length-in_order [] = refl
   length-in_order (x ∷ xs) = let rest = length-in_order xs in let more = length-append (in_order xs) (x.0 ∷ []) in omega (arith, rest, more)

@@ -1,8 +1,10 @@
 -- For private calls: what the running code keeps of a ring.
-use Rattle.std.specs.Prelude.{◌≡◌, ℕ, suc, ◌<◌, List, [], ◌∷◌, length}
+use Rattle.std.specs.Prelude.{◌≡◌, ℕ, suc, ◌<◌, true, List, [], ◌∷◌, length}
 use Rattle.scq_word.specs.declared.setup.Setup.{Setup}
 use Rattle.scq_core.specs.Machine.{tail_of}
-use Rattle.scq_core.specs.Table.{reset_level}
+use Rattle.scq_core.specs.Table.{ring_slots, cycle, reset_level}
+use Rattle.scq_word.specs.Sizes.{n_of}
+use Rattle.scq_word.specs.Words.{mark_of, packed, cycle_in, safe_in, is_none_in}
 use Rattle.scq_band.specs.declared.ring.Ring.{Ring}
 use Rattle.scq_band.specs.Layout.{at}
 
@@ -10,9 +12,22 @@ use Rattle.scq_band.specs.Layout.{at}
 pub record IsRing (c : Setup) (ring : Ring) : Type 0 where
   pub low : ring.number < c.rings
   pub order : ring.shape.order ≡ c.order
+  pub mark : ring.mark ≡ mark_of (ring_slots c)
   pub limit : ring.limit ≡ c.limit
   pub tail : ring.tail ≡ at c (tail_of ring.number)
   pub level : ring.level ≡ reset_level c
+
+-- it is the entry that a put of some index leaves at a ticket
+pub record IsFilled (c : Setup) (ticket word : ℕ) : Type 0 where
+  pub index : ℕ
+  pub small : index < n_of c.order
+  pub is : word ≡ packed (ring_slots c) (cycle c ticket) 1 index
+
+-- it is of an earlier cycle than the ticket, safe, and has no index
+pub record IsPlainlyVacant (c : Setup) (ticket word : ℕ) : Type 0 where
+  pub earlier : cycle_in (ring_slots c) word < cycle c ticket
+  pub none : is_none_in (ring_slots c) word ≡ true
+  pub safe : safe_in (ring_slots c) word ≡ 1
 
 -- these are rings of this setup, from number k on
 abbrev pub RingsFrom : Setup → ℕ → List Ring → Type 0

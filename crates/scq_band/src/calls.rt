@@ -39,12 +39,14 @@ pub enum DeqRefusal {
 // The index at the end of a hand was enqueued at a place: it leaves the hand, and the place is known to be finished.
 #[inline(always)]
 fn let_go(hand: &mut Vec<u32>, numbers: &mut Vec<Numbers>, ring: u32, place: u64)
-    requires { ring < length numbers.old.items }
+    requires some { 0 < length hand.old.items }
+    requires low { ring < length numbers.old.items }
+    requires above { (known_of numbers.old.items ring).seen < place }
     ensures hand { (others : List ℕ) (index : ℕ) → hand.old.items ≡ others ++ index ∷ [] → hand.new.items ≡ others }
     ensures room { vec_capacity hand.new ≡ vec_capacity hand.old }
     ensures numbers { numbers.new.items ≡ changed (finishes place) ring numbers.old.items }
 {
-    hand.pop();
+    let _index = hand.take_last();
     let known = numbers[ring as usize];
     numbers[ring as usize] = known.finishes(place);
 }
@@ -156,8 +158,8 @@ impl<B: Buffer> Band<B> {
         let known = seat.numbers[ring as usize];
         match found {
             Ok((place, index)) => {
+                seat.numbers[ring as usize] = known.gets(place);
                 seat.hand.push_reserved(index);
-                seat.numbers[ring as usize] = known.draws(place).sees(place);
                 Ok((place, index))
             }
             Err(end) => match end {

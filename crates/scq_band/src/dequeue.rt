@@ -40,16 +40,14 @@ fn try_take<B: Buffer>(
     ensures given_up { IfNone result (token.new.me.0.known ≡ goes_to (AtD6 ring.now.number ticket) token.old.me.0.known) }
     ensures slots { IfNone result (token.new.me.1 ≡ token.old.me.1) }
 {
-    let cycle = cycle_of(ring.shape, ticket);
     let word = ring.entry(ticket);
     'tries: loop {
         let found = load(words, token, word);
-        let entry = unpack(ring.shape, found);
-        if entry.cycle == cycle {
-            let old = consume(words, token, word, u64::from(ring.shape.none()));
-            return unpack(ring.shape, old).index;
+        if ring.is_of_cycle(found, ticket) {
+            let old = consume(words, token, word, u64::from(ring.mark));
+            return Some(ring.index(old));
         }
-        if entry.cycle > cycle {
+        if unpack(ring.shape, found).cycle > cycle_of(ring.shape, ticket) {
             return None;
         }
         if exchange(words, token, word, found, passed(ring.shape, ticket, found)) == found {

@@ -9,7 +9,7 @@ ghost use Rattle.scq_word.specs.Words.{rank_in};
 ghost use Rattle.scq_core.specs.Table.{ring_slots, holds_index};
 ghost use Rattle.scq_band.specs.Layout.{word_count, at, entry_at};
 ghost use Rattle.scq_band.specs.declared.numbers.Numbers.{Numbers};
-ghost use Rattle.scq_band.specs.Rings.{IsRing};
+ghost use Rattle.scq_band.specs.Rings.{IsRing, IsFilled};
 ghost use Rattle.scq_band.specs.Sights.{known_me, Went};
 ghost use Rattle.scq_band.specs.Steps.{my, my_phase, front_index, front_bytes};
 ghost use Rattle.scq_band.specs.Seats.{IsAlone, IsLooking, IsEnding, goes_to, placed_to, done_at, put_at, spent_at, index_of, content_of, least_of};
@@ -17,10 +17,10 @@ ghost use Rattle.scq_band.specs.Seats.{IsAlone, IsLooking, IsEnding, goes_to, pl
 use crate::ring::Ring;
 use crate::rule::{Token, Words};
 use crate::steps::{draw, exchange, load, reset};
-use scq_core::filled;
 use scq_word::{Buffer, cycle_of, unpack};
 
-/// E2, and E3 where the entry is unsafe: loads the entry of the ticket's slot, and answers it where an index may be placed there.
+/// E2, and E3 where the entry is unsafe: loads the entry of the ticket's slot, and answers it where an index may be placed there. `new` is
+/// what it is to become.
 #[inline(always)]
 fn load_vacant<B: Buffer>(
     words: &Words<B>,
@@ -28,12 +28,14 @@ fn load_vacant<B: Buffer>(
     ring: &Ring,
     ticket: u64,
     word: usize,
+    new: u64,
 ) -> Option<u64>
     requires own { (token.old.table_id ≡ words.now.table_id) × (words.now.table_id.words ≡ word_count words.now.key.setup) }
     requires ring { IsRing words.now.key.setup ring.now }
     requires alone { IsAlone token.old.me.0.known }
     requires looks { IsLooking ring.now.number ticket (my_phase token.old.me.0.known) }
     requires word { word ≡ at words.now.key.setup (entry_at words.now.key.setup ring.now.number ticket) }
+    requires new { IsFilled words.now.key.setup ticket new }
     ensures own { (token.new.table_id ≡ token.old.table_id) × (token.new.id ≡ token.old.id) }
     ensures went { Went words.now.key.setup (opening_of B.contents words.now.key.given.value.items) token.old.me.0 token.new.me.0 }
     ensures slots { token.new.me.1 ≡ token.old.me.1 }
@@ -46,6 +48,9 @@ fn load_vacant<B: Buffer>(
         (ticket + 1)) token.old.me.0.known) }
 {
     let found = load(words, token, word);
+    if ring.is_plainly_vacant(found, new) {
+        return Some(found);
+    }
     let entry = unpack(ring.shape, found);
     if entry.cycle >= cycle_of(ring.shape, ticket) || entry.index.is_some() {
         return None;
@@ -81,10 +86,10 @@ fn try_place<B: Buffer>(
     ensures passed { IsFalse result → token.new.me.0.known
         ≡ goes_to (AtE1 ring.now.number index (content_of (my_phase token.old.me.0.known)) (ticket + 1)) token.old.me.0.known }
 {
-    let new = filled(ring.shape, ticket, index);
+    let new = ring.filled(ticket, index);
     let word = ring.entry(ticket);
     'tries: loop {
-        let Some(found) = load_vacant(words, token, ring, ticket, word) else {
+        let Some(found) = load_vacant(words, token, ring, ticket, word, new) else {
             return false;
         };
         if exchange(words, token, word, found, new) == found {

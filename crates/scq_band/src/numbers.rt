@@ -1,5 +1,5 @@
 //! What is known of the rings.
-ghost use Rattle.std.specs.Prelude.{◌≡◌, ◌+◌, ◌<◌, ◌^◌, IfSome};
+ghost use Rattle.std.specs.Prelude.{◌≡◌, ◌+◌, ◌<◌, ◌≤◌, ◌^◌, IfSome};
 ghost use Rattle.scq_band.specs.Numbers.{first_numbers_of, finishes, sees, passes, drew, empties, larger};
 
 use scq_word::Setup;
@@ -34,26 +34,30 @@ impl Numbers {
         }
     }
 
-    /// An enqueue of the seat's own has ended at a place.
+    /// An enqueue of the seat's own has ended at a place, which is above all that it knew of.
     #[inline(always)]
     pub(crate) fn finishes(self, place: u64) -> Numbers
+        requires { self.seen < place }
         ensures { result ≡ finishes place self }
     {
         Numbers {
             finished: self.finished.max(place),
-            seen: self.seen.max(place),
+            seen: place,
             head: self.head,
         }
     }
 
-    /// The seat has dequeued an index from a place.
+    /// The seat has dequeued an index from a place, which is its ticket, and not below the head number.
     #[inline(always)]
-    pub(crate) fn sees(self, place: u64) -> Numbers
-        ensures { result ≡ sees place self }
+    pub(crate) fn gets(self, place: u64) -> Numbers
+        requires above { self.head ≤ place }
+        requires small { place + 1 < 2 ^ 64 }
+        ensures { result ≡ sees place (passes (place + 1) self) }
     {
         Numbers {
+            finished: self.finished,
             seen: self.seen.max(place),
-            ..self
+            head: place + 1,
         }
     }
 

@@ -1,18 +1,22 @@
 //! A ring of the table: where its words are, and the numbers that a call needs of the setup.
-ghost use Rattle.std.specs.Prelude.{◌≡◌, ◌^◌, ◌<◌};
+ghost use Rattle.std.specs.Prelude.{◌≡◌, ◌≢◌, ℕ, ◌^◌, ◌<◌, IsTrue, IsFalse};
 ghost use Rattle.scq_core.specs.Machine.{head_of, threshold_of};
 ghost use Rattle.scq_word.specs.declared.setup.Setup.{Setup};
 ghost use Rattle.scq_band.specs.Layout.{at, entry_at};
-ghost use Rattle.scq_band.specs.Rings.{IsRing};
+ghost use Rattle.scq_band.specs.Rings.{IsRing, IsFilled, IsPlainlyVacant};
+ghost use Rattle.scq_core.specs.Table.{ring_slots, cycle};
+ghost use Rattle.scq_word.specs.Words.{packed, cycle_in, index_in};
 
 use crate::layout::{entry_word, head_word, tail_word, threshold_word};
 use scq_core::reset_level;
 use scq_word::{Setup, Shape, slot_of};
 
-/// `tail` is the word of its Tail, which tells where its other words are. `level` is what Threshold is reset to.
+/// `tail` is the word of its Tail, which tells where its other words are. `level` is what Threshold is reset to. `mark` says "no index" in
+/// an entry, and has all bits of an index.
 #[derive(Clone, Copy)]
 pub struct Ring {
     pub number: u32,
+    pub mark: u32,
     pub shape: Shape,
     pub limit: u64,
     pub tail: usize,
@@ -27,6 +31,7 @@ impl Ring {
     {
         Ring {
             number,
+            mark: setup.shape().none(),
             shape: setup.shape(),
             limit: setup.limit(),
             tail: tail_word(setup, number),
@@ -57,5 +62,45 @@ impl Ring {
         ensures { (c : Setup) → IsRing c self.now → result ≡ at c (entry_at c self.now.number ticket) }
     {
         entry_word(self.tail, slot_of(self.shape, ticket))
+    }
+
+    /// The entry of an index at its ticket.
+    #[inline(always)]
+    pub fn filled(&self, ticket: u64, index: u32) -> u64
+        requires small { ticket < 2 ^ 60 }
+        ensures { (c : Setup) → IsRing c self.now → result ≡ packed (ring_slots c) (cycle c ticket) 1 index }
+    {
+        let mark = u64::from(self.mark);
+        2 * (ticket - (ticket & mark)) + (mark + 1) + u64::from(index)
+    }
+
+    /// Whether an entry is of a ticket's cycle.
+    #[inline(always)]
+    pub fn is_of_cycle(&self, entry: u64, ticket: u64) -> bool
+        requires small { ticket < 2 ^ 60 }
+        ensures own { IsTrue result → (c : Setup) → IsRing c self.now → cycle_in (ring_slots c) entry ≡ cycle c ticket }
+        ensures other { IsFalse result → (c : Setup) → IsRing c self.now → cycle_in (ring_slots c) entry ≢ cycle c ticket }
+    {
+        let mark = u64::from(self.mark);
+        let safe_and_mark = 2 * mark + 1;
+        entry - (entry & safe_and_mark) == 2 * (ticket - (ticket & mark))
+    }
+
+    /// The bits of an entry's index: the index, where it has one.
+    #[inline(always)]
+    pub fn index(&self, entry: u64) -> u32
+        ensures { (c : Setup) → IsRing c self.now → result ≡ index_in (ring_slots c) entry }
+    {
+        (entry & u64::from(self.mark)) as u32
+    }
+
+    /// Whether an entry is vacant to a ticket of which `new` is to be the entry, as far as can be told by two comparisons: it is of an
+    /// earlier cycle, safe, and has no index.
+    #[inline(always)]
+    pub fn is_plainly_vacant(&self, entry: u64, new: u64) -> bool
+        ensures { IsTrue result → (c : Setup) → IsRing c self.now → (ticket : ℕ) → IsFilled c ticket new → IsPlainlyVacant c ticket entry }
+    {
+        let safe_and_mark = 2 * u64::from(self.mark) + 1;
+        entry < new && entry & safe_and_mark == safe_and_mark
     }
 }

@@ -54,8 +54,7 @@ consume-old-requires-clause-may g c κs within =
     let alone = alone_at c.args.token.now.me.0.known v turn c.requires.alone c.tries.invariant.3 in
     let is = ap (loading (ring_of_word k c.entry-word.result)) (ap my_phase c.tries.invariant.3) in
     let same : cycle_in (ring_slots k) c.load-found.result ≡ cycle k h =
-    subst (λ (o : ℕ). cycle_in (slots_of o) c.load-found.result ≡ cycle_of (slots_of o) h) c.requires.ring.order
-    (sym (ap (λ (e : Entry). e.cycle) c.unpack-entry.ensures.entry) ∙ c.if-entry-cycle.true ∙ c.cycle_of-cycle.ensures) in
+    c.is_of_cycle.ensures.own c.if-is_of_cycle.true k c.requires.ring in
     let now = saw_own_cycle Lie k (known_me c.tries.token.me) (known_me c.load-found.new.token.me) _ c.load-found.result r h _ is alone same
     c.load-found.ensures.turned in
     may_phase k c.load-found.new.token.me.0.known (AtD4 r h) D4 (alone_at v c.load-found.new.token.me.0.known (AtD4 r h) alone now) (ap my_phase now) refl
@@ -84,8 +83,8 @@ exchange-requires-clause-may g c κs within =
     let turn = AtD3 r h (least_of (my_phase v)) in
     let alone = alone_at c.args.token.now.me.0.known v turn c.requires.alone c.tries.invariant.3 in
     let is = ap (loading (ring_of_word k c.entry-word.result)) (ap my_phase c.tries.invariant.3) in
-    let low = earlier_cycle_of k _ h x c.cycle_of-cycle.result c.unpack-entry.result c.requires.ring.order c.unpack-entry.ensures.entry
-    c.cycle_of-cycle.ensures c.if-entry-cycle.false c.if-entry-cycle-2.false in
+    let low = earlier_cycle_of k _ h x c.cycle_of.result c.unpack.result c.requires.ring.order c.unpack.ensures.entry
+    c.cycle_of.ensures (c.is_of_cycle.ensures.other c.if-is_of_cycle.false k c.requires.ring) c.if-unpack-cycle_of.false in
     let now = saw_earlier Lie k (known_me c.tries.token.me) (known_me c.load-found.new.token.me) _ x r h _ is alone low c.load-found.ensures.turned in
     may_phase k c.load-found.new.token.me.0.known (AtD5 r h x) D5 (alone_at v c.load-found.new.token.me.0.known (AtD5 r h x) alone now) (ap my_phase now) refl
 
@@ -101,8 +100,8 @@ tries-smaller g c =
     let turn = AtD3 r h (least_of (my_phase v)) in
     let alone = alone_at c.args.token.now.me.0.known v turn c.requires.alone c.tries.invariant.3 in
     let is = ap (loading (ring_of_word k c.entry-word.result)) (ap my_phase c.tries.invariant.3) in
-    let low = earlier_cycle_of k _ h x c.cycle_of-cycle.result c.unpack-entry.result c.requires.ring.order c.unpack-entry.ensures.entry
-    c.cycle_of-cycle.ensures c.if-entry-cycle.false c.if-entry-cycle-2.false in
+    let low = earlier_cycle_of k _ h x c.cycle_of.result c.unpack.result c.requires.ring.order c.unpack.ensures.entry
+    c.cycle_of.ensures (c.is_of_cycle.ensures.other c.if-is_of_cycle.false k c.requires.ring) c.if-unpack-cycle_of.false in
     let now = saw_earlier Lie k (known_me c.tries.token.me) (known_me c.load-found.new.token.me) _ x r h _ is alone low c.load-found.ensures.turned in
     let beside = alone_at v c.load-found.new.token.me.0.known (AtD5 r h x) alone now in
     let up = passed_rises Lie k (known_me c.load-found.new.token.me) (known_me c.exchange.new.token.me) (my_phase c.load-found.new.token.me.0.known) y r h x
@@ -117,14 +116,14 @@ tries-smaller g c =
     (turned_as Lie k _ turn (known_me c.tries.token.me) (known_me c.load-found.new.token.me) x is c.load-found.ensures.turned).found in
     omega arith
 
-pub returns-then-entry-cycle-2-clause-went : goal.returns-then-entry-cycle-2-clause-went
-returns-then-entry-cycle-2-clause-went g c =
+pub returns-then-unpack-cycle_of-clause-went : goal.returns-then-unpack-cycle_of-clause-went
+returns-then-unpack-cycle_of-clause-went g c =
     let key = c.args.words.now.key in
     let opening = opening_of g.B.Buffer.contents key.given.value.items in
     goes_then key.setup opening c.args.token.now.me.0 c.tries.token.me.0 c.load-found.new.token.me.0 c.tries.invariant.4 c.load-found.ensures.went
 
-pub returns-then-entry-cycle-clause-went : goal.returns-then-entry-cycle-clause-went
-returns-then-entry-cycle-clause-went g c =
+pub returns-then-is_of_cycle-clause-went : goal.returns-then-is_of_cycle-clause-went
+returns-then-is_of_cycle-clause-went g c =
     let key = c.args.words.now.key in
     let opening = opening_of g.B.Buffer.contents key.given.value.items in
     let a = c.tries.token.me.0 in
@@ -157,8 +156,8 @@ tries-preserved g c =
     let turn = AtD3 r h (least_of (my_phase v)) in
     let alone = alone_at first v turn c.requires.alone c.tries.invariant.3 in
     let is = ap (loading (ring_of_word k c.entry-word.result)) (ap my_phase c.tries.invariant.3) in
-    let low = earlier_cycle_of k _ h x c.cycle_of-cycle.result c.unpack-entry.result c.requires.ring.order c.unpack-entry.ensures.entry
-    c.cycle_of-cycle.ensures c.if-entry-cycle.false c.if-entry-cycle-2.false in
+    let low = earlier_cycle_of k _ h x c.cycle_of.result c.unpack.result c.requires.ring.order c.unpack.ensures.entry
+    c.cycle_of.ensures (c.is_of_cycle.ensures.other c.if-is_of_cycle.false k c.requires.ring) c.if-unpack-cycle_of.false in
     let now = saw_earlier Lie k (known_me c.tries.token.me) (known_me c.load-found.new.token.me) _ x r h _ is alone low c.load-found.ensures.turned in
     let beside = alone_at v c.load-found.new.token.me.0.known (AtD5 r h x) alone now in
     let next = passed_missed Lie k (known_me c.load-found.new.token.me) (known_me c.exchange.new.token.me) (my_phase c.load-found.new.token.me.0.known) y r h x

@@ -16,15 +16,10 @@ use Rattle.scq_band.proofs.Placing.{room_then, missed_rises, saw_missed, rank_fi
 use Rattle.scq_band.proofs.RunShown.{went_on, goes_then}
 use Rattle.scq_band.proofs.enqueue.try_place.Goals as goal
 
-pub filled-new-requires-clause-fits : goal.filled-new-requires-clause-fits
-filled-new-requires-clause-fits g c =
+pub load_vacant-requires-clause-new : goal.load_vacant-requires-clause-new
+load_vacant-requires-clause-new g c κs within =
     let k = c.args.words.now.key.setup in
-    let below = c.requires.limit in
-    let limit = c.requires.ring.limit in
-    rw (c.requires.ring.order) (cycle_fits k c.args.ticket (omega arith))
-
-pub filled-new-requires-clause-own : goal.filled-new-requires-clause-own
-filled-new-requires-clause-own g c = rw (c.requires.ring.order) c.requires.index.1
+    record { index = c.args.index; small = c.requires.index.1; is = c.filled-new.ensures k c.requires.ring }
 
 pub entry-word-requires : goal.entry-word-requires
 entry-word-requires g c = tail_fits c.args.words.now.key.setup c.args.ring.now c.requires.ring

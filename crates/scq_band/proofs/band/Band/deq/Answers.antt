@@ -36,11 +36,28 @@ invariant_of-seat g c =
     (subst (λ n. HasGotAfter (LiesIn contents Same c.self.inside.table.shared.key.given.value.items) n place index me me') c.ring.ensures.number
     c.in-Ok.ensures.got) in
     let known = known_read numbers r c.index-known.result.now low c.index-known.ensures in
-    let new = ap (λ (x : Numbers). slice_set numbers r x) (c.sees.ensures ∙ ap (sees place) (c.draws.ensures ∙ ap (passes (place + 1)) known)) in
+    let new = ap (λ (x : Numbers). slice_set numbers r x) (c.gets.ensures ∙ ap (λ x. sees place (passes (place + 1) x)) known) in
     kept_got contents Same key me me' c.seat.inside.hand.items c.push_reserved.new.self.items _ _ numbers _ _ r place index c.seat.invariant got
     c.in-Ok.ensures.once
     (subst (λ (s : Setup). index < n_of s.order) (sym (ap (λ (i : Identity g.row.B.Denot). i.setup) ident)) c.in-Ok.ensures.small.1)
     c.push_reserved.ensures.items c.push_reserved.ensures.capacity low new
+
+pub gets-requires-clause-above : goal.gets-requires-clause-above
+gets-requires-clause-above g c =
+    let r = c.args.ring in
+    let me = known_me c.seat.inside.token.me in
+    let numbers = c.seat.inside.numbers.items in
+    let low : r < length numbers =
+    let rings = c.seat.invariant.rings in
+    let same = ap (λ (i : Identity g.row.B.Denot). i.setup.rings) (ap (λ (s : Standing g.row.B.Denot). s.band) c.seat.view_is ∙ c.requires.seat) in
+    let ring = c.requires.ring in
+    omega (arith, rings, same, ring) in
+    let there : r < length me.0.numbers = let same = ap length (sym c.seat.invariant.numbers) in omega (arith, low, same) in
+    let it = ap (λ n. slice_get me.0.numbers n) c.ring.ensures.number ∙ known_there me.0.numbers r there in
+    let known = known_read numbers r c.index-known.result.now low c.index-known.ensures in
+    subst (λ (x : Numbers). x.head ≤ c.in-Ok.place) (sym known)
+    (subst (λ (ns : List Numbers). (known_of ns r).head ≤ c.in-Ok.place) (sym c.seat.invariant.numbers)
+    (c.in-Ok.ensures.above (known_of me.0.numbers r) it))
 
 pub returns-in-Ok-clause-got : goal.returns-in-Ok-clause-got
 returns-in-Ok-clause-got g c =

@@ -15,7 +15,7 @@ use Rattle.scq_band.specs.Steps.{my, front_index, front_bytes}
 use Rattle.scq_band.specs.Seats.{put_at, spent_at}
 use Rattle.scq_band.specs.Standing.{Identity, Standing, in_hand, with_buffer, IsAsGiven}
 use Rattle.scq_band.specs.Kept.{in_order, IsKept}
-use Rattle.scq_band.proofs.Slots.{holds_times}
+use Rattle.scq_band.proofs.Slots.{holds_times, some_in_order}
 use Rattle.scq_band.proofs.Exchanging.{held, brought, kept_turned, kept_lent, same_slot, lent_standing}
 use Rattle.scq_band.proofs.Keeping.{kept_put, kept_still, put_standing, spent_standing, seen, call_seen, known_there}
 use Rattle.scq_band.proofs.Putting.{laid_there, put_laid, laid_brought, lifted_again}
@@ -109,12 +109,38 @@ lift_first-buffer-requires-clause-first g c κs within =
     let still = c.in-Err.ensures.kept.0 ∙ front in
     (c.args.buffer, still ∙ ap (λ (os : List (ℕ × Slot g.row.B.Denot)). (c.args.index, with_it) ∷ os) (sym (ap rest still)))
 
-pub let_go-requires : goal.let_go-requires
-let_go-requires g c =
+pub let_go-requires-clause-low : goal.let_go-requires-clause-low
+let_go-requires-clause-low g c =
     let rings = c.seat.invariant.rings in
     let setup = ap (λ (i : Identity g.row.B.Denot). i.setup.rings) (ap (λ (s : Standing g.row.B.Denot). s.band) c.seat.view_is ∙ c.requires.seat) in
     let ring = c.requires.ring in
     omega (arith, rings, setup, ring)
+
+pub let_go-requires-clause-some : goal.let_go-requires-clause-some
+let_go-requires-clause-some g c =
+    let Same = g.B.Buffer.IsSameBuffer in
+    let key = c.seat.inside.key.value in
+    let me = known_me c.seat.inside.token.me in
+    let is : in_hand _ c.args.index ≡ Some None = ap (λ (s : Standing g.row.B.Denot). in_hand s.hand c.args.index) c.seat.view_is ∙ c.requires.lifted in
+    let ms = c.bring_to_front.new.token.me.1 in
+    let b = brought Same key me ms c.seat.inside.hand.items _ _ _ c.args.index None c.seat.invariant c.bring_to_front.ensures.turned
+    c.bring_to_front.ensures.first is in
+    some_in_order ms c.args.index b.slot b.others b.is c.bring_to_front.new.hand.items c.bring_to_front.ensures.order
+
+pub let_go-requires-clause-above : goal.let_go-requires-clause-above
+let_go-requires-clause-above g c =
+    let r = c.args.ring in
+    let me = known_me c.seat.inside.token.me in
+    let low : r < length me.0.numbers =
+    let rings = ap length (sym c.seat.invariant.numbers) ∙ c.seat.invariant.rings in
+    let same = ap (λ (i : Identity g.row.B.Denot). i.setup.rings) (ap (λ (s : Standing g.row.B.Denot). s.band) c.seat.view_is ∙ c.requires.seat) in
+    let ring = c.requires.ring in
+    omega (arith, rings, same, ring) in
+    let lay_view = ap (λ (m : Me (Slot g.row.B.Denot) Sight). m.0) c.lay_first.ensures.laid ∙ c.bring_to_front.ensures.own.2 in
+    let there = ap (λ (u : Sight). slice_get u.known.numbers c.ring.result.now.number) lay_view
+    ∙ ap (λ n. slice_get me.0.numbers n) c.ring.ensures.number ∙ known_there me.0.numbers r low in
+    subst (λ (ns : List Numbers). (known_of ns r).seen < c.in-Ok.place) (sym c.seat.invariant.numbers)
+    (c.in-Ok.ensures.above.1 (known_of me.0.numbers r) there)
 
 pub invariant_of-seat : goal.invariant_of-seat
 invariant_of-seat g c =

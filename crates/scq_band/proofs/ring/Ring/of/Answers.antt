@@ -1,10 +1,14 @@
+use Rattle.std.proofs.Common.{ℕ, ◌∙◌, ap}
+use Rattle.scq_word.specs.Sizes.{slots_of}
+use Rattle.scq_word.specs.Words.{mark_of}
 use Rattle.scq_band.proofs.ring.Ring.of.Goals as goal
 
 pub returns-clause-ring : goal.returns-clause-ring
 returns-clause-ring c =
     record {
       low = c.requires;
-      order = c.shape.ensures;
+      order = c.shape-2.ensures;
+      mark = c.none.ensures ∙ ap (λ (o : ℕ). mark_of (slots_of o)) c.shape.ensures;
       limit = c.limit.ensures;
       tail = c.tail_word.ensures.word;
       level = c.reset_level.ensures;

@@ -1,0 +1,114 @@
+-- What a ring's code makes of an entry's bits, and of a ticket's.
+use Rattle.std.proofs.Common.{◌≡◌, ℕ, ◌+◌, ◌-◌, ◌*◌, ◌/◌, ◌%◌, ◌^◌, ◌<◌, ◌≤◌, ◌==◌, ◌≢◌, refl, sym, ◌∙◌, ap, subst, inl, inr, arith, eq-eqb}
+use Rattle.std.specs.Int.Bits.{bit_and}
+use Rattle.std.proofs.lemmas.Nat.{div-add-mod', and_le_l}
+use Rattle.std.proofs.lemmas.Bool.{cases_lt}
+use Rattle.std.proofs.Math.Nat.{mul-le-mul_right, div-div-eq-div-mul}
+use Rattle.scq_word.specs.declared.setup.Setup.{Setup}
+use Rattle.scq_word.specs.Sizes.{n_of, slots_of}
+use Rattle.scq_word.specs.Tickets.{cycle_of}
+use Rattle.scq_word.specs.Words.{mark_of, packed, cycle_in, safe_in, index_in}
+use Rattle.scq_word.proofs.WordLemmas.{cycle_in-packed, safe_in-packed, index_in-packed}
+use Rattle.scq_word.proofs.EntryLemmas.{n_of_some, slots_of-pow, masked}
+use Rattle.scq_core.specs.Table.{ring_slots, cycle}
+use Rattle.scq_band.specs.Rings.{IsFilled, IsPlainlyVacant}
+
+-- a word whose safe bit and index bits are set is packed of them
+all_set : (m x : ℕ) → 0 < m → x % (2 * m) ≡ 2 * m - 1 → x ≡ packed m (x / (2 * m)) 1 (m - 1)
+unfolding packed
+all_set m x some rest = let parts = div-add-mod' x (2 * m) in omega (arith, parts, rest, some)
+
+-- of two words, of which the higher has the safe bit, and the lower that and all bits of the index, the lower is of an earlier cycle
+earlier_of : (m q cyc i x : ℕ) → i < m → x ≡ packed m q 1 (m - 1) → x < packed m cyc 1 i → q < cyc
+unfolding packed
+earlier_of m q cyc i x small is low =
+    elim (cases_lt q cyc) [
+      | inl below ↦ below
+      | inr above ↦
+          let turns : cyc * (2 * m) ≤ q * (2 * m) = mul-le-mul_right (2 * m) (omega (arith, above)) in
+          absurd (omega (arith, turns, small, is, low))
+    ]
+
+-- the bits of an index, and those with the safe bit
+pub low_bits : (c : Setup) (x mark : ℕ) → mark ≡ mark_of (ring_slots c) → bit_and x mark ≡ x % ring_slots c
+low_bits c x mark is =
+    let some = n_of_some c.order in
+    let pow = slots_of-pow c.order in
+    masked c.order (c.order + 1) mark x refl (omega (arith, is, pow, some))
+
+safe_bits : (c : Setup) (x mark : ℕ) → mark ≡ mark_of (ring_slots c) → bit_and x (2 * mark + 1) ≡ x % (2 * ring_slots c)
+safe_bits c x mark is =
+    let o = c.order in
+    let some = n_of_some o in
+    let twice : slots_of (o + 1) ≡ 2 * ring_slots c = ap (λ (k : ℕ). 2 * k) (sym (slots_of-pow o)) in
+    let pow = slots_of-pow (o + 1) in
+    let bits : 2 * mark + 1 ≡ 2 ^ (o + 1 + 1) - 1 = omega (arith, is, twice, pow, some) in
+    subst (λ (k : ℕ). bit_and x (2 * mark + 1) ≡ x % k) twice (masked (o + 1) (o + 1 + 1) (2 * mark + 1) x refl bits)
+
+pub plainly_vacant : (c : Setup) (t x new mark : ℕ) → mark ≡ mark_of (ring_slots c) → IsFilled c t new → x < new → bit_and x (2 * mark + 1) ≡ 2 * mark + 1
+    → IsPlainlyVacant c t x
+plainly_vacant c t x new mark mark_is filled low all =
+    let m = ring_slots c in
+    let some = n_of_some c.order in
+    let small = filled.small in
+    let bits = safe_bits c x mark mark_is in
+    let q = x / (2 * m) in
+    let is : x ≡ packed m q 1 (m - 1) = all_set m x (omega (arith, some)) (omega (arith, bits, all, mark_is, some)) in
+    let fits : m - 1 < m = omega (arith, some) in
+    record {
+      earlier =
+          subst (λ (k : ℕ). k < cycle c t) (sym (ap (cycle_in m) is ∙ cycle_in-packed m q 1 (m - 1) fits (omega arith)))
+          (earlier_of m q (cycle c t) filled.index x (omega (arith, small)) is (subst (λ (k : ℕ). x < k) filled.is low));
+      none = ap (λ (k : ℕ). k == mark_of m) (ap (index_in m) is ∙ index_in-packed m q 1 (m - 1) fits) ∙ eq-eqb (mark_of m) (mark_of m) refl;
+      safe = ap (safe_in m) is ∙ safe_in-packed m q 1 (m - 1) fits (omega arith);
+    }
+
+-- twice a ticket's round is the round of the entries of its cycle
+rounds : (c : Setup) (t mark : ℕ) → mark ≡ mark_of (ring_slots c) → 2 * (t - bit_and t mark) ≡ cycle c t * (2 * ring_slots c)
+unfolding cycle_of
+rounds c t mark is =
+    let m = ring_slots c in
+    let parts = div-add-mod' t m in
+    let low = low_bits c t mark is in
+    let turn : t - bit_and t mark ≡ t / m * m = omega (arith, parts, low) in
+    let double : 2 * (t / m * m) ≡ t / m * (2 * m) = grind arith in
+    ap (λ (k : ℕ). 2 * k) turn ∙ double
+
+pub filled_is : (c : Setup) (t i mark : ℕ) → mark ≡ mark_of (ring_slots c) → 2 * (t - bit_and t mark) + (mark + 1) + i ≡ packed (ring_slots c) (cycle c t) 1 i
+unfolding packed
+filled_is c t i mark is =
+    let some = n_of_some c.order in
+    let turn = rounds c t mark is in
+    omega (arith, turn, is, some)
+
+same_rounds : (m a b : ℕ) → 0 < m → a * m ≡ b * m → a ≡ b
+same_rounds m a b some same =
+    elim (cases_lt a b) [
+      | inl below ↦ let turns : (a + 1) * m ≤ b * m = mul-le-mul_right m (omega (arith, below)) in absurd (omega (arith, turns, same, some))
+      | inr above ↦
+          elim (cases_lt b a) [
+            | inl below ↦ let turns : (b + 1) * m ≤ a * m = mul-le-mul_right m (omega (arith, below)) in absurd (omega (arith, turns, same, some))
+            | inr other ↦ omega (arith, above, other)
+          ]
+    ]
+
+round_of : (c : Setup) (x mark : ℕ) → mark ≡ mark_of (ring_slots c) → x - bit_and x (2 * mark + 1) ≡ cycle_in (ring_slots c) x * (2 * ring_slots c)
+unfolding cycle_in
+round_of c x mark is =
+    let m = ring_slots c in
+    let parts = div-add-mod' x (2 * m) in
+    let low = safe_bits c x mark is in
+    let swap : m * 2 ≡ 2 * m = omega arith in
+    let turn : x - bit_and x (2 * mark + 1) ≡ x / (2 * m) * (2 * m) = omega (arith, parts, low) in
+    turn ∙ ap (λ (k : ℕ). x / k * (2 * m)) (sym swap) ∙ ap (λ (k : ℕ). k * (2 * m)) (sym (div-div-eq-div-mul x m 2))
+
+pub of_cycle : (c : Setup) (x t mark : ℕ) → mark ≡ mark_of (ring_slots c) → x - bit_and x (2 * mark + 1) ≡ 2 * (t - bit_and t mark)
+    → cycle_in (ring_slots c) x ≡ cycle c t
+of_cycle c x t mark is same =
+    let some = n_of_some c.order in
+    same_rounds (2 * ring_slots c) (cycle_in (ring_slots c) x) (cycle c t) (omega (arith, some)) (sym (round_of c x mark is) ∙ same ∙ rounds c t mark is)
+
+pub not_of_cycle : (c : Setup) (x t mark : ℕ) → mark ≡ mark_of (ring_slots c) → x - bit_and x (2 * mark + 1) ≢ 2 * (t - bit_and t mark)
+    → cycle_in (ring_slots c) x ≢ cycle c t
+not_of_cycle c x t mark is apart same =
+    apart (round_of c x mark is ∙ ap (λ (k : ℕ). k * (2 * ring_slots c)) same ∙ sym (rounds c t mark is))
