@@ -5,7 +5,7 @@ use Rattle.scq_band.specs.Known.{Known, nobody, lower_gate, both_of}
 use Rattle.scq_band.specs.declared.numbers.Numbers.{Numbers}
 use Rattle.scq_band.specs.Numbers.{known_of, larger, joined}
 use Rattle.scq_band.specs.Kept.{AreSmall}
-use Rattle.scq_band.proofs.Keeping.{max_small}
+use Rattle.scq_band.proofs.Keeping.{max_small, max_order}
 
 -- the first list, where the numbers of the rings below n are raised
 abbrev pub joined_below : ℕ → List Numbers → List Numbers → List Numbers
@@ -37,7 +37,10 @@ joined_all (suc n) (x ∷ xs) (y ∷ ys) over = ap (λ (zs : List Numbers). larg
 pub small_joined : (xs ys : List Numbers) → AreSmall xs → AreSmall ys → AreSmall (joined xs ys)
 small_joined [] ys one other r = one r
 small_joined (x ∷ xs) [] one other r = one r
-small_joined (x ∷ xs) (y ∷ ys) one other zero = max_small x.finished y.finished (one zero) (other zero)
+small_joined (x ∷ xs) (y ∷ ys) one other zero = (
+  max_small x.finished y.finished (one zero).0 (other zero).0,
+  max_order x.finished y.finished x.seen y.seen (one zero).1 (other zero).1,
+)
 small_joined (x ∷ xs) (y ∷ ys) one other (suc r) = small_joined xs ys (λ q. one (suc q)) (λ q. other (suc q)) r
 
 -- one element more was copied

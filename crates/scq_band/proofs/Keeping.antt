@@ -29,7 +29,7 @@ use Rattle.scq_band.specs.Seats.{IsAlone, looked, HasGotAfter, with_part, seated
 use Rattle.scq_band.specs.Turns.{Fronts}
 use Rattle.scq_band.specs.Buffers.{LiesIn, opening_of}
 use Rattle.scq_band.specs.Standing.{Identity, Standing, in_hand, bytes_of, bytes_in_hand, having_seen, caller_of, after_put, after_get, after_nothing, after_spent_put, HasTaken}
-use Rattle.scq_band.specs.Kept.{in_order, buffer_in, hand_of, identity_of, standing_from, standing_of, AllGiven, AreSmall, IsKept}
+use Rattle.scq_band.specs.Kept.{in_order, buffer_in, hand_of, identity_of, standing_from, standing_of, AllGiven, IsSmall, AreSmall, IsKept}
 use Rattle.scq_band.proofs.Slots.{times-append, times-without, length-without, put_hand}
 use Rattle.scq_law.proofs.Aspects.EmptyCalls.{empty_at_call}
 use Rattle.scq_band.proofs.DelayedCalls.{call_delayed}
@@ -45,7 +45,7 @@ known_set (n ∷ ns) zero y (suc q) = inr refl
 known_set (n ∷ ns) (suc r) y zero = inr refl
 known_set (n ∷ ns) (suc r) y (suc q) = known_set ns r y q
 
-pub small_changed : (f : Numbers → Numbers) (r : ℕ) (ns : List Numbers) → ((x : Numbers) → x.finished < 2 ^ 60 → (f x).finished < 2 ^ 60) → AreSmall ns
+pub small_changed : (f : Numbers → Numbers) (r : ℕ) (ns : List Numbers) → ((x : Numbers) → IsSmall x → IsSmall (f x)) → AreSmall ns
     → AreSmall (changed f r ns)
 small_changed f r ns keeps small q =
     elim (known_set ns r (f (known_of ns r)) q) [ inl new ↦ rw new (keeps (known_of ns r) (small r)) | inr old ↦ rw old (small q) ]
@@ -72,6 +72,31 @@ max_small a b one other =
     elim (cases_lt a b) [
       | inl low ↦ let same : max a b ≡ b = max-eq_right (omega (arith, low)) in rw same other
       | inr high ↦ let same : max a b ≡ a = max-eq_left (omega (arith, high)) in rw same one
+    ]
+
+-- the larger of two is no lower than that of two lower ones
+pub max_order : (a b x y : ℕ) → a ≤ x → b ≤ y → max a b ≤ max x y
+max_order a b x y one other =
+    elim (cases_lt x y) [
+      | inl low ↦
+          let top : max x y ≡ y = max-eq_right (omega (arith, low)) in
+          elim (cases_lt a b) [
+            | inl less ↦ let same : max a b ≡ b = max-eq_right (omega (arith, less)) in rw (same, top) other
+            | inr more ↦ let same : max a b ≡ a = max-eq_left (omega (arith, more)) in rw (same, top) (omega (arith, one, low))
+          ]
+      | inr high ↦
+          let top : max x y ≡ x = max-eq_left (omega (arith, high)) in
+          elim (cases_lt a b) [
+            | inl less ↦ let same : max a b ≡ b = max-eq_right (omega (arith, less)) in rw (same, top) (omega (arith, other, high))
+            | inr more ↦ let same : max a b ≡ a = max-eq_left (omega (arith, more)) in rw (same, top) one
+          ]
+    ]
+
+pub max_above : (a b : ℕ) → a ≤ max a b
+max_above a b =
+    elim (cases_lt a b) [
+      | inl low ↦ let same : max a b ≡ b = max-eq_right (omega (arith, low)) in rw same (omega (arith, low))
+      | inr high ↦ let same : max a b ≡ a = max-eq_left (omega (arith, high)) in rw same (omega arith)
     ]
 
 module _ {B : Type 0} (IsSame : B → B → Type 0) where
@@ -122,7 +147,7 @@ module _ {B : Type 0} (IsSame : B → B → Type 0) where
         rings = ap length new ∙ length-set v.numbers r _ ∙ ap length (sym kept.numbers) ∙ kept.rings;
         small =
             subst AreSmall (sym (new ∙ ap (changed (finishes p) r) (sym kept.numbers)))
-            (small_changed (finishes p) r numbers (λ y low. max_small y.finished p low small) kept.small);
+            (small_changed (finishes p) r numbers (λ y low. (max_small y.finished p low.0 small, max_order y.finished p y.seen p low.1 (omega arith))) kept.small);
         spent = kept.spent;
         given = kept.given.1;
       })
@@ -254,7 +279,7 @@ module _ {B : Type 0} (contents : B → List ℕ) (IsSame : B → B → Type 0) 
         holds_all = let all = kept.holds_all in omega arith;
         numbers = known;
         rings = ap length new ∙ length-set numbers r _ ∙ kept.rings;
-        small = subst AreSmall (sym new) (small_changed (λ x. sees h (passes (h + 1) x)) r numbers (λ y small. small) kept.small);
+        small = subst AreSmall (sym new) (small_changed (λ x. sees h (passes (h + 1) x)) r numbers (λ y small. (small.0, let up = max_above y.seen h in omega (arith, small, up))) kept.small);
         spent = kept.spent ∙ ap (λ (u : Known). (my u).part.spent) (sym view);
         given =
             subst (λ (l : List (ℕ × Slot B)). AllGiven IsSame key.given.value.items l) (sym come) (
@@ -348,7 +373,7 @@ found_none r (Some t) v u low first later =
     later t refl
     ∙ ap (λ (ns : List Numbers). seated (with_part (ends (Nothing r) (my v).part) (my v)) ns v) (changed_twice empties (passes (t + 1)) r v.numbers low)
 
-none_small : (drawn : Option ℕ) (x : Numbers) → x.finished < 2 ^ 60 → (empties (drew drawn x)).finished < 2 ^ 60
+none_small : (drawn : Option ℕ) (x : Numbers) → IsSmall x → IsSmall (empties (drew drawn x))
 none_small None x small = small
 none_small (Some t) x small = small
 

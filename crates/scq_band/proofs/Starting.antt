@@ -36,11 +36,11 @@ known_snoc (x ∷ xs) a zero = inl refl
 known_snoc (x ∷ xs) a (suc r) = known_snoc xs a r
 
 pub first_small : (c : Setup) (n : ℕ) → AreSmall (first_numbers c n)
-first_small c zero r = omega arith
+first_small c zero r = (omega arith, omega arith)
 first_small c (suc n) r =
     elim (known_snoc (first_numbers c n) (first_numbers_of c n) r) [
       | inl old ↦ rw old (first_small c n r)
-      | inr new ↦ rw new (small_place c n)
+      | inr new ↦ rw new (small_place c n, omega arith)
     ]
 
 module _ {B : Type 0} (IsSame : B → B → Type 0) where

@@ -61,9 +61,12 @@ module _ {B : Type 0} where
   AllGiven IsSame given [] = Unit {0}
   AllGiven IsSame given (x ∷ xs) = ((b : B) → x.1.buffer ≡ Some b → IsAsGiven IsSame given x.0 b) × AllGiven IsSame given xs
 
--- which numbers a seat can count on from: a known finished place is below the largest limit
+-- which numbers a seat can count on from: a known finished place is below the largest limit, and none above the seen one
+abbrev pub IsSmall : Numbers → Type 0
+IsSmall x = (x.finished < 2 ^ 60) × (x.finished ≤ x.seen)
+
 abbrev pub AreSmall : List Numbers → Type 0
-AreSmall numbers = (r : ℕ) → (known_of numbers r).finished < 2 ^ 60
+AreSmall numbers = (r : ℕ) → IsSmall (known_of numbers r)
 
 -- what a seat keeps: its indices in the order of its slots, with room for all; its numbers; its spent ticket
 pub record IsKept {B : Type 0} (IsSame : B → B → Type 0) (key : Key B) (me : Me (Slot B) Known) (indices : List ℕ) (room : ℕ) (known : List Numbers)

@@ -37,11 +37,12 @@ impl Numbers {
     /// An enqueue of the seat's own has ended at a place, which is above all that it knew of.
     #[inline(always)]
     pub(crate) fn finishes(self, place: u64) -> Numbers
-        requires { self.seen < place }
+        requires above { self.seen < place }
+        requires order { self.finished ≤ self.seen }
         ensures { result ≡ finishes place self }
     {
         Numbers {
-            finished: self.finished.max(place),
+            finished: place,
             seen: place,
             head: self.head,
         }

@@ -13,7 +13,5 @@ pub struct Counts {
 pub fn count(number: &mut u64)
     ensures { number.new ≡ min (number.old + 1) (2 ^ 64 - 1) }
 {
-    if *number < u64::MAX {
-        *number += 1;
-    }
+    *number = number.saturating_add(1);
 }

@@ -1,4 +1,4 @@
-use Rattle.std.proofs.Common.{◌≡◌, ◌-◌, ◌<◌, ◌++◌, ℕ, sym, subst, List, [], ◌∷◌, length, take, ◌∙◌, ap, arith}
+use Rattle.std.proofs.Common.{◌≡◌, ◌-◌, ◌<◌, ◌≤◌, ◌++◌, ℕ, sym, subst, List, [], ◌∷◌, length, take, ◌∙◌, ap, arith}
 use Rattle.std.specs.Prelude.{slice_set, vec_len}
 use Rattle.std.proofs.lemmas.List.{length-append}
 use Rattle.scq_band.specs.declared.numbers.Numbers.{Numbers}
@@ -26,10 +26,15 @@ take_last-index-requires c =
     let some = c.requires.some in
     omega (arith, whole, some)
 
-pub finishes-requires : goal.finishes-requires
-finishes-requires c =
+pub finishes-requires-clause-above : goal.finishes-requires-clause-above
+finishes-requires-clause-above c =
     let known = known_read c.args.numbers.now.items c.args.ring c.index-known.result.now c.requires.low c.index-known.ensures in
     subst (λ (x : Numbers). x.seen < c.args.place) (sym known) c.requires.above
+
+pub finishes-requires-clause-order : goal.finishes-requires-clause-order
+finishes-requires-clause-order c =
+    let known = known_read c.args.numbers.now.items c.args.ring c.index-known.result.now c.requires.low c.index-known.ensures in
+    subst (λ (x : Numbers). x.finished ≤ x.seen) (sym known) c.requires.order
 
 pub returns-clause-numbers : goal.returns-clause-numbers
 returns-clause-numbers c =

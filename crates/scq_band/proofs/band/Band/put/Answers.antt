@@ -127,6 +127,9 @@ let_go-requires-clause-some g c =
     c.bring_to_front.ensures.first is in
     some_in_order ms c.args.index b.slot b.others b.is c.bring_to_front.new.hand.items c.bring_to_front.ensures.order
 
+pub let_go-requires-clause-order : goal.let_go-requires-clause-order
+let_go-requires-clause-order g c = (c.seat.invariant.small c.args.ring).1
+
 pub let_go-requires-clause-above : goal.let_go-requires-clause-above
 let_go-requires-clause-above g c =
     let r = c.args.ring in
