@@ -1,11 +1,11 @@
 -- What a ring's code makes of an entry's bits, and of a ticket's.
 use Rattle.std.proofs.Common.{◌≡◌, ℕ, ◌+◌, ◌-◌, ◌*◌, ◌/◌, ◌%◌, ◌^◌, ◌<◌, ◌≤◌, ◌==◌, ◌≢◌, refl, sym, ◌∙◌, ap, subst, inl, inr, arith, eq-eqb}
-use Rattle.std.specs.Int.Bits.{bit_and}
-use Rattle.std.proofs.lemmas.Nat.{div-add-mod', and_le_l}
+use Rattle.std.specs.Int.Bits.{bit_and, bit_xor, xor_self, xor_add_and}
+use Rattle.std.proofs.lemmas.Nat.{div-add-mod', mod_below, xor_shr, and_le_l, and_le_r}
 use Rattle.std.proofs.lemmas.Bool.{cases_lt}
-use Rattle.std.proofs.Math.Nat.{mul-le-mul_right, div-div-eq-div-mul}
+use Rattle.std.proofs.Math.Nat.{mul-le-mul_right, div-div-eq-div-mul, div-eq_of_lt}
 use Rattle.scq_word.specs.declared.setup.Setup.{Setup}
-use Rattle.scq_word.specs.Sizes.{n_of, slots_of}
+use Rattle.scq_word.specs.Sizes.{slots_of}
 use Rattle.scq_word.specs.Tickets.{cycle_of}
 use Rattle.scq_word.specs.Words.{mark_of, packed, cycle_in, safe_in, index_in}
 use Rattle.scq_word.proofs.WordLemmas.{cycle_in-packed, safe_in-packed, index_in-packed}
@@ -81,34 +81,31 @@ filled_is c t i mark is =
     let turn = rounds c t mark is in
     omega (arith, turn, is, some)
 
-same_rounds : (m a b : ℕ) → 0 < m → a * m ≡ b * m → a ≡ b
-same_rounds m a b some same =
-    elim (cases_lt a b) [
-      | inl below ↦ let turns : (a + 1) * m ≤ b * m = mul-le-mul_right m (omega (arith, below)) in absurd (omega (arith, turns, same, some))
-      | inr above ↦
-          elim (cases_lt b a) [
-            | inl below ↦ let turns : (b + 1) * m ≤ a * m = mul-le-mul_right m (omega (arith, below)) in absurd (omega (arith, turns, same, some))
-            | inr other ↦ omega (arith, above, other)
-          ]
-    ]
-
-round_of : (c : Setup) (x mark : ℕ) → mark ≡ mark_of (ring_slots c) → x - bit_and x (2 * mark + 1) ≡ cycle_in (ring_slots c) x * (2 * ring_slots c)
-unfolding cycle_in
-round_of c x mark is =
+-- the bits above those of a slot in a ticket, and above those of an index and the safe bit in an entry
+high_bits : (c : Setup) (x t : ℕ) → bit_xor (x / 2) t / ring_slots c ≡ bit_xor (cycle_in (ring_slots c) x) (cycle c t)
+unfolding cycle_in cycle_of
+high_bits c x t =
     let m = ring_slots c in
-    let parts = div-add-mod' x (2 * m) in
-    let low = safe_bits c x mark is in
-    let swap : m * 2 ≡ 2 * m = omega arith in
-    let turn : x - bit_and x (2 * mark + 1) ≡ x / (2 * m) * (2 * m) = omega (arith, parts, low) in
-    turn ∙ ap (λ (k : ℕ). x / k * (2 * m)) (sym swap) ∙ ap (λ (k : ℕ). k * (2 * m)) (sym (div-div-eq-div-mul x m 2))
+    let swap : 2 * m ≡ m * 2 = omega arith in
+    let round : x / 2 / m ≡ x / m / 2 = div-div-eq-div-mul x 2 m ∙ ap (λ (k : ℕ). x / k) swap ∙ sym (div-div-eq-div-mul x m 2) in
+    subst (λ (k : ℕ). bit_xor (x / 2) t / k ≡ bit_xor (x / 2 / k) (t / k)) (sym (slots_of-pow c.order)) (xor_shr (x / 2) t (c.order + 1))
+    ∙ ap (λ (k : ℕ). bit_xor k (t / m)) round
 
-pub of_cycle : (c : Setup) (x t mark : ℕ) → mark ≡ mark_of (ring_slots c) → x - bit_and x (2 * mark + 1) ≡ 2 * (t - bit_and t mark)
-    → cycle_in (ring_slots c) x ≡ cycle c t
-of_cycle c x t mark is same =
+pub of_cycle : (c : Setup) (x t mark : ℕ) → mark ≡ mark_of (ring_slots c) → bit_xor (x / 2) t ≤ mark → cycle_in (ring_slots c) x ≡ cycle c t
+of_cycle c x t mark is low =
     let some = n_of_some c.order in
-    same_rounds (2 * ring_slots c) (cycle_in (ring_slots c) x) (cycle c t) (omega (arith, some)) (sym (round_of c x mark is) ∙ same ∙ rounds c t mark is)
+    let a = cycle_in (ring_slots c) x in
+    let b = cycle c t in
+    let none : bit_xor a b ≡ 0 = sym (high_bits c x t) ∙ div-eq_of_lt (omega (arith, low, is, some)) in
+    omega (arith, none, xor_add_and a b, and_le_l a b, and_le_r a b)
 
-pub not_of_cycle : (c : Setup) (x t mark : ℕ) → mark ≡ mark_of (ring_slots c) → x - bit_and x (2 * mark + 1) ≢ 2 * (t - bit_and t mark)
-    → cycle_in (ring_slots c) x ≢ cycle c t
-not_of_cycle c x t mark is apart same =
-    apart (round_of c x mark is ∙ ap (λ (k : ℕ). k * (2 * ring_slots c)) same ∙ sym (rounds c t mark is))
+pub not_of_cycle : (c : Setup) (x t mark : ℕ) → mark ≡ mark_of (ring_slots c) → mark < bit_xor (x / 2) t → cycle_in (ring_slots c) x ≢ cycle c t
+not_of_cycle c x t mark is high same =
+    let some = n_of_some c.order in
+    let m = ring_slots c in
+    let y = bit_xor (x / 2) t in
+    let none : y / m ≡ 0 = high_bits c x t ∙ ap (λ (k : ℕ). bit_xor k (cycle c t)) same ∙ xor_self (cycle c t) in
+    let parts : y / m * m + y % m ≡ y = div-add-mod' y m in
+    let first : y / m * m ≡ 0 * m = ap (λ (k : ℕ). k * m) none in
+    let rest = mod_below y m (omega (arith, some)) in
+    omega (arith, high, is, some, parts, first, rest)

@@ -9,6 +9,7 @@ use crate::rule::Token;
 use scq_word::Buffer;
 
 /// Turns the row of the slots, and with it the hand, until the slot of the index stands first.
+#[inline(always)]
 fn turn_to_front<B: Buffer>(token: &mut Token<B>, hand: &mut Vec<u32>, index: u32)
     requires order { hand.old.items ≡ in_order token.old.me.1 }
     requires held { 0 < times index hand.old.items }

@@ -74,16 +74,13 @@ impl Ring {
         2 * (ticket - (ticket & mark)) + (mark + 1) + u64::from(index)
     }
 
-    /// Whether an entry is of a ticket's cycle.
+    /// Whether an entry is of a ticket's cycle: the bits above those of a slot and of an index with the safe bit are the same.
     #[inline(always)]
     pub fn is_of_cycle(&self, entry: u64, ticket: u64) -> bool
-        requires small { ticket < 2 ^ 60 }
         ensures own { IsTrue result → (c : Setup) → IsRing c self.now → cycle_in (ring_slots c) entry ≡ cycle c ticket }
         ensures other { IsFalse result → (c : Setup) → IsRing c self.now → cycle_in (ring_slots c) entry ≢ cycle c ticket }
     {
-        let mark = u64::from(self.mark);
-        let safe_and_mark = 2 * mark + 1;
-        entry - (entry & safe_and_mark) == 2 * (ticket - (ticket & mark))
+        (entry / 2) ^ ticket <= u64::from(self.mark)
     }
 
     /// The bits of an entry's index: the index, where it has one.

@@ -1,7 +1,4 @@
-use Rattle.std.proofs.Common.{◌≡◌, ◌≤◌, refl, inr, sym, ◌∙◌, ap, subst, arith, ℕ}
-use Rattle.scq_word.specs.declared.entry.Entry.{Entry}
-use Rattle.scq_word.specs.Sizes.{slots_of}
-use Rattle.scq_word.specs.Tickets.{cycle_of}
+use Rattle.std.proofs.Common.{◌≡◌, ◌≤◌, refl, inr, sym, ◌∙◌, ap, arith}
 use Rattle.scq_word.specs.Words.{cycle_in, rank_in}
 use Rattle.scq_core.specs.declared.phase.Phase.TheVariants.{AtD3, AtD4, AtD5}
 use Rattle.scq_core.specs.declared.step.Step.TheVariants.{D3, D4, D5}

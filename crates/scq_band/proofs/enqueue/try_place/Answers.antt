@@ -3,7 +3,6 @@ use Rattle.scq_word.specs.Words.{rank_in}
 use Rattle.scq_core.specs.declared.phase.Phase.TheVariants.{AtE4}
 use Rattle.scq_core.specs.declared.step.Step.TheVariants.{E4}
 use Rattle.scq_core.specs.Table.{ring_slots}
-use Rattle.scq_core.proofs.Packing.{cycle_fits}
 use Rattle.scq_band.specs.Sights.{known_me}
 use Rattle.scq_band.specs.Layout.{entry_at}
 use Rattle.scq_band.specs.Buffers.{LiesIn, opening_of}
