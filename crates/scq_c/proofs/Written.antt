@@ -1,6 +1,6 @@
 -- Counts that are written out one after the other.
-use Rattle.std.proofs.Common.{◌≡◌, ◌≢◌, ℕ, zero, suc, ◌+◌, ◌<◌, ◌≤◌, List, [], ◌∷◌, length, refl, sym, ◌∙◌, subst, inl, inr, arith, length-set}
-use Rattle.std.specs.Prelude.{◌⊎◌, Some, None, slice_get, slice_set}
+use Rattle.std.proofs.Common.{◌≡◌, ◌≢◌, ℕ, zero, suc, ◌+◌, ◌<◌, ◌≤◌, List, [], ◌∷◌, length, refl, sym, ◌∙◌, ap, subst, inl, inr, arith, length-set}
+use Rattle.std.specs.Prelude.{◌⊎◌, Some, None, slice_get, slice_set, slice_index_or}
 use Rattle.std.proofs.lemmas.Bool.{cases_eq}
 use Rattle.scq_queue.specs.declared.counts.Counts.{Counts}
 use Rattle.scq_port.proofs.Lists.{set_here, set_other}
@@ -17,24 +17,38 @@ pub written_none : (counts : List Counts) (before : List Tally) → AreWrittenBe
 written_none counts before =
     record { whole = refl; written = λ j c t low. absurd (omega (arith, low)); rest = λ j low. refl }
 
-pub written_next : (k : ℕ) (counts : List Counts) (before now : List Tally) (c : Counts) (t new : Tally) → AreWrittenBelow k counts before now
-    → slice_get counts k ≡ Some c → slice_get now k ≡ Some t → new ≡ tally_of c → AreWrittenBelow (k + 1) counts before (slice_set now k new)
-written_next k counts before now c t new was here there is =
+there : {A : Type 0} (xs : List A) (k : ℕ) (d : A) → k < length xs → slice_get xs k ≡ Some (slice_index_or xs k d)
+there [] k d low = absurd (omega (arith, low))
+there (x ∷ xs) zero d low = refl
+there (x ∷ xs) (suc k) d low = there xs k d (omega (arith, low))
+
+some_there : {A : Type 0} (xs : List A) (k : ℕ) → k < length xs → (x : A) × (slice_get xs k ≡ Some x)
+some_there [] k low = absurd (omega (arith, low))
+some_there (x ∷ xs) zero low = (x, refl)
+some_there (x ∷ xs) (suc k) low = some_there xs k (omega (arith, low))
+
+-- those of one number more are written
+pub written_next : (k : ℕ) (counts : List Counts) (before now : List Tally) (d : Counts) (new : Tally) → AreWrittenBelow k counts before now
+    → k < length counts → k < length now → new ≡ tally_of (slice_index_or counts k d) → AreWrittenBelow (k + 1) counts before (slice_set now k new)
+written_next k counts before now d new was low room is =
     record {
       whole = length-set now k new ∙ was.whole;
-      written = λ j d u low at to. by j d u low at to (cases_eq j k);
-      rest = λ j low. set_other now k j new (let past = low in omega (arith, past)) ∙ was.rest j (omega (arith, low));
+      written = λ j c u less at to. by j c u less at to (cases_eq j k);
+      rest = λ j far. set_other now k j new (let past = far in omega (arith, past)) ∙ was.rest j (omega (arith, far));
     }
   where
-    by : (j : ℕ) (d : Counts) (u : Tally) → j < k + 1 → slice_get counts j ≡ Some d → slice_get (slice_set now k new) j ≡ Some u
-        → (j ≡ k) ⊎ (j ≢ k) → u ≡ tally_of d
-    by j d u low at to (inl same) =
-        let one : Some c ≡ Some d = sym here ∙ subst (λ (i : ℕ). slice_get counts i ≡ Some d) same at in
-        let two : Some new ≡ Some u = sym (set_here now k t new there) ∙ subst (λ (i : ℕ). slice_get (slice_set now k new) i ≡ Some u) same to in
-        let same_counts : c ≡ d = cc in
+    by : (j : ℕ) (c : Counts) (u : Tally) → j < k + 1 → slice_get counts j ≡ Some c → slice_get (slice_set now k new) j ≡ Some u
+        → (j ≡ k) ⊎ (j ≢ k) → u ≡ tally_of c
+    by j c u less at to (inl same) =
+        let old = some_there now k room in
+        let one : Some (slice_index_or counts k d) ≡ Some c =
+        sym (there counts k d low) ∙ subst (λ (i : ℕ). slice_get counts i ≡ Some c) same at in
+        let two : Some new ≡ Some u =
+        sym (set_here now k old.0 new old.1) ∙ subst (λ (i : ℕ). slice_get (slice_set now k new) i ≡ Some u) same to in
+        let same_counts : slice_index_or counts k d ≡ c = cc in
         let same_tally : new ≡ u = cc in
-        sym same_tally ∙ is ∙ (λ i. tally_of (same_counts i))
-    by j d u low at to (inr other) = was.written j d u (omega (arith, low, other)) at (sym (set_other now k j new other) ∙ to)
+        sym same_tally ∙ is ∙ ap tally_of same_counts
+    by j c u less at to (inr other) = was.written j c u (omega (arith, less, other)) at (sym (set_other now k j new other) ∙ to)
 
 -- what is there lies below the length, and nothing is there at or past it
 below : {A : Type 0} (xs : List A) (j : ℕ) (x : A) → slice_get xs j ≡ Some x → j < length xs

@@ -31,7 +31,8 @@ pub(crate) fn write_out(counts: &[Counts], out: &mut [Tally])
         if k >= out.len() {
             return;
         }
-        write_one(&counts[k], &mut out[k]);
+        let one = counts[k];
+        write_one(&one, &mut out[k]);
         k += 1;
     }
 }
