@@ -15,7 +15,7 @@
  * 1. A port is SCQ_NONE before scq_open, and only these calls change it. An open one is never copied; but it may be moved to another place, if
  *    no call is made with it meanwhile and the old place is set to SCQ_NONE or not used again. scq_close makes it SCQ_NONE.
  * 2. Every pointer that is handed in is non-null, aligned, and points to memory of its type that may be written; what two pointers of one call
- *    point to lies apart. `n` ports begin at `ports`; also where n is 0, `ports` is not null.
+ *    point to lies apart. `n` ports begin at `ports`, and `n` counts at `counts`; also where n is 0, neither is null.
  * 3. One call at a time is made with a port, by whichever thread has it, also where a signal handler makes one. Calls with different ports may
  *    meet in any way.
  * 4. Who hands a port to another thread does so by what orders memory: starting or joining the thread, a lock, an atomic that is released and
@@ -122,7 +122,8 @@ enum {
     SCQ_BAD_LIMIT = 12,  /* the limit isn't from 8 * 2^order to SCQ_MAX_LIMIT */
     SCQ_BAD_SIZE = 13,   /* a buffer has no bytes, or more than lie between it and the next */
     SCQ_BAD_HOLD = 14,   /* what a port may hold isn't from 1 to 2^order */
-    SCQ_IS_OPEN = 15     /* one of the ports is open */
+    SCQ_IS_OPEN = 15,    /* one of the ports is open */
+    SCQ_DAMAGED = 16     /* the library's memory was written by somebody else */
 };
 
 /* The largest limit. A billion tickets a second come to it after 36 years. */
@@ -157,6 +158,7 @@ static inline const char *scq_text(uint32_t answer) {
     case SCQ_BAD_SIZE: return "a buffer has no bytes, or more than lie between it and the next";
     case SCQ_BAD_HOLD: return "what a port may hold isn't from 1 to 2^order";
     case SCQ_IS_OPEN: return "one of the ports is open";
+    case SCQ_DAMAGED: return "the library's memory was written by somebody else";
     default: return "no answer of this library";
     }
 }
@@ -222,8 +224,8 @@ static inline void scq_locate(const scq_port *port, uint32_t answer, scq_held *o
  *
  * Tested: that the port is open, and holds fewer buffers than it may.
  * Answers: SCQ_OK; SCQ_CLOSED; SCQ_NO_ROOM; SCQ_FULL where no buffer was free, and out->place is the head of the stock: each buffer that was
- * given back at a place below it has been lent, or is being lent; SCQ_SPENT, and out->place is the ticket. Where it isn't SCQ_OK, out->at is
- * null and out->len 0. */
+ * given back at a place below it has been lent, or is being lent; SCQ_SPENT, and out->place is the ticket; SCQ_DAMAGED where what came isn't
+ * the buffer of its index, and the port keeps it. Where it isn't SCQ_OK, out->at is null and out->len 0. */
 static inline SCQ_ANSWERED uint32_t scq_lend(scq_port *port, scq_held *out) {
     const uint32_t answer = scq_lend_index(port, out);
     scq_locate(port, answer, out);
@@ -234,8 +236,8 @@ static inline SCQ_ANSWERED uint32_t scq_lend(scq_port *port, scq_held *out) {
  *
  * Tested: that the port is open, the topic, and that the port holds fewer buffers than it may.
  * Answers: SCQ_OK; SCQ_CLOSED; SCQ_NO_TOPIC; SCQ_NO_ROOM; SCQ_EMPTY where nothing was on the topic, and out->place is its head: each buffer that
- * was sent at a place below it has been taken, or is being taken; SCQ_SPENT, and out->place is the ticket. Where it isn't SCQ_OK, out->at is
- * null and out->len 0. */
+ * was sent at a place below it has been taken, or is being taken; SCQ_SPENT, and out->place is the ticket; SCQ_DAMAGED as with scq_lend. Where it
+ * isn't SCQ_OK, out->at is null and out->len 0. */
 static inline SCQ_ANSWERED uint32_t scq_take(scq_port *port, uint32_t topic, scq_held *out) {
     const uint32_t answer = scq_take_index(port, topic, out);
     scq_locate(port, answer, out);
@@ -272,11 +274,12 @@ uint32_t scq_spent(scq_port *port, uint64_t *ticket);
  * with the queue, which lends them to nobody. The last port of a queue frees what the library took, with what stands on the topics, and it is told
  * so. Then all calls that were made with all ports of the queue stand in one run of the proved machine, with their answers: each buffer that was
  * taken was sent on that topic at that place, no place of a topic was sent at or taken at twice, what was sent less what was taken is what was left,
- * and each topic's calls stand in one order in which every answer is a plain queue's. port->memory is left as it was.
+ * and each topic's calls stand in one order in which every answer is a plain queue's. Where it was the last, there stands in `counts` what each
+ * port of the queue did, in the order in which they were opened: of the first `n` of them. port->memory is left as it was.
  *
  * Tested: that the port is open.
  * Answers: SCQ_OK; SCQ_CLOSED. */
-uint32_t scq_end(scq_port *port, scq_ended *out);
+uint32_t scq_end(scq_port *port, scq_ended *out, scq_counts *counts, size_t n);
 
 /* What is left to be done with a port that scq_end closed: sets it to SCQ_NONE, and frees what scq_open took, where it was the queue's last. */
 static inline void scq_free(scq_port *port) {
@@ -290,7 +293,8 @@ static inline void scq_free(scq_port *port) {
  * Answers: SCQ_OK; SCQ_CLOSED. */
 static inline uint32_t scq_close(scq_port *port) {
     scq_ended ended;
-    const uint32_t answer = scq_end(port, &ended);
+    scq_counts none;
+    const uint32_t answer = scq_end(port, &ended, &none, 0);
     if (answer == SCQ_OK) scq_free(port);
     return answer;
 }

@@ -51,7 +51,8 @@ enum class Answer : std::uint32_t {
     BadLimit = SCQ_BAD_LIMIT,
     BadSize = SCQ_BAD_SIZE,
     BadHold = SCQ_BAD_HOLD,
-    IsOpen = SCQ_IS_OPEN
+    IsOpen = SCQ_IS_OPEN,
+    Damaged = SCQ_DAMAGED
 };
 
 // The text of an answer.
@@ -213,6 +214,18 @@ public:
 
     // Closes the port before its end: Ok or Closed.
     Answer close() noexcept { return static_cast<Answer>(scq_close(&port_)); }
+
+    // The same, and whether it was the queue's last port; where it was, what each port did is written, in the order in which they were
+    // opened: of the first `count`. Where the answer is Closed nothing is written.
+    Answer close(bool &last, scq_counts *counts, std::size_t count) noexcept {
+        scq_ended ended;
+        const Answer answer = static_cast<Answer>(scq_end(&port_, &ended, counts, count));
+        if (answer == Answer::Ok) {
+            last = ended.last == 1;
+            scq_free(&port_);
+        }
+        return answer;
+    }
 
 private:
     friend struct Queue;

@@ -11,7 +11,7 @@ enum call { OPEN, LEND, TAKE, SEND, GIVE_BACK, COUNTS_OF, SPENT, CLOSE, CALLS };
 static uint32_t had[CALLS];
 
 static uint32_t noted(enum call call, uint32_t answer) {
-    CHECK(answer <= SCQ_IS_OPEN);
+    CHECK(answer <= SCQ_DAMAGED);
     had[call] |= UINT32_C(1) << answer;
     return answer;
 }
@@ -222,7 +222,7 @@ int main(void) {
     scq_port ports[2] = {SCQ_NONE, SCQ_NONE};
     int count = 0;
     CHECK(scq_version() == SCQ_VERSION);
-    for (uint32_t answer = 0; answer <= SCQ_IS_OPEN; answer++) CHECK(strcmp(scq_text(answer), scq_text(SCQ_IS_OPEN + 1)) != 0);
+    for (uint32_t answer = 0; answer <= SCQ_DAMAGED; answer++) CHECK(strcmp(scq_text(answer), scq_text(SCQ_DAMAGED + 1)) != 0);
     openings();
     CHECK(open_(1, 2, 8, 2, most, ports, 2) == SCQ_OK);
     round_of(&ports[0], &ports[1]);

@@ -7,7 +7,8 @@ use std::fmt;
 use std::ptr::NonNull;
 
 /// What a port did so far.
-#[derive(Clone, Copy, Debug, PartialEq, Eq, Hash)]
+#[derive(Clone, Copy, Debug, Default, PartialEq, Eq, Hash)]
+#[repr(C)]
 pub struct Counts {
     /// How many buffers it sent.
     pub sent: u64,
@@ -129,6 +130,26 @@ impl Port {
     }
 }
 
+impl Port {
+    /// Closes the port, as dropping it does, and says whether it was the queue's last. Where it was, there stands in `counts` what each port
+    /// of the queue did, in the order in which they were opened, as far as there is room.
+    pub fn end(mut self, counts: &mut [Counts]) -> bool {
+        self.close(counts)
+    }
+
+    fn close(&mut self, counts: &mut [Counts]) -> bool {
+        let mut ended = sys::scq_ended { last: 0 };
+        // SAFETY: nothing borrows the port, and `ended` and `counts` are apart from it; a `Counts` lies as an `scq_counts`. Where the port
+        // isn't open, as in a queue that wasn't made, the call answers so.
+        let answer = unsafe { sys::scq_end(self.handle(), &mut ended, counts.as_mut_ptr().cast(), counts.len()) };
+        if answer == sys::OK {
+            // SAFETY: the port was opened over this memory, and its buffers are in nobody's hands.
+            unsafe { memory::leave(self.handle.get_mut().memory) };
+        }
+        ended.last == 1
+    }
+}
+
 impl fmt::Debug for Port {
     fn fmt(&self, f: &mut fmt::Formatter<'_>) -> fmt::Result {
         f.debug_struct("Port").finish_non_exhaustive()
@@ -137,11 +158,6 @@ impl fmt::Debug for Port {
 
 impl Drop for Port {
     fn drop(&mut self) {
-        let mut ended = sys::scq_ended { last: 0 };
-        // SAFETY: nothing borrows the port. Where it isn't open, as in a queue that wasn't made, the call answers so.
-        if unsafe { sys::scq_end(self.handle(), &mut ended) } == sys::OK {
-            // SAFETY: the port was opened over this memory, and its buffers are in nobody's hands.
-            unsafe { memory::leave(self.handle.get_mut().memory) };
-        }
+        self.close(&mut []);
     }
 }

@@ -57,7 +57,7 @@ extern "C" {
     pub fn scq_give_back(port: *mut scq_port, index: u32) -> u32;
     pub fn scq_counts_of(port: *mut scq_port, out: *mut scq_counts) -> u32;
     pub fn scq_spent(port: *mut scq_port, ticket: *mut u64) -> u32;
-    pub fn scq_end(port: *mut scq_port, out: *mut scq_ended) -> u32;
+    pub fn scq_end(port: *mut scq_port, out: *mut scq_ended, counts: *mut scq_counts, n: usize) -> u32;
     pub fn scq_version() -> u32;
 }
 
@@ -80,3 +80,4 @@ pub const BAD_LIMIT: u32 = 12;
 pub const BAD_SIZE: u32 = 13;
 pub const BAD_HOLD: u32 = 14;
 pub const IS_OPEN: u32 = 15;
+pub const DAMAGED: u32 = 16;

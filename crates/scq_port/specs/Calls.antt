@@ -8,7 +8,7 @@ use Rattle.scq_band.specs.RunSeen.{IsCallInRun, WasEmptyInRun}
 use Rattle.scq_queue.specs.Lists.{Lists, with_send, with_take, with_full}
 use Rattle.scq_queue.specs.Passes.{PassStanding, lists_of, known_on, WasLent, HasGot, WasGivenBack, FoundNothing, FoundFull, having_seen, caller_of, after_put, after_spent_put, after_spent_get, first_pass, first_passes}
 use Rattle.scq_port.specs.declared.port_buffer.PortBuffer.{PortBuffer}
-use Rattle.scq_port.specs.Numbers.{numbers_below}
+use Rattle.scq_port.specs.Numbers.{number_bytes, numbers_below}
 use Rattle.scq_port.specs.Ports.{PortStanding, PortQueue, Value, HasValue, bytes_of}
 
 -- the port holds the values that it held
@@ -33,20 +33,33 @@ pub record Went (old new : PortStanding) (h : Value) : Type 0 where
 abbrev pub IsInRun : PortStanding → PortStanding → Type 0
 IsInRun old new = IsCallInRun old.pass.queue.setup (opening_of bytes_of old.pass.queue.given) (caller_of old.pass) (caller_of new.pass)
 
--- the value of an index was lent
-pub record IsLent (index : ℕ) (old new : PortStanding) : Type 0 where
-  pub value : Value
-  pub is : value.index ≡ index
+-- the value contains the number of its index
+abbrev pub HasItsNumber : Value → Type 0
+HasItsNumber h = bytes_of h.buffer ≡ number_bytes h.index
+
+-- a value was lent
+pub record HasLent (value : Value) (old new : PortStanding) : Type 0 where
   pub lent : WasLent bytes_of old.pass new.pass value
   pub came : Came old new value
   pub lists : lists_of new.pass ≡ lists_of old.pass
   pub unspent : old.pass.spent ≡ None
   pub run : IsInRun old new
 
--- the value of an index was taken from a topic, at a place
-pub record IsTaken (topic place index : ℕ) (old new : PortStanding) : Type 0 where
+-- the value of an index was lent, and contains this index as its number
+pub record IsLent (index : ℕ) (old new : PortStanding) : Type 0 where
   pub value : Value
   pub is : value.index ≡ index
+  pub number : HasItsNumber value
+  pub lent : HasLent value old new
+
+-- a value was lent that doesn't contain the number of its index
+pub record IsLentDamaged (old new : PortStanding) : Type 0 where
+  pub value : Value
+  pub number : HasItsNumber value → ⊥
+  pub lent : HasLent value old new
+
+-- a value was taken from a topic, at a place
+pub record HasTaken (topic place : ℕ) (value : Value) (old new : PortStanding) : Type 0 where
   pub there : topic + 1 < old.pass.queue.setup.rings
   pub got : HasGot bytes_of (suc topic) place old.pass new.pass value
   pub low : place < old.pass.queue.setup.limit
@@ -55,6 +68,20 @@ pub record IsTaken (topic place index : ℕ) (old new : PortStanding) : Type 0 w
   pub lists : lists_of new.pass ≡ with_take topic place (bytes_of value.buffer) (lists_of old.pass)
   pub unspent : old.pass.spent ≡ None
   pub run : IsInRun old new
+
+-- the value of an index was taken from a topic, at a place, and contains this index as its number
+pub record IsTaken (topic place index : ℕ) (old new : PortStanding) : Type 0 where
+  pub value : Value
+  pub is : value.index ≡ index
+  pub number : HasItsNumber value
+  pub taken : HasTaken topic place value old new
+
+-- a value was taken that doesn't contain the number of its index
+pub record IsTakenDamaged (topic : ℕ) (old new : PortStanding) : Type 0 where
+  pub value : Value
+  pub place : ℕ
+  pub number : HasItsNumber value → ⊥
+  pub taken : HasTaken topic place value old new
 
 -- the value of an index was sent on a topic, at a place
 pub record IsSent (index topic place : ℕ) (old new : PortStanding) : Type 0 where

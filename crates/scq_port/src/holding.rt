@@ -1,6 +1,6 @@
 //! The calls of a pass together with the values that it holds.
 ghost use Rattle.std.specs.Prelude.{◌≡◌, ℕ, suc, ◌+◌, ◌<◌, ◌≤◌, [], length, Some, None, Err, IfOk, ◌≢◌};
-ghost use Rattle.scq_port.specs.Calls.{IsLent, IsTaken, IsSent, IsGivenBack, WasFull, WasEmpty, IsSpentGet, IsSpentPut, HoldsNoSuch};
+ghost use Rattle.scq_port.specs.Calls.{IsLent, IsLentDamaged, IsTaken, IsTakenDamaged, IsSent, IsGivenBack, WasFull, WasEmpty, IsSpentGet, IsSpentPut, HoldsNoSuch};
 ghost use Rattle.scq_port.specs.Kept.{KeepsHand, seen_as};
 
 use crate::hand::Hand;
@@ -24,11 +24,19 @@ pub(crate) fn lend(
     ensures full { (head : ℕ) → result ≡ Err (LendRefusal.Full head) → WasFull head (seen_as pass.old hand.old) (seen_as pass.new hand.new) }
     ensures spent { (ticket : ℕ) → result ≡ Err (LendRefusal.Spent ticket)
         → IsSpentGet 0 ticket (seen_as pass.old hand.old) (seen_as pass.new hand.new) }
+    ensures damaged { result ≡ Err LendRefusal.Damaged
+        → IsLentDamaged (seen_as pass.old hand.old) (seen_as pass.new hand.new) }
 {
     match queue.lend(pass) {
         Ok(held) => {
+            let sound = held.buffer().has_number(held.index());
             hand.used += 1;
-            Ok(hand.put_in(held))
+            let index = hand.put_in(held);
+            if sound {
+                Ok(index)
+            } else {
+                Err(LendRefusal::Damaged)
+            }
         }
         Err(scq_queue::LendRefusal::Full { head }) => Err(LendRefusal::Full { head }),
         Err(scq_queue::LendRefusal::Spent { ticket }) => Err(LendRefusal::Spent { ticket }),
@@ -54,11 +62,19 @@ pub(crate) fn take(
         → WasEmpty topic head (seen_as pass.old hand.old) (seen_as pass.new hand.new) }
     ensures spent { (ticket : ℕ) → result ≡ Err (TakeRefusal.Spent ticket)
         → IsSpentGet (suc topic) ticket (seen_as pass.old hand.old) (seen_as pass.new hand.new) }
+    ensures damaged { result ≡ Err TakeRefusal.Damaged
+        → IsTakenDamaged topic (seen_as pass.old hand.old) (seen_as pass.new hand.new) }
 {
     match queue.take(pass, topic) {
         Ok((place, held)) => {
+            let sound = held.buffer().has_number(held.index());
             hand.used += 1;
-            Ok((place, hand.put_in(held)))
+            let index = hand.put_in(held);
+            if sound {
+                Ok((place, index))
+            } else {
+                Err(TakeRefusal::Damaged)
+            }
         }
         Err(scq_queue::TakeRefusal::Empty { head }) => Err(TakeRefusal::Empty { head }),
         Err(scq_queue::TakeRefusal::Spent { ticket }) => Err(TakeRefusal::Spent { ticket }),
