@@ -11,7 +11,7 @@ use Rattle.scq_words.specs.declared.text_request.TextCommand.{TextCommand}
 use Rattle.scq_service.specs.Causes.{IsTroubled}
 use Rattle.scq_files.specs.Ends.{all_left}
 use Rattle.scq_outside.specs.Counts.{Rose}
-use Rattle.scq_service.specs.Ends.{Inputs, Wrote, EndsAlone, EndsOver, EndsWhole, IsCalm, IsCalmText, IsOfTextAlone, most_text}
+use Rattle.scq_service.specs.Ends.{Inputs, Wrote, EndsAlone, EndsOver, EndsWhole, IfContent, IsCalm, IsCalmText, IsOfTextAlone, most_text}
 use Rattle.scq_service.specs.declared.fault.Fault.{Fault}
 use Rattle.scq_service.specs.declared.fault.Fault.TheVariants.{Words, OpenFault, ReadFault, TooLong, TooLarge, WriteFault, BadLine, NotEnabled, Unlawful, Unfinished, BadLineOf, UnlawfulOf, NoMemory}
 
@@ -86,39 +86,40 @@ one-apart faults [] one quiet failed = cc
 one-apart faults (x ∷ xs) one quiet failed = omega (arith, quiet 0 x (omega arith), failed 0 x (omega arith))
 
 -- a content that is within the most bytes doesn't have one byte more than these
-fits-or-large : {S : Type 0} (left : S → Option (List ℕ)) (table : Option Table) (name : List ℕ) (sources : List S) (read : ℕ) → IsSome table
-    → length sources ≡ 1 → read ≡ most_text + 1
-    → IfSome table (λ files. IsSomeAnd (files name)
-    (λ content. All (λ source. Some (length content) ≡ option_map (λ rest. read + length rest) (left source)) sources))
-    → IfSome table (λ files. IsSomeAnd (files name) (λ content. length content ≤ most_text)) → ⊥
-fits-or-large left None name sources read some one more large fits = cc
-fits-or-large left (Some files) name [] read some one more large fits = cc
-fits-or-large left (Some files) name (x ∷ xs) read some one more large fits = at (files name) large fits where
+fits-or-large : {S : Type 0} (left : S → Option (List ℕ)) (got sources : List S) (read : ℕ) → length got ≡ 1 → length sources ≡ 1
+    → All (λ source. IsSome (left source)) got → read ≡ most_text + 1
+    → IfContent left got (λ content. All (λ source. Some (length content) ≡ option_map (λ rest. read + length rest) (left source)) sources)
+    → IfContent left got (λ content. length content ≤ most_text) → ⊥
+fits-or-large left [] sources read one some visible more large fits = cc
+fits-or-large left (g ∷ gs) [] read one some visible more large fits = cc
+fits-or-large left (g ∷ gs) (x ∷ xs) read one some visible more large fits =
+    at (left g) (visible 0 g (omega arith)) (large 0 g (omega arith)) (fits 0 g (omega arith)) where
   past : (o : Option (List ℕ)) (count : ℕ) → Some count ≡ option_map (λ rest. read + length rest) o → count ≤ most_text → ⊥
   past None count is low = cc
   past (Some rest) count is low = let same : count ≡ read + length rest = cc in omega (arith, same, more, low)
 
-  at : (o : Option (List ℕ)) → IsSomeAnd o (λ content. All (λ source. Some (length content) ≡ option_map (λ rest. read + length rest) (left source)) (x ∷ xs))
-      → IsSomeAnd o (λ content. length content ≤ most_text) → ⊥
-  at None large fits = fits
-  at (Some content) large fits = past (left x) (length content) (large 0 x (omega arith)) fits
+  at : (o : Option (List ℕ)) → IsSome o
+      → IfSome o (λ content. All (λ source. Some (length content) ≡ option_map (λ rest. read + length rest) (left source)) (x ∷ xs))
+      → IfSome o (λ content. length content ≤ most_text) → ⊥
+  at None there large fits = there
+  at (Some content) there large fits = past (left x) (length content) (large 0 x (omega arith)) fits
 
 -- a run over one whole file, in whose way nothing stood, ends by its text or for want of memory
-pub complete-text : {S : Type 0} (command : TextCommand) (faults : S → ℕ) (left : S → Option (List ℕ)) (name : List ℕ) (r : Inputs S) (w : Wrote)
-    (end : Option Fault)
-    → EndsWhole command faults left name r w end → IsCalmText faults name r w → IsOfTextAlone command end
-complete-text command faults left name r w None e calm = inl refl
-complete-text command faults left name r w (Some NoMemory) e calm = inr (inl refl)
-complete-text command faults left name r w (Some WriteFault) e calm = absurd (calm.writes e.1)
-complete-text command faults left name r w (Some (OpenFault file)) e calm = absurd (calm.opens e.1.rose)
-complete-text command faults left name r w (Some (ReadFault file)) e calm = absurd (one-apart faults r.sources e.1.got.one calm.quiet e.1.failed)
-complete-text command faults left name r w (Some (TooLarge file limit)) e calm =
-    absurd (fits-or-large left r.table.old name r.sources r.read calm.visible e.2.got.one e.2.read e.2.bytes calm.fits)
-complete-text command faults left name r w (Some (BadLine line)) e calm = inr (inr e.0)
-complete-text command faults left name r w (Some (NotEnabled line)) e calm = inr (inr e.0)
-complete-text command faults left name r w (Some (Unlawful line)) e calm = inr (inr e.0)
-complete-text command faults left name r w (Some (Unfinished seat)) e calm = inr (inr e.0)
-complete-text command faults left name r w (Some (BadLineOf file line)) e calm = inr (inr e.0)
-complete-text command faults left name r w (Some (UnlawfulOf file line)) e calm = inr (inr e.0)
-complete-text command faults left name r w (Some (TooLong file line len limit)) e calm = inr (inr e.0)
-complete-text command faults left name r w (Some (Words fault)) e calm = inr (inr e.0)
+pub complete-text : {S : Type 0} (command : TextCommand) (faults end_count : S → ℕ) (left : S → Option (List ℕ)) (name : List ℕ) (got : List S) (r : Inputs S)
+    (w : Wrote) (end : Option Fault)
+    → EndsWhole command faults end_count left name got r w end → IsCalmText faults left got r w → IsOfTextAlone command end
+complete-text command faults end_count left name got r w None e calm = inl refl
+complete-text command faults end_count left name got r w (Some NoMemory) e calm = inr (inl refl)
+complete-text command faults end_count left name got r w (Some WriteFault) e calm = absurd (calm.writes e.1)
+complete-text command faults end_count left name got r w (Some (OpenFault file)) e calm = absurd (calm.opens e.1.rose)
+complete-text command faults end_count left name got r w (Some (ReadFault file)) e calm = absurd (one-apart faults r.sources e.1.one.one.1 calm.quiet e.1.failed)
+complete-text command faults end_count left name got r w (Some (TooLarge file limit)) e calm =
+    absurd (fits-or-large left got r.sources r.read e.2.one.one.0 e.2.one.one.1 calm.visible e.2.read e.2.bytes calm.fits)
+complete-text command faults end_count left name got r w (Some (BadLine line)) e calm = inr (inr e.0)
+complete-text command faults end_count left name got r w (Some (NotEnabled line)) e calm = inr (inr e.0)
+complete-text command faults end_count left name got r w (Some (Unlawful line)) e calm = inr (inr e.0)
+complete-text command faults end_count left name got r w (Some (Unfinished seat)) e calm = inr (inr e.0)
+complete-text command faults end_count left name got r w (Some (BadLineOf file line)) e calm = inr (inr e.0)
+complete-text command faults end_count left name got r w (Some (UnlawfulOf file line)) e calm = inr (inr e.0)
+complete-text command faults end_count left name got r w (Some (TooLong file line len limit)) e calm = inr (inr e.0)
+complete-text command faults end_count left name got r w (Some (Words fault)) e calm = inr (inr e.0)

@@ -45,17 +45,17 @@ module _ {S : Type 0} (faults end_count : S → ℕ) (left : S → Option (List 
   pub never-alone : (text : List ℕ) (w : Wrote) (end : Option Fault) (fault : WordsFault) → EndsAlone text w end → end ≡ Some (Words fault) → ⊥
   never-alone text w end fault ends is = subst (EndsAlone text w) is ends
 
-  pub never-whole : (command : TextCommand) (name : List ℕ) (r : Inputs S) (w : Wrote) (end : Option Fault) (fault : WordsFault)
-      → EndsWhole command faults left name r w end → end ≡ Some (Words fault) → ⊥
-  never-whole Check name r w end fault ends is =
-      let E : Option Fault → Type 0 = λ e. EndsWhole Check faults left name r w e in
+  pub never-whole : (command : TextCommand) (name : List ℕ) (got : List S) (r : Inputs S) (w : Wrote) (end : Option Fault) (fault : WordsFault)
+      → EndsWhole command faults end_count left name got r w end → end ≡ Some (Words fault) → ⊥
+  never-whole Check name got r w end fault ends is =
+      let E : Option Fault → Type 0 = λ e. EndsWhole Check faults end_count left name got r w e in
       let at : E (Some (Words fault)) = subst E is ends in
       at.0
-  never-whole Replay name r w end fault ends is =
-      let E : Option Fault → Type 0 = λ e. EndsWhole Replay faults left name r w e in
+  never-whole Replay name got r w end fault ends is =
+      let E : Option Fault → Type 0 = λ e. EndsWhole Replay faults end_count left name got r w e in
       let at : E (Some (Words fault)) = subst E is ends in
       at.0
-  never-whole Order name r w end fault ends is =
-      let E : Option Fault → Type 0 = λ e. EndsWhole Order faults left name r w e in
+  never-whole Order name got r w end fault ends is =
+      let E : Option Fault → Type 0 = λ e. EndsWhole Order faults end_count left name got r w e in
       let at : E (Some (Words fault)) = subst E is ends in
       at.0

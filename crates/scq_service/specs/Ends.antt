@@ -183,22 +183,29 @@ EndsAlone text w _ = ⊥
 abbrev pub most_text : ℕ
 most_text = 2 ^ 24
 
--- where the table was visible, the file was there, and its content meets P
-abbrev pub IfContent : {S : Type 0} → Inputs S → List ℕ → (List ℕ → Type 0) → Type 0
-IfContent r name P = IfSome r.table.old (λ files. IsSomeAnd (files name) P)
+-- what the one source told when it was got, its file's content, meets P
+abbrev pub IfContent : {S : Type 0} → (S → Option (List ℕ)) → List S → (List ℕ → Type 0) → Type 0
+IfContent left got P = All (λ source. IfSome (left source) P) got
 
--- the file was got, and nothing else was asked for
-pub record IsOneGot {S : Type 0} (name : List ℕ) (r : Inputs S) : Type 0 where
-  pub one : length r.sources ≡ 1
+-- the file was got, with no fault counted, and nothing else was asked for. Where the table is visible
+-- its source told the name's content
+pub record IsOneGot {S : Type 0} (faults : S → ℕ) (left : S → Option (List ℕ)) (name : List ℕ)
+    (got : List S) (r : Inputs S) : Type 0 where
+  pub one : (length got ≡ 1) × (length r.sources ≡ 1)
   pub opens : IsUnchanged r.opens
   pub table : r.table.new ≡ option_map (without_name name) r.table.old
+  pub fresh : All (λ source. faults source ≡ 0) got
+  pub told : IfSome r.table.old (λ files.
+      IsSome (files name) × All (λ source. left source ≡ files name) got)
 
--- the file was read to its end, and has no more than the most bytes
-pub record IsReadWhole {S : Type 0} (faults : S → ℕ) (left : S → Option (List ℕ)) (name : List ℕ) (r : Inputs S) : Type 0 where
-  pub got : IsOneGot name r
+-- the file was read to its end, which it answered just once, and has no more than the most bytes
+pub record IsReadWhole {S : Type 0} (faults end_count : S → ℕ) (left : S → Option (List ℕ))
+    (name : List ℕ) (got : List S) (r : Inputs S) : Type 0 where
+  pub one : IsOneGot faults left name got r
   pub quiet : All (λ source. faults source ≡ 0) r.sources
   pub ended : All (λ source. NothingLeft (left source)) r.sources
-  pub fits : IfContent r name (λ content. length content ≤ most_text)
+  pub once : AreReadOut end_count 1 got r
+  pub fits : IfContent left got (λ content. length content ≤ most_text)
   pub read : r.read ≡ 0
 
 -- the file was not got, and nothing was read
@@ -210,35 +217,51 @@ pub record IsNotGot {S : Type 0} (name : List ℕ) (r : Inputs S) : Type 0 where
   pub read : r.read ≡ 0
 
 -- a read of the file failed, and no more than the most bytes were read before
-pub record IsReadUntil {S : Type 0} (faults : S → ℕ) (left : S → Option (List ℕ)) (name : List ℕ) (r : Inputs S) : Type 0 where
-  pub got : IsOneGot name r
+pub record IsReadUntil {S : Type 0} (faults : S → ℕ) (left : S → Option (List ℕ)) (name : List ℕ)
+    (got : List S) (r : Inputs S) : Type 0 where
+  pub one : IsOneGot faults left name got r
   pub failed : All (λ source. faults source ≡ 1) r.sources
-  pub fits : IfContent r name (λ content. All (λ source. IsSomeAnd (left source) (λ rest. length content ≤ most_text + length rest)) r.sources)
+  pub fits : IfContent left got (λ content.
+      All (λ source. IsSomeAnd (left source) (λ rest. length content ≤ most_text + length rest))
+      r.sources)
   pub read : r.read ≡ 0
 
 -- the file has more than the most bytes: one more was read
-pub record IsLarge {S : Type 0} (faults : S → ℕ) (left : S → Option (List ℕ)) (name : List ℕ) (r : Inputs S) : Type 0 where
-  pub got : IsOneGot name r
+pub record IsLarge {S : Type 0} (faults : S → ℕ) (left : S → Option (List ℕ)) (name : List ℕ)
+    (got : List S) (r : Inputs S) : Type 0 where
+  pub one : IsOneGot faults left name got r
   pub quiet : All (λ source. faults source ≡ 0) r.sources
   pub read : r.read ≡ most_text + 1
-  pub bytes : IfContent r name (λ content. All (λ source. Some (length content) ≡ option_map (λ rest. r.read + length rest) (left source)) r.sources)
+  pub bytes : IfContent left got (λ content.
+      All (λ source. Some (length content) ≡ option_map (λ rest. r.read + length rest) (left source))
+      r.sources)
 
 -- what the file's lines tell meets P
-abbrev pub IsTold : {S : Type 0} → TextCommand → List ℕ → Inputs S → (List ℕ → Type 0) → Type 0
-IsTold command name r P = IfContent r name (λ content. (text : List ℕ) × Tells command (lines_of content) (Ok text) × P text)
+abbrev pub IsTold : {S : Type 0} → TextCommand → (S → Option (List ℕ)) → List S
+    → (List ℕ → Type 0) → Type 0
+IsTold command left got P = IfContent left got (λ content.
+    (text : List ℕ) × Tells command (lines_of content) (Ok text) × P text)
 
 -- how a run over the file of this name ends
-abbrev pub EndsWhole : {S : Type 0} → TextCommand → (S → ℕ) → (S → Option (List ℕ)) → List ℕ → Inputs S → Wrote → Option Fault → Type 0
-EndsWhole command faults left name r w None =
-    IsReadWhole faults left name r × IsUnchanged w.faults × IsTold command name r (λ text. w.written.new ≡ written_with w.written.old text)
-EndsWhole command faults left name r w (Some WriteFault) =
-    IsReadWhole faults left name r × Rose w.faults.old w.faults.new × IsTold command name r (λ text. WrotePart w.written.old w.written.new text)
-EndsWhole command faults left name r w (Some (OpenFault file)) = (file ≡ 1) × IsNotGot name r × IsUnwritten w
-EndsWhole command faults left name r w (Some (ReadFault file)) = (file ≡ 1) × IsReadUntil faults left name r × IsUnwritten w
-EndsWhole command faults left name r w (Some (TooLarge file limit)) = (file ≡ 1) × (limit ≡ most_text) × IsLarge faults left name r × IsUnwritten w
-EndsWhole command faults left name r w (Some NoMemory) = (length r.sources ≤ 1) × (r.read ≡ 0) × IsUnwritten w
-EndsWhole command faults left name r w (Some fault) =
-    IsOfText command fault × IsReadWhole faults left name r × IfContent r name (λ content. Tells command (lines_of content) (Err fault)) × IsUnwritten w
+abbrev pub EndsWhole : {S : Type 0} → TextCommand → (S → ℕ) → (S → ℕ) → (S → Option (List ℕ))
+    → List ℕ → List S → Inputs S → Wrote → Option Fault → Type 0
+EndsWhole command faults end_count left name got r w None =
+    IsReadWhole faults end_count left name got r × IsUnchanged w.faults
+    × IsTold command left got (λ text. w.written.new ≡ written_with w.written.old text)
+EndsWhole command faults end_count left name got r w (Some WriteFault) =
+    IsReadWhole faults end_count left name got r × Rose w.faults.old w.faults.new
+    × IsTold command left got (λ text. WrotePart w.written.old w.written.new text)
+EndsWhole command faults end_count left name got r w (Some (OpenFault file)) =
+    (file ≡ 1) × IsNotGot name r × IsUnwritten w
+EndsWhole command faults end_count left name got r w (Some (ReadFault file)) =
+    (file ≡ 1) × IsReadUntil faults left name got r × IsUnwritten w
+EndsWhole command faults end_count left name got r w (Some (TooLarge file limit)) =
+    (file ≡ 1) × (limit ≡ most_text) × IsLarge faults left name got r × IsUnwritten w
+EndsWhole command faults end_count left name got r w (Some NoMemory) =
+    (length r.sources ≤ 1) × (r.read ≡ 0) × IsUnwritten w
+EndsWhole command faults end_count left name got r w (Some fault) =
+    IsOfText command fault × IsReadWhole faults end_count left name got r
+    × IfContent left got (λ content. Tells command (lines_of content) (Err fault)) × IsUnwritten w
 
 -- A run over recordings, whose texts are read in order and judged together
 
@@ -287,7 +310,8 @@ EndsAs faults end_count left (Ok (run a)) got r w end =
 EndsAs faults end_count left (Ok (generated a)) got r w end = IsClosed r × EndsAlone (self_summary a.seed a.lines) w end
 EndsAs faults end_count left (Ok (judged a)) got r w end =
     HasGotSources faults left a.files got r × EndsJudged faults end_count left a.files got r w end
-EndsAs faults end_count left (Ok (whole a)) got r w end = EndsWhole a.command faults left a.file r w end
+EndsAs faults end_count left (Ok (whole a)) got r w end =
+    EndsWhole a.command faults end_count left a.file got r w end
 EndsAs faults end_count left (Ok (staged a)) got r w end =
     HasGotSources faults left a.files got r × EndsOver a.size one_thread_stage_output faults end_count left a.files got r w end
 
@@ -301,13 +325,15 @@ pub record IsCalm {S : Type 0} (size : ℕ) (faults : S → ℕ) (left : S → O
   pub visible : IsSome (all_left left got)
   pub sound : IfTold left got (λ contents. All (λ content. file_trouble size false content ≡ None) contents)
 
--- nothing stood in the way of a run over one whole file: it was got, no count rose, and its content is not too large
-pub record IsCalmText {S : Type 0} (faults : S → ℕ) (name : List ℕ) (r : Inputs S) (w : Wrote) : Type 0 where
+-- nothing stood in the way of a run over one whole file: it was got, no count rose, it told its
+-- content, and that is not too large
+pub record IsCalmText {S : Type 0} (faults : S → ℕ) (left : S → Option (List ℕ)) (got : List S)
+    (r : Inputs S) (w : Wrote) : Type 0 where
   pub opens : ¬ Rose r.opens.old r.opens.new
   pub writes : ¬ Rose w.faults.old w.faults.new
   pub quiet : All (λ source. faults source ≡ 0) r.sources
-  pub visible : IsSome r.table.old
-  pub fits : IfContent r name (λ content. length content ≤ most_text)
+  pub visible : All (λ source. IsSome (left source)) got
+  pub fits : IfContent left got (λ content. length content ≤ most_text)
 
 -- it ended with its output, for want of memory, or with a fault that the text has
 abbrev pub IsOfTextAlone : TextCommand → Option Fault → Type 0

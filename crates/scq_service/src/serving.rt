@@ -82,7 +82,7 @@ pub fn serve<R: Threads + Sync, F: Files, K: Sink, G: Gate>(
 
     // Where nothing stood in the way of a run over one whole file, it ends with what its text tells, or for want of memory.
     ensures complete_text { (a : TextAsked) → asked (map string_bytes words.now) ≡ Ok (whole a)
-        → IsCalmText F.Src.faults a.file
+        → IsCalmText F.Src.faults F.Src.left result.got.value.items
         (inputs_of F.table F.faults files.old files.new result.sources.items result.read)
         (wrote_of K.written K.faults out.old out.new)
         → IsOfTextAlone a.command result.fault }

@@ -14,6 +14,7 @@ use scq_replay::{ScheduleFault, order_text, schedule_text};
 use scq_word::Bytes;
 use scq_words::TextCommand;
 use std::alloc::Global;
+use std::snapshot::Snapshot;
 
 /// The greatest number of bytes of the file.
 pub(crate) const MOST_TEXT: u64 = 1 << 24;
@@ -27,7 +28,8 @@ pub fn run_text<F: Files, K: Sink>(
     out: &mut K,
 ) -> Outcome<F::Src>
     ensures status { result.status ≡ status_of result.fault }
-    ensures ends { EndsWhole command F.Src.faults F.Src.left name.now (inputs_of F.table F.faults files.old files.new result.sources.items result.read)
+    ensures ends { EndsWhole command F.Src.faults F.Src.ends F.Src.left name.now result.got.value.items
+        (inputs_of F.table F.faults files.old files.new result.sources.items result.read)
         (wrote_of K.written K.faults out.old out.new) result.fault }
     ensures worked { result.worked ≡ None }
     ensures unstaged { result.staged ≡ None }
@@ -37,19 +39,22 @@ pub fn run_text<F: Files, K: Sink>(
     match read_one(alloc, name, files) {
         Ok(whole) => match tell(alloc, command, whole.text.bytes()) {
             Ok(told) => match write_all(out, told.bytes()) {
-                Ok(()) => Outcome::whole(whole.sources),
-                Err(Failed) => Outcome::at(whole.sources, Fault::WriteFault),
+                Ok(()) => Outcome::whole(whole.sources).behind(whole.got, None, None, None),
+                Err(Failed) => Outcome::at(whole.sources, Fault::WriteFault).behind(
+                    whole.got, None, None, None,
+                ),
             },
-            Err(fault) => Outcome::at(whole.sources, fault),
+            Err(fault) => Outcome::at(whole.sources, fault).behind(whole.got, None, None, None),
         },
         Err(outcome) => outcome,
     }
 }
 
-/// The source of the file, in a list, and all that it gave.
+/// The source of the file, in a list, the same as it was when it was got, and all that it gave.
 #[derive(Drop)]
 struct Whole<S> {
     sources: Vec<S>,
+    got: Snapshot<Vec<S>>,
     text: Bytes,
 }
 
@@ -59,28 +64,29 @@ fn read_one<F: Files>(
     name: &str,
     files: &mut F,
 ) -> Result<Whole<F::Src>, Outcome<F::Src>>
-    ensures whole { IfOk result (λ whole. IsReadWhole F.Src.faults F.Src.left name.now (inputs_of F.table F.faults files.old files.new whole.sources.items 0)) }
-    ensures text { IfOk result (λ whole. IfContent
-        (inputs_of F.table F.faults files.old files.new whole.sources.items 0) name.now (λ content. content ≡ whole.text)) }
+    ensures whole { IfOk result (λ whole. IsReadWhole F.Src.faults F.Src.ends F.Src.left name.now whole.got.value.items
+        (inputs_of F.table F.faults files.old files.new whole.sources.items 0)) }
+    ensures text { IfOk result (λ whole. IfContent F.Src.left whole.got.value.items (λ content. content ≡ whole.text)) }
     ensures status { IfErr result (λ outcome. outcome.status ≡ status_of outcome.fault) }
     ensures worked { IfErr result (λ outcome. outcome.worked ≡ None) }
     ensures unstaged { IfErr result (λ outcome. outcome.staged ≡ None) }
     ensures left { IfErr result (λ outcome. outcome.left ≡ None) }
     ensures leaves { IfErr result (λ outcome. outcome.waited ≡ None) }
-    ensures ends { IfErr result (λ outcome. (command : TheCommand) (w : Wrote) → IsUnwritten w → EndsWhole command F.Src.faults F.Src.left name.now
+    ensures ends { IfErr result (λ outcome. (command : TheCommand) (w : Wrote) → IsUnwritten w
+        → EndsWhole command F.Src.faults F.Src.ends F.Src.left name.now outcome.got.value.items
         (inputs_of F.table F.faults files.old files.new outcome.sources.items outcome.read) w outcome.fault) }
 {
     let Ok(mut sources) = Vec::with_capacity(alloc, 1) else {
         return Err(Outcome::at(Vec::new(alloc), Fault::NoMemory));
     };
-    let Ok(mut source) = files.source(name) else {
+    let Ok(source) = files.source(name) else {
         return Err(Outcome::at(sources, Fault::OpenFault { file: 1 }));
     };
-    let text = read_all(alloc, &mut source, MOST_TEXT);
     sources.push_reserved(source);
-    match text {
-        Ok(text) => Ok(Whole { sources, text }),
-        Err(fault) => Err(Outcome::of_text(sources, fault)),
+    let got = Snapshot::of(&sources);
+    match read_all(alloc, &mut sources[0], MOST_TEXT) {
+        Ok(text) => Ok(Whole { sources, got, text }),
+        Err(fault) => Err(Outcome::of_text(sources, fault).behind(got, None, None, None)),
     }
 }
 

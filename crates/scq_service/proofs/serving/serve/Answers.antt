@@ -52,4 +52,4 @@ returns-clause-complete_text g c = λ a is calm.
     let r = inputs_of g.F.Files.table g.F.Files.faults c.args.files.now c.run-outcome.new.files outcome.sources.items outcome.read in
     let w = wrote_of g.K.Sink.written g.K.Sink.faults c.args.out.now c.run-outcome.new.out in
     let E : Result Asked WordsFault → Type 0 = λ asked. EndsAs faults end_count left asked outcome.got.value.items r w outcome.fault in
-    complete-text a.command faults left a.file r w outcome.fault (subst E is c.run-outcome.ensures.end) calm
+    complete-text a.command faults end_count left a.file outcome.got.value.items r w outcome.fault (subst E is c.run-outcome.ensures.end) calm
