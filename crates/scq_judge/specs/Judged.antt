@@ -1,5 +1,5 @@
 -- What recordings with visible contents tell: the report of the merged history, or the cause of a fault
-use Rattle.std.specs.Prelude.{◌≡◌, ◌⊎◌, ℕ, ◌-◌, ◌==◌, List, Ok, Err, Some, length, take, slice_get}
+use Rattle.std.specs.Prelude.{◌≡◌, ◌⊎◌, ℕ, ◌-◌, ◌==◌, List, Ok, Err, Option, Some, length, take, slice_get}
 use Rattle.scq_hist.specs.Aspects.{IsLawful, IsLawfulAt}
 use Rattle.scq_hist.specs.First.{IsFirstFailing}
 use Rattle.scq_hist.specs.declared.events.Event.{Event}
@@ -21,20 +21,20 @@ pub record IsHistoryOf (recorded : Recording) (opening : List (List ℕ)) (event
   pub opens : opening ≡ recorded.opening
   pub merged : IsMergeOf recorded.events events places
 
--- the history is lawful, and the text is that of its report
-pub record IsReportOf (opening : List (List ℕ)) (events : List Event) (places : List Place) (text : List ℕ) : Type 0 where
+-- the history is lawful, and the text is that of its report, which tells of refusals where it is known for how many values each queue has room
+pub record IsReportOf (room : Option ℕ) (opening : List (List ℕ)) (events : List Event) (places : List Place) (text : List ℕ) : Type 0 where
   pub lawful : IsLawful events
   pub report : Report
-  pub is_report : IsReport opening events report
+  pub is_report : IsReport room opening events report
   pub said : text ≡ report_lines places report
 
 -- so of the history that what was read is merged to
-pub record IsReported (recorded : Recording) (text : List ℕ) : Type 0 where
+pub record IsReported (room : Option ℕ) (recorded : Recording) (text : List ℕ) : Type 0 where
   pub opening : List (List ℕ)
   pub events : List Event
   pub places : List Place
   pub history : IsHistoryOf recorded opening events places
-  pub reported : IsReportOf opening events places text
+  pub reported : IsReportOf room opening events places text
 
 -- the event of this place is the first of the history that is out of place
 pub record IsOutOfPlace (recorded : Recording) (place : Place) : Type 0 where
@@ -54,11 +54,11 @@ IsCauseIn recorded NoMemory = Unit {0}
 IsCauseIn recorded _ = ⊥
 
 -- recordings with these contents, of which none has too many bytes, are read, and tell this report
-pub record IsJudged (contents : List (List ℕ)) (text : List ℕ) : Type 0 where
+pub record IsJudged (room : Option ℕ) (contents : List (List ℕ)) (text : List ℕ) : Type 0 where
   pub small : AreSmall contents
   pub recorded : Recording
   pub read : recording_of contents ≡ Ok recorded
-  pub reported : IsReported recorded text
+  pub reported : IsReported room recorded text
 
 -- or are at fault so
 pub record IsCaused (contents : List (List ℕ)) (fault : JudgeFault) : Type 0 where

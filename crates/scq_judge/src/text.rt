@@ -3,7 +3,7 @@
 ghost use Rattle.std.specs.Prelude.{◌≡◌, ◌<◌, ◌^◌, ◌++◌, decimal, length, IfOk, IfSome, OnOk};
 ghost use Rattle.scq_check.specs.Verdicts.{AreWithin};
 ghost use Rattle.scq_check.specs.Waiting.{IsToldWithin};
-ghost use Rattle.scq_judge.specs.Report.{beside_line, count_line, event_text, got_text, place_text, plain_line, put_text, report_lines, verdict_text, waiting_line, waiting_text};
+ghost use Rattle.scq_judge.specs.Report.{beside_line, count_line, event_text, full_line, got_text, place_text, plain_line, put_text, report_lines, verdict_text, waiting_line, waiting_text};
 
 use crate::judging::Report;
 use crate::recorded::Place;
@@ -19,7 +19,8 @@ pub(crate) fn report_text(
     places: &[Place],
     report: &Report,
 ) -> Result<Bytes, NoMemory>
-    requires { AreWithin (length places.now) report.now.breaches }
+    requires within { AreWithin (length places.now) report.now.breaches }
+    requires full_within { IfSome report.now.full (λ full. IfSome full.first (λ e. e < length places.now)) }
     ensures { IfOk result (λ text. text ≡ report_lines places.now report.now) }
 {
     let breaches = &report.breaches;
@@ -50,12 +51,13 @@ pub(crate) fn report_text(
     )?;
     add_beside(
         &mut text,
-        b"refused",
+        b"refused never got",
         places,
         &breaches.accepted,
         b"; put refused at ",
         told.accepted,
     )?;
+    add_full(&mut text, places, report.full)?;
     add_count(&mut text, b"events", report.counts.events)?;
     add_count(&mut text, b"queues", report.counts.queues)?;
     add_count(&mut text, b"seats", report.counts.seats)?;
@@ -77,6 +79,21 @@ fn add_plain(
     add_verdict(text, name, places, failures)?;
     text.extend_from_slice(b"\n")?;
     Ok(())
+}
+
+// The line on refusals, where they are judged.
+fn add_full(
+    text: &mut Vec<u8>,
+    places: &[Place],
+    full: Option<Failures>,
+) -> Result<(), NoMemory>
+    requires { IfSome full (λ full. IfSome full.first (λ e. e < length places.now)) }
+    ensures { OnOk result (text.new.items ≡ text.old.items ++ full_line places.now full) }
+{
+    match full {
+        None => Ok(()),
+        Some(failures) => add_plain(text, b"full", places, &failures),
+    }
 }
 
 // The line of an aspect whose first breach stands against an event.

@@ -9,7 +9,7 @@ judge_merged-requires c = as_many _ _ _ c.in-Ok.ensures.merged
 
 pub returns-in-Ok-clause-reported : goal.returns-in-Ok-clause-reported
 returns-in-Ok-clause-reported c =
-    IfOk-weaker c.judge_merged.result _ (IsReported c.args.recorded)
+    IfOk-weaker c.judge_merged.result _ (IsReported c.args.room c.args.recorded)
     (λ text h. record {
       opening = c.in-Ok.merged.opening.items;
       events = c.in-Ok.merged.events.items;
