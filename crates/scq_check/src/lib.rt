@@ -25,7 +25,7 @@ mod tables;
 mod verdicts;
 mod waiting;
 
-pub use counterparts::Counterparts;
+pub use counterparts::{Counterparts, Origin};
 pub use failures::Failures;
 pub use full::find_wrong_refusals;
 pub use history::{History, HistoryFault, read_history};
