@@ -6,15 +6,19 @@ use Rattle.scq_hist.specs.declared.events.Event.{Event}
 use Rattle.scq_judge.specs.Files.{AreSmall, IsLarge}
 use Rattle.scq_judge.specs.Merged.{IsMergeOf, HasStampOfAnother}
 use Rattle.scq_judge.specs.Recording.{Recording, nothing, after_files, recording_of}
+use Rattle.scq_judge.specs.Seats.{HaveOwnFiles, HasSeatOfAnother}
 use Rattle.scq_judge.specs.Report.{IsReport, report_lines}
 use Rattle.scq_judge.specs.declared.judging.JudgeFault.{JudgeFault}
-use Rattle.scq_judge.specs.declared.judging.JudgeFault.TheVariants.{BadLine, Unlawful, ReadFault, TooLarge, NoMemory}
+use Rattle.scq_judge.specs.declared.judging.JudgeFault.TheVariants.{BadLine, Shared as SharedBy, Unlawful, ReadFault, TooLarge, NoMemory}
 use Rattle.scq_judge.specs.declared.judging.Report.{Report}
+use Rattle.scq_judge.specs.declared.judging.Shared.{Shared}
+use Rattle.scq_judge.specs.declared.judging.Shared.TheVariants.{Stamp, Seat}
 use Rattle.scq_judge.specs.declared.merging.MergeFault.{MergeFault}
 use Rattle.scq_judge.specs.declared.merging.MergeFault.TheVariants as merging
 use Rattle.scq_judge.specs.declared.reading.ReadingFault.{ReadingFault}
 use Rattle.scq_judge.specs.declared.reading.ReadingFault.TheVariants as reading
 use Rattle.scq_judge.specs.declared.recorded.Place.{Place}
+use Rattle.scq_judge.specs.declared.recorded.Stamped.{Stamped}
 
 -- the history that what was read is merged to
 pub record IsHistoryOf (recorded : Recording) (opening : List (List ℕ)) (events : List Event) (places : List Place) : Type 0 where
@@ -28,8 +32,9 @@ pub record IsReportOf (room : Option ℕ) (opening : List (List ℕ)) (events : 
   pub is_report : IsReport room opening events report
   pub said : text ≡ report_lines places report
 
--- so of the history that what was read is merged to
+-- so of the history that what was read is merged to, of which each seat's events stand in one file
 pub record IsReported (room : Option ℕ) (recorded : Recording) (text : List ℕ) : Type 0 where
+  pub seats : HaveOwnFiles recorded.events
   pub opening : List (List ℕ)
   pub events : List Event
   pub places : List Place
@@ -46,9 +51,18 @@ pub record IsOutOfPlace (recorded : Recording) (place : Place) : Type 0 where
   pub first : IsFirstFailing (λ d. IsLawfulAt events d (slice_get events d)) (Some e)
   pub stands : slice_get places e ≡ Some place
 
+-- the event of this place shares this with the one of the other place
+abbrev pub IsSharing : List Stamped → Shared → Place → Place → Type 0
+IsSharing events Stamp place other = HasStampOfAnother events place other
+IsSharing events Seat place other = HasSeatOfAnother events place other
+
+abbrev pub shared_by : Shared → Place → Place → JudgeFault
+shared_by what place other = SharedBy what place.file place.line other.file other.line
+
 -- what is at fault in what was read
 abbrev pub IsCauseIn : Recording → JudgeFault → Type 0
-IsCauseIn recorded (BadLine file line) = HasStampOfAnother recorded.events (record { file = file; line = line })
+IsCauseIn recorded (SharedBy what file line other_file other_line) =
+    IsSharing recorded.events what (record { file = file; line = line }) (record { file = other_file; line = other_line })
 IsCauseIn recorded (Unlawful file line) = IsOutOfPlace recorded (record { file = file; line = line })
 IsCauseIn recorded NoMemory = Unit {0}
 IsCauseIn recorded _ = ⊥
@@ -80,7 +94,8 @@ pub record IsFirstBad (contents : List (List ℕ)) (file line : ℕ) : Type 0 wh
 
 -- what is at fault in the contents, and that nothing is in the files before; a read that fails and want of memory aren't
 abbrev pub IsCause : List (List ℕ) → JudgeFault → Type 0
-IsCause contents (BadLine file line) = IsFirstBad contents file line ⊎ IsCaused contents (BadLine file line)
+IsCause contents (BadLine file line) = IsFirstBad contents file line
+IsCause contents (SharedBy what file line other_file other_line) = IsCaused contents (SharedBy what file line other_file other_line)
 IsCause contents (Unlawful file line) = IsCaused contents (Unlawful file line)
 IsCause contents (TooLarge file) = IsLarge contents file × AreSoundBefore contents file
 IsCause contents (ReadFault file) = AreSoundBefore contents file
@@ -100,5 +115,5 @@ fault_of_reading (reading.TooLarge file) = TooLarge file
 fault_of_reading reading.NoMemory = NoMemory
 
 abbrev pub fault_of_merging : MergeFault → JudgeFault
-fault_of_merging (merging.SameStamp place) = BadLine place.file place.line
+fault_of_merging (merging.SameStamp place other) = shared_by Stamp place other
 fault_of_merging merging.NoMemory = NoMemory

@@ -7,6 +7,8 @@ use Rattle.scq_check.specs.Failures.{AreFailures}
 use Rattle.scq_check.specs.Full.{IsFullRightAt}
 use Rattle.scq_check.specs.Refused.{IsAcceptedAt}
 use Rattle.scq_check.specs.Verdicts.{HaveCounterparts}
+use Rattle.scq_check.specs.declared.counterparts.Origin.{Origin}
+use Rattle.scq_check.specs.declared.counterparts.Origin.TheVariants.{Nobody, Token, Start}
 use Rattle.scq_check.specs.declared.failures.Failures.{Failures}
 use Rattle.scq_check.specs.declared.waiting.Waiting.{Waiting}
 use Rattle.scq_judge.specs.Counted.{IsStart, IsNamed, Overlaps}
@@ -75,9 +77,19 @@ waiting_text places (Some w) =
     codes "; " ++ decimal (w.tokens.count + w.puts.count) ++ codes " waiting, one put at "
     ++ put_text places w.token w.put ++ got_text places w.got
 
--- the lines of aspects: the verdict, and behind it what its first event stands against, which is nothing, an event, or puts that wait
+-- where the put that a Got names was put
+abbrev pub origin_text : List Place → Option Origin → List ℕ
+origin_text places None = []
+origin_text places (Some Nobody) = codes "; names a put that nobody made: values have to be the recorder's"
+origin_text places (Some (Token number)) = codes "; names the opening at file 1 line " ++ decimal (number + 1)
+origin_text places (Some (Start s)) = codes "; names the put started at " ++ place_text (place_at places s)
+
+-- the lines of aspects: the verdict, and behind it what its first event stands against, which is nothing, where a put was put, an event, or puts that wait
 abbrev pub plain_line : List ℕ → List Place → Failures → List ℕ
 plain_line name places failures = verdict_text name places failures ++ codes "\n"
+
+abbrev pub origin_line : List ℕ → List Place → Failures → Option Origin → List ℕ
+origin_line name places failures origin = verdict_text name places failures ++ origin_text places origin ++ codes "\n"
 
 abbrev pub beside_line : List ℕ → List Place → Failures → List ℕ → Option ℕ → List ℕ
 beside_line name places failures words event = verdict_text name places failures ++ event_text words places event ++ codes "\n"
@@ -98,7 +110,7 @@ count_line name count = name ++ codes " " ++ decimal count ++ codes "\n"
 abbrev pub report_lines : List Place → Report → List ℕ
 report_lines places r =
     let told = r.breaches.counterparts in
-    plain_line (codes "fresh") places r.breaches.fresh
+    origin_line (codes "fresh") places r.breaches.fresh told.fresh
     ++ beside_line (codes "once") places r.breaches.once (codes "; named before at ") told.once
     ++ waiting_line (codes "in order") places r.breaches.in_order told.in_order
     ++ waiting_line (codes "empty") places r.breaches.empty_right told.empty_right

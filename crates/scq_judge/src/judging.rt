@@ -4,7 +4,8 @@ ghost use Rattle.std.specs.Prelude.{◌≡◌, ◌<◌, ◌^◌, ◌⊎◌, ℕ,
 ghost use Rattle.scq_hist.specs.Aspects.{IsLawful};
 ghost use Rattle.scq_check.specs.Verdicts.{AreWithin};
 ghost use Rattle.scq_judge.specs.Files.{HaveContents};
-ghost use Rattle.scq_judge.specs.Judged.{IsJudged, IsCause, IsReported, IsReportOf, IsCauseIn, IsUnlawfulAt};
+ghost use Rattle.scq_judge.specs.Seats.{HaveOwnFiles};
+ghost use Rattle.scq_judge.specs.Judged.{shared_by, IsJudged, IsCause, IsReported, IsReportOf, IsCauseIn, IsUnlawfulAt};
 ghost use Rattle.scq_judge.specs.Reads.{HasGiven, OfEach, AreReadWhole, AreReadUntil};
 ghost use Rattle.scq_judge.specs.Report.{AreWrongRefusals, IsReport};
 
@@ -12,6 +13,7 @@ use crate::counting::{Counts, count};
 use crate::merging::{MergeFault, Merged, merge};
 use crate::reading::{ReadingFault, read_recordings};
 use crate::recorded::{Place, Recorded};
+use crate::seats::first_apart;
 use crate::text::report_text;
 use scq_check::{Breaches, Failures, find_breaches, find_wrong_refusals, first_unlawful};
 use scq_hist::Event;
@@ -29,19 +31,47 @@ pub struct Report {
     pub counts: Counts,
 }
 
+/// What events of two files may not share.
+#[derive(Clone, Copy, Debug, PartialEq, Eq, Error)]
+pub enum Shared {
+    #[error("stamp")]
+    Stamp,
+    #[error("seat")]
+    Seat,
+}
+
 /// Why recordings were not judged. Files and lines are numbered from 1.
 #[derive(Clone, Copy, Debug, PartialEq, Eq, Error)]
 pub enum JudgeFault {
-    /// The line is not of the form, or may not stand there, or has the stamp of another.
+    /// The line is not of the form, or may not stand there.
     #[error("file {file} line {line}: not understood")]
-    BadLine { file: u32, line: u32 },
+    BadLine {
+        file: u32,
+        line: u32,
+    },
+    /// The line's event has the stamp of another file's, or is of a seat that has an event in another file.
+    #[error("file {file} line {line}: same {what} as file {other_file} line {other_line}")]
+    Shared {
+        what: Shared,
+        file: u32,
+        line: u32,
+        other_file: u32,
+        other_line: u32,
+    },
     /// In the merged history this line's event is the first that isn't lawful.
     #[error("file {file} line {line}: event out of place")]
-    Unlawful { file: u32, line: u32 },
+    Unlawful {
+        file: u32,
+        line: u32,
+    },
     #[error("file {file}: read fault")]
-    ReadFault { file: u32 },
+    ReadFault {
+        file: u32,
+    },
     #[error("file {file}: more than 2147483646 bytes")]
-    TooLarge { file: u32 },
+    TooLarge {
+        file: u32,
+    },
     #[error("out of memory")]
     NoMemory,
 }
@@ -78,9 +108,7 @@ impl From<MergeFault> for JudgeFault {
 
     fn from(refused: MergeFault) -> JudgeFault {
         match refused {
-            MergeFault::SameStamp {
-                place: Place { file, line },
-            } => JudgeFault::BadLine { file, line },
+            MergeFault::SameStamp { place, other } => sharing(Shared::Stamp, place, other),
             MergeFault::NoMemory => JudgeFault::NoMemory,
         }
     }
@@ -111,12 +139,34 @@ pub fn judge_recordings<S: Source>(
     }
 }
 
+// The fault of an event that shares this with another.
+fn sharing(what: Shared, place: Place, other: Place) -> JudgeFault
+    ensures { result ≡ shared_by what place other }
+{
+    JudgeFault::Shared {
+        what,
+        file: place.file,
+        line: place.line,
+        other_file: other.file,
+        other_line: other.line,
+    }
+}
+
 // The report of what was read, as text.
-fn judge_recorded(
-    alloc: Global,
-    room: Option<u32>,
-    recorded: Recorded,
-) -> Result<Bytes, JudgeFault>
+fn judge_recorded(alloc: Global, room: Option<u32>, recorded: Recorded) -> Result<Bytes, JudgeFault>
+    ensures reported { IfOk result (IsReported room recorded) }
+    ensures refused { IfErr result (IsCauseIn recorded) }
+{
+    match first_apart(alloc, recorded.events()) {
+        Ok(None) => judge_apart(alloc, room, recorded),
+        Ok(Some(apart)) => Err(sharing(Shared::Seat, apart.place, apart.other)),
+        Err(NoMemory) => Err(JudgeFault::NoMemory),
+    }
+}
+
+// The report of what was read, where each seat's events stand in one file.
+fn judge_apart(alloc: Global, room: Option<u32>, recorded: Recorded) -> Result<Bytes, JudgeFault>
+    requires { HaveOwnFiles recorded.events }
     ensures reported { IfOk result (IsReported room recorded) }
     ensures refused { IfErr result (IsCauseIn recorded) }
 {
@@ -127,11 +177,7 @@ fn judge_recorded(
 }
 
 // The report of a merged history, as text.
-fn judge_merged(
-    alloc: Global,
-    room: Option<u32>,
-    merged: &Merged,
-) -> Result<Bytes, JudgeFault>
+fn judge_merged(alloc: Global, room: Option<u32>, merged: &Merged) -> Result<Bytes, JudgeFault>
     requires { length merged.now.places.items ≡ length merged.now.events.items }
     ensures reported { IfOk result (IsReportOf room merged.now.opening.items merged.now.events.items merged.now.places.items) }
     ensures refused { IfErr result (λ fault. (fault ≡ JudgeFault.NoMemory) ⊎ IsUnlawfulAt merged.now.events.items merged.now.places.items fault) }
