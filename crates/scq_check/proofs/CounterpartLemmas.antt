@@ -2,7 +2,7 @@
 use Rattle.std.proofs.Common.{◌≡◌, ℕ, ◌<◌, List, Option, Some, None, length, slice_get, sym, subst, refl}
 use Rattle.std.specs.Prelude.{IfSome, MatchOption}
 use Rattle.std.proofs.lemmas.Option.{slice_get_within}
-use Rattle.scq_hist.specs.Aspects.{IsOnceAt, IsEmptyRightAt}
+use Rattle.scq_hist.specs.Aspects.{IsFreshAt, IsOnceAt, IsEmptyRightAt}
 use Rattle.scq_hist.specs.Calls.{IsGot}
 use Rattle.scq_hist.specs.First.{IsFirstFailing}
 use Rattle.scq_hist.specs.Lookups.{got_name, IsFirstNamed}
@@ -12,9 +12,10 @@ use Rattle.scq_hist.specs.declared.events.PutName.{PutName}
 use Rattle.scq_hist.specs.declared.events.PutName.TheVariants.{Of}
 use Rattle.scq_hist.proofs.NamesLemmas.{names_there, named_there}
 use Rattle.scq_check.specs.ByName.{place_in}
-use Rattle.scq_check.specs.Counterparts.{AtFirst, IsRepeatOf, IsOfRefused}
+use Rattle.scq_check.specs.Counterparts.{AtFirst, IsOrigin, IsOfOrigin, IsRepeatOf, IsOfRefused}
 use Rattle.scq_check.specs.Refused.{IsAcceptedAt, IsRefusals, NotSpentBefore, IsSpentAt}
 use Rattle.scq_check.specs.declared.by_name.ByName.{ByName}
+use Rattle.scq_check.specs.declared.counterparts.Origin.{Origin}
 use Rattle.scq_check.proofs.RefusedLemmas.{accepted_there}
 
 -- the first event breaks the aspect
@@ -32,6 +33,15 @@ repeat_there events e event name (Some d) at named first = record { name = name;
 
 pub no_repeat : (events : List Event) (e : ℕ) (event : Event) → slice_get events e ≡ Some event → got_name event ≡ None → IsOnceAt events e
 no_repeat events e event at none name d names lt before = let n = named_there events e event name at names in absurd cc
+
+-- a Got that isn't fresh names a put
+pub no_unfresh : (opening : List (List ℕ)) (events : List Event) (e : ℕ) (event : Event) → slice_get events e ≡ Some event → got_name event ≡ None → IsFreshAt opening events e
+no_unfresh opening events e event at none s seat queue name content call =
+    let n = named_there events e event name at (record { seat = seat; content = content; ends = call.ends }) in absurd cc
+
+pub origin_there : (opening : List (List ℕ)) (events : List Event) (e : ℕ) (event : Event) (name : PutName) (origin : Origin) → slice_get events e ≡ Some event
+    → got_name event ≡ Some name → IsOrigin opening events name origin → IsOfOrigin opening events e origin
+origin_there opening events e event name origin at named is = record { name = name; named = names_there events e event name at named; is = is }
 
 -- no get ends there with Nothing
 pub no_empty : (opening : List (List ℕ)) (events : List Event) (e : ℕ) → NoEmptyAt events e → IsEmptyRightAt opening events e

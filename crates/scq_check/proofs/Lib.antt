@@ -10,3 +10,4 @@ mod FailureLemmas
 mod RefusedLemmas
 mod WaitingLemmas
 mod CounterpartLemmas
+mod FullLemmas

@@ -83,6 +83,10 @@ decided events seat number None none = (
 )
 decided events seat number (Some e) spent = (λ t. absurd cc, λ accepted. absurd (accepted (e, spent)))
 
+pub refused_by_names : (events : List Event) (seat number : ℕ) (names : ByName) → IsRefusals events (length events) names
+    → IsTrue (not (is_some (place_in names seat number))) ↔ (¬ IsRefused events (Of seat number))
+refused_by_names events seat number names is = decided events seat number (place_in names seat number) (is.each seat number)
+
 pub accepted_there : (events : List Event) (e seat number : ℕ) (event : Event) (names : ByName) → slice_get events e ≡ Some event
     → got_name event ≡ Some (Of seat number) → IsRefusals events (length events) names
     → IsTrue (not (is_some (place_in names seat number))) ↔ IsAcceptedAt events e

@@ -1,14 +1,38 @@
 -- What the first event that breaks an aspect stands against
-use Rattle.std.specs.Prelude.{◌≡◌, ℕ, List, Option, Some, None}
+use Rattle.std.specs.Prelude.{◌≡◌, ℕ, ◌<◌, ◌≤◌, ◌^◌, List, Option, Some, None, length}
 use Rattle.scq_hist.specs.Calls.{Names}
-use Rattle.scq_hist.specs.Lookups.{IsFirstNamed}
+use Rattle.scq_hist.specs.Lookups.{IsFirstNamed, NoPutBefore}
 use Rattle.scq_hist.specs.Tallies.{IsPutGotAt, IsEmptyAt}
 use Rattle.scq_hist.specs.declared.events.Event.{Event}
 use Rattle.scq_hist.specs.declared.events.PutName.{PutName}
-use Rattle.scq_hist.specs.declared.events.PutName.TheVariants.{Of}
+use Rattle.scq_hist.specs.declared.events.PutName.TheVariants.{Opening, Of}
+use Rattle.scq_check.specs.Puts.{StartsPut}
 use Rattle.scq_check.specs.Refused.{IsSpentAt}
 use Rattle.scq_check.specs.Waiting.{AreWaiting}
+use Rattle.scq_check.specs.declared.counterparts.Origin.{Origin}
+use Rattle.scq_check.specs.declared.counterparts.Origin.TheVariants.{Nobody, Token, Start}
 use Rattle.scq_check.specs.declared.waiting.Waiting.{Waiting}
+
+-- where the put of this name was put: by nobody in the whole list, or it is the opening token of this number, or its Start stands there
+abbrev pub IsOrigin : List (List ℕ) → List Event → PutName → Origin → Type 0
+IsOrigin opening events (Opening number) Nobody = length opening ≤ number
+IsOrigin opening events (Opening number) (Token token) = (token ≡ number) × (number < length opening)
+IsOrigin opening events (Opening number) (Start s) = ⊥
+IsOrigin opening events (Of seat number) Nobody = NoPutBefore events seat number (length events)
+IsOrigin opening events (Of seat number) (Token token) = ⊥
+IsOrigin opening events (Of seat number) (Start s) = StartsPut events seat number s
+
+-- fresh: the Got at position e names a put, and this is where that was put
+pub record IsOfOrigin (opening : List (List ℕ)) (events : List Event) (e : ℕ) (origin : Origin) : Type 0 where
+  pub name : PutName
+  pub named : Names events e name
+  pub is : IsOrigin opening events name origin
+
+-- what is told of it stands below position m
+abbrev pub IsOriginWithin : ℕ → Origin → Type 0
+IsOriginWithin m Nobody = Unit {0}
+IsOriginWithin m (Token token) = token < 2 ^ 32
+IsOriginWithin m (Start s) = s < m
 
 -- once: the Got at position e names a put that was named before, first at position d
 pub record IsRepeatOf (events : List Event) (e d : ℕ) : Type 0 where

@@ -11,3 +11,4 @@ pub mod Failures
 pub mod Refused
 pub mod Waiting
 pub mod Counterparts
+pub mod Full

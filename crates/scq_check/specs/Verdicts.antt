@@ -3,7 +3,7 @@ use Rattle.std.specs.Prelude.{◌≡◌, ℕ, ◌+◌, ◌<◌, List, ◌++◌, 
 use Rattle.std.specs.Option.{option_map}
 use Rattle.scq_hist.specs.First.{IsFirstFailing}
 use Rattle.scq_hist.specs.declared.events.Event.{Event}
-use Rattle.scq_check.specs.Counterparts.{AtFirst, IsRepeatOf, IsOvertaking, IsEmptyBeside, IsOfRefused}
+use Rattle.scq_check.specs.Counterparts.{AtFirst, IsOfOrigin, IsOriginWithin, IsRepeatOf, IsOvertaking, IsEmptyBeside, IsOfRefused}
 use Rattle.scq_check.specs.Waiting.{IsToldWithin}
 use Rattle.scq_check.specs.declared.verdicts.Breaches.{Breaches}
 use Rattle.scq_check.specs.declared.verdicts.Verdict.{Verdict}
@@ -13,8 +13,9 @@ use Rattle.scq_check.specs.declared.verdicts.Verdict.{Verdict}
 abbrev pub IsVerdict : (ℕ → Type 0) → Option ℕ → Type 0
 IsVerdict Holds verdict = (first : Option ℕ) × (verdict ≡ option_map (λ e. e + 1) first) × IsFirstFailing Holds first
 
--- what the first event that breaks each aspect stands against. (A Got that isn't fresh stands against none)
+-- what the first event that breaks each aspect stands against
 pub record HaveCounterparts (opening : List (List ℕ)) (events : List Event) (breaches : Breaches) : Type 0 where
+  pub fresh : AtFirst (IsOfOrigin opening events) breaches.fresh.first breaches.counterparts.fresh
   pub once : AtFirst (IsRepeatOf events) breaches.once.first breaches.counterparts.once
   pub in_order : AtFirst (IsOvertaking opening events) breaches.in_order.first breaches.counterparts.in_order
   pub empty_right : AtFirst (IsEmptyBeside opening events) breaches.empty_right.first breaches.counterparts.empty_right
@@ -27,6 +28,7 @@ pub record AreWithin (m : ℕ) (breaches : Breaches) : Type 0 where
   pub in_order : IfSome breaches.in_order.first (λ e. e < m)
   pub empty_right : IfSome breaches.empty_right.first (λ e. e < m)
   pub accepted : IfSome breaches.accepted.first (λ e. e < m)
+  pub origin : IfSome breaches.counterparts.fresh (IsOriginWithin m)
   pub named : IfSome breaches.counterparts.once (λ d. d < m)
   pub overtaken : IfSome breaches.counterparts.in_order (IsToldWithin m)
   pub waiting : IfSome breaches.counterparts.empty_right (IsToldWithin m)

@@ -1,8 +1,8 @@
 //! What the first event that breaks an aspect stands against.
 
 ghost use Rattle.std.specs.Prelude.{◌<◌, length, IfOk, IfSome};
-ghost use Rattle.scq_hist.specs.Aspects.{IsLawful, IsOnceAt, IsInOrderAt, IsEmptyRightAt};
-ghost use Rattle.scq_check.specs.Counterparts.{IsRepeatOf, IsOvertaking, IsEmptyBeside, IsOfRefused, AtFirst};
+ghost use Rattle.scq_hist.specs.Aspects.{IsLawful, IsFreshAt, IsOnceAt, IsInOrderAt, IsEmptyRightAt};
+ghost use Rattle.scq_check.specs.Counterparts.{IsOrigin, IsOfOrigin, IsOriginWithin, IsRepeatOf, IsOvertaking, IsEmptyBeside, IsOfRefused, AtFirst};
 ghost use Rattle.scq_check.specs.Failures.{AreFailures};
 ghost use Rattle.scq_check.specs.Refused.{IsAcceptedAt};
 ghost use Rattle.scq_check.specs.Tables.{IsTables};
@@ -14,13 +14,26 @@ use crate::order::{empty_at, put_got_at};
 use crate::refused::{named_put, refusals};
 use crate::tables::Tables;
 use crate::waiting::{Waiting, find_waiting};
-use scq_hist::Event;
+use scq_hist::{Event, PutName};
 use scq_word::{Bytes, NoMemory};
 use std::alloc::Global;
+
+/// Where a put that a Got names was put.
+#[derive(Clone, Copy)]
+pub enum Origin {
+    /// By nobody.
+    Nobody,
+    /// It is the opening token of this number, from 0.
+    Token { number: u32 },
+    /// Its Start stands at this position.
+    Start { position: usize },
+}
 
 /// What the first event that breaks an aspect stands against, where one does.
 #[derive(Clone, Copy)]
 pub struct Counterparts {
+    /// Where the put that the Got names was put.
+    pub fresh: Option<Origin>,
     /// The position of the first Got that names the same put.
     pub once: Option<usize>,
     /// The puts that were finished before the one that was got had started, and wait when its get ends.
@@ -29,6 +42,45 @@ pub struct Counterparts {
     pub empty_right: Option<Waiting>,
     /// The position at which the put that the Got names ended with Spent.
     pub accepted: Option<usize>,
+}
+
+// Where the put of this name was put.
+fn origin_of(tables: &Tables, opening: &[Bytes], events: &[Event], name: PutName) -> Origin
+    requires { IsTables events.now tables.now }
+    ensures origin { IsOrigin opening.now events.now name result }
+    ensures within { IsOriginWithin (length events.now) result }
+{
+    match name {
+        PutName::Opening { number } => {
+            if (number as usize) < opening.len() {
+                Origin::Token { number }
+            } else {
+                Origin::Nobody
+            }
+        }
+        PutName::Of { seat, number } => match tables.put_named(events, seat, number) {
+            Some((position, _, _)) => Origin::Start { position },
+            None => Origin::Nobody,
+        },
+    }
+}
+
+/// Of the Gots that aren't fresh: where the put of the first of them was put.
+pub(crate) fn origin_first(
+    tables: &Tables,
+    opening: &[Bytes],
+    events: &[Event],
+    unfresh: &Failures,
+) -> Option<Origin>
+    requires tables { IsTables events.now tables.now }
+    requires failures { AreFailures (IsFreshAt opening.now events.now) unfresh.now }
+    requires within { IfSome unfresh.now.first (λ e. e < length events.now) }
+    ensures first { AtFirst (IsOfOrigin opening.now events.now) unfresh.now.first result }
+    ensures within { IfSome result (IsOriginWithin (length events.now)) }
+{
+    let e = unfresh.first?;
+    let name = got_name(&events[e])?;
+    Some(origin_of(tables, opening, events, name))
 }
 
 /// Of the Gots that name the put of an earlier one: the first Got that names the put of the first of them.

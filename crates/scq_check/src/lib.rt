@@ -12,6 +12,7 @@ mod calls;
 mod counterparts;
 mod failures;
 mod freshness;
+mod full;
 mod gots;
 mod history;
 mod lawful;
@@ -24,8 +25,9 @@ mod tables;
 mod verdicts;
 mod waiting;
 
-pub use counterparts::Counterparts;
+pub use counterparts::{Counterparts, Origin};
 pub use failures::Failures;
+pub use full::find_wrong_refusals;
 pub use history::{History, HistoryFault, read_history};
 pub use lawful::first_unlawful;
 pub use line::{Bounds, Line, read_fields};

@@ -84,7 +84,7 @@ pub(crate) fn named_put(event: &Event) -> Option<(u32, u64)>
 }
 
 // Whether the put of this name is among them.
-fn is_among(refusals: &ByName, seat: u32, number: u64) -> bool
+pub(crate) fn is_among(refusals: &ByName, seat: u32, number: u64) -> bool
     ensures { result ≡ is_some (place_in refusals.now seat number) }
 {
     refusals.get(seat, number).is_some()

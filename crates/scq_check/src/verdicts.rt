@@ -7,7 +7,9 @@ ghost use Rattle.scq_check.specs.Failures.{AreFailures};
 ghost use Rattle.scq_check.specs.Refused.{IsAcceptedAt};
 ghost use Rattle.scq_check.specs.Verdicts.{AreWithin, HaveCounterparts, IsVerdict, aspect_line, verdict_lines};
 
-use crate::counterparts::{Counterparts, named_first, overtaken, refused_first, waiting_beside};
+use crate::counterparts::{
+    Counterparts, named_first, origin_first, overtaken, refused_first, waiting_beside,
+};
 use crate::failures::Failures;
 use crate::freshness::{repeated, unfresh};
 use crate::order::{out_of_order, wrong_empties};
@@ -66,19 +68,21 @@ pub fn find_breaches(
     ensures within { IfOk result (λ breaches. AreWithin (length events.now) breaches) }
 {
     let tables = Tables::new(alloc, events)?;
+    let fresh = unfresh(&tables, opening, events);
     let once = repeated(&tables, events);
     let in_order = out_of_order(alloc, &tables, opening, events)?;
     let empty_right = wrong_empties(alloc, &tables, opening, events)?;
     let accepted = refused_gots(alloc, &tables, events)?;
     let refused = refused_first(alloc, &tables, events, &accepted)?;
     let counterparts = Counterparts {
+        fresh: origin_first(&tables, opening, events, &fresh),
         once: named_first(&tables, events, &once),
         in_order: overtaken(&tables, opening, events, &in_order),
         empty_right: waiting_beside(&tables, opening, events, &empty_right),
         accepted: refused,
     };
     Ok(Breaches {
-        fresh: unfresh(&tables, opening, events),
+        fresh,
         once,
         in_order,
         empty_right,

@@ -1,15 +1,19 @@
 -- What is at fault, as it is handed on
-use Rattle.std.proofs.Common.{◌≡◌, ◌∙◌, ◌⊎◌, inl, inr, ℕ, zero, suc, ◌+◌, ◌-◌, ◌==◌, List, [], ◌∷◌, length, map, take, refl, sym, ap, subst, arith, Option, Some, Ok, Err, slice_get, All}
+use Rattle.std.proofs.Common.{◌≡◌, ◌∙◌, ◌⊎◌, inl, inr, ℕ, zero, suc, ◌+◌, ◌-◌, ◌==◌, List, [], ◌∷◌, length, map, take, refl, sym, ap, subst, arith, Option, Some, Ok, Err, slice_get, get_or, All}
 use Rattle.std.proofs.lemmas.List.{length-map}
+use Rattle.std.proofs.lemmas.Option.{slice_get_within, slice_get-get_or}
 use Rattle.std.proofs.lemmas.List.Sorted.{All-permutation}
 use Rattle.scq_hist.specs.declared.events.Event.{Event}
 use Rattle.scq_judge.specs.Files.{AreSmall, IsFile, IsLarge}
-use Rattle.scq_judge.specs.Judged.{IsHistoryOf, IsOutOfPlace, IsCause, IsCauseIn, AreSoundBefore, IsUnlawfulAt, fault_of_reading, fault_of_merging}
+use Rattle.scq_judge.specs.Judged.{IsHistoryOf, IsOutOfPlace, IsCause, IsCauseIn, IsSharing, AreSoundBefore, IsUnlawfulAt, fault_of_reading, fault_of_merging}
 use Rattle.scq_judge.specs.Merged.{IsMergeOf, HasEqual, HasStampOfAnother}
+use Rattle.scq_judge.specs.Seats.{HasSeatOfAnother, IsAt}
 use Rattle.scq_judge.specs.Reads.{AreQuiet, AreReadUntil, AreReadWhole}
 use Rattle.scq_judge.specs.Recording.{Recording, AreOf, nothing, after_files, recording_of}
 use Rattle.scq_judge.specs.declared.judging.JudgeFault.{JudgeFault}
-use Rattle.scq_judge.specs.declared.judging.JudgeFault.TheVariants.{BadLine, Unlawful, ReadFault, TooLarge, NoMemory}
+use Rattle.scq_judge.specs.declared.judging.JudgeFault.TheVariants.{BadLine, Shared as SharedBy, Unlawful, ReadFault, TooLarge, NoMemory}
+use Rattle.scq_judge.specs.declared.judging.Shared.{Shared}
+use Rattle.scq_judge.specs.declared.judging.Shared.TheVariants.{Stamp, Seat}
 use Rattle.scq_judge.specs.declared.merging.MergeFault.{MergeFault}
 use Rattle.scq_judge.specs.declared.merging.MergeFault.TheVariants as merging
 use Rattle.scq_judge.specs.declared.reading.ReadingFault.{ReadingFault}
@@ -27,6 +31,8 @@ pub cause_of_history : (recorded : Recording) (opening : List (List ℕ)) (event
     → (fault : JudgeFault) → (fault ≡ NoMemory) ⊎ IsUnlawfulAt events places fault → IsCauseIn recorded fault
 cause_of_history recorded opening events places history (BadLine file line) (inl is) = absurd cc
 cause_of_history recorded opening events places history (BadLine file line) (inr h) = absurd h
+cause_of_history recorded opening events places history (SharedBy what file line g m) (inl is) = absurd cc
+cause_of_history recorded opening events places history (SharedBy what file line g m) (inr h) = absurd h
 cause_of_history recorded opening events places history (Unlawful file line) (inl is) = absurd cc
 cause_of_history recorded opening events places history (Unlawful file line) (inr h) = record {
   opening = opening;
@@ -45,14 +51,15 @@ cause_of_history recorded opening events places history NoMemory h = tt
 
 -- a stamp that stands twice
 pub cause_of_merging : (recorded : Recording) (refused : MergeFault)
-    → ((place : Place) → refused ≡ merging.SameStamp place → HasStampOfAnother recorded.events place) → IsCauseIn recorded (fault_of_merging refused)
-cause_of_merging recorded (merging.SameStamp place) same = same place refl
+    → ((place other : Place) → refused ≡ merging.SameStamp place other → HasStampOfAnother recorded.events place other) → IsCauseIn recorded (fault_of_merging refused)
+cause_of_merging recorded (merging.SameStamp place other) same = same place other refl
 cause_of_merging recorded merging.NoMemory same = tt
 
 -- what was read is at fault
 pub cause_of_recorded : (contents : List (List ℕ)) (recorded : Recording) → AreSmall contents → recording_of contents ≡ Ok recorded → (fault : JudgeFault)
     → IsCauseIn recorded fault → IsCause contents fault
-cause_of_recorded contents recorded small read (BadLine file line) h = inr (record { small = small; recorded = recorded; read = read; cause = h })
+cause_of_recorded contents recorded small read (BadLine file line) h = absurd h
+cause_of_recorded contents recorded small read (SharedBy what file line g m) h = record { small = small; recorded = recorded; read = read; cause = h }
 cause_of_recorded contents recorded small read (Unlawful file line) h = record { small = small; recorded = recorded; read = read; cause = h }
 cause_of_recorded contents recorded small read (ReadFault file) h = absurd h
 cause_of_recorded contents recorded small read (TooLarge file) h = absurd h
@@ -75,7 +82,7 @@ pub cause_of_reading : (contents : List (List ℕ)) (file : ℕ) (refused : Read
     → ((f : ℕ) → refused ≡ reading.ReadFault f → f ≡ file) → IsCause contents (fault_of_reading refused)
 cause_of_reading contents file (reading.BadLine f line) sound bad large failed =
     let told = bad f line refl in
-    subst (λ n. IsCause contents (BadLine n line)) (sym told.0) (inl (record { small = sound.small; bad = told.1 }))
+    subst (λ n. IsCause contents (BadLine n line)) (sym told.0) (record { small = sound.small; bad = told.1 })
 cause_of_reading contents file (reading.ReadFault f) sound bad large failed = subst (AreSoundBefore contents) (sym (failed f refl)) sound
 cause_of_reading contents file (reading.TooLarge f) sound bad large failed =
     let told = large f refl in
@@ -83,13 +90,29 @@ cause_of_reading contents file (reading.TooLarge f) sound bad large failed =
 cause_of_reading contents file reading.NoMemory sound bad large failed = tt
 
 -- Each event that was read is of one of so many files. So is that of a place which is told.
-file_of_equal : (count : ℕ) (events : List Stamped) (place : Place) → AreOf count events → HasStampOfAnother events place → IsFile count place.file
-file_of_equal count events place all h =
+file_of_equal : (count : ℕ) (events : List Stamped) (place other : Place) → AreOf count events → HasStampOfAnother events place other
+    → IsFile count place.file × IsFile count other.file
+file_of_equal count events place other all h =
     at h.merged h.equal (All-permutation (λ s. IsFile count s.place.file) events h.merged h.same all) where
-      at : (merged : List Stamped) → HasEqual merged place → All (λ s. IsFile count s.place.file) merged → IsFile count place.file
+      at : (merged : List Stamped) → HasEqual merged place other → All (λ s. IsFile count s.place.file) merged
+          → IsFile count place.file × IsFile count other.file
       at [] equal each = absurd (let within = equal.within in omega arith)
-      at (d ∷ ds) equal each =
-          subst (λ (z : Place). IsFile count z.file) (equal.stands d) (each (equal.i + 1) d equal.within)
+      at (d ∷ ds) equal each = (
+        subst (λ (z : Place). IsFile count z.file) (equal.stands d) (each (equal.i + 1) d equal.within),
+        subst (λ (z : Place). IsFile count z.file) (equal.before d) (each equal.i d (let lt = equal.within in omega arith)),
+      )
+
+file_of_at : (count : ℕ) (events : List Stamped) (i seat : ℕ) (place : Place) → AreOf count events → IsAt events i seat place → IsFile count place.file
+file_of_at count events i seat place all at =
+    let within = slice_get_within events i at.event at.stands in
+    let here : get_or events i at.event ≡ at.event = (let read = slice_get-get_or events i at.event within in let there = at.stands in cc) in
+    subst (λ (z : Place). IsFile count z.file) (ap (λ (s : Stamped). s.place) here ∙ sym at.place_is) (all i at.event within)
+
+files_of_shared : (count : ℕ) (events : List Stamped) (what : Shared) (place other : Place) → AreOf count events → IsSharing events what place other
+    → IsFile count place.file × IsFile count other.file
+files_of_shared count events Stamp place other all h = file_of_equal count events place other all h
+files_of_shared count events Seat place other all h =
+    (file_of_at count events h.i h.seat place all h.here, file_of_at count events h.k h.seat other all h.there)
 
 file_at : (count : ℕ) (merged : List Stamped) (e : ℕ) (place : Place) → All (λ s. IsFile count s.place.file) merged
     → slice_get (map (λ s. s.place) merged) e ≡ Some place → IsFile count place.file
@@ -114,10 +137,10 @@ until_recorded {S} faults end_count left olds news recorded all whole fault h = 
   quiet = λ k d lt. (whole k d lt).kept
 
   by : (fault : JudgeFault) → IsCauseIn recorded fault → AreReadUntil faults end_count left olds news fault
-  by (BadLine file line) h =
-      let is_file = file_of_equal (length olds) recorded.events (record { file = file; line = line }) all h in
-      let last = is_file.last in
-      (is_file, (λ k d lt. whole k d (omega arith)), quiet)
+  by (BadLine file line) h = absurd h
+  by (SharedBy what file line g m) h =
+      let files = files_of_shared (length olds) recorded.events what (record { file = file; line = line }) (record { file = g; line = m }) all h in
+      (files.0, files.1, whole)
   by (Unlawful file line) h = (file_of_place (length olds) recorded (record { file = file; line = line }) all h, whole)
   by (ReadFault file) h = absurd h
   by (TooLarge file) h = absurd h

@@ -1,6 +1,7 @@
 pub mod ReadLemmas
 pub mod SourceLemmas
 pub mod MergeLemmas
+mod SeatLemmas
 pub mod CountLemmas
 pub mod JudgeLemmas
 pub mod TextLemmas

@@ -54,14 +54,15 @@ not_above merged i d one within low = elim (cases_lt (get_or merged (i - 1) d).s
   | inr ge ↦ ge
 ]
 
-pub equal_there : (merged : List Stamped) (i : ℕ) (place : Place) → 1 ≤ i → i < length merged
-    → ¬ IsAbove merged i → IsPlaceAt merged i place
-    → IsNonDecreasingBy (λ s. s.stamp) merged → HasEqual merged place
-equal_there merged i place one within low stands sorted = record {
+pub equal_there : (merged : List Stamped) (i : ℕ) (place other : Place) → 1 ≤ i → i < length merged
+    → ¬ IsAbove merged i → IsPlaceAt merged i place → IsPlaceAt merged (i - 1) other
+    → IsNonDecreasingBy (λ s. s.stamp) merged → HasEqual merged place other
+equal_there merged i place other one within low stands before sorted = record {
   i = i - 1;
   within = omega arith;
   equal = λ d. (let up = sorted (i - 1) i d (omega arith) within in let down = not_above merged i d one within low in
       let back : i - 1 + 1 ≡ i = omega arith in
       subst (λ z. (get_or merged (i - 1) d).stamp ≡ (get_or merged z d).stamp) (sym back) (omega arith));
   stands = λ d. (let back : i - 1 + 1 ≡ i = omega arith in subst (λ z. (get_or merged z d).place ≡ place) (sym back) (stands d));
+  before = before;
 }

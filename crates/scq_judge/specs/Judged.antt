@@ -1,40 +1,45 @@
 -- What recordings with visible contents tell: the report of the merged history, or the cause of a fault
-use Rattle.std.specs.Prelude.{◌≡◌, ◌⊎◌, ℕ, ◌-◌, ◌==◌, List, Ok, Err, Some, length, take, slice_get}
+use Rattle.std.specs.Prelude.{◌≡◌, ◌⊎◌, ℕ, ◌-◌, ◌==◌, List, Ok, Err, Option, Some, length, take, slice_get}
 use Rattle.scq_hist.specs.Aspects.{IsLawful, IsLawfulAt}
 use Rattle.scq_hist.specs.First.{IsFirstFailing}
 use Rattle.scq_hist.specs.declared.events.Event.{Event}
 use Rattle.scq_judge.specs.Files.{AreSmall, IsLarge}
 use Rattle.scq_judge.specs.Merged.{IsMergeOf, HasStampOfAnother}
 use Rattle.scq_judge.specs.Recording.{Recording, nothing, after_files, recording_of}
+use Rattle.scq_judge.specs.Seats.{HaveOwnFiles, HasSeatOfAnother}
 use Rattle.scq_judge.specs.Report.{IsReport, report_lines}
 use Rattle.scq_judge.specs.declared.judging.JudgeFault.{JudgeFault}
-use Rattle.scq_judge.specs.declared.judging.JudgeFault.TheVariants.{BadLine, Unlawful, ReadFault, TooLarge, NoMemory}
+use Rattle.scq_judge.specs.declared.judging.JudgeFault.TheVariants.{BadLine, Shared as SharedBy, Unlawful, ReadFault, TooLarge, NoMemory}
 use Rattle.scq_judge.specs.declared.judging.Report.{Report}
+use Rattle.scq_judge.specs.declared.judging.Shared.{Shared}
+use Rattle.scq_judge.specs.declared.judging.Shared.TheVariants.{Stamp, Seat}
 use Rattle.scq_judge.specs.declared.merging.MergeFault.{MergeFault}
 use Rattle.scq_judge.specs.declared.merging.MergeFault.TheVariants as merging
 use Rattle.scq_judge.specs.declared.reading.ReadingFault.{ReadingFault}
 use Rattle.scq_judge.specs.declared.reading.ReadingFault.TheVariants as reading
 use Rattle.scq_judge.specs.declared.recorded.Place.{Place}
+use Rattle.scq_judge.specs.declared.recorded.Stamped.{Stamped}
 
 -- the history that what was read is merged to
 pub record IsHistoryOf (recorded : Recording) (opening : List (List ℕ)) (events : List Event) (places : List Place) : Type 0 where
   pub opens : opening ≡ recorded.opening
   pub merged : IsMergeOf recorded.events events places
 
--- the history is lawful, and the text is that of its report
-pub record IsReportOf (opening : List (List ℕ)) (events : List Event) (places : List Place) (text : List ℕ) : Type 0 where
+-- the history is lawful, and the text is that of its report, which tells of refusals where it is known for how many values each queue has room
+pub record IsReportOf (room : Option ℕ) (opening : List (List ℕ)) (events : List Event) (places : List Place) (text : List ℕ) : Type 0 where
   pub lawful : IsLawful events
   pub report : Report
-  pub is_report : IsReport opening events report
+  pub is_report : IsReport room opening events report
   pub said : text ≡ report_lines places report
 
--- so of the history that what was read is merged to
-pub record IsReported (recorded : Recording) (text : List ℕ) : Type 0 where
+-- so of the history that what was read is merged to, of which each seat's events stand in one file
+pub record IsReported (room : Option ℕ) (recorded : Recording) (text : List ℕ) : Type 0 where
+  pub seats : HaveOwnFiles recorded.events
   pub opening : List (List ℕ)
   pub events : List Event
   pub places : List Place
   pub history : IsHistoryOf recorded opening events places
-  pub reported : IsReportOf opening events places text
+  pub reported : IsReportOf room opening events places text
 
 -- the event of this place is the first of the history that is out of place
 pub record IsOutOfPlace (recorded : Recording) (place : Place) : Type 0 where
@@ -46,19 +51,28 @@ pub record IsOutOfPlace (recorded : Recording) (place : Place) : Type 0 where
   pub first : IsFirstFailing (λ d. IsLawfulAt events d (slice_get events d)) (Some e)
   pub stands : slice_get places e ≡ Some place
 
+-- the event of this place shares this with the one of the other place
+abbrev pub IsSharing : List Stamped → Shared → Place → Place → Type 0
+IsSharing events Stamp place other = HasStampOfAnother events place other
+IsSharing events Seat place other = HasSeatOfAnother events place other
+
+abbrev pub shared_by : Shared → Place → Place → JudgeFault
+shared_by what place other = SharedBy what place.file place.line other.file other.line
+
 -- what is at fault in what was read
 abbrev pub IsCauseIn : Recording → JudgeFault → Type 0
-IsCauseIn recorded (BadLine file line) = HasStampOfAnother recorded.events (record { file = file; line = line })
+IsCauseIn recorded (SharedBy what file line other_file other_line) =
+    IsSharing recorded.events what (record { file = file; line = line }) (record { file = other_file; line = other_line })
 IsCauseIn recorded (Unlawful file line) = IsOutOfPlace recorded (record { file = file; line = line })
 IsCauseIn recorded NoMemory = Unit {0}
 IsCauseIn recorded _ = ⊥
 
 -- recordings with these contents, of which none has too many bytes, are read, and tell this report
-pub record IsJudged (contents : List (List ℕ)) (text : List ℕ) : Type 0 where
+pub record IsJudged (room : Option ℕ) (contents : List (List ℕ)) (text : List ℕ) : Type 0 where
   pub small : AreSmall contents
   pub recorded : Recording
   pub read : recording_of contents ≡ Ok recorded
-  pub reported : IsReported recorded text
+  pub reported : IsReported room recorded text
 
 -- or are at fault so
 pub record IsCaused (contents : List (List ℕ)) (fault : JudgeFault) : Type 0 where
@@ -80,7 +94,8 @@ pub record IsFirstBad (contents : List (List ℕ)) (file line : ℕ) : Type 0 wh
 
 -- what is at fault in the contents, and that nothing is in the files before; a read that fails and want of memory aren't
 abbrev pub IsCause : List (List ℕ) → JudgeFault → Type 0
-IsCause contents (BadLine file line) = IsFirstBad contents file line ⊎ IsCaused contents (BadLine file line)
+IsCause contents (BadLine file line) = IsFirstBad contents file line
+IsCause contents (SharedBy what file line other_file other_line) = IsCaused contents (SharedBy what file line other_file other_line)
 IsCause contents (Unlawful file line) = IsCaused contents (Unlawful file line)
 IsCause contents (TooLarge file) = IsLarge contents file × AreSoundBefore contents file
 IsCause contents (ReadFault file) = AreSoundBefore contents file
@@ -100,5 +115,5 @@ fault_of_reading (reading.TooLarge file) = TooLarge file
 fault_of_reading reading.NoMemory = NoMemory
 
 abbrev pub fault_of_merging : MergeFault → JudgeFault
-fault_of_merging (merging.SameStamp place) = BadLine place.file place.line
+fault_of_merging (merging.SameStamp place other) = shared_by Stamp place other
 fault_of_merging merging.NoMemory = NoMemory

@@ -3,6 +3,7 @@ pub mod Recording
 pub mod Files
 pub mod Reads
 pub mod Merged
+pub mod Seats
 pub mod Counted
 pub mod Report
 pub mod Judged

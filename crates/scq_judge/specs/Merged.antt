@@ -21,12 +21,13 @@ pub record IsMergeOf (stamped : List Stamped) (events : List Event) (places : Li
   pub events_are : events ≡ map (λ s. s.event) merged
   pub places_are : places ≡ map (λ s. s.place) merged
 
--- the event of this place stands behind one with the same stamp
-pub record HasEqual (merged : List Stamped) (place : Place) : Type 0 where
+-- the event of this place stands behind one with the same stamp, whose place is the other
+pub record HasEqual (merged : List Stamped) (place other : Place) : Type 0 where
   pub i : ℕ
   pub within : i + 1 < length merged
   pub equal : (d : Stamped) → (slice_index_or merged i d).stamp ≡ (slice_index_or merged (i + 1) d).stamp
   pub stands : (d : Stamped) → (slice_index_or merged (i + 1) d).place ≡ place
+  pub before : (d : Stamped) → (slice_index_or merged i d).place ≡ other
 
 -- For private calls: the stamp at position i is above the one before it; and the place there
 abbrev pub IsAbove : List Stamped → ℕ → Type 0
@@ -35,8 +36,8 @@ IsAbove merged i = (d : Stamped) → (slice_index_or merged (i - 1) d).stamp < (
 abbrev pub IsPlaceAt : List Stamped → ℕ → Place → Type 0
 IsPlaceAt merged i place = (d : Stamped) → (slice_index_or merged i d).place ≡ place
 
--- the event of this place has the stamp of another
-pub record HasStampOfAnother (events : List Stamped) (place : Place) : Type 0 where
+-- the event of this place has the stamp of another, whose place is the other
+pub record HasStampOfAnother (events : List Stamped) (place other : Place) : Type 0 where
   pub merged : List Stamped
   pub same : IsPermutation events merged
-  pub equal : HasEqual merged place
+  pub equal : HasEqual merged place other

@@ -1,45 +1,77 @@
 //! Recordings read, merged and judged.
 
-ghost use Rattle.std.specs.Prelude.{◌≡◌, ◌<◌, ◌^◌, ◌⊎◌, ℕ, List, length, IfOk, IfErr, OnOk};
+ghost use Rattle.std.specs.Prelude.{◌≡◌, ◌<◌, ◌^◌, ◌⊎◌, ℕ, List, length, IfOk, IfErr, IfSome, OnOk};
 ghost use Rattle.scq_hist.specs.Aspects.{IsLawful};
 ghost use Rattle.scq_check.specs.Verdicts.{AreWithin};
 ghost use Rattle.scq_judge.specs.Files.{HaveContents};
-ghost use Rattle.scq_judge.specs.Judged.{IsJudged, IsCause, IsReported, IsReportOf, IsCauseIn, IsUnlawfulAt};
+ghost use Rattle.scq_judge.specs.Seats.{HaveOwnFiles};
+ghost use Rattle.scq_judge.specs.Judged.{shared_by, IsJudged, IsCause, IsReported, IsReportOf, IsCauseIn, IsUnlawfulAt};
 ghost use Rattle.scq_judge.specs.Reads.{HasGiven, OfEach, AreReadWhole, AreReadUntil};
-ghost use Rattle.scq_judge.specs.Report.{IsReport};
+ghost use Rattle.scq_judge.specs.Report.{AreWrongRefusals, IsReport};
 
 use crate::counting::{Counts, count};
 use crate::merging::{MergeFault, Merged, merge};
 use crate::reading::{ReadingFault, read_recordings};
 use crate::recorded::{Place, Recorded};
+use crate::seats::first_apart;
 use crate::text::report_text;
-use scq_check::{Breaches, find_breaches, first_unlawful};
+use scq_check::{Breaches, Failures, find_breaches, find_wrong_refusals, first_unlawful};
 use scq_hist::Event;
 use scq_outside::Source;
 use scq_word::{Bytes, NoMemory};
 use std::alloc::Global;
 use thiserror::Error;
 
-/// What is said of a history: the events that break each aspect, and what it has.
+/// What is said of a history: the events that break each aspect, where they are judged the refusals that
+/// found a place, and what it has.
 #[derive(Clone, Copy)]
 pub struct Report {
     pub breaches: Breaches,
+    pub full: Option<Failures>,
     pub counts: Counts,
+}
+
+/// What events of two files may not share.
+#[derive(Clone, Copy, Debug, PartialEq, Eq, Error)]
+pub enum Shared {
+    #[error("stamp")]
+    Stamp,
+    #[error("seat")]
+    Seat,
 }
 
 /// Why recordings were not judged. Files and lines are numbered from 1.
 #[derive(Clone, Copy, Debug, PartialEq, Eq, Error)]
 pub enum JudgeFault {
-    /// The line is not of the form, or may not stand there, or has the stamp of another.
+    /// The line is not of the form, or may not stand there.
     #[error("file {file} line {line}: not understood")]
-    BadLine { file: u32, line: u32 },
+    BadLine {
+        file: u32,
+        line: u32,
+    },
+    /// The line's event has the stamp of another file's, or is of a seat that has an event in another file.
+    #[error("file {file} line {line}: same {what} as file {other_file} line {other_line}")]
+    Shared {
+        what: Shared,
+        file: u32,
+        line: u32,
+        other_file: u32,
+        other_line: u32,
+    },
     /// In the merged history this line's event is the first that isn't lawful.
     #[error("file {file} line {line}: event out of place")]
-    Unlawful { file: u32, line: u32 },
+    Unlawful {
+        file: u32,
+        line: u32,
+    },
     #[error("file {file}: read fault")]
-    ReadFault { file: u32 },
+    ReadFault {
+        file: u32,
+    },
     #[error("file {file}: more than 2147483646 bytes")]
-    TooLarge { file: u32 },
+    TooLarge {
+        file: u32,
+    },
     #[error("out of memory")]
     NoMemory,
 }
@@ -76,21 +108,24 @@ impl From<MergeFault> for JudgeFault {
 
     fn from(refused: MergeFault) -> JudgeFault {
         match refused {
-            MergeFault::SameStamp {
-                place: Place { file, line },
-            } => JudgeFault::BadLine { file, line },
+            MergeFault::SameStamp { place, other } => sharing(Shared::Stamp, place, other),
             MergeFault::NoMemory => JudgeFault::NoMemory,
         }
     }
 }
 
-/// The report of the history that the recordings of these files are merged to, as text. Memory and time grow little faster than
+/// The report of the history that the recordings of these files are merged to, as text. Where it is told for how many values
+/// each queue has room, refused puts are judged too. Memory and time grow little faster than
 /// the number of events. Files are read one after the other, up to the first that has a fault of its own.
-pub fn judge_recordings<S: Source>(alloc: Global, sources: &mut [S]) -> Result<Bytes, JudgeFault>
+pub fn judge_recordings<S: Source>(
+    alloc: Global,
+    room: Option<u32>,
+    sources: &mut [S],
+) -> Result<Bytes, JudgeFault>
     requires { length sources.old < 2 ^ 31 }
 
     // What the contents tell, where all are visible: the report, or the cause of a fault.
-    ensures judged { IfOk result (λ text. (contents : List (List ℕ)) → HaveContents S.left sources.old contents → IsJudged contents text) }
+    ensures judged { IfOk result (λ text. (contents : List (List ℕ)) → HaveContents S.left sources.old contents → IsJudged room contents text) }
     ensures refused { IfErr result (λ fault. (contents : List (List ℕ)) → HaveContents S.left sources.old contents → IsCause contents fault) }
 
     // How far the sources were read, visible or not.
@@ -99,43 +134,70 @@ pub fn judge_recordings<S: Source>(alloc: Global, sources: &mut [S]) -> Result<B
     ensures given { OfEach (length sources.old) (HasGiven S.faults S.left) sources.old sources.new }
 {
     match read_recordings(alloc, sources) {
-        Ok(recorded) => judge_recorded(alloc, recorded),
+        Ok(recorded) => judge_recorded(alloc, room, recorded),
         Err(fault) => Err(JudgeFault::from(fault)),
     }
 }
 
+// The fault of an event that shares this with another.
+fn sharing(what: Shared, place: Place, other: Place) -> JudgeFault
+    ensures { result ≡ shared_by what place other }
+{
+    JudgeFault::Shared {
+        what,
+        file: place.file,
+        line: place.line,
+        other_file: other.file,
+        other_line: other.line,
+    }
+}
+
 // The report of what was read, as text.
-fn judge_recorded(alloc: Global, recorded: Recorded) -> Result<Bytes, JudgeFault>
-    ensures reported { IfOk result (IsReported recorded) }
+fn judge_recorded(alloc: Global, room: Option<u32>, recorded: Recorded) -> Result<Bytes, JudgeFault>
+    ensures reported { IfOk result (IsReported room recorded) }
+    ensures refused { IfErr result (IsCauseIn recorded) }
+{
+    match first_apart(alloc, recorded.events()) {
+        Ok(None) => judge_apart(alloc, room, recorded),
+        Ok(Some(apart)) => Err(sharing(Shared::Seat, apart.place, apart.other)),
+        Err(NoMemory) => Err(JudgeFault::NoMemory),
+    }
+}
+
+// The report of what was read, where each seat's events stand in one file.
+fn judge_apart(alloc: Global, room: Option<u32>, recorded: Recorded) -> Result<Bytes, JudgeFault>
+    requires { HaveOwnFiles recorded.events }
+    ensures reported { IfOk result (IsReported room recorded) }
     ensures refused { IfErr result (IsCauseIn recorded) }
 {
     match merge(alloc, recorded) {
-        Ok(merged) => judge_merged(alloc, &merged),
+        Ok(merged) => judge_merged(alloc, room, &merged),
         Err(fault) => Err(JudgeFault::from(fault)),
     }
 }
 
 // The report of a merged history, as text.
-fn judge_merged(alloc: Global, merged: &Merged) -> Result<Bytes, JudgeFault>
+fn judge_merged(alloc: Global, room: Option<u32>, merged: &Merged) -> Result<Bytes, JudgeFault>
     requires { length merged.now.places.items ≡ length merged.now.events.items }
-    ensures reported { IfOk result (IsReportOf merged.now.opening.items merged.now.events.items merged.now.places.items) }
+    ensures reported { IfOk result (IsReportOf room merged.now.opening.items merged.now.events.items merged.now.places.items) }
     ensures refused { IfErr result (λ fault. (fault ≡ JudgeFault.NoMemory) ⊎ IsUnlawfulAt merged.now.events.items merged.now.places.items fault) }
 {
     let opening = merged.opening.as_slice();
     let events = merged.events.as_slice();
     let places = merged.places.as_slice();
-    judge_history(alloc, opening, events, places)
+    judge_history(alloc, room, opening, events, places)
 }
 
 // The report of a history, as text.
 fn judge_history(
     alloc: Global,
+    room: Option<u32>,
     opening: &[Bytes],
     events: &[Event],
     places: &[Place],
 ) -> Result<Bytes, JudgeFault>
     requires { length places.now ≡ length events.now }
-    ensures reported { IfOk result (IsReportOf opening.now events.now places.now) }
+    ensures reported { IfOk result (IsReportOf room opening.now events.now places.now) }
     ensures refused { IfErr result (λ fault. (fault ≡ JudgeFault.NoMemory) ⊎ IsUnlawfulAt events.now places.now fault) }
 {
     let first = first_unlawful(alloc, events)?;
@@ -144,35 +206,63 @@ fn judge_history(
             let Place { file, line } = places[e];
             Err(JudgeFault::Unlawful { file, line })
         }
-        None => judge_lawful(alloc, opening, events, places),
+        None => judge_lawful(alloc, room, opening, events, places),
     }
 }
 
 // The report of a lawful history, as text.
 fn judge_lawful(
     alloc: Global,
+    room: Option<u32>,
     opening: &[Bytes],
     events: &[Event],
     places: &[Place],
 ) -> Result<Bytes, JudgeFault>
     requires many { length places.now ≡ length events.now }
     requires lawful { IsLawful events.now }
-    ensures reported { IfOk result (IsReportOf opening.now events.now places.now) }
+    ensures reported { IfOk result (IsReportOf room opening.now events.now places.now) }
     ensures refused { IfErr result (λ fault. fault ≡ JudgeFault.NoMemory) }
 {
-    let report = report_on(alloc, opening, events)?;
+    let report = report_on(alloc, room, opening, events)?;
     let text = report_text(alloc, places, &report)?;
     Ok(text)
 }
 
 // What is said of a lawful history.
-fn report_on(alloc: Global, opening: &[Bytes], events: &[Event]) -> Result<Report, NoMemory>
+fn report_on(
+    alloc: Global,
+    room: Option<u32>,
+    opening: &[Bytes],
+    events: &[Event],
+) -> Result<Report, NoMemory>
     requires { IsLawful events.now }
-    ensures report { IfOk result (IsReport opening.now events.now) }
+    ensures report { IfOk result (IsReport room opening.now events.now) }
     ensures within { IfOk result (λ report. AreWithin (length events.now) report.breaches) }
+    ensures full_within { IfOk result (λ report. IfSome report.full (λ full. IfSome full.first (λ e. e < length events.now))) }
 {
     Ok(Report {
         breaches: find_breaches(alloc, opening, events)?,
+        full: wrong_refusals(alloc, room, opening, events)?,
         counts: count(alloc, events)?,
     })
+}
+
+// The refusals that found a place, where it is known for how many values each queue has room.
+fn wrong_refusals(
+    alloc: Global,
+    room: Option<u32>,
+    opening: &[Bytes],
+    events: &[Event],
+) -> Result<Option<Failures>, NoMemory>
+    requires { IsLawful events.now }
+    ensures told { IfOk result (AreWrongRefusals room opening.now events.now) }
+    ensures within { IfOk result (λ told. IfSome told (λ full. IfSome full.first (λ e. e < length events.now))) }
+{
+    match room {
+        None => Ok(None),
+        Some(room) => {
+            let failures = find_wrong_refusals(alloc, room, opening, events)?;
+            Ok(Some(failures))
+        }
+    }
 }

@@ -11,8 +11,9 @@ mod judging;
 mod merging;
 mod reading;
 mod recorded;
+mod seats;
 mod text;
 
 pub use counting::Counts;
-pub use judging::{JudgeFault, Report, judge_recordings};
+pub use judging::{JudgeFault, Report, Shared, judge_recordings};
 pub use recorded::Place;

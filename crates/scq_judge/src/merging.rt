@@ -20,8 +20,8 @@ pub(crate) struct Merged {
 /// Why recordings were not merged.
 #[derive(Clone, Copy)]
 pub(crate) enum MergeFault {
-    /// The event of this place has the stamp of another.
-    SameStamp { place: Place },
+    /// The event of this place has the stamp of another, at the other place.
+    SameStamp { place: Place, other: Place },
     NoMemory,
 }
 
@@ -29,14 +29,14 @@ pub(crate) enum MergeFault {
 pub(crate) fn merge(alloc: Global, recorded: Recorded) -> Result<Merged, MergeFault>
     ensures opening { IfOk result (λ merged. merged.opening.items ≡ recorded.opening) }
     ensures merged { IfOk result (λ merged. IsMergeOf recorded.events merged.events.items merged.places.items) }
-    ensures same_stamp { (place : Place) → IsErrOf result (MergeFault.SameStamp place) → HasStampOfAnother recorded.events place }
+    ensures same_stamp { (place other : Place) → IsErrOf result (MergeFault.SameStamp place other) → HasStampOfAnother recorded.events place other }
 {
     let (opening, mut stamped) = recorded.into_parts();
     if sort(&mut stamped).is_err() {
         return Err(MergeFault::NoMemory);
     }
-    if let Some(place) = first_equal(&stamped) {
-        return Err(MergeFault::SameStamp { place });
+    if let Some((place, other)) = first_equal(&stamped) {
+        return Err(MergeFault::SameStamp { place, other });
     }
     match part(alloc, stamped) {
         Ok((events, places)) => Ok(Merged {
@@ -56,14 +56,16 @@ fn sort(stamped: &mut Vec<Stamped>) -> Result<(), NoMemory>
     Ok(())
 }
 
-/// The place of the first event whose stamp is that of the one before it.
-fn first_equal(stamped: &[Stamped]) -> Option<Place>
+/// The places of the first event whose stamp is that of the one before it, and of that one.
+fn first_equal(stamped: &[Stamped]) -> Option<(Place, Place)>
     requires { IsNonDecreasingBy (λ s. s.stamp) stamped.now }
-    ensures { MatchOption result (RiseBelow stamped.now (length stamped.now)) (HasEqual stamped.now) }
+    ensures { MatchOption result (RiseBelow stamped.now (length stamped.now)) (λ pair. HasEqual stamped.now pair.0 pair.1) }
 {
     for i in 1..stamped.len() {
         if !is_above(stamped, i) {
-            return Some(place_at(stamped, i));
+            let place = place_at(stamped, i);
+            let other = place_at(stamped, i - 1);
+            return Some((place, other));
         }
     }
     None

@@ -171,6 +171,13 @@ impl Recorded {
         Ok(())
     }
 
+    /// The events of all files, in the order in which they were read.
+    pub(crate) fn events(&self) -> &[Stamped]
+        ensures { result.now ≡ self.now.events }
+    {
+        self.events.as_slice()
+    }
+
     /// The opening tokens and the events.
     pub(crate) fn into_parts(self) -> (Vec<Bytes>, Vec<Stamped>)
         ensures opening { result.0.items ≡ self.opening }

@@ -1,14 +1,15 @@
 //! A report as text.
 
-ghost use Rattle.std.specs.Prelude.{◌≡◌, ◌<◌, ◌^◌, ◌++◌, decimal, length, IfOk, IfSome, OnOk};
+ghost use Rattle.std.specs.Prelude.{◌≡◌, ◌<◌, ◌^◌, ◌++◌, decimal, length, Some, IfOk, IfSome, OnOk};
+ghost use Rattle.scq_check.specs.Counterparts.{IsOriginWithin};
 ghost use Rattle.scq_check.specs.Verdicts.{AreWithin};
 ghost use Rattle.scq_check.specs.Waiting.{IsToldWithin};
-ghost use Rattle.scq_judge.specs.Report.{beside_line, count_line, event_text, got_text, place_text, plain_line, put_text, report_lines, verdict_text, waiting_line, waiting_text};
+ghost use Rattle.scq_judge.specs.Report.{beside_line, count_line, event_text, full_line, got_text, origin_line, origin_text, place_text, plain_line, put_text, report_lines, verdict_text, waiting_line, waiting_text};
 
 use crate::judging::Report;
 use crate::recorded::Place;
 use itoa::Buffer;
-use scq_check::{Failures, Waiting};
+use scq_check::{Failures, Origin, Waiting};
 use scq_word::{Bytes, NoMemory};
 use std::alloc::Global;
 
@@ -19,13 +20,14 @@ pub(crate) fn report_text(
     places: &[Place],
     report: &Report,
 ) -> Result<Bytes, NoMemory>
-    requires { AreWithin (length places.now) report.now.breaches }
+    requires within { AreWithin (length places.now) report.now.breaches }
+    requires full_within { IfSome report.now.full (λ full. IfSome full.first (λ e. e < length places.now)) }
     ensures { IfOk result (λ text. text ≡ report_lines places.now report.now) }
 {
     let breaches = &report.breaches;
     let told = &breaches.counterparts;
     let mut text = Vec::new(alloc);
-    add_plain(&mut text, b"fresh", places, &breaches.fresh)?;
+    add_origin(&mut text, b"fresh", places, &breaches.fresh, told.fresh)?;
     add_beside(
         &mut text,
         b"once",
@@ -50,12 +52,13 @@ pub(crate) fn report_text(
     )?;
     add_beside(
         &mut text,
-        b"refused",
+        b"refused never got",
         places,
         &breaches.accepted,
         b"; put refused at ",
         told.accepted,
     )?;
+    add_full(&mut text, places, report.full)?;
     add_count(&mut text, b"events", report.counts.events)?;
     add_count(&mut text, b"queues", report.counts.queues)?;
     add_count(&mut text, b"seats", report.counts.seats)?;
@@ -77,6 +80,60 @@ fn add_plain(
     add_verdict(text, name, places, failures)?;
     text.extend_from_slice(b"\n")?;
     Ok(())
+}
+
+// The line of an aspect whose first breach names a put.
+fn add_origin(
+    text: &mut Vec<u8>,
+    name: &[u8],
+    places: &[Place],
+    failures: &Failures,
+    origin: Option<Origin>,
+) -> Result<(), NoMemory>
+    requires first { IfSome failures.now.first (λ e. e < length places.now) }
+    requires origin { IfSome origin (IsOriginWithin (length places.now)) }
+    ensures { OnOk result (text.new.items ≡ text.old.items ++ origin_line name.now places.now failures.now origin) }
+{
+    add_verdict(text, name, places, failures)?;
+    if let Some(origin) = origin {
+        add_put_of(text, places, origin)?;
+    }
+    text.extend_from_slice(b"\n")?;
+    Ok(())
+}
+
+// Where the put that a Got names was put.
+fn add_put_of(text: &mut Vec<u8>, places: &[Place], origin: Origin) -> Result<(), NoMemory>
+    requires { IsOriginWithin (length places.now) origin }
+    ensures { OnOk result (text.new.items ≡ text.old.items ++ origin_text places.now (Some origin)) }
+{
+    match origin {
+        Origin::Nobody => {
+            text.extend_from_slice(
+                b"; names a put that nobody made: values have to be the recorder's",
+            )?;
+        }
+        Origin::Token { number } => {
+            text.extend_from_slice(b"; names the opening at file 1 line ")?;
+            add_number(text, number as u64 + 1)?;
+        }
+        Origin::Start { position } => {
+            text.extend_from_slice(b"; names the put started at ")?;
+            add_place(text, places[position])?;
+        }
+    }
+    Ok(())
+}
+
+// The line on refusals, where they are judged.
+fn add_full(text: &mut Vec<u8>, places: &[Place], full: Option<Failures>) -> Result<(), NoMemory>
+    requires { IfSome full (λ full. IfSome full.first (λ e. e < length places.now)) }
+    ensures { OnOk result (text.new.items ≡ text.old.items ++ full_line places.now full) }
+{
+    match full {
+        None => Ok(()),
+        Some(failures) => add_plain(text, b"full", places, &failures),
+    }
 }
 
 // The line of an aspect whose first breach stands against an event.

@@ -7,7 +7,7 @@ use Rattle.clap.specs.Words.{App, Row, all_of, first_of, first_value, matched_of
 use Rattle.clap.specs.declared.parser.matches.Found.{Found}
 use Rattle.clap.proofs.WalkLemmas.{first_value-rows, raw_values-rows}
 use Rattle.scq_words.specs.Commands.{run_app, stages_app, self_app, judge_app, text_app}
-use Rattle.scq_words.specs.Asked.{Asked, RunTexts, SelfTexts, StagesTexts, answered_by, asked_of_judge, judge_files, judge_tests, judged, asked_of_run, asked_of_self, asked_of_stages, asked_of_text, is_given, refused_names, text_command, text_file, whole, with_flag, first_of_tests, generated, refused_by_clap, run, run_asked, run_tests, run_texts, self_asked, self_tests, self_texts, staged, stages_asked, stages_tests, stages_texts, texts_of_run, texts_of_self, texts_of_stages}
+use Rattle.scq_words.specs.Asked.{Asked, RunTexts, SelfTexts, StagesTexts, answered_by, JudgeTexts, asked_of_judge, judge_asked, judge_texts, judge_tests, judged, texts_of_judge, asked_of_run, asked_of_self, asked_of_stages, asked_of_text, is_given, refused_names, text_command, text_file, whole, with_flag, first_of_tests, generated, refused_by_clap, run, run_asked, run_tests, run_texts, self_asked, self_tests, self_texts, staged, stages_asked, stages_tests, stages_texts, texts_of_run, texts_of_self, texts_of_stages}
 use Rattle.scq_words.specs.declared.fault.WordsFault.{WordsFault}
 use Rattle.scq_words.specs.declared.fault.WordsFault.TheVariants.{NoName, NotUnderstood}
 use Rattle.scq_words.specs.declared.text_request.TextCommand.{TextCommand}
@@ -56,9 +56,13 @@ self-texts f rows seed lines workers same s l w =
     let ew = text-same f rows (codes "workers") workers same w in
     λ i. texts_of_self (es i) (el i) (ew i)
 
-pub judge-texts : (f : Found) (rows : List Row) (files : Option (List (List ℕ))) (names : List (List ℕ)) → rows_of f ≡ rows
-    → files ≡ option_map raw_values (matched_of f (codes "files")) → names ≡ unwrap_or files [] → names ≡ judge_files rows
-judge-texts f rows files names same got is = is ∙ files-same f rows (codes "files") files same got
+pub judge-texts : (f : Found) (rows : List Row) (room : Option (List ℕ)) (files : Option (List (List ℕ))) (names : List (List ℕ)) → rows_of f ≡ rows
+    → room ≡ first_value f (codes "room") → files ≡ option_map raw_values (matched_of f (codes "files")) → names ≡ unwrap_or files []
+    → texts_of_judge room names ≡ judge_texts rows
+judge-texts f rows room files names same r got is =
+    let er = text-same f rows (codes "room") room same r in
+    let ef = is ∙ files-same f rows (codes "files") files same got in
+    λ i. texts_of_judge (er i) (ef i)
 
 -- `clap` takes the words, and then the tests decide
 after_clap : (clap rest : Option WordsFault) (what : Asked) (said : Result Asked WordsFault) → clap ≡ None → answered_by rest what ≡ said
@@ -89,19 +93,19 @@ self-answer words t said passes is answer =
     after_clap (refused_by_clap self_app words) _ _ said passes
     (ap (λ (t : SelfTexts). answered_by (first_of_tests (self_tests t)) (generated (self_asked t))) (sym is) ∙ answer)
 
-pub judge-answer : (words files : List (List ℕ)) (said : Result Asked WordsFault) → refused_by_clap judge_app words ≡ None
-    → files ≡ judge_files (matches_of judge_app words)
-    → answered_by (first_of_tests (judge_tests files)) (judged (record { files = files })) ≡ said → asked_of_judge words ≡ said
+pub judge-answer : (words : List (List ℕ)) (t : JudgeTexts) (said : Result Asked WordsFault) → refused_by_clap judge_app words ≡ None
+    → t ≡ judge_texts (matches_of judge_app words)
+    → answered_by (first_of_tests (judge_tests t)) (judged (judge_asked t)) ≡ said → asked_of_judge words ≡ said
 unfolding asked_of_judge
-judge-answer words files said passes is answer =
+judge-answer words t said passes is answer =
     after_clap (refused_by_clap judge_app words) _ _ said passes
-    (ap (λ (files : List (List ℕ)). answered_by (first_of_tests (judge_tests files)) (judged (record { files = files }))) (sym is) ∙ answer)
+    (ap (λ (t : JudgeTexts). answered_by (first_of_tests (judge_tests t)) (judged (judge_asked t))) (sym is) ∙ answer)
 
 pub asked-refused-judge : (words : List (List ℕ)) (fault : WordsFault) → refused_by_clap judge_app words ≡ Some fault → asked_of_judge words ≡ Err fault
 unfolding asked_of_judge
 asked-refused-judge words fault refused =
-    let files = judge_files (matches_of judge_app words) in
-    ap (λ test. answered_by (option_or test (first_of_tests (judge_tests files))) (judged (record { files = files }))) refused
+    let t = judge_texts (matches_of judge_app words) in
+    ap (λ test. answered_by (option_or test (first_of_tests (judge_tests t))) (judged (judge_asked t))) refused
 
 pub answer-ok : (test : Option WordsFault) (what other : Asked) → test ≡ None → what ≡ other → answered_by test what ≡ Ok other
 answer-ok test what other none same = ap (λ t. answered_by t what) none ∙ ap Ok same

@@ -10,7 +10,7 @@ use Rattle.scq_topics.specs.Topics.{declared_by, entries_of, first_fault}
 use Rattle.scq_words.specs.Commands.{run_app, stages_app, self_app, judge_app, text_app}
 use Rattle.scq_words.specs.Numbers.{number_or, refused_outside}
 use Rattle.scq_words.specs.declared.fault.WordsFault.{WordsFault}
-use Rattle.scq_words.specs.declared.fault.WordsFault.TheVariants.{NotUnderstood, Workers, Order, Size, Topics, TooManyFiles, NoName, Seed, Lines}
+use Rattle.scq_words.specs.declared.fault.WordsFault.TheVariants.{NotUnderstood, Workers, Order, Size, Topics, TooManyFiles, NoName, Seed, Lines, Room}
 use Rattle.scq_words.specs.declared.request.Request.{Request}
 use Rattle.scq_words.specs.declared.request.Request.TheVariants.{Run, SelfRun, Judge, Text, Stages}
 use Rattle.scq_words.specs.declared.request.JudgeRequest.{JudgeRequest}
@@ -78,8 +78,9 @@ pub record SelfAsked : Type 0 where
   pub lines : ℕ
   pub workers : ℕ
 
--- what is asked of recordings
+-- what is asked of recordings, of queues that have room for so many values, where that is told
 pub record JudgeAsked : Type 0 where
+  pub room : Option ℕ
   pub files : List (List ℕ)
 
 -- what is asked of one whole file
@@ -115,6 +116,11 @@ pub record SelfTexts : Type 0 where
   pub seed : Option (List ℕ)
   pub lines : Option (List ℕ)
   pub workers : Option (List ℕ)
+
+-- those of `judge`
+pub record JudgeTexts : Type 0 where
+  pub room : Option (List ℕ)
+  pub files : List (List ℕ)
 
 abbrev pub texts_of_run : Option (List ℕ) → Option (List ℕ) → Option (List ℕ) → Option (List ℕ) → Option (List ℕ) → List (List ℕ) → RunTexts
 texts_of_run workers order size topics report files =
@@ -228,15 +234,30 @@ asked_of_text command words = let rows = matches_of (text_app command) words in 
     answered_by (first_of_tests (refused_by_clap (text_app command) words ∷ refused_names (file ∷ []) ∷ []))
     (whole (record { command = text_command command rows; file = file }))
 
-abbrev pub judge_files : List Row → List (List ℕ)
-judge_files rows = unwrap_or (all_of (codes "files") rows) []
+abbrev pub texts_of_judge : Option (List ℕ) → List (List ℕ) → JudgeTexts
+texts_of_judge room files = record { room = room; files = files }
 
-abbrev pub judge_tests : List (List ℕ) → List (Option WordsFault)
-judge_tests files = refused_if (nat_lt 64 (length files)) TooManyFiles ∷ refused_names files ∷ []
+abbrev pub judge_texts : List Row → JudgeTexts
+judge_texts rows = texts_of_judge (first_of (codes "room") rows) (unwrap_or (all_of (codes "files") rows) [])
+
+-- the tests of files alone
+abbrev pub files_tests : List (List ℕ) → List (Option WordsFault)
+files_tests files = refused_if (nat_lt 64 (length files)) TooManyFiles ∷ refused_names files ∷ []
+
+abbrev pub judge_tests : JudgeTexts → List (Option WordsFault)
+judge_tests t = refused_outside 1 4294967295 Room t.room ∷ files_tests t.files
+
+-- the room, where it is given
+abbrev pub room_of : Option (List ℕ) → Option ℕ
+room_of None = None
+room_of (Some text) = Some (number_or 0 (Some text))
+
+abbrev pub judge_asked : JudgeTexts → JudgeAsked
+judge_asked t = record { room = room_of t.room; files = t.files }
 
 unfoldable pub asked_of_judge : List (List ℕ) → Result Asked WordsFault
-asked_of_judge words = let files = judge_files (matches_of judge_app words) in
-    answered_by (first_of_tests (refused_by_clap judge_app words ∷ judge_tests files)) (judged (record { files = files }))
+asked_of_judge words = let t = judge_texts (matches_of judge_app words) in
+    answered_by (first_of_tests (refused_by_clap judge_app words ∷ judge_tests t)) (judged (judge_asked t))
 
 -- what the words ask for: the first is a command, and those after it are its arguments
 abbrev pub asked : List (List ℕ) → Result Asked WordsFault
@@ -273,7 +294,7 @@ abbrev pub self_of : SelfRequest → SelfAsked
 self_of r = record { seed = r.seed; lines = r.lines; workers = r.workers }
 
 abbrev pub judge_of : JudgeRequest → JudgeAsked
-judge_of r = record { files = map string_bytes r.files.items }
+judge_of r = record { room = r.room; files = map string_bytes r.files.items }
 
 abbrev pub text_of : TextRequest → TextAsked
 text_of r = record { command = r.command; file = string_bytes r.file }

@@ -1,4 +1,4 @@
--- The commands as `clap` knows them: `run` and `stages` with options and files, `self` with options, `judge` with files, `check` and `replay`
+-- The commands as `clap` knows them: `run` and `stages` with options and files, `self` with options, `judge` with an option and files, `check` and `replay`
 -- with one file, and `replay` with a flag besides.
 use Rattle.std.specs.Prelude.{ℕ, List, Some, true, codes}
 use Rattle.clap.specs.Words.{App, Rule, new_app, new_rule, with_rule}
@@ -60,9 +60,12 @@ lines_app = with_rule seed_app (required_rule (codes "lines"))
 abbrev pub self_app : App
 self_app = with_rule lines_app (option_rule (codes "workers"))
 
--- recordings: files alone
+-- recordings have an option, and files
+abbrev pub room_app : App
+room_app = with_rule (plain_app (codes "judge")) (option_rule (codes "room"))
+
 abbrev pub judge_app : App
-judge_app = with_rule (plain_app (codes "judge")) files_rule
+judge_app = with_rule room_app files_rule
 
 -- the one file
 abbrev pub file_rule : Rule

@@ -1,5 +1,5 @@
 -- Which words `clap` takes, and in which ranges the settings are.
-use Rattle.std.specs.Prelude.{ℕ, ◌<◌, ◌≤◌, Bool, false, List, [], ◌∷◌, length, codes, if◌then◌else◌}
+use Rattle.std.specs.Prelude.{ℕ, ◌<◌, ◌≤◌, Bool, false, List, [], ◌∷◌, length, codes, IfSome, if◌then◌else◌}
 use Rattle.std.specs.List.{All}
 use Rattle.std.specs.Str.{bytes_eq}
 use Rattle.clap.specs.Words.{takes}
@@ -47,8 +47,9 @@ pub record IsSelfInRange (a : SelfAsked) : Type 0 where
   pub lines : (1 ≤ a.lines) × (a.lines ≤ 1000000)
   pub workers : (1 ≤ a.workers) × (a.workers ≤ 4096)
 
--- recordings are at most 64 files, and each has a name
+-- recordings are at most 64 files, and each has a name; a room is one of values
 pub record IsJudgeInRange (a : JudgeAsked) : Type 0 where
+  pub room : IfSome a.room (λ n. (1 ≤ n) × (n ≤ 4294967295))
   pub files : length a.files ≤ 64
   pub names : All (λ name. 0 < length name) a.files
 

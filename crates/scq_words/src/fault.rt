@@ -27,6 +27,8 @@ pub enum WordsFault {
     Seed,
     #[error("lines is not in 1..1000000")]
     Lines,
+    #[error("room is not in 1..4294967295")]
+    Room,
 }
 
 /// Why no request was read.

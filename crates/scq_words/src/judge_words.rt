@@ -1,11 +1,13 @@
-ghost use Rattle.std.specs.Prelude.{◌≡◌, ◌≤◌, Ok, Err, None, Some, false, length, map, string_bytes, IfOk, IsErrOf};
+ghost use Rattle.std.specs.Prelude.{◌≡◌, ◌≤◌, Ok, Err, None, Some, false, length, map, string_bytes, IfOk, IfSome, IsErrOf};
 ghost use Rattle.clap.specs.Words.{takes};
 ghost use Rattle.scq_words.specs.declared.fault.WordsFault.{WordsFault as TheFault};
-ghost use Rattle.scq_words.specs.Asked.{asked_of_judge, first_of_tests, judge_of, judge_tests, judged};
+ghost use Rattle.scq_words.specs.Asked.{asked_of_judge, first_of_tests, judge_of, judge_tests, judged, room_of, texts_of_judge};
 ghost use Rattle.scq_words.specs.Commands.{judge_app};
+ghost use Rattle.scq_words.specs.Numbers.{number_or, text_in};
 ghost use Rattle.scq_words.specs.Ranges.{IsJudgeInRange};
 
 use crate::files::{few_files, named_files, own_files};
+use crate::number::optional_number;
 use crate::parsing::judge_matches;
 use crate::request::JudgeRequest;
 use crate::{WordsError, WordsFault};
@@ -19,20 +21,41 @@ pub(crate) fn read_judge(alloc: Global, words: &[String]) -> Result<JudgeRequest
     ensures ranges { IfOk result (λ request. IsJudgeInRange (judge_of request)) }
 {
     let matches = judge_matches(alloc, words)?;
+    let room = matches.get_str("room");
     let files = matches.get_strs("files").unwrap_or(&[]);
-    check_judge(alloc, files)
+    check_judge(alloc, room, files)
 }
 
 /// Makes the tests in their order.
-fn check_judge(alloc: Global, files: &[&str]) -> Result<JudgeRequest, WordsError>
-    ensures request { IfOk result (λ request. (first_of_tests (judge_tests (map (λ name. name.now) files.now)) ≡ None)
-        × (map (λ name. name.now) files.now ≡ (judge_of request).files)) }
+fn check_judge(
+    alloc: Global,
+    room: Option<&str>,
+    files: &[&str],
+) -> Result<JudgeRequest, WordsError>
+    ensures request { IfOk result (λ request. (first_of_tests (judge_tests (texts_of_judge (text_in room.entry) (map (λ name. name.now) files.now))) ≡ None)
+        × (room_of (text_in room.entry) ≡ (judge_of request).room) × (map (λ name. name.now) files.now ≡ (judge_of request).files)) }
     ensures refused { (fault : TheFault) → IsErrOf result (WordsError.Refused fault)
-        → first_of_tests (judge_tests (map (λ name. name.now) files.now)) ≡ Some fault }
+        → first_of_tests (judge_tests (texts_of_judge (text_in room.entry) (map (λ name. name.now) files.now))) ≡ Some fault }
     ensures ranges { IfOk result (λ request. IsJudgeInRange (judge_of request)) }
 {
+    let number = optional_number(room, 1, 1, u32::MAX, WordsFault::Room)?;
     few_files(files)?;
     named_files(files)?;
     let files = own_files(alloc, files)?;
-    Ok(JudgeRequest { files })
+    Ok(JudgeRequest {
+        room: room_given(room, number),
+        files,
+    })
+}
+
+// The room, if it is given.
+fn room_given(text: Option<&str>, number: u32) -> Option<u32>
+    requires { number ≡ number_or 1 (text_in text) }
+    ensures room { result ≡ room_of (text_in text.entry) }
+    ensures range { (1 ≤ number) × (number ≤ 4294967295) → IfSome result (λ n. (1 ≤ n) × (n ≤ 4294967295)) }
+{
+    match text {
+        None => None,
+        Some(_) => Some(number),
+    }
 }

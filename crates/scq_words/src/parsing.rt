@@ -1,6 +1,6 @@
 ghost use Rattle.std.specs.Prelude.{◌≡◌, ◌≢◌, IfOk, map, string_bytes, true, false};
 ghost use Rattle.clap.specs.Words.{app_of, is_simple_and_free, kind_of, rule_of};
-ghost use Rattle.scq_words.specs.Commands.{files_rule, flag_rule, judge_app, lines_app, named_app, numbers_app, option_rule, order_app, plain_app, report_app, run_app, seed_app, self_app, stages_app, text_app, topics_app, workers_app};
+ghost use Rattle.scq_words.specs.Commands.{files_rule, flag_rule, judge_app, lines_app, named_app, numbers_app, option_rule, order_app, plain_app, report_app, room_app, run_app, seed_app, self_app, stages_app, text_app, topics_app, workers_app};
 ghost use Rattle.scq_words.specs.Parsing.{Parses};
 
 use crate::{TextCommand, WordsError, WordsFault};
@@ -120,7 +120,13 @@ pub fn judge_matches<'a>(alloc: Global, words: &'a [String]) -> Result<ArgMatche
 fn judge_command<'a>(alloc: Global) -> Result<Command<'a>, AllocError>
     ensures { IfOk result (λ command. app_of command ≡ judge_app) }
 {
-    plain_command(alloc, "judge").arg(files(alloc))
+    room_command(alloc)?.arg(files(alloc))
+}
+
+fn room_command<'a>(alloc: Global) -> Result<Command<'a>, AllocError>
+    ensures { IfOk result (λ command. app_of command ≡ room_app) }
+{
+    plain_command(alloc, "judge").arg(option(alloc, "room"))
 }
 
 /// The matches of the words of a command that takes one file.

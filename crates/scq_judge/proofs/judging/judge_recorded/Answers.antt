@@ -1,28 +1,20 @@
-use Rattle.std.proofs.Common.{ap, Err}
-use Rattle.std.proofs.lemmas.Result.{IfOk-weaker, IfErr-weaker}
-use Rattle.scq_judge.specs.Judged.{IsReported, IsCauseIn}
-use Rattle.scq_judge.proofs.JudgeLemmas.{as_many, cause_of_history, cause_of_merging}
+use Rattle.std.proofs.Common.{List, Option, subst}
+use Rattle.std.specs.Prelude.{MatchOption}
+use Rattle.scq_judge.specs.Seats.{HaveOwnFiles, HasSeatOfAnother}
+use Rattle.scq_judge.specs.declared.recorded.Stamped.{Stamped}
+use Rattle.scq_judge.specs.declared.seats.Apart.{Apart}
 use Rattle.scq_judge.proofs.judging.judge_recorded.Goals as goal
 
-pub judge_merged-requires : goal.judge_merged-requires
-judge_merged-requires c = as_many _ _ _ c.in-Ok.ensures.merged
+abbrev Found : List Stamped → Option Apart → Type 0
+Found events found = MatchOption found (HaveOwnFiles events) (λ apart. HasSeatOfAnother events apart.place apart.other)
 
-pub returns-in-Ok-clause-reported : goal.returns-in-Ok-clause-reported
-returns-in-Ok-clause-reported c =
-    IfOk-weaker c.judge_merged.result _ (IsReported c.args.recorded)
-    (λ text h. record {
-      opening = c.in-Ok.merged.opening.items;
-      events = c.in-Ok.merged.events.items;
-      places = c.in-Ok.merged.places.items;
-      history = record { opens = c.in-Ok.ensures.opening; merged = c.in-Ok.ensures.merged };
-      reported = h;
-    }) c.judge_merged.ensures.reported
+pub judge_apart-requires : goal.judge_apart-requires
+judge_apart-requires c =
+    subst (λ o. Found c.args.recorded.events o) c.in-Ok-None.field-0-is
+    (subst (λ es. Found es c.in-Ok-None.field-0) c.events.ensures c.in-Ok-None.ensures)
 
-pub returns-in-Ok-clause-refused : goal.returns-in-Ok-clause-refused
-returns-in-Ok-clause-refused c =
-    IfErr-weaker c.judge_merged.result _ (IsCauseIn c.args.recorded)
-    (cause_of_history c.args.recorded c.in-Ok.merged.opening.items c.in-Ok.merged.events.items c.in-Ok.merged.places.items
-    (record { opens = c.in-Ok.ensures.opening; merged = c.in-Ok.ensures.merged })) c.judge_merged.ensures.refused
-
-pub returns-in-Err-clause-refused : goal.returns-in-Err-clause-refused
-returns-in-Err-clause-refused c = rw c.from.ensures (cause_of_merging _ _ (λ place is. c.in-Err.ensures.same_stamp place (ap Err is)))
+pub returns-in-Ok-Some-clause-refused : goal.returns-in-Ok-Some-clause-refused
+returns-in-Ok-Some-clause-refused c =
+    rw c.sharing.ensures
+    (subst (λ o. Found c.args.recorded.events o) c.in-Ok-Some.field-0-is
+    (subst (λ es. Found es c.in-Ok-Some.field-0) c.events.ensures c.in-Ok-Some.ensures))

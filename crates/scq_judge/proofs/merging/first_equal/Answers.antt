@@ -10,7 +10,7 @@ loop-i-preserved c = rise_more _ _ c.loop-i.auto.i (c.is_above.ensures.0 c.if-no
 
 pub returns-then-not-is_above : goal.returns-then-not-is_above
 returns-then-not-is_above c =
-    equal_there _ _ _ c.loop-i.auto.i c.loop-i-test.true (iff_false c.is_above.ensures c.if-not-is_above.true) c.place_at.ensures c.requires
+    equal_there _ _ _ _ c.loop-i.auto.i c.loop-i-test.true (iff_false c.is_above.ensures c.if-not-is_above.true) c.place_at-place.ensures c.place_at-other.ensures c.requires
 
 pub returns : goal.returns
 returns c = rise_all _ _ c.loop-i-test.false c.loop-i.invariant

@@ -1,0 +1,60 @@
+-- Each seat's events stand in one file
+use Rattle.std.specs.Prelude.{◌≡◌, ℕ, ◌<◌, List, Some, slice_get, nat_eq, MatchOption}
+use Rattle.std.specs.HashMap.{get}
+use Rattle.scq_hist.specs.declared.events.Event.{Event}
+use Rattle.scq_hist.specs.declared.events.Event.TheVariants.{Start, End}
+use Rattle.scq_judge.specs.declared.recorded.Place.{Place}
+use Rattle.scq_judge.specs.declared.recorded.Stamped.{Stamped}
+use Rattle.scq_judge.specs.declared.seats.Homes.{Homes}
+
+-- the seat of an event
+abbrev pub seat_of : Event → ℕ
+seat_of (Start seat call) = seat
+seat_of (End seat reply) = seat
+
+-- an event of this seat stands at position i, with this place
+pub record IsAt (events : List Stamped) (i seat : ℕ) (place : Place) : Type 0 where
+  pub event : Stamped
+  pub stands : slice_get events i ≡ Some event
+  pub seat_is : seat ≡ seat_of event.event
+  pub place_is : place ≡ event.place
+
+-- each seat's events stand in one file
+abbrev pub HaveOwnFiles : List Stamped → Type 0
+HaveOwnFiles events = (i k seat : ℕ) (a b : Place) → IsAt events i seat a → IsAt events k seat b → a.file ≡ b.file
+
+-- the event of this place is of a seat that has one of the other place, in another file
+pub record HasSeatOfAnother (events : List Stamped) (place other : Place) : Type 0 where
+  pub i : ℕ
+  pub k : ℕ
+  pub seat : ℕ
+  pub here : IsAt events i seat place
+  pub there : IsAt events k seat other
+  pub apart : ¬ (other.file ≡ place.file)
+
+-- For private calls: no event of the seat stands before position i; and those that do stand in the file of this place, which is that of one of them
+pub record NoneBefore (events : List Stamped) (i seat : ℕ) : Type 0 where
+  pub none : (k : ℕ) (place : Place) → k < i → ¬ IsAt events k seat place
+
+pub record IsHome (events : List Stamped) (i seat : ℕ) (home : Place) : Type 0 where
+  pub k : ℕ
+  pub before : k < i
+  pub there : IsAt events k seat home
+  pub all : (k : ℕ) (place : Place) → k < i → IsAt events k seat place → place.file ≡ home.file
+
+-- so of each seat
+pub record AreHomes (events : List Stamped) (i : ℕ) (homes : Homes) : Type 0 where
+  pub each : (seat : ℕ) → MatchOption (get nat_eq homes.known seat) (NoneBefore events i seat) (IsHome events i seat)
+
+-- the event at position i stands in the file of its seat's events before it
+abbrev pub IsAtHome : List Stamped → ℕ → Type 0
+IsAtHome events i = (k seat : ℕ) (a b : Place) → k < i → IsAt events k seat a → IsAt events i seat b → a.file ≡ b.file
+
+-- the event at position i is of a seat whose first is at the other place, in another file
+pub record IsAway (events : List Stamped) (i : ℕ) (other : Place) : Type 0 where
+  pub k : ℕ
+  pub seat : ℕ
+  pub place : Place
+  pub here : IsAt events i seat place
+  pub there : IsAt events k seat other
+  pub apart : ¬ (other.file ≡ place.file)
