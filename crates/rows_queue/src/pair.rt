@@ -118,7 +118,10 @@ fn show_gates(into: &mut String, gates: Gates) -> Result<()> {
         by_one: (itself, told),
         by_both: (itself_last, told_last),
     } = gates;
-    write!(into, "{at_first}, {itself} {told}, {itself_last} {told_last}")?;
+    write!(
+        into,
+        "{at_first}, {itself} {told}, {itself_last} {told_last}"
+    )?;
     Ok(())
 }
 
