@@ -1,5 +1,5 @@
 -- What each call answers, one lemma for each of its numbers.
-use Rattle.std.proofs.Common.{◌≡◌, ℕ, suc, ◌+◌, refl, inl, inr, arith}
+use Rattle.std.proofs.Common.{ℕ, suc, refl, inl, inr, arith}
 use Rattle.scq_port.specs.Ports.{PortStanding}
 use Rattle.scq_port.specs.Calls.{IsLent, IsLentDamaged, IsTaken, IsTakenDamaged, IsSent, IsGivenBack, WasFull, WasEmpty, IsSpentGet, IsSpentPut, HasNoRoom, HasNoTopic, HoldsNoSuch, HasRetired}
 use Rattle.scq_c.specs.declared.exports.Held.{Held}

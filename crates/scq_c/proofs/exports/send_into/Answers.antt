@@ -1,9 +1,7 @@
-use Rattle.std.proofs.Common.{◌≡◌, ℕ, sym, ap, subst}
+use Rattle.std.proofs.Common.{◌≡◌, ap}
 use Rattle.std.specs.Prelude.{Err}
 use Rattle.scq_port.specs.declared.refusals.SendRefusal.{SendRefusal}
 use Rattle.scq_port.specs.declared.refusals.SendRefusal.TheVariants.{NoTopic, Retired, NotHeld, Spent}
-use Rattle.scq_c.specs.declared.exports.Held.{Held}
-use Rattle.scq_c.specs.Answers.{OfSend}
 use Rattle.scq_c.proofs.Codes.{send_sent, send_spent, send_not_held, send_no_topic, send_retired}
 use Rattle.scq_c.proofs.exports.send_into.Goals as goal
 
