@@ -267,10 +267,10 @@ uint32_t scq_give_back(scq_port *port, uint32_t index);
 uint32_t scq_retire(scq_port *port);
 
 /* Whether all ports of the queue have retired, this one among them. Then a topic that is found empty afterwards has ended: ask first, and
- * then take. A port that was told of each retirement, by ports that are told in turn, is answered that all have.
+ * then take. Once a port is answered that all have, it always is.
  *
  * Tested: that the port is open.
- * Answers: SCQ_RETIRED where all have; SCQ_OK where some hadn't at the moment of the question; SCQ_CLOSED. */
+ * Answers: SCQ_RETIRED where all have; SCQ_OK where some hadn't at a moment of the call; SCQ_CLOSED. */
 SCQ_ANSWERED uint32_t scq_retired(scq_port *port);
 
 /* Writes to `out` how many sends, takes and SCQ_FULL answers the port had.
