@@ -123,7 +123,8 @@ enum {
     SCQ_BAD_SIZE = 13,   /* a buffer has no bytes, or more than lie between it and the next */
     SCQ_BAD_HOLD = 14,   /* what a port may hold isn't from 1 to 2^order */
     SCQ_IS_OPEN = 15,    /* one of the ports is open */
-    SCQ_DAMAGED = 16     /* the library's memory was written by somebody else */
+    SCQ_DAMAGED = 16,    /* the library's memory was written by somebody else */
+    SCQ_RETIRED = 17     /* the port has retired, or all ports have */
 };
 
 /* The largest limit. A billion tickets a second come to it after 36 years. */
@@ -159,6 +160,7 @@ static inline const char *scq_text(uint32_t answer) {
     case SCQ_BAD_HOLD: return "what a port may hold isn't from 1 to 2^order";
     case SCQ_IS_OPEN: return "one of the ports is open";
     case SCQ_DAMAGED: return "the library's memory was written by somebody else";
+    case SCQ_RETIRED: return "retired";
     default: return "no answer of this library";
     }
 }
@@ -247,8 +249,9 @@ static inline SCQ_ANSWERED uint32_t scq_take(scq_port *port, uint32_t topic, scq
 /* Sends the buffer of this index on a topic, and writes to `place` at which place. Places rise in the order of sends that follow one another;
  * no two buffers of a topic have the same.
  *
- * Tested: that the port is open, the topic, and that the port holds a buffer of this index.
- * Answers: SCQ_OK, and the port doesn't hold the buffer; SCQ_CLOSED; SCQ_NO_TOPIC; SCQ_NOT_HELD; SCQ_SPENT, and *place is the ticket. */
+ * Tested: that the port is open, the topic, that the port hasn't retired, and that it holds a buffer of this index.
+ * Answers: SCQ_OK, and the port doesn't hold the buffer; SCQ_CLOSED; SCQ_NO_TOPIC; SCQ_RETIRED; SCQ_NOT_HELD; SCQ_SPENT, and *place is the
+ * ticket. */
 SCQ_ANSWERED uint32_t scq_send(scq_port *port, uint32_t index, uint32_t topic, uint64_t *place);
 
 /* Gives the buffer of this index back, so that it can be lent again. It need not have been sent.
@@ -256,6 +259,19 @@ SCQ_ANSWERED uint32_t scq_send(scq_port *port, uint32_t index, uint32_t topic, u
  * Tested: that the port is open, and holds a buffer of this index.
  * Answers: SCQ_OK, and the port doesn't hold the buffer; SCQ_CLOSED; SCQ_NOT_HELD; SCQ_SPENT, and scq_spent tells the ticket. */
 uint32_t scq_give_back(scq_port *port, uint32_t index);
+
+/* Retires the port: it sends no more, on any topic. It still lends, takes and gives back. A close retires too.
+ *
+ * Tested: that the port is open.
+ * Answers: SCQ_OK, also where it had retired; SCQ_CLOSED. */
+uint32_t scq_retire(scq_port *port);
+
+/* Whether all ports of the queue have retired, this one among them. Then a topic that is found empty afterwards has ended: ask first, and
+ * then take. Once a port is answered that all have, it always is.
+ *
+ * Tested: that the port is open.
+ * Answers: SCQ_RETIRED where all have; SCQ_OK where some hadn't at a moment of the call; SCQ_CLOSED. */
+SCQ_ANSWERED uint32_t scq_retired(scq_port *port);
 
 /* Writes to `out` how many sends, takes and SCQ_FULL answers the port had.
  *
@@ -270,7 +286,7 @@ uint32_t scq_counts_of(scq_port *port, scq_counts *out);
  * Answers: SCQ_SPENT, and *ticket is the ticket; SCQ_OK where it keeps none; SCQ_CLOSED. */
 uint32_t scq_spent(scq_port *port, uint64_t *ticket);
 
-/* Closes the port, and tells whether it was the queue's last. It gives back what it holds; where its tickets have run out, those buffers stay
+/* Closes the port, and tells whether it was the queue's last. It retires, and gives back what it holds; where its tickets have run out, those buffers stay
  * with the queue, which lends them to nobody. The last port of a queue frees what the library took, with what stands on the topics, and it is told
  * so. Then all calls that were made with all ports of the queue stand in one run of the proved machine, with their answers: each buffer that was
  * taken was sent on that topic at that place, no place of a topic was sent at or taken at twice, what was sent less what was taken is what was left,

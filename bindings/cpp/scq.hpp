@@ -52,7 +52,8 @@ enum class Answer : std::uint32_t {
     BadSize = SCQ_BAD_SIZE,
     BadHold = SCQ_BAD_HOLD,
     IsOpen = SCQ_IS_OPEN,
-    Damaged = SCQ_DAMAGED
+    Damaged = SCQ_DAMAGED,
+    Retired = SCQ_RETIRED
 };
 
 // The text of an answer.
@@ -205,6 +206,13 @@ public:
         const Answer answer = static_cast<Answer>(scq_take(&port_, topic, &held));
         return Taken(&port_, answer, held);
     }
+
+    // Sends no more: Ok or Closed. It still lends, takes and gives back.
+    Answer retire() noexcept { return static_cast<Answer>(scq_retire(&port_)); }
+
+    // Retired where all ports of the queue have, or Ok where some hadn't; or Closed. Ask first, and then take: a topic that is found empty then
+    // has ended.
+    SCQ_NODISCARD Answer retired() noexcept { return static_cast<Answer>(scq_retired(&port_)); }
 
     // Writes how many sends, takes and Full answers the port had: Ok or Closed.
     Answer counts(scq_counts &out) noexcept { return static_cast<Answer>(scq_counts_of(&port_, &out)); }

@@ -33,6 +33,7 @@ impl<'p> Held<'p> {
         let why = match unsafe { sys::scq_send(held.port.handle(), held.index, topic, &mut place) } {
             sys::OK => return Ok(place),
             sys::NO_TOPIC => SendRefusal::NoTopic,
+            sys::RETIRED => SendRefusal::Retired,
             sys::SPENT => SendRefusal::Spent { ticket: place },
             answer => unreachable!("scq_send answered {}", answer),
         };

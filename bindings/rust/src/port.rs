@@ -108,6 +108,27 @@ impl Port {
         }
     }
 
+    /// Retires the port: it sends no more, on any topic. It still lends, takes and gives back. A port that is dropped retires too.
+    pub fn retire(&self) {
+        // SAFETY: one call at a time is made with the handle.
+        match unsafe { sys::scq_retire(self.handle()) } {
+            sys::OK => (),
+            answer => unreachable!("scq_retire answered {}", answer),
+        }
+    }
+
+    /// Whether all ports of the queue have retired, this one among them. Ask first, and then take: a topic that is found empty then has
+    /// ended. Once the answer is true, it always is.
+    #[must_use]
+    pub fn all_retired(&self) -> bool {
+        // SAFETY: one call at a time is made with the handle.
+        match unsafe { sys::scq_retired(self.handle()) } {
+            sys::RETIRED => true,
+            sys::OK => false,
+            answer => unreachable!("scq_retired answered {}", answer),
+        }
+    }
+
     /// How many sends, takes and [`LendError::Full`] the port had.
     pub fn counts(&self) -> Counts {
         let mut out = sys::scq_counts { sent: 0, taken: 0, full: 0 };

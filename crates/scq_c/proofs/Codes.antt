@@ -1,7 +1,7 @@
 -- What each call answers, one lemma for each of its numbers.
-use Rattle.std.proofs.Common.{◌≡◌, ℕ, suc, ◌+◌, refl, inl, inr, arith}
+use Rattle.std.proofs.Common.{ℕ, suc, refl, inl, inr, arith}
 use Rattle.scq_port.specs.Ports.{PortStanding}
-use Rattle.scq_port.specs.Calls.{IsLent, IsLentDamaged, IsTaken, IsTakenDamaged, IsSent, IsGivenBack, WasFull, WasEmpty, IsSpentGet, IsSpentPut, HasNoRoom, HasNoTopic, HoldsNoSuch}
+use Rattle.scq_port.specs.Calls.{IsLent, IsLentDamaged, IsTaken, IsTakenDamaged, IsSent, IsGivenBack, WasFull, WasEmpty, IsSpentGet, IsSpentPut, HasNoRoom, HasNoTopic, HoldsNoSuch, HasRetired}
 use Rattle.scq_c.specs.declared.exports.Held.{Held}
 use Rattle.scq_c.specs.Answers.{OfLend, OfTake, OfSend, OfGiveBack, shown_at, with_place}
 
@@ -140,6 +140,7 @@ send_sent place index topic before old new is =
       spent = λ e. absurd (omega (arith, e));
       not_held = λ e. absurd (omega (arith, e));
       no_topic = λ e. absurd (omega (arith, e));
+      retired = λ e. absurd (omega (arith, e));
       known = inl refl;
     }
 
@@ -150,6 +151,7 @@ send_spent ticket index topic before old new is =
       spent = λ e. is;
       not_held = λ e. absurd (omega (arith, e));
       no_topic = λ e. absurd (omega (arith, e));
+      retired = λ e. absurd (omega (arith, e));
       known = inr (inl refl);
     }
 
@@ -160,6 +162,7 @@ send_not_held index topic before old new is =
       spent = λ e. absurd (omega (arith, e));
       not_held = λ e. (refl, is);
       no_topic = λ e. absurd (omega (arith, e));
+      retired = λ e. absurd (omega (arith, e));
       known = inr (inr (inl refl));
     }
 
@@ -170,7 +173,19 @@ send_no_topic index topic before old new is =
       spent = λ e. absurd (omega (arith, e));
       not_held = λ e. absurd (omega (arith, e));
       no_topic = λ e. (refl, is);
-      known = inr (inr (inr refl));
+      retired = λ e. absurd (omega (arith, e));
+      known = inr (inr (inr (inl refl)));
+    }
+
+pub send_retired : (index topic before : ℕ) (old new : PortStanding) → HasRetired old new → OfSend index topic 17 before before old new
+send_retired index topic before old new is =
+    record {
+      sent = λ e. absurd (omega (arith, e));
+      spent = λ e. absurd (omega (arith, e));
+      not_held = λ e. absurd (omega (arith, e));
+      no_topic = λ e. absurd (omega (arith, e));
+      retired = λ e. (refl, is);
+      known = inr (inr (inr (inr refl)));
     }
 
 pub give_given : (index : ℕ) (old new : PortStanding) → IsGivenBack index old new → OfGiveBack index 0 old new

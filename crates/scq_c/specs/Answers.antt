@@ -6,7 +6,7 @@ use Rattle.scq_word.specs.Sizes.{n_of}
 use Rattle.scq_word.specs.Ranges.{IsOutside}
 use Rattle.scq_queue.specs.Lists.{counts_of}
 use Rattle.scq_port.specs.Ports.{PortStanding}
-use Rattle.scq_port.specs.Calls.{IsLent, IsLentDamaged, IsTaken, IsTakenDamaged, IsSent, IsGivenBack, WasFull, WasEmpty, IsSpentGet, IsSpentPut, HasNoRoom, HasNoTopic, HoldsNoSuch, AreOpened, HasEnded}
+use Rattle.scq_port.specs.Calls.{IsLent, IsLentDamaged, IsTaken, IsTakenDamaged, IsSent, IsGivenBack, WasFull, WasEmpty, IsSpentGet, IsSpentPut, HasNoRoom, HasNoTopic, HoldsNoSuch, HasRetired, HasAsked, retired_port, AreOpened, HasEnded}
 use Rattle.scq_queue.specs.Passes.{PassStanding, lists_of}
 use Rattle.scq_port.specs.declared.port_buffer.PortBuffer.{PortBuffer}
 use Rattle.scq_port.specs.Closed.{HasClosed}
@@ -44,13 +44,14 @@ pub record OfTake (topic code : ℕ) (before after : Held) (old new : PortStandi
   pub damaged : code ≡ 16 → (after ≡ before) × IsTakenDamaged topic old new
   pub known : (code ≡ 0) ⊎ (code ≡ 1) ⊎ (code ≡ 3) ⊎ (code ≡ 6) ⊎ (code ≡ 7) ⊎ (code ≡ 16)
 
--- of a send: 0 sent, 3 spent, 5 not held, 6 no topic
+-- of a send: 0 sent, 3 spent, 5 not held, 6 no topic, 17 the port has retired
 pub record OfSend (index topic code before after : ℕ) (old new : PortStanding) : Type 0 where
   pub sent : code ≡ 0 → IsSent index topic after old new
   pub spent : code ≡ 3 → IsSpentPut (suc topic) after old new
   pub not_held : code ≡ 5 → (after ≡ before) × HoldsNoSuch index old new
   pub no_topic : code ≡ 6 → (after ≡ before) × HasNoTopic topic old new
-  pub known : (code ≡ 0) ⊎ (code ≡ 3) ⊎ (code ≡ 5) ⊎ (code ≡ 6)
+  pub retired : code ≡ 17 → (after ≡ before) × HasRetired old new
+  pub known : (code ≡ 0) ⊎ (code ≡ 3) ⊎ (code ≡ 5) ⊎ (code ≡ 6) ⊎ (code ≡ 17)
 
 -- of a give-back: 0 given back, 3 spent, 5 not held
 pub record OfGiveBack (index code : ℕ) (old new : PortStanding) : Type 0 where
@@ -58,6 +59,14 @@ pub record OfGiveBack (index code : ℕ) (old new : PortStanding) : Type 0 where
   pub spent : code ≡ 3 → (ticket : ℕ) × IsSpentPut 0 ticket old new
   pub not_held : code ≡ 5 → HoldsNoSuch index old new
   pub known : (code ≡ 0) ⊎ (code ≡ 3) ⊎ (code ≡ 5)
+
+-- of a question whether all ports have retired: 17 they have, 0 some have not
+pub record OfRetired (code : ℕ) (old new : PortStanding) : Type 0 where
+  pub found : ℕ
+  pub asked : HasAsked found old new
+  pub all : code ≡ 17 → found ≡ 0
+  pub some : code ≡ 0 → 0 < found
+  pub known : (code ≡ 0) ⊎ (code ≡ 17)
 
 -- the ports that C has, and where each was told that the buffers' bytes are
 abbrev pub ports_of : List CPort → List (Option PortStanding)
@@ -110,9 +119,9 @@ pub record AllHaveEnded (x : PortStanding) (its : PassStanding PortBuffer) (befo
   pub closed : HasClosed x.pass.queue its passes left bytes
   pub counts : AreWritten (map (λ (p : PassStanding PortBuffer). counts_of (lists_of p)) passes) before after
 
--- of a port's end: what it held was given back, and where 1 is written out the queue closed with it; else no count is written
+-- of a port's end: it retired, what it held was given back, and where 1 is written out the queue closed with it; else no count is written
 pub record OfEnd (x : PortStanding) (e : End) (before after : List Tally) : Type 0 where
   pub its : PassStanding PortBuffer
-  pub ended : HasEnded x its
+  pub ended : HasEnded (retired_port x) its
   pub last : e.last ≡ 1 → AllHaveEnded x its before after
   pub other : (e.last ≡ 1 → ⊥) → after ≡ before

@@ -3,9 +3,12 @@ ghost use Rattle.std.specs.Prelude.{◌≡◌, ℕ, Some, None};
 ghost use Rattle.scq_queue.specs.Lists.{counts_of};
 ghost use Rattle.scq_queue.specs.Passes.{lists_of};
 ghost use Rattle.scq_port.specs.Ports.{PortStanding};
-ghost use Rattle.scq_c.specs.Answers.{OfLend, OfTake, OfSend, OfGiveBack, OfOpen, OfEnd, shown_at};
+ghost use Rattle.scq_port.specs.Calls.{retired_port};
+ghost use Rattle.scq_c.specs.Answers.{OfLend, OfTake, OfSend, OfGiveBack, OfOpen, OfEnd, OfRetired, shown_at};
 
-use crate::answers::{CLOSED, DAMAGED, EMPTY, FULL, NO_ROOM, NO_TOPIC, NOT_HELD, OK, SPENT};
+use crate::answers::{
+    CLOSED, DAMAGED, EMPTY, FULL, NO_ROOM, NO_TOPIC, NOT_HELD, OK, RETIRED, SPENT,
+};
 use crate::c_port::{CPort, Memory};
 use crate::handle::{Handle, put, taken};
 use crate::opening::open;
@@ -157,6 +160,7 @@ fn send_into(port: &mut Port, index: u32, topic: u32, place: &mut u64) -> u32
             OK
         }
         Err(SendRefusal::NoTopic) => NO_TOPIC,
+        Err(SendRefusal::Retired) => RETIRED,
         Err(SendRefusal::NotHeld) => NOT_HELD,
         Err(SendRefusal::Spent { ticket }) => {
             *place = ticket;
@@ -209,6 +213,44 @@ pub extern "C" fn scq_give_back(alloc: Global, handle: &mut Handle, index: u32) 
         return CLOSED;
     };
     let answer = give_back_into(&mut port, index);
+    put(handle, port);
+    answer
+}
+
+/// Retires a port: it sends no more.
+#[unsafe(no_mangle)]
+pub extern "C" fn scq_retire(alloc: Global, handle: &mut Handle) -> u32
+    ensures closed { handle.old.port ≡ None → (result ≡ 4) × (handle.new.port ≡ None) }
+    ensures retired { (x : PortStanding) → handle.old.port ≡ Some x
+        → (result ≡ 0) × (handle.new.port ≡ Some (retired_port x)) }
+{
+    let Some(mut port) = taken(handle, alloc) else {
+        return CLOSED;
+    };
+    port.retire();
+    put(handle, port);
+    OK
+}
+
+/// Asks whether all ports have retired.
+#[inline(always)]
+fn asked(port: &mut Port) -> u32
+    ensures { OfRetired result port.old port.new }
+{
+    if port.all_retired() { RETIRED } else { OK }
+}
+
+/// Whether all ports of a queue have retired.
+#[unsafe(no_mangle)]
+pub extern "C" fn scq_retired(alloc: Global, handle: &mut Handle) -> u32
+    ensures closed { handle.old.port ≡ None → (result ≡ 4) × (handle.new.port ≡ None) }
+    ensures answered { (x : PortStanding) → handle.old.port ≡ Some x
+        → (y : PortStanding) × (handle.new.port ≡ Some y) × OfRetired result x y }
+{
+    let Some(mut port) = taken(handle, alloc) else {
+        return CLOSED;
+    };
+    let answer = asked(&mut port);
     put(handle, port);
     answer
 }

@@ -19,6 +19,7 @@ pub(crate) fn lend(
     requires room { hand.old.used < hand.old.hold }
     ensures kept { KeepsHand queue.now pass.new hand.new }
     ensures number { pass.new.number ≡ pass.old.number }
+    ensures retired { pass.new.retired ≡ pass.old.retired }
     ensures lent { IfOk result (λ index. IsLent index (seen_as pass.old hand.old) (seen_as pass.new hand.new)) }
     ensures no_room { result ≢ Err LendRefusal.NoRoom }
     ensures full { (head : ℕ) → result ≡ Err (LendRefusal.Full head) → WasFull head (seen_as pass.old hand.old) (seen_as pass.new hand.new) }
@@ -56,6 +57,7 @@ pub(crate) fn take(
     requires room { hand.old.used < hand.old.hold }
     ensures kept { KeepsHand queue.now pass.new hand.new }
     ensures number { pass.new.number ≡ pass.old.number }
+    ensures retired { pass.new.retired ≡ pass.old.retired }
     ensures taken { IfOk result (λ r. IsTaken topic r.0 r.1 (seen_as pass.old hand.old) (seen_as pass.new hand.new)) }
     ensures tested { (result ≢ Err TakeRefusal.NoTopic) × (result ≢ Err TakeRefusal.NoRoom) }
     ensures empty { (head : ℕ) → result ≡ Err (TakeRefusal.Empty head)
@@ -92,10 +94,12 @@ pub(crate) fn send(
 ) -> Result<u64, SendRefusal>
     requires kept { KeepsHand queue.now pass.old hand.old }
     requires topic { topic + 1 < queue.now.setup.rings }
+    requires awake { pass.old.retired ≡ None }
     ensures kept { KeepsHand queue.now pass.new hand.new }
     ensures number { pass.new.number ≡ pass.old.number }
+    ensures retired { pass.new.retired ≡ pass.old.retired }
     ensures sent { IfOk result (λ place. IsSent index topic place (seen_as pass.old hand.old) (seen_as pass.new hand.new)) }
-    ensures topic { result ≢ Err SendRefusal.NoTopic }
+    ensures tested { (result ≢ Err SendRefusal.NoTopic) × (result ≢ Err SendRefusal.Retired) }
     ensures not_held { result ≡ Err SendRefusal.NotHeld → HoldsNoSuch index (seen_as pass.old hand.old) (seen_as pass.new hand.new) }
     ensures spent { (ticket : ℕ) → result ≡ Err (SendRefusal.Spent ticket)
         → IsSpentPut (suc topic) ticket (seen_as pass.old hand.old) (seen_as pass.new hand.new) }
@@ -128,6 +132,7 @@ pub(crate) fn give_back(
     requires kept { KeepsHand queue.now pass.old hand.old }
     ensures kept { KeepsHand queue.now pass.new hand.new }
     ensures number { pass.new.number ≡ pass.old.number }
+    ensures retired { pass.new.retired ≡ pass.old.retired }
     ensures given { IfOk result (λ _. IsGivenBack index (seen_as pass.old hand.old) (seen_as pass.new hand.new)) }
     ensures not_held { result ≡ Err GiveBackRefusal.NotHeld → HoldsNoSuch index (seen_as pass.old hand.old) (seen_as pass.new hand.new) }
     ensures spent { (ticket : ℕ) → result ≡ Err (GiveBackRefusal.Spent ticket)

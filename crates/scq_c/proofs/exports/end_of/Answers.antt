@@ -1,4 +1,4 @@
-use Rattle.std.proofs.Common.{◌≡◌, ℕ, List, map, ap, sym, subst, ◌∙◌, arith}
+use Rattle.std.proofs.Common.{◌≡◌, List, map, ap, sym, subst, ◌∙◌, arith}
 use Rattle.scq_queue.specs.declared.counts.Counts.{Counts}
 use Rattle.scq_port.specs.Ports.{bytes_of}
 use Rattle.scq_c.specs.declared.exports.End.{End}

@@ -1,4 +1,4 @@
-use Rattle.std.proofs.Common.{◌≡◌, ℕ, sym, ap, subst}
+use Rattle.std.proofs.Common.{◌≡◌, sym, ap, subst}
 use Rattle.std.specs.Prelude.{Err}
 use Rattle.scq_port.specs.declared.refusals.LendRefusal.{LendRefusal}
 use Rattle.scq_port.specs.declared.refusals.LendRefusal.TheVariants.{NoRoom, Full, Spent, Damaged}

@@ -1,4 +1,4 @@
-use Rattle.std.proofs.Common.{◌≡◌, ℕ, sym, ap, subst}
+use Rattle.std.proofs.Common.{◌≡◌, sym, ap, subst}
 use Rattle.std.specs.Prelude.{Err}
 use Rattle.scq_port.specs.declared.refusals.TakeRefusal.{TakeRefusal}
 use Rattle.scq_port.specs.declared.refusals.TakeRefusal.TheVariants.{NoTopic, NoRoom, Empty, Spent, Damaged}

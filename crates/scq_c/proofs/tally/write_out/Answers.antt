@@ -1,4 +1,4 @@
-use Rattle.std.proofs.Common.{◌≡◌, ◌≤◌, inl, inr, arith}
+use Rattle.std.proofs.Common.{inl, inr, arith}
 use Rattle.scq_c.proofs.Written.{written_none, written_next, written_all}
 use Rattle.scq_c.proofs.tally.write_out.Goals as goal
 

@@ -1,4 +1,4 @@
-use Rattle.std.proofs.Common.{◌≡◌, ◌≤◌, ◌-◌, length}
+use Rattle.std.proofs.Common.{◌≤◌, ◌-◌, length}
 use Rattle.scq_c.proofs.Written.{AreWrittenBelow}
 use Rattle.scq_c.proofs.tally.write_out.Given as goal
 

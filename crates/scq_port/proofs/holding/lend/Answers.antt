@@ -147,3 +147,19 @@ pub returns-in-Err-Spent-clause-number : goal.returns-in-Err-Spent-clause-number
 returns-in-Err-Spent-clause-number c =
     (lend_refused c.args.pass.now c.lend.new.pass c.in-Err-Spent.field-0 (λ head is. c.in-Err-Spent.ensures.full head (ap (λ (r : LendRefusal). Err r) is))
     (λ ticket is none. (c.in-Err-Spent.ensures.spent ticket (ap (λ (r : LendRefusal). Err r) is) none).0) (λ ticket some. (c.in-Err-Spent.ensures.kept ticket some).1)).number
+
+pub returns-then-sound-clause-retired : goal.returns-then-sound-clause-retired
+returns-then-sound-clause-retired c = ap (λ (p : PassStanding PortBuffer). p.retired) c.in-Ok.ensures.lent.got.pass
+
+pub returns-else-sound-clause-retired : goal.returns-else-sound-clause-retired
+returns-else-sound-clause-retired c = ap (λ (p : PassStanding PortBuffer). p.retired) c.in-Ok.ensures.lent.got.pass
+
+pub returns-in-Err-Full-clause-retired : goal.returns-in-Err-Full-clause-retired
+returns-in-Err-Full-clause-retired c =
+    (lend_refused c.args.pass.now c.lend.new.pass c.in-Err-Full.field-0 (λ head is. c.in-Err-Full.ensures.full head (ap (λ (r : LendRefusal). Err r) is))
+    (λ ticket is none. (c.in-Err-Full.ensures.spent ticket (ap (λ (r : LendRefusal). Err r) is) none).0) (λ ticket some. (c.in-Err-Full.ensures.kept ticket some).1)).retired
+
+pub returns-in-Err-Spent-clause-retired : goal.returns-in-Err-Spent-clause-retired
+returns-in-Err-Spent-clause-retired c =
+    (lend_refused c.args.pass.now c.lend.new.pass c.in-Err-Spent.field-0 (λ head is. c.in-Err-Spent.ensures.full head (ap (λ (r : LendRefusal). Err r) is))
+    (λ ticket is none. (c.in-Err-Spent.ensures.spent ticket (ap (λ (r : LendRefusal). Err r) is) none).0) (λ ticket some. (c.in-Err-Spent.ensures.kept ticket some).1)).retired

@@ -155,3 +155,19 @@ pub returns-in-Err-Spent-clause-number : goal.returns-in-Err-Spent-clause-number
 returns-in-Err-Spent-clause-number c =
     (take_refused c.args.topic c.args.pass.now c.take.new.pass c.in-Err-Spent.field-0 (λ head is. c.in-Err-Spent.ensures.empty head (ap (λ (r : TakeRefusal). Err r) is))
     (λ ticket is none. (c.in-Err-Spent.ensures.spent ticket (ap (λ (r : TakeRefusal). Err r) is) none).0) (λ ticket some. (c.in-Err-Spent.ensures.kept ticket some).1)).number
+
+pub returns-then-sound-clause-retired : goal.returns-then-sound-clause-retired
+returns-then-sound-clause-retired c = ap (λ (p : PassStanding PortBuffer). p.retired) c.in-Ok.ensures.took.pass
+
+pub returns-else-sound-clause-retired : goal.returns-else-sound-clause-retired
+returns-else-sound-clause-retired c = ap (λ (p : PassStanding PortBuffer). p.retired) c.in-Ok.ensures.took.pass
+
+pub returns-in-Err-Empty-clause-retired : goal.returns-in-Err-Empty-clause-retired
+returns-in-Err-Empty-clause-retired c =
+    (take_refused c.args.topic c.args.pass.now c.take.new.pass c.in-Err-Empty.field-0 (λ head is. c.in-Err-Empty.ensures.empty head (ap (λ (r : TakeRefusal). Err r) is))
+    (λ ticket is none. (c.in-Err-Empty.ensures.spent ticket (ap (λ (r : TakeRefusal). Err r) is) none).0) (λ ticket some. (c.in-Err-Empty.ensures.kept ticket some).1)).retired
+
+pub returns-in-Err-Spent-clause-retired : goal.returns-in-Err-Spent-clause-retired
+returns-in-Err-Spent-clause-retired c =
+    (take_refused c.args.topic c.args.pass.now c.take.new.pass c.in-Err-Spent.field-0 (λ head is. c.in-Err-Spent.ensures.empty head (ap (λ (r : TakeRefusal). Err r) is))
+    (λ ticket is none. (c.in-Err-Spent.ensures.spent ticket (ap (λ (r : TakeRefusal). Err r) is) none).0) (λ ticket some. (c.in-Err-Spent.ensures.kept ticket some).1)).retired
