@@ -6,7 +6,7 @@ ghost use Rattle.scq_word.specs.Written.{rewritten};
 
 use anyhow::{Result, ensure};
 use scq_block::{Block, Frame};
-use scq_word::{Buffer, Bytes};
+use scq_word::{Buffer, BufferMut, Bytes};
 use std::alloc::Global;
 
 /// Bytes on the heap, as the smallest buffer.
@@ -20,8 +20,6 @@ impl Buffer for Heap {
 
     ghost IsSameBuffer = { λ a b. length a.bytes.items ≡ length b.bytes.items };
 
-    ghost written = { λ heap bytes. record { bytes = with_items heap.bytes bytes } };
-
     ghost same_as_itself = { λ a. refl };
 
     ghost same_back = { λ a b same. sym same };
@@ -30,13 +28,17 @@ impl Buffer for Heap {
 
     ghost same_length = { λ a b same. same };
 
-    ghost written_bytes = { λ a bytes same. rewritten a.bytes.items bytes a.bytes.len a.bytes.ok.0 same };
-
-    ghost written_same = { λ a bytes. sym a.bytes.ok.0 ∙ (with_items a.bytes bytes).ok.0 };
-
     fn bytes(&self) -> &[u8] {
         self.bytes.as_slice()
     }
+}
+
+impl BufferMut for Heap {
+    ghost written = { λ heap bytes. record { bytes = with_items heap.bytes bytes } };
+
+    ghost written_bytes = { λ a bytes same. rewritten a.bytes.items bytes a.bytes.len a.bytes.ok.0 same };
+
+    ghost written_same = { λ a bytes. sym a.bytes.ok.0 ∙ (with_items a.bytes bytes).ok.0 };
 
     fn bytes_mut(&mut self) -> &mut [u8] {
         self.bytes.as_mut_slice()
@@ -44,7 +46,7 @@ impl Buffer for Heap {
 }
 
 /// What generic code knows of a buffer after a write through the loan.
-fn fill<B: Buffer>(buffer: &mut B, from: &[u8])
+fn fill<B: BufferMut>(buffer: &mut B, from: &[u8])
     requires { length from.now ≡ length (B.contents buffer.old) }
     ensures bytes { B.contents buffer.new ≡ from.now }
     ensures same { B.IsSameBuffer buffer.old buffer.new }

@@ -6,7 +6,7 @@ ghost use Rattle.scq_block.specs.Frames.{bytes_of, IsSame, same_as_itself, same_
 ghost use denote.RawPtr.{InBlock, ◌+ₚ◌};
 
 use crate::span::Span;
-use scq_word::Buffer;
+use scq_word::{Buffer, BufferMut};
 use std_alloc::vec::Lodged;
 
 /// A piece of a block: its bytes lie apart from those of the other frames. It ends in `Block::merge`, or where it is abandoned.
@@ -58,8 +58,6 @@ impl Buffer for Frame {
 
     ghost IsSameBuffer = { IsSame };
 
-    ghost written = { λ frame bytes. record frame { bytes = with_items frame.bytes bytes } };
-
     ghost same_as_itself = { same_as_itself };
 
     ghost same_back = { same_back };
@@ -68,13 +66,17 @@ impl Buffer for Frame {
 
     ghost same_length = { λ a b same. same.size };
 
-    ghost written_bytes = { λ a bytes same. rewritten a.bytes.items bytes a.bytes.len a.bytes.ok.0 same };
-
-    ghost written_same = { written_same };
-
     fn bytes(&self) -> &[u8] {
         self.bytes.as_slice()
     }
+}
+
+impl BufferMut for Frame {
+    ghost written = { λ frame bytes. record frame { bytes = with_items frame.bytes bytes } };
+
+    ghost written_bytes = { λ a bytes same. rewritten a.bytes.items bytes a.bytes.len a.bytes.ok.0 same };
+
+    ghost written_same = { written_same };
 
     fn bytes_mut(&mut self) -> &mut [u8] {
         self.bytes.as_mut_slice()

@@ -4,7 +4,7 @@ ghost use Rattle.std.proofs.Common.{sym, refl, ◌∙◌};
 ghost use Rattle.std.specs.Vec.{with_items};
 ghost use Rattle.scq_word.specs.Written.{rewritten};
 
-use scq_word::{Buffer, NoMemory};
+use scq_word::{Buffer, BufferMut, NoMemory};
 use std::alloc::Global;
 
 /// Bytes on the heap. Two of them are the same buffer where they have equally many.
@@ -29,8 +29,6 @@ impl Buffer for HeapBuffer {
 
     ghost IsSameBuffer = { λ a b. length a.bytes.items ≡ length b.bytes.items };
 
-    ghost written = { λ buffer bytes. record { bytes = with_items buffer.bytes bytes } };
-
     ghost same_as_itself = { λ a. refl };
 
     ghost same_back = { λ a b same. sym same };
@@ -39,13 +37,17 @@ impl Buffer for HeapBuffer {
 
     ghost same_length = { λ a b same. same };
 
-    ghost written_bytes = { λ a bytes same. rewritten a.bytes.items bytes a.bytes.len a.bytes.ok.0 same };
-
-    ghost written_same = { λ a bytes. sym a.bytes.ok.0 ∙ (with_items a.bytes bytes).ok.0 };
-
     fn bytes(&self) -> &[u8] {
         self.bytes.as_slice()
     }
+}
+
+impl BufferMut for HeapBuffer {
+    ghost written = { λ buffer bytes. record { bytes = with_items buffer.bytes bytes } };
+
+    ghost written_bytes = { λ a bytes same. rewritten a.bytes.items bytes a.bytes.len a.bytes.ok.0 same };
+
+    ghost written_same = { λ a bytes. sym a.bytes.ok.0 ∙ (with_items a.bytes bytes).ok.0 };
 
     fn bytes_mut(&mut self) -> &mut [u8] {
         self.bytes.as_mut_slice()

@@ -4,7 +4,7 @@ ghost use Rattle.scq_queue.specs.Kept.{value_of, IsGiven};
 ghost use Rattle.std.specs.Borrow.{sem, Lends, Array, u8 as byte};
 
 use scq_band::{Lifted, Seat};
-use scq_word::Buffer;
+use scq_word::{Buffer, BufferMut};
 use std::marker::Model;
 use std::snapshot::Snapshot;
 
@@ -30,22 +30,11 @@ impl<B: Buffer> Model for Held<B> {
 }
 
 impl<B: Buffer> Held<B> {
-    ghost use Rattle.scq_queue.specs.contracts.held.Held.{the_row};
-
     /// Its bytes.
     pub fn bytes(&self) -> &[u8]
         ensures { result.now ≡ B.contents self.now.buffer }
     {
         self.buffer.bytes()
-    }
-
-    /// Its bytes, lent to be written: there stay as many.
-    pub fn bytes_mut(&mut self) -> &mut [u8]
-        ensures* writes { sem 𝓛 (Lends (the_row B.row B.Buffer) (Array byte 0) self.entry result
-            (λ w. record self.old { buffer = B.written self.old.buffer w })) }
-        ensures bytes { result.now ≡ B.contents self.old.buffer }
-    {
-        self.buffer.bytes_mut()
     }
 
     /// Its buffer.
@@ -67,6 +56,19 @@ impl<B: Buffer> Held<B> {
         ensures { IsGiven B.IsSameBuffer self.now }
     {
         let _ = &self.index;
+    }
+}
+
+impl<B: BufferMut> Held<B> {
+    ghost use Rattle.scq_queue.specs.contracts.held.Held.{the_row};
+
+    /// Its bytes, lent to be written: there stay as many.
+    pub fn bytes_mut(&mut self) -> &mut [u8]
+        ensures* writes { sem 𝓛 (Lends (the_row B.row B.Buffer) (Array byte 0) self.entry result
+            (λ w. record self.old { buffer = B.written self.old.buffer w })) }
+        ensures bytes { result.now ≡ B.contents self.old.buffer }
+    {
+        self.buffer.bytes_mut()
     }
 }
 

@@ -14,7 +14,7 @@ mod shape;
 mod words;
 
 pub use bounds::limit_for;
-pub use buffer::Buffer;
+pub use buffer::{Buffer, BufferMut};
 pub use bytes::{Bytes, NoMemory};
 pub use entry::Entry;
 pub use setup::{Setup, SetupFault};
