@@ -7,4 +7,4 @@ pub mod Opened
 pub mod Sent
 pub mod EndSteps
 pub mod Gathering
-mod CellsMemory
+mod Numbered

@@ -37,35 +37,14 @@ IsInRun old new = IsCallInRun old.pass.queue.setup (opening_of bytes_of old.pass
 abbrev pub HasItsNumber : Value → Type 0
 HasItsNumber h = bytes_of h.buffer ≡ number_bytes h.index
 
--- a value was lent
-pub record HasLent (value : Value) (old new : PortStanding) : Type 0 where
-  pub lent : WasLent bytes_of old.pass new.pass value
-  pub came : Came old new value
-  pub lists : lists_of new.pass ≡ lists_of old.pass
-  pub unspent : old.pass.spent ≡ None
-  pub run : IsInRun old new
-
 -- the value of an index was lent, and contains this index as its number
 pub record IsLent (index : ℕ) (old new : PortStanding) : Type 0 where
   pub value : Value
   pub is : value.index ≡ index
   pub number : HasItsNumber value
-  pub lent : HasLent value old new
-
--- a value was lent that doesn't contain the number of its index
-pub record IsLentDamaged (old new : PortStanding) : Type 0 where
-  pub value : Value
-  pub number : HasItsNumber value → ⊥
-  pub lent : HasLent value old new
-
--- a value was taken from a topic, at a place
-pub record HasTaken (topic place : ℕ) (value : Value) (old new : PortStanding) : Type 0 where
-  pub there : topic + 1 < old.pass.queue.setup.rings
-  pub got : HasGot bytes_of (suc topic) place old.pass new.pass value
-  pub low : place < old.pass.queue.setup.limit
-  pub known : (known_on topic old.pass).head ≤ place
+  pub lent : WasLent bytes_of old.pass new.pass value
   pub came : Came old new value
-  pub lists : lists_of new.pass ≡ with_take topic place (bytes_of value.buffer) (lists_of old.pass)
+  pub lists : lists_of new.pass ≡ lists_of old.pass
   pub unspent : old.pass.spent ≡ None
   pub run : IsInRun old new
 
@@ -74,14 +53,14 @@ pub record IsTaken (topic place index : ℕ) (old new : PortStanding) : Type 0 w
   pub value : Value
   pub is : value.index ≡ index
   pub number : HasItsNumber value
-  pub taken : HasTaken topic place value old new
-
--- a value was taken that doesn't contain the number of its index
-pub record IsTakenDamaged (topic : ℕ) (old new : PortStanding) : Type 0 where
-  pub value : Value
-  pub place : ℕ
-  pub number : HasItsNumber value → ⊥
-  pub taken : HasTaken topic place value old new
+  pub there : topic + 1 < old.pass.queue.setup.rings
+  pub got : HasGot bytes_of (suc topic) place old.pass new.pass value
+  pub low : place < old.pass.queue.setup.limit
+  pub known : (known_on topic old.pass).head ≤ place
+  pub came : Came old new value
+  pub lists : lists_of new.pass ≡ with_take topic place (bytes_of value.buffer) (lists_of old.pass)
+  pub unspent : old.pass.spent ≡ None
+  pub run : IsInRun old new
 
 -- the value of an index was sent on a topic, at a place
 pub record IsSent (index topic place : ℕ) (old new : PortStanding) : Type 0 where

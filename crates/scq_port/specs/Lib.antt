@@ -4,4 +4,3 @@ pub mod Kept
 pub mod Ends
 pub mod Closed
 pub mod Numbers
-pub mod Cells

@@ -1,12 +1,14 @@
 -- What contracts see of a port: its pass, the values that it holds, and how many it may hold.
-use Rattle.std.specs.Prelude.{◌≡◌, ℕ, List, Option, Some, slice_get}
+use Rattle.std.specs.Prelude.{◌≡◌, ℕ, List, map, Option, Some, slice_get}
+use Rattle.scq_word.specs.Sizes.{n_of}
 use Rattle.scq_band.specs.Standing.{Identity}
 use Rattle.scq_queue.specs.Passes.{PassStanding, HeldStanding}
 use Rattle.scq_port.specs.declared.port_buffer.PortBuffer.{PortBuffer}
+use Rattle.scq_port.specs.Numbers.{numbers_below}
 
--- what a buffer contains: four bytes, at first those of its number
+-- what a buffer contains: the four bytes of its number
 abbrev pub bytes_of : PortBuffer → List ℕ
-bytes_of b = b.number.xs
+bytes_of b = b.number
 
 -- a value that a port holds, and a queue of such buffers
 abbrev pub Value : Type 0
@@ -14,6 +16,10 @@ Value = HeldStanding PortBuffer
 
 abbrev pub PortQueue : Type 0
 PortQueue = Identity PortBuffer
+
+-- the buffer that the queue was given for each index contains its number
+abbrev pub AreNumbered : PortQueue → Type 0
+AreNumbered queue = map bytes_of queue.given ≡ numbers_below (n_of queue.setup.order)
 
 -- at each index `slots` has the value of this index, where the port holds it
 pub record PortStanding : Type 0 where

@@ -1,7 +1,8 @@
 //! The calls of a pass together with the values that it holds.
 ghost use Rattle.std.specs.Prelude.{◌≡◌, ℕ, suc, ◌+◌, ◌<◌, ◌≤◌, [], length, Some, None, Err, IfOk, ◌≢◌};
-ghost use Rattle.scq_port.specs.Calls.{IsLent, IsLentDamaged, IsTaken, IsTakenDamaged, IsSent, IsGivenBack, WasFull, WasEmpty, IsSpentGet, IsSpentPut, HoldsNoSuch};
+ghost use Rattle.scq_port.specs.Calls.{IsLent, IsTaken, IsSent, IsGivenBack, WasFull, WasEmpty, IsSpentGet, IsSpentPut, HoldsNoSuch};
 ghost use Rattle.scq_port.specs.Kept.{KeepsHand, seen_as};
+ghost use Rattle.scq_port.specs.Ports.{AreNumbered};
 
 use crate::hand::Hand;
 use crate::port_buffer::PortBuffer;
@@ -15,6 +16,7 @@ pub(crate) fn lend(
     pass: &mut Pass<PortBuffer>,
     hand: &mut Hand,
 ) -> Result<u32, LendRefusal>
+    requires numbers { AreNumbered queue.now }
     requires kept { KeepsHand queue.now pass.old hand.old }
     requires room { hand.old.used < hand.old.hold }
     ensures kept { KeepsHand queue.now pass.new hand.new }
@@ -25,19 +27,11 @@ pub(crate) fn lend(
     ensures full { (head : ℕ) → result ≡ Err (LendRefusal.Full head) → WasFull head (seen_as pass.old hand.old) (seen_as pass.new hand.new) }
     ensures spent { (ticket : ℕ) → result ≡ Err (LendRefusal.Spent ticket)
         → IsSpentGet 0 ticket (seen_as pass.old hand.old) (seen_as pass.new hand.new) }
-    ensures damaged { result ≡ Err LendRefusal.Damaged
-        → IsLentDamaged (seen_as pass.old hand.old) (seen_as pass.new hand.new) }
 {
     match queue.lend(pass) {
         Ok(held) => {
-            let sound = held.buffer().has_number(held.index());
             hand.used += 1;
-            let index = hand.put_in(held);
-            if sound {
-                Ok(index)
-            } else {
-                Err(LendRefusal::Damaged)
-            }
+            Ok(hand.put_in(held))
         }
         Err(scq_queue::LendRefusal::Full { head }) => Err(LendRefusal::Full { head }),
         Err(scq_queue::LendRefusal::Spent { ticket }) => Err(LendRefusal::Spent { ticket }),
@@ -52,6 +46,7 @@ pub(crate) fn take(
     topic: u32,
     hand: &mut Hand,
 ) -> Result<(u64, u32), TakeRefusal>
+    requires numbers { AreNumbered queue.now }
     requires kept { KeepsHand queue.now pass.old hand.old }
     requires topic { topic + 1 < queue.now.setup.rings }
     requires room { hand.old.used < hand.old.hold }
@@ -64,19 +59,11 @@ pub(crate) fn take(
         → WasEmpty topic head (seen_as pass.old hand.old) (seen_as pass.new hand.new) }
     ensures spent { (ticket : ℕ) → result ≡ Err (TakeRefusal.Spent ticket)
         → IsSpentGet (suc topic) ticket (seen_as pass.old hand.old) (seen_as pass.new hand.new) }
-    ensures damaged { result ≡ Err TakeRefusal.Damaged
-        → IsTakenDamaged topic (seen_as pass.old hand.old) (seen_as pass.new hand.new) }
 {
     match queue.take(pass, topic) {
         Ok((place, held)) => {
-            let sound = held.buffer().has_number(held.index());
             hand.used += 1;
-            let index = hand.put_in(held);
-            if sound {
-                Ok((place, index))
-            } else {
-                Err(TakeRefusal::Damaged)
-            }
+            Ok((place, hand.put_in(held)))
         }
         Err(scq_queue::TakeRefusal::Empty { head }) => Err(TakeRefusal::Empty { head }),
         Err(scq_queue::TakeRefusal::Spent { ticket }) => Err(TakeRefusal::Spent { ticket }),

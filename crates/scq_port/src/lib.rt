@@ -8,7 +8,6 @@
 //! ports to C.
 #![tactic(auto)]
 
-mod cells;
 mod crossing;
 mod ends;
 mod hand;

@@ -2,7 +2,7 @@
 ghost use Rattle.std.specs.Prelude.{◌≡◌, ◌<◌, ◌≤◌, [], map, IfOk, IfSome, vec_capacity};
 ghost use Rattle.scq_queue.specs.Lists.{counts_of};
 ghost use Rattle.scq_queue.specs.Passes.{lists_of};
-ghost use Rattle.scq_port.specs.Ports.{bytes_of};
+ghost use Rattle.scq_port.specs.Ports.{AreNumbered, bytes_of};
 ghost use Rattle.scq_port.specs.Ends.{laid_at};
 ghost use Rattle.scq_port.specs.Closed.{HasClosed};
 
@@ -27,6 +27,7 @@ pub struct Owner {
     pub ghost own: { ends.table.shared.key.value ≡ queue },
     ghost empty: { (passes.items ≡ []) × (values.items ≡ []) },
     ghost room: { queue.setup.seats ≤ vec_capacity passes },
+    pub ghost numbers: { AreNumbered queue },
 }
 
 impl Owner {
@@ -37,6 +38,7 @@ impl Owner {
         setup: Setup,
     ) -> Result<Owner, NoMemory>
         requires setup { setup ≡ queue.setup }
+        requires numbers { AreNumbered queue }
         ensures { IfOk result (λ owner. owner.queue ≡ queue) }
     {
         match make_rooms(alloc, &queue, setup) {

@@ -3,7 +3,7 @@ ghost use Rattle.std.specs.Prelude.{◌≡◌, ◌==◌, ℕ, suc, ◌+◌, ◌<
 ghost use Rattle.std.specs.Arc.{arc_value};
 ghost use Rattle.scq_queue.specs.Lists.{counts_of};
 ghost use Rattle.scq_queue.specs.Passes.{lists_of};
-ghost use Rattle.scq_port.specs.Calls.{HasRetired, HasAsked, retired_pass, retired_port, IsLent, IsLentDamaged, IsTaken, IsTakenDamaged, IsSent, IsGivenBack, WasFull, WasEmpty, IsSpentGet, IsSpentPut, HasNoRoom, HasNoTopic, HoldsNoSuch, HasEnded};
+ghost use Rattle.scq_port.specs.Calls.{HasRetired, HasAsked, retired_pass, retired_port, IsLent, IsTaken, IsSent, IsGivenBack, WasFull, WasEmpty, IsSpentGet, IsSpentPut, HasNoRoom, HasNoTopic, HoldsNoSuch, HasEnded};
 ghost use Rattle.scq_port.specs.Kept.{KeepsHand, seen_as};
 ghost use Rattle.scq_port.specs.Ports.{bytes_of};
 ghost use Rattle.scq_port.specs.Closed.{HasClosed};
@@ -48,15 +48,13 @@ impl Model for Port {
 impl Port {
     /// Lends a buffer that nobody holds: answers its index.
     ///
-    /// NoRoom where the port holds as many values as it may. Full and Spent as with `scq_queue`. Damaged where the value that came doesn't
-    /// contain the number of its index, which no run without others' writes has shown; the port holds it then.
+    /// NoRoom where the port holds as many values as it may. Full and Spent as with `scq_queue`.
     #[inline(always)]
     pub fn lend(&mut self) -> Result<u32, LendRefusal>
         ensures lent { IfOk result (λ index. IsLent index self.old self.new) }
         ensures no_room { result ≡ Err LendRefusal.NoRoom → HasNoRoom self.old self.new }
         ensures full { (head : ℕ) → result ≡ Err (LendRefusal.Full head) → WasFull head self.old self.new }
         ensures spent { (ticket : ℕ) → result ≡ Err (LendRefusal.Spent ticket) → IsSpentGet 0 ticket self.old self.new }
-        ensures damaged { result ≡ Err LendRefusal.Damaged → IsLentDamaged self.old self.new }
     {
         if self.hand.used >= self.hand.hold {
             return Err(LendRefusal::NoRoom);
@@ -66,7 +64,7 @@ impl Port {
 
     /// Takes a value from a topic: answers its place and its index.
     ///
-    /// NoTopic where there are not so many topics, NoRoom and Damaged as with `lend`. Empty and Spent as with `scq_queue`.
+    /// NoTopic where there are not so many topics, NoRoom as with `lend`. Empty and Spent as with `scq_queue`.
     #[inline(always)]
     pub fn take(&mut self, topic: u32) -> Result<(u64, u32), TakeRefusal>
         ensures taken { IfOk result (λ r. IsTaken topic r.0 r.1 self.old self.new) }
@@ -74,7 +72,6 @@ impl Port {
         ensures no_room { result ≡ Err TakeRefusal.NoRoom → HasNoRoom self.old self.new }
         ensures empty { (head : ℕ) → result ≡ Err (TakeRefusal.Empty head) → WasEmpty topic head self.old self.new }
         ensures spent { (ticket : ℕ) → result ≡ Err (TakeRefusal.Spent ticket) → IsSpentGet (suc topic) ticket self.old self.new }
-        ensures damaged { result ≡ Err TakeRefusal.Damaged → IsTakenDamaged topic self.old self.new }
     {
         if topic >= self.topics {
             return Err(TakeRefusal::NoTopic);

@@ -1,0 +1,48 @@
+-- The buffer of an index has its number, as long as the queue was given buffers in the order of their numbers.
+use Rattle.std.proofs.Common.{◌≡◌, ℕ, zero, suc, List, [], ◌∷◌, ◌++◌, length, refl, sym, ◌∙◌, ap, inl, inr, arith}
+use Rattle.std.specs.Prelude.{Some, None, slice_get}
+use Rattle.std.specs.Option.{option_map}
+use Rattle.std.proofs.lemmas.Bool.{cases_eq}
+use Rattle.std.proofs.lemmas.List.{length-append}
+use Rattle.std.proofs.lemmas.Option.{slice_get-map}
+use Rattle.scq_word.specs.Sizes.{n_of}
+use Rattle.scq_band.specs.Standing.{IsAsGiven}
+use Rattle.scq_queue.proofs.Leaving.{get_last}
+use Rattle.scq_port.specs.declared.port_buffer.PortBuffer.{PortBuffer}
+use Rattle.scq_port.specs.Numbers.{number_bytes, numbers_below}
+use Rattle.scq_port.specs.Ports.{PortQueue, Value, AreNumbered, bytes_of}
+use Rattle.scq_port.specs.Calls.{HasItsNumber}
+use Rattle.scq_port.proofs.Unpacking.{before_last}
+
+numbers_length : (n : ℕ) → length (numbers_below n) ≡ n
+numbers_length zero = refl
+numbers_length (suc n) =
+    let e = numbers_length n in
+    let more = length-append (numbers_below n) (number_bytes n ∷ []) in
+    omega (arith, e, more)
+
+-- what stands among the numbers is the number of its place
+numbered : (n i : ℕ) (x : List ℕ) → slice_get (numbers_below n) i ≡ Some x → x ≡ number_bytes i
+numbered zero i x at = absurd (let no : None ≡ Some x = at in cc)
+numbered (suc n) i x at =
+    elim (cases_eq i (length before)) [
+      | inl last ↦
+          let both : Some (number_bytes n) ≡ Some x =
+          sym (get_last before (number_bytes n))
+          ∙ ap (λ (k : ℕ). slice_get (before ++ number_bytes n ∷ []) k) (sym last) ∙ at in
+          let same : number_bytes n ≡ x = cc in
+          sym same ∙ ap number_bytes (sym (last ∙ numbers_length n))
+      | inr other ↦ numbered n i x (sym (before_last before (number_bytes n) i other) ∙ at)
+    ]
+  where
+    before : List (List ℕ)
+    before = numbers_below n
+
+-- a value whose buffer is the one that the queue was given for its index contains this number
+pub number_of : (queue : PortQueue) (h : Value) → AreNumbered queue
+    → IsAsGiven (λ (a b : PortBuffer). a.number ≡ b.number) queue.given h.index h.buffer → HasItsNumber h
+number_of queue h numbers is =
+    sym is.same
+    ∙ numbered (n_of queue.setup.order) h.index (bytes_of is.first)
+    (ap (λ (l : List (List ℕ)). slice_get l h.index) (sym numbers) ∙ slice_get-map bytes_of queue.given h.index
+    ∙ ap (λ o. option_map bytes_of o) is.was)
