@@ -123,8 +123,7 @@ enum {
     SCQ_BAD_SIZE = 13,   /* a buffer has no bytes, or more than lie between it and the next */
     SCQ_BAD_HOLD = 14,   /* what a port may hold isn't from 1 to 2^order */
     SCQ_IS_OPEN = 15,    /* one of the ports is open */
-    SCQ_DAMAGED = 16,    /* the library's memory was written by somebody else */
-    SCQ_RETIRED = 17     /* the port has retired, or all ports have */
+    SCQ_RETIRED = 16     /* the port has retired, or all ports have */
 };
 
 /* The largest limit. A billion tickets a second come to it after 36 years. */
@@ -159,7 +158,6 @@ static inline const char *scq_text(uint32_t answer) {
     case SCQ_BAD_SIZE: return "a buffer has no bytes, or more than lie between it and the next";
     case SCQ_BAD_HOLD: return "what a port may hold isn't from 1 to 2^order";
     case SCQ_IS_OPEN: return "one of the ports is open";
-    case SCQ_DAMAGED: return "the library's memory was written by somebody else";
     case SCQ_RETIRED: return "retired";
     default: return "no answer of this library";
     }
@@ -226,8 +224,8 @@ static inline void scq_locate(const scq_port *port, uint32_t answer, scq_held *o
  *
  * Tested: that the port is open, and holds fewer buffers than it may.
  * Answers: SCQ_OK; SCQ_CLOSED; SCQ_NO_ROOM; SCQ_FULL where no buffer was free, and out->place is the head of the stock: each buffer that was
- * given back at a place below it has been lent, or is being lent; SCQ_SPENT, and out->place is the ticket; SCQ_DAMAGED where what came isn't
- * the buffer of its index, and the port keeps it. Where it isn't SCQ_OK, out->at is null and out->len 0. */
+ * given back at a place below it has been lent, or is being lent; SCQ_SPENT, and out->place is the ticket. Where it isn't SCQ_OK, out->at is
+ * null and out->len 0. */
 static inline SCQ_ANSWERED uint32_t scq_lend(scq_port *port, scq_held *out) {
     const uint32_t answer = scq_lend_index(port, out);
     scq_locate(port, answer, out);
@@ -238,8 +236,8 @@ static inline SCQ_ANSWERED uint32_t scq_lend(scq_port *port, scq_held *out) {
  *
  * Tested: that the port is open, the topic, and that the port holds fewer buffers than it may.
  * Answers: SCQ_OK; SCQ_CLOSED; SCQ_NO_TOPIC; SCQ_NO_ROOM; SCQ_EMPTY where nothing was on the topic, and out->place is its head: each buffer that
- * was sent at a place below it has been taken, or is being taken; SCQ_SPENT, and out->place is the ticket; SCQ_DAMAGED as with scq_lend. Where it
- * isn't SCQ_OK, out->at is null and out->len 0. */
+ * was sent at a place below it has been taken, or is being taken; SCQ_SPENT, and out->place is the ticket. Where it isn't SCQ_OK, out->at is
+ * null and out->len 0. */
 static inline SCQ_ANSWERED uint32_t scq_take(scq_port *port, uint32_t topic, scq_held *out) {
     const uint32_t answer = scq_take_index(port, topic, out);
     scq_locate(port, answer, out);

@@ -52,7 +52,6 @@ enum class Answer : std::uint32_t {
     BadSize = SCQ_BAD_SIZE,
     BadHold = SCQ_BAD_HOLD,
     IsOpen = SCQ_IS_OPEN,
-    Damaged = SCQ_DAMAGED,
     Retired = SCQ_RETIRED
 };
 

@@ -82,5 +82,4 @@ pub const BAD_LIMIT: u32 = 12;
 pub const BAD_SIZE: u32 = 13;
 pub const BAD_HOLD: u32 = 14;
 pub const IS_OPEN: u32 = 15;
-pub const DAMAGED: u32 = 16;
-pub const RETIRED: u32 = 17;
+pub const RETIRED: u32 = 16;

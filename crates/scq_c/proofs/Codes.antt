@@ -1,7 +1,7 @@
 -- What each call answers, one lemma for each of its numbers.
 use Rattle.std.proofs.Common.{ℕ, suc, refl, inl, inr, arith}
 use Rattle.scq_port.specs.Ports.{PortStanding}
-use Rattle.scq_port.specs.Calls.{IsLent, IsLentDamaged, IsTaken, IsTakenDamaged, IsSent, IsGivenBack, WasFull, WasEmpty, IsSpentGet, IsSpentPut, HasNoRoom, HasNoTopic, HoldsNoSuch, HasRetired}
+use Rattle.scq_port.specs.Calls.{IsLent, IsTaken, IsSent, IsGivenBack, WasFull, WasEmpty, IsSpentGet, IsSpentPut, HasNoRoom, HasNoTopic, HoldsNoSuch, HasRetired}
 use Rattle.scq_c.specs.declared.exports.Held.{Held}
 use Rattle.scq_c.specs.Answers.{OfLend, OfTake, OfSend, OfGiveBack, shown_at, with_place}
 
@@ -12,7 +12,6 @@ lend_lent index before old new is =
       full = λ e. absurd (omega (arith, e));
       spent = λ e. absurd (omega (arith, e));
       no_room = λ e. absurd (omega (arith, e));
-      damaged = λ e. absurd (omega (arith, e));
       known = inl refl;
     }
 
@@ -23,7 +22,6 @@ lend_full head before old new is =
       full = λ e. (head, refl, is);
       spent = λ e. absurd (omega (arith, e));
       no_room = λ e. absurd (omega (arith, e));
-      damaged = λ e. absurd (omega (arith, e));
       known = inr (inl refl);
     }
 
@@ -34,7 +32,6 @@ lend_spent ticket before old new is =
       full = λ e. absurd (omega (arith, e));
       spent = λ e. (ticket, refl, is);
       no_room = λ e. absurd (omega (arith, e));
-      damaged = λ e. absurd (omega (arith, e));
       known = inr (inr (inl refl));
     }
 
@@ -45,19 +42,7 @@ lend_no_room before old new is =
       full = λ e. absurd (omega (arith, e));
       spent = λ e. absurd (omega (arith, e));
       no_room = λ e. (refl, is);
-      damaged = λ e. absurd (omega (arith, e));
-      known = inr (inr (inr (inl refl)));
-    }
-
-pub lend_damaged : (before : Held) (old new : PortStanding) → IsLentDamaged old new → OfLend 16 before before old new
-lend_damaged before old new is =
-    record {
-      lent = λ e. absurd (omega (arith, e));
-      full = λ e. absurd (omega (arith, e));
-      spent = λ e. absurd (omega (arith, e));
-      no_room = λ e. absurd (omega (arith, e));
-      damaged = λ e. (refl, is);
-      known = inr (inr (inr (inr refl)));
+      known = inr (inr (inr refl));
     }
 
 pub take_taken : (topic place index : ℕ) (before : Held) (old new : PortStanding) → IsTaken topic place index old new
@@ -69,7 +54,6 @@ take_taken topic place index before old new is =
       spent = λ e. absurd (omega (arith, e));
       no_topic = λ e. absurd (omega (arith, e));
       no_room = λ e. absurd (omega (arith, e));
-      damaged = λ e. absurd (omega (arith, e));
       known = inl refl;
     }
 
@@ -81,7 +65,6 @@ take_empty topic head before old new is =
       spent = λ e. absurd (omega (arith, e));
       no_topic = λ e. absurd (omega (arith, e));
       no_room = λ e. absurd (omega (arith, e));
-      damaged = λ e. absurd (omega (arith, e));
       known = inr (inl refl);
     }
 
@@ -93,7 +76,6 @@ take_spent topic ticket before old new is =
       spent = λ e. (ticket, refl, is);
       no_topic = λ e. absurd (omega (arith, e));
       no_room = λ e. absurd (omega (arith, e));
-      damaged = λ e. absurd (omega (arith, e));
       known = inr (inr (inl refl));
     }
 
@@ -105,7 +87,6 @@ take_no_topic topic before old new is =
       spent = λ e. absurd (omega (arith, e));
       no_topic = λ e. (refl, is);
       no_room = λ e. absurd (omega (arith, e));
-      damaged = λ e. absurd (omega (arith, e));
       known = inr (inr (inr (inl refl)));
     }
 
@@ -117,20 +98,7 @@ take_no_room topic before old new is =
       spent = λ e. absurd (omega (arith, e));
       no_topic = λ e. absurd (omega (arith, e));
       no_room = λ e. (refl, is);
-      damaged = λ e. absurd (omega (arith, e));
-      known = inr (inr (inr (inr (inl refl))));
-    }
-
-pub take_damaged : (topic : ℕ) (before : Held) (old new : PortStanding) → IsTakenDamaged topic old new → OfTake topic 16 before before old new
-take_damaged topic before old new is =
-    record {
-      taken = λ e. absurd (omega (arith, e));
-      empty = λ e. absurd (omega (arith, e));
-      spent = λ e. absurd (omega (arith, e));
-      no_topic = λ e. absurd (omega (arith, e));
-      no_room = λ e. absurd (omega (arith, e));
-      damaged = λ e. (refl, is);
-      known = inr (inr (inr (inr (inr refl))));
+      known = inr (inr (inr (inr refl)));
     }
 
 pub send_sent : (place : ℕ) (index topic before : ℕ) (old new : PortStanding) → IsSent index topic place old new → OfSend index topic 0 before place old new
@@ -177,7 +145,7 @@ send_no_topic index topic before old new is =
       known = inr (inr (inr (inl refl)));
     }
 
-pub send_retired : (index topic before : ℕ) (old new : PortStanding) → HasRetired old new → OfSend index topic 17 before before old new
+pub send_retired : (index topic before : ℕ) (old new : PortStanding) → HasRetired old new → OfSend index topic 16 before before old new
 send_retired index topic before old new is =
     record {
       sent = λ e. absurd (omega (arith, e));

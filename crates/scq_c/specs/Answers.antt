@@ -6,7 +6,7 @@ use Rattle.scq_word.specs.Sizes.{n_of}
 use Rattle.scq_word.specs.Ranges.{IsOutside}
 use Rattle.scq_queue.specs.Lists.{counts_of}
 use Rattle.scq_port.specs.Ports.{PortStanding}
-use Rattle.scq_port.specs.Calls.{IsLent, IsLentDamaged, IsTaken, IsTakenDamaged, IsSent, IsGivenBack, WasFull, WasEmpty, IsSpentGet, IsSpentPut, HasNoRoom, HasNoTopic, HoldsNoSuch, HasRetired, HasAsked, retired_port, AreOpened, HasEnded}
+use Rattle.scq_port.specs.Calls.{IsLent, IsTaken, IsSent, IsGivenBack, WasFull, WasEmpty, IsSpentGet, IsSpentPut, HasNoRoom, HasNoTopic, HoldsNoSuch, HasRetired, HasAsked, retired_port, AreOpened, HasEnded}
 use Rattle.scq_queue.specs.Passes.{PassStanding, lists_of}
 use Rattle.scq_port.specs.declared.port_buffer.PortBuffer.{PortBuffer}
 use Rattle.scq_port.specs.Closed.{HasClosed}
@@ -25,33 +25,31 @@ shown_at place index h = record h { place = place; index = index }
 abbrev pub with_place : ℕ → Held → Held
 with_place n h = record h { place = n }
 
--- of a lend: 0 lent, 2 full, 3 spent, 7 no room, 16 damaged
+-- of a lend: 0 lent, 2 full, 3 spent, 7 no room
 pub record OfLend (code : ℕ) (before after : Held) (old new : PortStanding) : Type 0 where
   pub lent : code ≡ 0 → (index : ℕ) × (after ≡ shown_at 0 index before) × IsLent index old new
   pub full : code ≡ 2 → (head : ℕ) × (after ≡ with_place head before) × WasFull head old new
   pub spent : code ≡ 3 → (ticket : ℕ) × (after ≡ with_place ticket before) × IsSpentGet 0 ticket old new
   pub no_room : code ≡ 7 → (after ≡ before) × HasNoRoom old new
-  pub damaged : code ≡ 16 → (after ≡ before) × IsLentDamaged old new
-  pub known : (code ≡ 0) ⊎ (code ≡ 2) ⊎ (code ≡ 3) ⊎ (code ≡ 7) ⊎ (code ≡ 16)
+  pub known : (code ≡ 0) ⊎ (code ≡ 2) ⊎ (code ≡ 3) ⊎ (code ≡ 7)
 
--- of a take: 0 taken, 1 empty, 3 spent, 6 no topic, 7 no room, 16 damaged
+-- of a take: 0 taken, 1 empty, 3 spent, 6 no topic, 7 no room
 pub record OfTake (topic code : ℕ) (before after : Held) (old new : PortStanding) : Type 0 where
   pub taken : code ≡ 0 → (place : ℕ) × (index : ℕ) × (after ≡ shown_at place index before) × IsTaken topic place index old new
   pub empty : code ≡ 1 → (head : ℕ) × (after ≡ with_place head before) × WasEmpty topic head old new
   pub spent : code ≡ 3 → (ticket : ℕ) × (after ≡ with_place ticket before) × IsSpentGet (suc topic) ticket old new
   pub no_topic : code ≡ 6 → (after ≡ before) × HasNoTopic topic old new
   pub no_room : code ≡ 7 → (after ≡ before) × HasNoRoom old new
-  pub damaged : code ≡ 16 → (after ≡ before) × IsTakenDamaged topic old new
-  pub known : (code ≡ 0) ⊎ (code ≡ 1) ⊎ (code ≡ 3) ⊎ (code ≡ 6) ⊎ (code ≡ 7) ⊎ (code ≡ 16)
+  pub known : (code ≡ 0) ⊎ (code ≡ 1) ⊎ (code ≡ 3) ⊎ (code ≡ 6) ⊎ (code ≡ 7)
 
--- of a send: 0 sent, 3 spent, 5 not held, 6 no topic, 17 the port has retired
+-- of a send: 0 sent, 3 spent, 5 not held, 6 no topic, 16 the port has retired
 pub record OfSend (index topic code before after : ℕ) (old new : PortStanding) : Type 0 where
   pub sent : code ≡ 0 → IsSent index topic after old new
   pub spent : code ≡ 3 → IsSpentPut (suc topic) after old new
   pub not_held : code ≡ 5 → (after ≡ before) × HoldsNoSuch index old new
   pub no_topic : code ≡ 6 → (after ≡ before) × HasNoTopic topic old new
-  pub retired : code ≡ 17 → (after ≡ before) × HasRetired old new
-  pub known : (code ≡ 0) ⊎ (code ≡ 3) ⊎ (code ≡ 5) ⊎ (code ≡ 6) ⊎ (code ≡ 17)
+  pub retired : code ≡ 16 → (after ≡ before) × HasRetired old new
+  pub known : (code ≡ 0) ⊎ (code ≡ 3) ⊎ (code ≡ 5) ⊎ (code ≡ 6) ⊎ (code ≡ 16)
 
 -- of a give-back: 0 given back, 3 spent, 5 not held
 pub record OfGiveBack (index code : ℕ) (old new : PortStanding) : Type 0 where
@@ -60,13 +58,13 @@ pub record OfGiveBack (index code : ℕ) (old new : PortStanding) : Type 0 where
   pub not_held : code ≡ 5 → HoldsNoSuch index old new
   pub known : (code ≡ 0) ⊎ (code ≡ 3) ⊎ (code ≡ 5)
 
--- of a question whether all ports have retired: 17 they have, 0 some have not
+-- of a question whether all ports have retired: 16 they have, 0 some have not
 pub record OfRetired (code : ℕ) (old new : PortStanding) : Type 0 where
   pub found : ℕ
   pub asked : HasAsked found old new
-  pub all : code ≡ 17 → found ≡ 0
+  pub all : code ≡ 16 → found ≡ 0
   pub some : code ≡ 0 → 0 < found
-  pub known : (code ≡ 0) ⊎ (code ≡ 17)
+  pub known : (code ≡ 0) ⊎ (code ≡ 16)
 
 -- the ports that C has, and where each was told that the buffers' bytes are
 abbrev pub ports_of : List CPort → List (Option PortStanding)

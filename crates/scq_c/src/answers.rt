@@ -32,6 +32,4 @@ pub(crate) const BAD_HOLD: u32 = 14;
 
 pub(crate) const IS_OPEN: u32 = 15;
 
-pub(crate) const DAMAGED: u32 = 16;
-
-pub(crate) const RETIRED: u32 = 17;
+pub(crate) const RETIRED: u32 = 16;

@@ -7,7 +7,7 @@ ghost use Rattle.scq_port.specs.Calls.{retired_port};
 ghost use Rattle.scq_c.specs.Answers.{OfLend, OfTake, OfSend, OfGiveBack, OfOpen, OfEnd, OfRetired, shown_at};
 
 use crate::answers::{
-    CLOSED, DAMAGED, EMPTY, FULL, NO_ROOM, NO_TOPIC, NOT_HELD, OK, RETIRED, SPENT,
+    CLOSED, EMPTY, FULL, NO_ROOM, NO_TOPIC, NOT_HELD, OK, RETIRED, SPENT,
 };
 use crate::c_port::{CPort, Memory};
 use crate::handle::{Handle, put, taken};
@@ -86,7 +86,6 @@ fn lend_into(port: &mut Port, out: &mut Held) -> u32
             out.place = ticket;
             SPENT
         }
-        Err(LendRefusal::Damaged) => DAMAGED,
     }
 }
 
@@ -125,7 +124,6 @@ fn take_into(port: &mut Port, topic: u32, out: &mut Held) -> u32
             out.place = ticket;
             SPENT
         }
-        Err(TakeRefusal::Damaged) => DAMAGED,
     }
 }
 
