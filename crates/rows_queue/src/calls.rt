@@ -7,11 +7,11 @@ use crate::replies::{Reply, of_give, of_lend, of_send, of_take, show, show_close
 use anyhow::{Context, Result, anyhow, ensure};
 use rows_text::field;
 use scq_queue::{Closed, HeapBuffer, Held, LendRefusal, Pass, Queue, Spent, TakeRefusal};
-use scq_word::{Buffer, Setup};
+use scq_word::{BufferMut, Setup};
 use std::alloc::Global;
 
 /// Is lent a value, which goes on top.
-pub fn lent<B: Buffer>(
+pub fn lent<B: BufferMut>(
     queue: &Queue<B>,
     pass: &mut Pass<B>,
     values: &mut Vec<Held<B>>,
@@ -31,7 +31,7 @@ pub fn lent<B: Buffer>(
 }
 
 /// Takes a value, which goes on top.
-pub fn took<B: Buffer>(
+pub fn took<B: BufferMut>(
     queue: &Queue<B>,
     pass: &mut Pass<B>,
     topic: u32,
@@ -52,7 +52,7 @@ pub fn took<B: Buffer>(
 }
 
 /// Sends the value on top; where it comes back it is on top again.
-pub fn sent<B: Buffer>(
+pub fn sent<B: BufferMut>(
     queue: &Queue<B>,
     pass: &mut Pass<B>,
     topic: u32,
@@ -75,7 +75,7 @@ pub fn sent<B: Buffer>(
 }
 
 /// Gives the value on top back; where it comes back it is on top again.
-fn gave<B: Buffer>(
+fn gave<B: BufferMut>(
     queue: &Queue<B>,
     pass: &mut Pass<B>,
     values: &mut Vec<Held<B>>,
@@ -96,7 +96,7 @@ fn gave<B: Buffer>(
 }
 
 /// Writes two bytes into the value on top.
-fn wrote<B: Buffer>(queue: &Queue<B>, pass: &Pass<B>, values: &mut Vec<Held<B>>, text: &str)
+fn wrote<B: BufferMut>(queue: &Queue<B>, pass: &Pass<B>, values: &mut Vec<Held<B>>, text: &str)
     requires stack { HoldsJust queue.now pass.now values.old.items }
     ensures stack { HoldsJust queue.now pass.now values.new.items }
 {
@@ -116,7 +116,7 @@ fn write(bytes: &mut [u8], text: &[u8]) {
 }
 
 /// The reply to one call.
-fn reply_to<B: Buffer>(
+fn reply_to<B: BufferMut>(
     queue: &Queue<B>,
     pass: &mut Pass<B>,
     values: &mut Vec<Held<B>>,
@@ -149,7 +149,7 @@ fn reply_to<B: Buffer>(
 }
 
 /// Adds the bytes of the value on top.
-fn read<B: Buffer>(into: &mut String, values: &Vec<Held<B>>) -> Result<()> {
+fn read<B: BufferMut>(into: &mut String, values: &Vec<Held<B>>) -> Result<()> {
     if let Some(held) = values.last() {
         show(into, held.bytes())?;
     }
@@ -158,7 +158,7 @@ fn read<B: Buffer>(into: &mut String, values: &Vec<Held<B>>) -> Result<()> {
 }
 
 /// The replies to calls.
-fn replies<B: Buffer>(
+fn replies<B: BufferMut>(
     alloc: Global,
     queue: &Queue<B>,
     pass: &mut Pass<B>,
@@ -181,7 +181,7 @@ fn replies<B: Buffer>(
 }
 
 /// Makes calls of the last pass of a new queue, and closes the queue.
-fn run<B: Buffer>(
+fn run<B: BufferMut>(
     alloc: Global,
     queue: Queue<B>,
     mut passes: Vec<Pass<B>>,

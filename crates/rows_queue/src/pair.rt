@@ -10,7 +10,7 @@ use crate::ways::{Way, tell, way_of};
 use anyhow::{Context, Result, anyhow};
 use scq_band::Lifted;
 use scq_queue::{Closed, Held, LendRefusal, Pass, Queue, Spent, TakeRefusal};
-use scq_word::Buffer;
+use scq_word::BufferMut;
 use std::alloc::Global;
 
 /// Whether the gate was closed at first; for each of the passes, the first of which had retired, once
@@ -32,7 +32,7 @@ struct Answers {
 }
 
 /// Lets values go.
-fn let_go<B: Buffer + Drop>(mut values: Vec<Held<B>>) {
+fn let_go<B: BufferMut + Drop>(mut values: Vec<Held<B>>) {
     while let Some(held) = values.pop() {
         let _buffer = held.into_buffer();
     }
@@ -40,7 +40,7 @@ fn let_go<B: Buffer + Drop>(mut values: Vec<Held<B>>) {
 }
 
 /// The first retires and tells the second, which retires and tells the first. Each asks the gate.
-fn retire_in_turn<B: Buffer>(
+fn retire_in_turn<B: BufferMut>(
     queue: &Queue<B>,
     first: &mut Pass<B>,
     second: &mut Pass<B>,
@@ -69,7 +69,7 @@ fn retire_in_turn<B: Buffer>(
 
 /// The first pass sends and tells the second, which takes; then both retire. The queue closes with the
 /// value that the second holds. Nothing where nothing could be sent.
-fn run<B: Buffer + Drop>(
+fn run<B: BufferMut + Drop>(
     queue: Queue<B>,
     mut passes: Vec<Pass<B>>,
     mut sender: Vec<Held<B>>,

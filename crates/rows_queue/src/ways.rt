@@ -7,7 +7,7 @@ ghost use Rattle.rows_queue.specs.Told.{SeatStays, PassStays};
 use anyhow::{Result, anyhow};
 use scq_band::{Band, Seat};
 use scq_queue::{HeapBuffer, Pass, Queue};
-use scq_word::Buffer;
+use scq_word::BufferMut;
 
 /// How it is told: by a note, by a mark, in a meeting of both; or not at all, where the other looks
 /// for itself, or nothing is done.
@@ -33,7 +33,7 @@ pub fn way_of(text: &str) -> Result<Way> {
 }
 
 /// By a note. One that is dropped tells nobody, and its maker may learn one.
-fn tell_by_a_note<B: Buffer>(queue: &Queue<B>, one: &mut Pass<B>, other: &mut Pass<B>)
+fn tell_by_a_note<B: BufferMut>(queue: &Queue<B>, one: &mut Pass<B>, other: &mut Pass<B>)
     requires one { one.old.queue ≡ queue.now }
     requires other { other.old.queue ≡ queue.now }
     ensures one { PassStays one.old one.new }
@@ -47,7 +47,7 @@ fn tell_by_a_note<B: Buffer>(queue: &Queue<B>, one: &mut Pass<B>, other: &mut Pa
 }
 
 /// By a mark. One that is dropped tells nobody, and its maker may heed one.
-fn tell_by_a_mark<B: Buffer>(queue: &Queue<B>, one: &mut Pass<B>, other: &mut Pass<B>)
+fn tell_by_a_mark<B: BufferMut>(queue: &Queue<B>, one: &mut Pass<B>, other: &mut Pass<B>)
     requires one { one.old.queue ≡ queue.now }
     requires other { other.old.queue ≡ queue.now }
     ensures one { PassStays one.old one.new }
@@ -61,7 +61,7 @@ fn tell_by_a_mark<B: Buffer>(queue: &Queue<B>, one: &mut Pass<B>, other: &mut Pa
 }
 
 /// The first pass tells the other.
-pub fn tell<B: Buffer>(queue: &Queue<B>, one: &mut Pass<B>, other: &mut Pass<B>, way: Way)
+pub fn tell<B: BufferMut>(queue: &Queue<B>, one: &mut Pass<B>, other: &mut Pass<B>, way: Way)
     requires one { one.old.queue ≡ queue.now }
     requires other { other.old.queue ≡ queue.now }
     ensures one { PassStays one.old one.new }
@@ -77,7 +77,7 @@ pub fn tell<B: Buffer>(queue: &Queue<B>, one: &mut Pass<B>, other: &mut Pass<B>,
 }
 
 /// The first seat tells the other.
-fn tell_seat<B: Buffer>(band: &Band<B>, one: &mut Seat<B>, other: &mut Seat<B>, way: Way)
+fn tell_seat<B: BufferMut>(band: &Band<B>, one: &mut Seat<B>, other: &mut Seat<B>, way: Way)
     requires one { one.old.band ≡ band.now }
     requires other { other.old.band ≡ band.now }
     ensures one { SeatStays one.old one.new }
