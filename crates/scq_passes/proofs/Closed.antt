@@ -70,7 +70,7 @@ module _ {B : Type 0} (c : Setup) (given : List B) (passes : List (PassStanding 
           closed.run.0,
           closed.run.1,
           subst (λ (bs : List B). IsOneRunToTheEnd c (opening_of closed.run.0 bs) (callers_of passes) (records_of passes) (all_held passes)
-          closed.run.1) same_given closed.run.2,
+              closed.run.1) same_given closed.run.2,
         );
         alone = alone;
         fulls = closed.fulls;

@@ -90,6 +90,7 @@ impl<B: Buffer> Worker<B> {
             × BeginsWith bytes (after redacted part))) }
         ensures passed_over { OnOk result (part_at (B.contents held.buffer) ≡ None
             → (later : List ℕ) × WasGivenBack later held.index self.old.pass self.new.pass) }
+        ensures gates { OnOk result (self.new.pass.gates ≡ self.old.pass.gates) }
         ensures back { IfErr result (λ l. IsSomeAnd l.held (λ h. (h.index ≡ held.index) × (h.queue ≡ held.queue)
             × ((ring : ℕ) × (ticket : ℕ) × ((ring ≡ 0) ⊎ (ring ≡ suc second))
             × (self.new.pass ≡ having_seen self.new.pass.seen (after_spent_put ring ticket self.old.pass))))) }
@@ -145,6 +146,7 @@ impl<B: Buffer> Worker<B> {
         ensures taken { OnOk result (HasTakenOrMoved self.old.pass self.new.pass) }
         ensures one { OnOk result (filter_map take_topic (since self.old.pass self.new.pass) ≡ first ∷ []) }
         ensures moves { OnOk result (HasMovedIts self.old.pass self.new.pass) }
+        ensures gates { OnOk result (self.new.pass.gates ≡ self.old.pass.gates) }
         ensures helped { OnOk result (HasFinishedOnlySeconds self.old.pass self.new.pass self.old.members.items self.new.members.items) }
         ensures same { (self.new.members.items ≡ self.old.members.items) × (self.new.starved ≡ self.old.starved) }
         ensures some { result ≡ Ok true → ((known_on first self.old.pass).head < (known_on first self.new.pass).head)
@@ -197,6 +199,7 @@ impl<B: Buffer> Worker<B> {
         ensures taken { OnOk result (HasTakenOrMoved self.old.pass self.new.pass) }
         ensures each { OnOk result (filter_map take_topic (since self.old.pass self.new.pass) ≡ second ∷ first ∷ []) }
         ensures moves { OnOk result (HasMovedIts self.old.pass self.new.pass) }
+        ensures gates { OnOk result (self.new.pass.gates ≡ self.old.pass.gates) }
         ensures helped { OnOk result (self.new.starved ≡ false
             → HasFinishedOnlySeconds self.old.pass self.new.pass self.old.members.items self.new.members.items) }
         ensures left { IfErr result (λ l. (messages : ℕ) → HasLeftSo HasFewStageCalls messages messages self.old.pass self.new.pass l.held) }

@@ -273,3 +273,8 @@ returns-clause-memory_first g c =
     (λ (f : StageFault) why. memory-first c.args.job.now.size g.S.Source.faults g.S.Source.ends g.S.Source.left c.args.laid.was.value.items
     c.gather.new.gathered.sources.items (starved || wants) c.gather.new.gathered.fault f why
     (λ none. (as-gathered g at).fed (or_parts starved wants none).1)) c.conclude.ensures.err
+
+pub returns-clause-passes : goal.returns-clause-passes
+returns-clause-passes g c =
+    let at = (goal.at.returns-clause-passes g c).After-conclude in
+    ap (λ v. v.items) c.of-closing.ensures ∙ (facts g at).passes

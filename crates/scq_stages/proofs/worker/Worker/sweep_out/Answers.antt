@@ -117,7 +117,7 @@ sweeps-preserved g c =
     let at_some = (goal.at.sweeps-preserved g c).In_ok-some in
     let contents = g.B.Buffer.contents in
     let queue = c.args.queue.now in
-    let going : c.closed-over.result ≡ false = c.else-over.neither.0 in
+    let going : c.closed-over.result ≡ false = c.if-over.false in
     let split = since-takes p c.closed-over.new.pass now (before g at_look) c.in_ok-some.ensures.taken in
     record {
       taken = whole g at_some;

@@ -125,9 +125,12 @@ sweeps-preserved-then-not-some g c =
       number = c.sweep.ensures.number ∙ inv.number;
       vain = λ was. vain-swept all 0 c.sweeps.stand.rests 0 c.rest.new.stand.rests at mid now calls (ap (λ (x : PassStanding _). x.fulls) said.1)
           (ap (λ (x : PassStanding _). x.fulls) took.pass) c.in_ok-some.ensures.vain (omega (arith, rise, same, rested)) (inv.vain was);
-      sweeps = (inv.sweeps.0 + 1, and_idle said.0 inv.sweeps.1 (swept-once g (goal.at.sweeps-preserved-then-not-some g c).In_ok-some)
-          (some-left said.0 (sym said.2 ∙ c.if-over.false))
-          (took-nothing said.0 at mid now said.1 (c.in_ok-some.ensures.nothing (ap Ok c.if-not-some.true))) tt);
+      sweeps = (
+        inv.sweeps.0 + 1,
+        and_idle said.0 inv.sweeps.1 (swept-once g (goal.at.sweeps-preserved-then-not-some g c).In_ok-some)
+            (some-left said.0 (sym said.2 ∙ c.if-over.false))
+            (took-nothing said.0 at mid now said.1 (c.in_ok-some.ensures.nothing (ap Ok c.if-not-some.true))) tt,
+      );
       crew = ap (λ (s : Post). s.crew) c.rest.ensures ∙ inv.crew;
       worker = ap (λ (s : Post). s.worker) c.rest.ensures ∙ inv.worker;
     }
@@ -163,8 +166,11 @@ sweeps-preserved g c =
       number = c.sweep.ensures.number ∙ inv.number;
       vain = λ was. vain-swept all 0 c.sweeps.stand.rests 0 c.sweeps.stand.rests at mid now calls (ap (λ (x : PassStanding _). x.fulls) said.1)
           (ap (λ (x : PassStanding _). x.fulls) took.pass) c.in_ok-some.ensures.vain (omega (arith, more, same)) (inv.vain was);
-      sweeps = (0, and_some said.0 inv.sweeps.1 (swept-once g (goal.at.sweeps-preserved g c).In_ok-some)
-          (some-left said.0 (sym said.2 ∙ c.if-over.false)) (took-some said.0 at mid now said.1 more));
+      sweeps = (
+        0,
+        and_some said.0 inv.sweeps.1 (swept-once g (goal.at.sweeps-preserved g c).In_ok-some)
+            (some-left said.0 (sym said.2 ∙ c.if-over.false)) (took-some said.0 at mid now said.1 more),
+      );
       crew = inv.crew;
       worker = inv.worker;
     }

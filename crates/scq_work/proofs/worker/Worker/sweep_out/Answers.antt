@@ -80,7 +80,7 @@ sweeps-preserved g c =
     let contents = g.B.Buffer.contents in
     let queue = c.args.queue.now in
     let sweep = swept-once g (goal.at.sweeps-preserved g c).In_ok-some in
-    let going : c.closed-over.result ≡ false = c.else-over.neither.0 in
+    let going : c.closed-over.result ≡ false = c.if-over.false in
     record {
       taken = taken-along p c.closed-over.new.pass c.sweep.new.self.pass (taken-along p at c.closed-over.new.pass inv.taken look)
           c.in_ok-some.ensures.taken;
@@ -126,9 +126,9 @@ returns-clause-swept g c =
         | inr (going, full) ↦ inr (elim c.if-some.branch [
           | then-some w ↦ let none : c.if-some.idle ≡ 0 = w.idle-is in absurd (omega (arith, none, full))
           | else-some w ↦ (
-              sym w.idle-is ∙ full,
-              took-nothing said.0 at c.closed-over.new.pass now said.1 (c.in_ok-some.ensures.nothing (ap Ok w.if-some.false)),
-            )
+            sym w.idle-is ∙ full,
+            took-nothing said.0 at c.closed-over.new.pass now said.1 (c.in_ok-some.ensures.nothing (ap Ok w.if-some.false)),
+          )
         ])
       ];
     }
