@@ -1,22 +1,24 @@
 -- A queue is closed: what its `close` says of the passes, and what each pass says, is what all passes shared.
-use Rattle.std.proofs.Common.{◌≡◌, refl, ◌∙◌, ap, arith, zero, suc, ℕ, ◌+◌, ◌<◌, List, [], ◌∷◌, length, Some}
+use Rattle.std.proofs.Common.{◌≡◌, refl, ◌∙◌, ap, subst, arith, zero, suc, ℕ, ◌+◌, ◌<◌, List, [], ◌∷◌, length, Some}
 use Rattle.std.specs.Prelude.{slice_get, slice_index, sum}
 use Rattle.std.specs.List.{All}
 use Rattle.std.proofs.lemmas.List.Sums.{sum_by-cons}
 use Rattle.scq_word.specs.declared.setup.Setup.{Setup}
 use Rattle.scq_word.specs.Sizes.{n_of}
-use Rattle.scq_band.specs.Closing.{IsOneRun}
+use Rattle.scq_band.specs.Buffers.{opening_of}
+use Rattle.scq_band.specs.Closing.{IsOneRunToTheEnd}
 use Rattle.scq_band.specs.Standing.{Identity}
-use Rattle.scq_queue.specs.Closing.{EachTakeIsASend, NoPlaceIsSentTwice, NoPlaceIsTakenTwice, IsBalance, EachSendPassedIsTaken, AllFullsStand, NoneIsKeptWithinTheLimit, IsAllThere, callers_of}
+use Rattle.scq_queue.specs.Closing.{EachTakeIsASend, NoPlaceIsSentTwice, NoPlaceIsTakenTwice, IsBalance, EachSendPassedIsTaken, AllFullsStand, NoneIsKeptWithinTheLimit, IsAllThere, all_held, callers_of, records_of}
 use Rattle.scq_queue.specs.Passes.{PassStanding, HeldStanding}
 use Rattle.scq_passes.specs.AllPasses.{HaveShared}
 use Rattle.scq_passes.specs.Records.{HoldsNothingAtEachFull, MeetsNoSpent}
 use Rattle.scq_passes.specs.Together.{SendsAreTakes, NothingIsLeft, NoneSpent, IsBounded, HasSwept}
 use Rattle.scq_passes.proofs.SendsAndTakes.{sends-are-takes, no-place-twice, nothing-is-left}
 
--- what `close` says of the passes
-pub record HasClosed {B : Type 0} (c : Setup) (passes : List (PassStanding B)) (held : List (HeldStanding B)) (left : List ℕ) : Type 0 where
-  pub run : (opening : List (List ℕ)) × IsOneRun c opening (callers_of passes)
+-- what `close` says of the passes of a queue that was given these buffers
+pub record HasClosed {B : Type 0} (c : Setup) (given : List B) (passes : List (PassStanding B)) (held : List (HeldStanding B)) (left : List ℕ) : Type 0 where
+  pub run : (contents : B → List ℕ) × (bytes : List (List ℕ)) × IsOneRunToTheEnd c (opening_of contents given) (callers_of passes)
+      (records_of passes) (all_held passes) bytes
   pub takes : EachTakeIsASend passes
   pub sent_once : NoPlaceIsSentTwice passes
   pub taken_once : NoPlaceIsTakenTwice passes
@@ -46,24 +48,30 @@ first-alone (x ∷ xs) topics long none =
 sum-alone : {H : Type 0} (left : List ℕ) (n : ℕ) (held : List H) → held ≡ [] → sum left + length held ≡ n → sum left ≡ n
 sum-alone left n held none all = omega (arith, ap length none, all)
 
-module _ {B : Type 0} (c : Setup) (passes : List (PassStanding B)) (held : List (HeldStanding B)) (left : List ℕ) (closed : HasClosed c passes held left) where
+module _ {B : Type 0} (c : Setup) (given : List B) (passes : List (PassStanding B)) (held : List (HeldStanding B)) (left : List ℕ)
+    (closed : HasClosed c given passes held left) where
   -- where each has swept, the takes are the sends
   pub all-taken : All HasSwept passes → SendsAreTakes passes
   all-taken swept = sends-are-takes passes closed.takes closed.taken_once closed.sent_once closed.passed swept
 
   -- what all passes shared
-  pub have-shared : (Each : PassStanding B → Type 0) (most topics : ℕ) (shared : Identity B) → shared.setup ≡ c → c.rings ≡ topics + 1
+  pub have-shared : (Each : PassStanding B → Type 0) (most topics : ℕ) (shared : Identity B) → shared.setup ≡ c → given ≡ shared.given → c.rings ≡ topics + 1
       → All (λ p. p.queue ≡ shared) passes
       → ((w : ℕ) (p : PassStanding B) → slice_get passes w ≡ Some p → p.number ≡ w) → NoneSpent passes → All HasSwept passes
       → All (λ p. HoldsNothingAtEachFull p.calls) passes → All Each passes → All (λ p. MeetsNoSpent p.calls) passes → All (IsBounded most) passes → held ≡ []
       → HaveShared Each most topics c passes left
-  have-shared Each most topics shared setup rings queues numbers unspent swept alone each no_spent bounded none =
+  have-shared Each most topics shared setup same_given rings queues numbers unspent swept alone each no_spent bounded none =
       let same = all-taken swept in
       let nothing : NothingIsLeft topics left = nothing-is-left c passes topics left rings closed.balance same in
       record {
         one = (shared, setup, queues);
         numbers = numbers;
-        run = closed.run;
+        run = (
+          closed.run.0,
+          closed.run.1,
+          subst (λ (bs : List B). IsOneRunToTheEnd c (opening_of closed.run.0 bs) (callers_of passes) (records_of passes) (all_held passes)
+              closed.run.1) same_given closed.run.2,
+        );
         alone = alone;
         fulls = closed.fulls;
         each = each;

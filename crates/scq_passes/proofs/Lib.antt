@@ -10,6 +10,7 @@ pub mod Since
 pub mod Retired
 pub mod LeftLemmas
 pub mod Sweeps
+pub mod InRun
 pub mod Vain
 pub mod ManyLists
 pub mod SendsAndTakes

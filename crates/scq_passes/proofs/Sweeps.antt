@@ -1,13 +1,18 @@
 -- Sweeps, from the takes that they are made of.
-use Rattle.std.proofs.Common.{◌≡◌, sym, ◌∙◌, ap, suc, ℕ, ◌+◌, ◌<◌, List, [], ◌∷◌, ◌++◌, append_assoc}
+use Rattle.std.proofs.Common.{◌≡◌, sym, ◌∙◌, ap, arith, zero, suc, ℕ, ◌<◌, List, [], ◌∷◌, ◌++◌, length, false, append_assoc}
+use Rattle.std.specs.Prelude.{◌==◌}
 use Rattle.std.proofs.lemmas.List.{append-nil}
 use Rattle.scq_core.specs.declared.ended.Ended.{Ended}
 use Rattle.scq_core.specs.declared.ended.Ended.TheVariants.{Nothing}
 use Rattle.scq_queue.specs.Lists.{takes_of}
-use Rattle.scq_queue.specs.Passes.{PassStanding, after_look, having_seen}
+use Rattle.scq_band.specs.Buffers.{opening_of}
+use Rattle.scq_band.specs.RunSeen.{IsReadingInRun}
+use Rattle.scq_band.specs.Standing.{Identity}
+use Rattle.scq_queue.specs.Passes.{PassStanding, after_look, having_seen, caller_of}
 use Rattle.scq_queue.proofs.Records.{takes-append}
 use Rattle.scq_passes.specs.Records.{Puts}
-use Rattle.scq_passes.specs.Leaving.{TookNothing, FoundTopicEmpty, IsSweep, HasIdled, no_sweep, and_idle}
+use Rattle.scq_passes.specs.Leaving.{TookNothing, FoundTopicEmpty, HasOnlyCalled, IsSweep}
+use Rattle.scq_passes.specs.Waiting.{TookMore}
 use Rattle.scq_passes.specs.Calls.{HasTakenFollowed}
 use Rattle.scq_passes.proofs.Kept.{taken-calls}
 
@@ -43,20 +48,26 @@ module _ {B : Type 0} where
   }
 
   -- the pass asked, and then took from each topic until it was empty
-  pub sweep-of : {By : Puts} (topics found : ℕ) (p looked q : PassStanding B) → looked ≡ having_seen looked.seen (after_look found p)
-      → HasTakenFollowed By looked q
-      → ((topic : ℕ) → topic < topics → FoundTopicEmpty topic looked q) → IsSweep By topics found p q
-  sweep-of topics found p looked q is taken empty = record { asked = looked; answer = is; taken = taken; empty = empty }
+  pub sweep-of : {contents : B → List ℕ} {queue : Identity B} {By : Puts} (topics found : ℕ) (p looked q : PassStanding B)
+      → looked ≡ having_seen looked.seen (after_look found p)
+      → IsReadingInRun queue.setup (opening_of contents queue.given) p.retired (caller_of p) (caller_of looked) found
+      → HasTakenFollowed By looked q → HasOnlyCalled contents queue looked q
+      → ((topic : ℕ) → topic < topics → FoundTopicEmpty topic looked q) → IsSweep contents queue By topics found p q
+  sweep-of topics found p looked q is reading taken only empty =
+      record { asked = looked; answer = is; reading = reading; taken = taken; only = only; empty = empty }
 
-  -- it took nothing, in this sweep and in those before
-  pub idle-more : {By : Puts} (topics count found : ℕ) (p old looked q : PassStanding B) → HasIdled By topics count p old
-      → looked ≡ having_seen looked.seen (after_look found old) → IsSweep By topics found old q → TookNothing looked q → HasIdled By topics (count + 1) p q
-  idle-more topics count found p old looked q idled is sweep none = record {
-    first = idled.first;
-    before = idled.before;
-    idle = and_idle found idled.idle sweep (none ∙ ap (λ (x : PassStanding B). takes_of x.calls) is);
-  }
+  -- it took nothing since it was about to ask, or something
+  pub took-nothing : (found : ℕ) (p looked q : PassStanding B) → looked ≡ having_seen looked.seen (after_look found p)
+      → TookNothing looked q → TookNothing p q
+  took-nothing found p looked q is none = none ∙ ap (λ (x : PassStanding B). takes_of x.calls) is
 
-  -- a sweep took something
-  pub idle-none : {By : Puts} (topics : ℕ) (p q : PassStanding B) → HasTakenFollowed By p q → HasIdled By topics 0 p q
-  idle-none topics p q taken = record { first = q; before = taken; idle = no_sweep q }
+  pub took-some : (found : ℕ) (p looked q : PassStanding B) → looked ≡ having_seen looked.seen (after_look found p)
+      → TookMore looked q → TookNothing p q → ⊥
+  took-some found p looked q is more none =
+      let same = ap (λ (x : PassStanding B). length (takes_of x.calls)) is in
+      omega (arith, more, ap length none, same)
+
+-- not all had retired
+pub some-left : (found : ℕ) → (found == 0) ≡ false → 0 < found
+some-left zero is = absurd (cc)
+some-left (suc n) is = omega arith

@@ -30,12 +30,11 @@ module _ {B : Type 0} where
   vain-none topic p q is = let all = ap vain_takes is ∙ vain-more p.calls (Nothing (suc topic)) in omega (arith, all)
 
   -- a take that got something, and gave it back
-  pub vain-got : (contents : B → List ℕ) (topic place : ℕ) (p q r : PassStanding B) (h : HeldStanding B) → HasGot contents (suc topic) place p q h
-      → WasGivenBack (contents h.buffer) h.index q r → TookInVain 0 p r × TookMore p r
-  vain-got contents topic place p q r h got back =
-      let bytes = contents h.buffer in
-      let first = Got (suc topic) place bytes in
-      let last = Done 0 back.place bytes in
+  pub vain-got : (contents : B → List ℕ) (topic place : ℕ) (later : List ℕ) (p q r : PassStanding B) (h : HeldStanding B)
+      → HasGot contents (suc topic) place p q h → WasGivenBack later h.index q r → TookInVain 0 p r × TookMore p r
+  vain-got contents topic place later p q r h got back =
+      let first = Got (suc topic) place (contents h.buffer) in
+      let last = Done 0 back.place later in
       let calls : r.calls ≡ (p.calls ++ first ∷ []) ++ last ∷ [] =
       ap (λ (x : PassStanding B). x.calls) back.pass ∙ ap (λ (x : PassStanding B). x.calls ++ last ∷ []) got.pass in
       let all = ap vain_takes calls ∙ vain-more (p.calls ++ first ∷ []) last in

@@ -4,9 +4,10 @@ use Rattle.std.specs.Prelude.{◌≡◌, ℕ, ◌+◌, ◌^◌, List, length, So
 use Rattle.std.specs.Global.{Global}
 use Rattle.scq_word.specs.declared.setup.Setup.{Setup}
 use Rattle.scq_word.specs.Sizes.{n_of}
-use Rattle.scq_band.specs.Closing.{IsOneRun}
+use Rattle.scq_band.specs.Buffers.{opening_of}
+use Rattle.scq_band.specs.Closing.{IsOneRunToTheEnd}
 use Rattle.scq_band.specs.Standing.{Identity}
-use Rattle.scq_queue.specs.Closing.{AllFullsStand, IsBalance, callers_of}
+use Rattle.scq_queue.specs.Closing.{AllFullsStand, IsBalance, all_held, callers_of, records_of}
 use Rattle.scq_queue.specs.Lists.{sends_of, takes_of}
 use Rattle.scq_queue.specs.Passes.{PassStanding}
 use Rattle.scq_queue.specs.declared.counts.Counts.{Counts}
@@ -32,9 +33,11 @@ module _ {B : Type 0} where
     -- they are the passes of one queue, in the order of their numbers
     pub one : (queue : Identity B) × (queue.setup ≡ c) × All (λ p. p.queue ≡ queue) passes
     pub numbers : (w : ℕ) (p : PassStanding B) → slice_get passes w ≡ Some p → p.number ≡ w
-    -- one run of the rings' steps stands behind all their calls: its history has the four aspects, and the calls of each ring stand in
-    -- one order, in which every reply is a plain queue's
-    pub run : (opening : List (List ℕ)) × IsOneRun c opening (callers_of passes)
+    -- one run of the rings' steps stands behind all their calls, from the bytes that the buffers had when the queue was made to those
+    -- (`bytes`) that they have at the end: its history has the four aspects, and the calls of each ring stand in one order, in which
+    -- every reply is a plain queue's
+    pub run : (contents : B → List ℕ) × (bytes : List (List ℕ)) × IsOneRunToTheEnd c (opening_of contents one.0.given) (callers_of passes)
+        (records_of passes) (all_held passes) bytes
     -- each Full stands where the pass held nothing. The record has as many Fulls as the list.
     pub alone : All (λ p. HoldsNothingAtEachFull p.calls) passes
     pub fulls : AllFullsStand passes

@@ -1,11 +1,15 @@
--- How a worker sweeps the topics, and when it leaves.
+-- How a worker sweeps the topics, and when it leaves. The queue is that of the pass, and `contents`
+-- tells the bytes of its buffers.
 use Rattle.std.specs.Prelude.{◌≡◌, ◌⊎◌, ℕ, suc, ◌+◌, ◌<◌, List, [], ◌∷◌, ◌++◌}
 use Rattle.scq_core.specs.declared.ended.Ended.{Ended}
 use Rattle.scq_core.specs.declared.ended.Ended.TheVariants.{Nothing}
+use Rattle.scq_band.specs.Buffers.{opening_of}
+use Rattle.scq_band.specs.RunSeen.{IsCallInRun, IsReadingInRun}
+use Rattle.scq_band.specs.Standing.{Identity}
 use Rattle.scq_queue.specs.Lists.{takes_of}
-use Rattle.scq_queue.specs.Passes.{PassStanding, after_look, having_seen}
+use Rattle.scq_queue.specs.Passes.{PassStanding, after_look, having_seen, caller_of}
 use Rattle.scq_passes.specs.Records.{Puts}
-use Rattle.scq_passes.specs.Calls.{HasTakenFollowed}
+use Rattle.scq_passes.specs.Calls.{HasTakenFollowed, after_retire}
 
 module _ {B : Type 0} where
   -- the pass took nothing meanwhile
@@ -18,30 +22,58 @@ module _ {B : Type 0} where
     pub after : List Ended
     pub calls : new.calls ≡ ((old.calls ++ before) ++ Nothing (suc topic) ∷ []) ++ after
 
-  -- a sweep: the pass asked whether all had retired, when so many had not, and then took from so many topics, each until it was empty. Such puts
-  -- follow the takes
-  pub record IsSweep (By : Puts) (topics found : ℕ) (old new : PassStanding B) : Type 0 where
+  -- it made calls meanwhile, one or more, and asked nothing. They stand in the run one behind the
+  -- other, the first behind all that the pass had seen
+  pub record HasOnlyCalled (contents : B → List ℕ) (queue : Identity B) (old new : PassStanding B)
+      : Type 0 where
+    pub in_run : IsCallInRun queue.setup (opening_of contents queue.given) (caller_of old)
+        (caller_of new)
+    pub gates : new.gates ≡ old.gates
+    pub gate : new.gate ≡ old.gate
+
+  -- a sweep: the pass asked whether all had retired, when so many had not, as a reading in the run;
+  -- behind that reading it took from so many topics, each until it was empty, and asked no more. Such
+  -- puts follow the takes
+  pub record IsSweep (contents : B → List ℕ) (queue : Identity B) (By : Puts) (topics found : ℕ)
+      (old new : PassStanding B) : Type 0 where
     pub asked : PassStanding B
     pub answer : asked ≡ having_seen asked.seen (after_look found old)
+    pub reading : IsReadingInRun queue.setup (opening_of contents queue.given) old.retired
+        (caller_of old) (caller_of asked) found
     pub taken : HasTakenFollowed By asked new
+    pub only : HasOnlyCalled contents queue asked new
     pub empty : (topic : ℕ) → topic < topics → FoundTopicEmpty topic asked new
 
-  -- so many sweeps in a row that took nothing
-  pub data AreIdle (By : Puts) (topics : ℕ) : ℕ → PassStanding B → PassStanding B → Type 0 where
-    no_sweep : (p : PassStanding B) → AreIdle By topics 0 p p
-    and_idle : {count : ℕ} {first old new : PassStanding B} (found : ℕ)
-        → AreIdle By topics count first old → IsSweep By topics found old new → TookNothing old new → AreIdle By topics (count + 1) first new
+  -- sweeps in a row, each begun where the one before ended, of which just the last `idle` took
+  -- nothing. The worker went on after each: not all had retired before it, and where it took nothing
+  -- the number of such in a row `Goes` on
+  pub data AreSweeps (contents : B → List ℕ) (queue : Identity B) (By : Puts) (topics : ℕ)
+      (Goes : ℕ → Type 0) : ℕ → PassStanding B → PassStanding B → Type 0 where
+    no_sweep : (p : PassStanding B) → AreSweeps contents queue By topics Goes 0 p p
+    and_some : {idle : ℕ} {first old new : PassStanding B} (found : ℕ)
+        → AreSweeps contents queue By topics Goes idle first old
+        → IsSweep contents queue By topics found old new → 0 < found → (TookNothing old new → ⊥)
+        → AreSweeps contents queue By topics Goes 0 first new
+    and_idle : {idle : ℕ} {first old new : PassStanding B} (found : ℕ)
+        → AreSweeps contents queue By topics Goes idle first old
+        → IsSweep contents queue By topics found old new → 0 < found → TookNothing old new
+        → Goes (idle + 1) → AreSweeps contents queue By topics Goes (idle + 1) first new
 
-  -- its last sweeps, so many, took nothing
-  pub record HasIdled (By : Puts) (topics count : ℕ) (old new : PassStanding B) : Type 0 where
-    pub first : PassStanding B
-    pub before : HasTakenFollowed By old first
-    pub idle : AreIdle By topics count first new
-
-  -- it has left after a sweep before which all had retired, or after so many in a row that took nothing
-  pub record HasSweptLast (By : Puts) (topics most : ℕ) (old new : PassStanding B) : Type 0 where
+  -- it swept, and left after the first sweep before which all had retired, or where so many in a row
+  -- took nothing
+  pub record HasSweptLast (contents : B → List ℕ) (queue : Identity B) (By : Puts)
+      (topics most : ℕ) (old new : PassStanding B) : Type 0 where
+    pub idle : ℕ
     pub begun : PassStanding B
-    pub before : HasTakenFollowed By old begun
+    pub before : AreSweeps contents queue By topics (λ n. n < most) idle old begun
     pub found : ℕ
-    pub sweep : IsSweep By topics found begun new
-    pub why : (found ≡ 0) ⊎ HasIdled By topics most old new
+    pub sweep : IsSweep contents queue By topics found begun new
+    pub why : (found ≡ 0) ⊎ ((idle + 1 ≡ most) × TookNothing begun new)
+
+  -- the pass of a worker that has left so: it had asked nothing before it retired, and from there on
+  -- it swept
+  pub record HasLeftSwept (contents : B → List ℕ) (By : Puts) (topics most : ℕ) (p : PassStanding B)
+      : Type 0 where
+    pub before : PassStanding B
+    pub unasked : before.gates ≡ 0
+    pub swept : HasSweptLast contents p.queue By topics most (after_retire before) p

@@ -107,7 +107,7 @@ module _ {B : Type 0} where
       ∙ no-firsts ws (λ v has. each v (contains-more w v ws has))
 
   module _ (c : Setup) (shared : Identity B) (works : List (Work B)) (done : AllDone c shared works) (left : List ℕ)
-      (closed : HasClosed c (passes_in works) (held_in works) left) where
+      (closed : HasClosed c shared.given (passes_in works) (held_in works) left) where
     passes-same : passes_of (map counted works) ≡ passes_in works
     passes-same = map-map (λ (w : ℕ × PassStanding B). w.1) counted works
 
@@ -202,7 +202,7 @@ module _ {B : Type 0} where
     -- whatever the workers met
     pub all-shared : HaveShared KeepsStages (2 ^ 37) 2 c (passes_in works) left
     all-shared =
-        have-shared c (passes_in works) (held_in works) left closed KeepsStages (2 ^ 37) 2 shared done.setup done.rings
+        have-shared c shared.given (passes_in works) (held_in works) left closed KeepsStages (2 ^ 37) 2 shared done.setup refl done.rings
         (All-map (λ (p : PassStanding B). p.queue ≡ shared) (λ (w : Work B). w.pass) works (λ k d less. (done.each k d less).queue))
         pass-numbers unspent (of-passes HasSwept (λ w e. e.swept))
         (of-passes (λ (p : PassStanding B). HoldsNothingAtEachFull p.calls) (λ w e. e.leaving.between.alone))
@@ -236,7 +236,7 @@ module _ {B : Type 0} where
       once =
           IsPermutation-trans (map without_way (finished_in (lists_in works))) (map handled_of (messages_in works)) (map handled_of (flat_map (λ own. own) given))
           (all-finished works all-moving closed.takes all-works (no-place-twice (passes_in works) closed.sent_once) closed.taken_once
-          (all-taken c (passes_in works) (held_in works) left closed (of-passes HasSwept (λ w e. e.swept))))
+          (all-taken c shared.given (passes_in works) (held_in works) left closed (of-passes HasSwept (λ w e. e.swept))))
           (IsPermutation-map handled_of (messages_in works) (flat_map (λ own. own) given)
           (IsPermutation-sym (flat_map (λ own. own) given) (messages_in works) all))
 

@@ -114,6 +114,7 @@ module _ {B : Type 0} where
       let takes : (t : ℕ) → on t (takes_of q.calls) ≡ on t (takes_of p.calls) = λ t. ap (on t) (sent-takes first So p q h) in
       record {
         helps = subst HelpsJustSecondThenFirst (sym calls) (after-sent JustBoth p.calls h.from 1 h.place h.over h.bytes was.helps);
+        unasked = ap (λ (x : PassStanding B). x.gates) h.pass ∙ was.unasked;
         between = between-sent first So p q was.between within h;
         few_calls = subst (λ n. HasFewStageCalls 0 n q) (sym (length-append messages (m ∷ []))) (few_calls-sent (length messages) So p q h was.few_calls);
         moves = subst (λ l. MovesSoFar l (on second (sends_of q.calls))) (sym (takes first))
@@ -156,14 +157,15 @@ module _ {B : Type 0} where
   -- and helped
   pub work-helped : (messages : List Message) (m : Message) (head : ℕ) (p q r : PassStanding B) (was mid is : List Finished) (before after : Bool)
       → IsAtWork messages p was before → HasFoundFull head p q → HasTakenOrMoved q r → filter_map take_topic (since q r) ≡ second ∷ first ∷ []
-      → HasMovedIts q r → (after ≡ false → before ≡ false) → (after ≡ false → mid ≡ was ++ finished (Direct head) both (whole_of m) ∷ [])
+      → HasMovedIts q r → r.gates ≡ q.gates → (after ≡ false → before ≡ false) → (after ≡ false → mid ≡ was ++ finished (Direct head) both (whole_of m) ∷ [])
       → (after ≡ false → HasFinishedOnlySeconds q r mid is)
       → IsAtWork (messages ++ m ∷ []) r is after
-  work-helped messages m head p q r was mid is before after work full taken each moved fed_before grown helped =
+  work-helped messages m head p q r was mid is before after work full taken each moved gates fed_before grown helped =
       let calls : r.calls ≡ (p.calls ++ Nothing 0 ∷ []) ++ taken.block = taken-calls q r taken ∙ ap (λ l. l ++ taken.block) (full-calls head p q full) in
       let up : JustBoth taken.block = ap (filter_map take_topic) (sym (since-taken q r taken)) ∙ each in
       record {
         helps = subst HelpsJustSecondThenFirst (sym calls) (after-helped JustBoth p.calls taken.block taken.are up work.helps);
+        unasked = gates ∙ ap (λ (x : PassStanding B). x.gates) full.pass ∙ work.unasked;
         between = between-taken q r (between-full head p q work.between full) taken;
         few_calls = subst (λ n. HasFewStageCalls 0 n r) (sym (length-append messages (m ∷ [])))
             (few_calls-moved (length messages + 1) q r taken (few_calls-full (length messages) head p q full work.few_calls));
@@ -179,9 +181,9 @@ module _ {B : Type 0} where
 
   -- it moved what was in first, until nothing was there
   pub work-done : (messages : List Message) (p q : PassStanding B) (before : List Ended) (was is : List Finished) (starved wanted : Bool)
-      → IsAtWork messages p was starved → HasTakenOrMoved p q → HasMovedIts p q → HasFinishedOnlySeconds p q was is → (wanted ≡ false → starved ≡ false)
+      → IsAtWork messages p was starved → HasTakenOrMoved p q → q.gates ≡ p.gates → HasMovedIts p q → HasFinishedOnlySeconds p q was is → (wanted ≡ false → starved ≡ false)
       → q.calls ≡ before ++ Nothing (suc first) ∷ [] → (known_on first q).finished < (known_on first q).head → IsDone messages q is wanted
-  work-done messages p q before was is starved wanted work taken moved helped fed_before emptied past =
+  work-done messages p q before was is starved wanted work taken gates moved helped fed_before emptied past =
       record {
         moved = record {
           moved_all = record {
@@ -192,6 +194,7 @@ module _ {B : Type 0} where
             emptied = emptied;
           };
           past = past;
+          unasked = gates ∙ work.unasked;
           between = between-taken p q work.between taken;
           few_calls = few_calls-moved (length messages) p q taken work.few_calls;
           moves = moves-on p q taken moved work.moves;

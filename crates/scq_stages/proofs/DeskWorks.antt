@@ -104,11 +104,11 @@ module _ {B S : Type 0} where
       few = omega (arith, sum_by-map (λ (w : Work B). length w.messages) work_of desks, few-in-all [] size faults end_count left sources desks all-read);
     }
 
-    module _ (left_in : List ℕ) (closed : HasClosed c (passes_at desks) (held_at desks) left_in) where
-      closed-so : HasClosed c (passes_in works) (held_in works) left_in
+    module _ (left_in : List ℕ) (closed : HasClosed c shared.given (passes_at desks) (held_at desks) left_in) where
+      closed-so : HasClosed c shared.given (passes_in works) (held_in works) left_in
       closed-so =
-          subst (λ (hs : List (HeldStanding B)). HasClosed c (passes_in works) hs left_in) (sym works-held)
-          (subst (λ (ps : List (PassStanding B)). HasClosed c ps (held_at desks) left_in) (sym works-passes) closed)
+          subst (λ (hs : List (HeldStanding B)). HasClosed c shared.given (passes_in works) hs left_in) (sym works-held)
+          (subst (λ (ps : List (PassStanding B)). HasClosed c shared.given ps (held_at desks) left_in) (sym works-passes) closed)
 
       -- whatever the workers met
       pub desks-shared : HaveShared KeepsStages (2 ^ 37) 2 c (passes_at desks) left_in

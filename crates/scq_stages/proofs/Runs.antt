@@ -49,6 +49,7 @@ module _ {B : Type 0} where
       (subst (λ (l : List Finished). IsAtWork [] (first_pass shared number) l starved) (sym new)
       (record {
         helps = λ before after at. absurd (no-call before after (Nothing 0) at);
+        unasked = refl;
         between = record {
           alone = λ before after at. absurd (no-call before after (Nothing 0) at);
           even = refl;

@@ -1,11 +1,11 @@
 -- Desks whose files were dealt or taken off have the workers that they had; and what is held at all desks together.
 use Rattle.std.proofs.Common.{◌≡◌, refl, sym, ◌∙◌, ap, subst, arith, zero, suc, ℕ, ◌+◌, ◌<◌, List, [], ◌∷◌, length, map, get_or, Option, Some, None}
-use Rattle.std.specs.Prelude.{slice_index_or, flat_map, sum_by, IfSome, Vec}
+use Rattle.std.specs.Prelude.{slice_index_or, flat_map, sum_by, IfSome, IsSome, Vec}
 use Rattle.std.specs.Global.{Global}
 use Rattle.std.specs.List.{All}
 use Rattle.std.specs.Option.{option_to_list}
 use Rattle.std.proofs.lemmas.List.{length-map, get_or-map, map-append}
-use Rattle.std.proofs.lemmas.List.Elements.{All-map, All-nil, All-cons, All-append}
+use Rattle.std.proofs.lemmas.List.Elements.{All-map, All-nil, All-cons, All-head, All-tail, All-append}
 use Rattle.std.proofs.lemmas.List.Folds.{flat_map-map}
 use Rattle.std.proofs.lemmas.List.Sums.{sum_by-cons}
 use Rattle.std.proofs.lemmas.Option.{slice_get_within, get_or_from_slice_get}
@@ -18,6 +18,7 @@ use Rattle.scq_files.specs.Desks.{workers_at}
 use Rattle.scq_files.specs.declared.desk.Desk.{Desk}
 use Rattle.scq_files.proofs.Lists.{map-map}
 use Rattle.scq_passes.specs.Calls.{index_of}
+use Rattle.scq_passes.specs.Together.{NoneSpent}
 use Rattle.scq_passes.proofs.FirstPasses.{first-length, first-at}
 use Rattle.scq_stages.specs.declared.finished.Finished.{Finished}
 use Rattle.scq_stages.specs.declared.seating.Seated.{Seated}
@@ -93,3 +94,25 @@ module _ {B S : Type 0} where
         (held-own shared desks own k h (slice_get_within (held_at desks) k h is));
     all = λ i. held-times i desks held;
   }
+
+-- what holds of the pass of each worker that met no ticket past the limit holds of all passes, where none met one
+pub all-behind : {B S : Type 0} (P : PassStanding B → Type 0) (desks : List (Desk (Seated B) S))
+    → All (λ (d : Desk (Seated B) S). d.worker.worker.pass.spent ≡ None → P d.worker.worker.pass) desks
+    → NoneSpent (passes_at desks) → All P (passes_at desks)
+all-behind P [] each none = All-nil P
+all-behind {B} {S} P (d ∷ desks) each none =
+    let Q : Desk (Seated B) S → Type 0 = λ e. e.worker.worker.pass.spent ≡ None → P e.worker.worker.pass in
+    let R : PassStanding B → Type 0 = λ x. x.spent ≡ None in
+    All-cons P d.worker.worker.pass (passes_at desks)
+    (All-head Q d desks each (All-head R d.worker.worker.pass (passes_at desks) none))
+    (all-behind P desks (All-tail Q d desks each) (All-tail R d.worker.worker.pass (passes_at desks) none))
+
+-- what is there, with what holds of it
+pub record Shown {X : Type 0} (o : Option X) (P : X → Type 0) : Type 0 where
+  pub it : X
+  pub same : o ≡ Some it
+  pub holds : P it
+
+pub some-of : {X : Type 0} (o : Option X) (P : X → Type 0) → IsSome o → IfSome o P → Shown o P
+some-of None P there so = absurd (cc)
+some-of (Some x) P there so = record { it = x; same = refl; holds = so }

@@ -39,19 +39,22 @@ module _ {B : Type 0} where
     pub firsts : filter is_first members ≡ []
     pub directs : DirectsAre p.fulls members
 
-  -- a worker that has passed on these messages and goes on: its pass, and unless it wanted memory its list
+  -- a worker that has passed on these messages and goes on: its pass, which never asked whether all had retired, and unless it wanted
+  -- memory its list
   pub record IsAtWork (messages : List Message) (p : PassStanding B) (members : List Finished) (starved : Bool) : Type 0 where
     pub helps : HelpsJustSecondThenFirst p.calls
+    pub unasked : p.gates ≡ 0
     pub between : IsBetweenParts p
     pub few_calls : HasFewStageCalls 0 (length messages) p
     pub moves : MovesSoFar (on first (takes_of p.calls)) (on second (sends_of p.calls))
     pub follows : EachHasItsCall IsNextOf is_next messages p.calls
     pub listed : starved ≡ false → HasListed messages p members
 
-  -- the pass of a worker that has moved all that was in first, and is about to retire
+  -- the pass of a worker that has moved all that was in first, and is about to retire; it never asked whether all had
   pub record HasMovedAll (messages : List Message) (p : PassStanding B) : Type 0 where
     pub moved_all : FoundFirstEmpty p.calls
     pub past : (known_on first p).finished < (known_on first p).head
+    pub unasked : p.gates ≡ 0
     pub between : IsBetweenParts p
     pub few_calls : HasFewStageCalls 0 (length messages) p
     pub moves : MovesSoFar (on first (takes_of p.calls)) (on second (sends_of p.calls))

@@ -1,6 +1,9 @@
 //! The work of all workers, each in a thread.
-ghost use Rattle.std.specs.Prelude.{◌≡◌, ℕ, ◌+◌, ◌<◌, ◌≤◌, length, slice_index_or};
+ghost use Rattle.std.specs.Prelude.{◌≡◌, ℕ, ◌+◌, ◌<◌, ◌≤◌, None, length, slice_index_or};
 ghost use Rattle.std.specs.List.{All};
+ghost use Rattle.scq_block.specs.Frames.{bytes_of};
+ghost use Rattle.scq_passes.specs.Leaving.{HasLeftSwept};
+ghost use Rattle.scq_passes.specs.Records.{IsGivenBack};
 ghost use Rattle.scq_files.specs.OwnFiles.{IsNew, ids_of};
 ghost use Rattle.scq_stages.specs.Seats.{IsFresh};
 ghost use Rattle.scq_stages.specs.Working.{HasRun};
@@ -38,6 +41,7 @@ pub(crate) fn run_all<R: Threads + Sync, S: Source>(
         HasRun queue.now job.now.size S.faults S.ends S.left d.files.items d.worker.worker.pass
         d.worker.worker.members.items d.worker.worker.starved d.worker.kept)
         result.items }
+    ensures behind { All (λ d. d.worker.worker.pass.spent ≡ None → HasLeftSwept bytes_of IsGivenBack 2 64 d.worker.worker.pass) result.items }
 {
     let mut desks = desks;
     run_each(rt, alloc, job, queue, desks.as_mut_slice());
@@ -65,6 +69,7 @@ fn run_each<R: Threads + Sync, S: Source>(
         HasRun queue.now job.now.size S.faults S.ends S.left d.files.items d.worker.worker.pass
         d.worker.worker.members.items d.worker.worker.starved d.worker.kept)
         desks.new }
+    ensures behind { All (λ d. d.worker.worker.pass.spent ≡ None → HasLeftSwept bytes_of IsGivenBack 2 64 d.worker.worker.pass) desks.new }
 {
     let threads = desks.len();
     let run_one = |_: usize, desk: &mut Desk<Seated<Frame>, S>|
@@ -74,7 +79,8 @@ fn run_each<R: Threads + Sync, S: Source>(
             × (desk.exit.now.worker.worker.pass.number ≡ desk.entry.now.worker.worker.pass.number)
             × HasRun queue.entry.now job.entry.now.size S.faults S.ends S.left
             desk.exit.now.files.items desk.exit.now.worker.worker.pass
-            desk.exit.now.worker.worker.members.items desk.exit.now.worker.worker.starved desk.exit.now.worker.kept }
+            desk.exit.now.worker.worker.members.items desk.exit.now.worker.worker.starved desk.exit.now.worker.kept
+            × (desk.exit.now.worker.worker.pass.spent ≡ None → HasLeftSwept bytes_of IsGivenBack 2 64 desk.exit.now.worker.worker.pass) }
     { run(desk, alloc, job, queue) };
     thread::for_each_mut(rt, desks, threads, &run_one);
 }

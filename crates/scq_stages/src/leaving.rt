@@ -4,7 +4,8 @@ ghost use Rattle.scq_frames.specs.declared.message.Message.{Message as TheMessag
 ghost use Rattle.scq_queue.specs.Passes.{known_on};
 ghost use Rattle.scq_passes.specs.Records.{IsGivenBack};
 ghost use Rattle.scq_passes.specs.Calls.{Suits, HasLeftSo, TookNoneBelow, after_retire, takes_left};
-ghost use Rattle.scq_passes.specs.Leaving.{FoundTopicEmpty, HasSweptLast, TookNothing};
+ghost use Rattle.scq_passes.specs.Leaving.{FoundTopicEmpty, HasOnlyCalled, HasSweptLast, TookNothing};
+ghost use Rattle.scq_passes.specs.Waiting.{TookMore};
 ghost use Rattle.scq_stages.specs.Records.{first, second};
 ghost use Rattle.scq_stages.specs.Steps.{HasGivenBack, HasFinished};
 ghost use Rattle.scq_stages.specs.Working.{HasFewStageCalls, IsDone, IsLeaving};
@@ -30,6 +31,8 @@ impl<B: Buffer> Worker<B> {
             × ((known_on first self.old.pass).head < queue.now.setup.limit) }
         ensures empty { OnOk result ((known_on first self.new.pass).finished < (known_on first self.new.pass).head) }
         ensures found { OnOk result (FoundTopicEmpty first self.old.pass self.new.pass) }
+        ensures only { OnOk result (HasOnlyCalled B.contents queue.now self.old.pass self.new.pass) }
+        ensures more { result ≡ Ok true → TookMore self.old.pass self.new.pass }
         ensures nothing { result ≡ Ok false → TookNothing self.old.pass self.new.pass }
         ensures left { IfErr result (λ l. (messages : ℕ) → HasLeftSo HasFewStageCalls messages messages self.old.pass self.new.pass l.held) }
         ensures starved { self.new.starved ≡ false → self.old.starved ≡ false }
@@ -56,6 +59,8 @@ impl<B: Buffer> Worker<B> {
             × ((known_on second self.old.pass).head < queue.now.setup.limit) }
         ensures empty { OnOk result ((known_on second self.new.pass).finished < (known_on second self.new.pass).head) }
         ensures found { OnOk result (FoundTopicEmpty second self.old.pass self.new.pass) }
+        ensures only { OnOk result (HasOnlyCalled B.contents queue.now self.old.pass self.new.pass) }
+        ensures more { result ≡ Ok true → TookMore self.old.pass self.new.pass }
         ensures nothing { result ≡ Ok false → TookNothing self.old.pass self.new.pass }
         ensures left { IfErr result (λ l. (messages : ℕ) → HasLeftSo HasFewStageCalls messages messages self.old.pass self.new.pass l.held) }
         ensures starved { self.new.starved ≡ false → self.old.starved ≡ false }
@@ -81,6 +86,8 @@ impl<B: Buffer> Worker<B> {
         ensures some { result ≡ Ok true → takes_left queue.now.setup.limit 2 self.new.pass < takes_left queue.now.setup.limit 2 self.old.pass }
         ensures empty { OnOk result ((t : ℕ) → t < 2 → (known_on t self.new.pass).finished < (known_on t self.new.pass).head) }
         ensures found { OnOk result ((t : ℕ) → t < 2 → FoundTopicEmpty t self.old.pass self.new.pass) }
+        ensures only { OnOk result (HasOnlyCalled B.contents queue.now self.old.pass self.new.pass) }
+        ensures more { result ≡ Ok true → TookMore self.old.pass self.new.pass }
         ensures nothing { result ≡ Ok false → TookNothing self.old.pass self.new.pass }
         ensures left { IfErr result (λ l. (messages : ℕ) → HasLeftSo HasFewStageCalls messages messages self.old.pass self.new.pass l.held) }
         ensures starved { self.new.starved ≡ false → self.old.starved ≡ false }
@@ -98,7 +105,7 @@ impl<B: Buffer> Worker<B> {
             → HasFinished self.old.pass self.new.pass self.old.members.items self.new.members.items) }
         ensures below { OnOk result (TookNoneBelow first self.old.pass self.new.pass) }
         ensures empty { OnOk result ((t : ℕ) → t < 2 → (known_on t self.new.pass).finished < (known_on t self.new.pass).head) }
-        ensures swept { OnOk result (HasSweptLast IsGivenBack 2 64 self.old.pass self.new.pass) }
+        ensures swept { OnOk result (HasSweptLast B.contents queue.now IsGivenBack 2 64 self.old.pass self.new.pass) }
         ensures left { IfErr result (λ l. (messages : ℕ) → HasLeftSo HasFewStageCalls messages messages self.old.pass self.new.pass l.held) }
         ensures starved { self.new.starved ≡ false → self.old.starved ≡ false }
     {
@@ -120,7 +127,7 @@ impl<B: Buffer> Worker<B> {
         requires stays { self.old.pass.retired ≡ None }
         ensures taken { OnOk result (HasGivenBack (after_retire self.old.pass) self.new.pass) }
         ensures empty { OnOk result ((t : ℕ) → t < 2 → (known_on t self.new.pass).finished < (known_on t self.new.pass).head) }
-        ensures swept { OnOk result (HasSweptLast IsGivenBack 2 64 (after_retire self.old.pass) self.new.pass) }
+        ensures swept { OnOk result (HasSweptLast B.contents queue.now IsGivenBack 2 64 (after_retire self.old.pass) self.new.pass) }
         ensures leaving { OnOk result ((messages : List TheMessage) → IsDone messages self.old.pass self.old.members.items self.old.starved
             → IsLeaving messages self.old.pass self.new.pass self.new.members.items self.new.starved) }
         ensures left { IfErr result (λ l. (messages : ℕ)

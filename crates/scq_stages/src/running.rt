@@ -4,6 +4,8 @@ ghost use Rattle.scq_files.specs.Given.{given_in};
 ghost use Rattle.scq_files.specs.OwnFiles.{IsNew, ids_of, all_given};
 ghost use Rattle.scq_files.specs.Reading.{IsRead};
 ghost use Rattle.scq_passes.specs.Calls.{Suits};
+ghost use Rattle.scq_passes.specs.Leaving.{HasLeftSwept};
+ghost use Rattle.scq_passes.specs.Records.{IsGivenBack};
 ghost use Rattle.scq_stages.specs.Seats.{IsFresh};
 ghost use Rattle.scq_stages.specs.Working.{IsAtWork, IsDone, HasStopped, HasRun};
 
@@ -80,6 +82,7 @@ pub(crate) fn run<B: Buffer, S: Source>(
     ensures same { ids_of desk.new.files.items ≡ ids_of desk.old.files.items }
     ensures run { HasRun queue.now job.now.size S.faults S.ends S.left desk.new.files.items desk.new.worker.worker.pass
         desk.new.worker.worker.members.items desk.new.worker.worker.starved desk.new.worker.kept }
+    ensures behind { desk.new.worker.worker.pass.spent ≡ None → HasLeftSwept B.contents IsGivenBack 2 64 desk.new.worker.worker.pass }
     ensures number { desk.new.worker.worker.pass.number ≡ desk.old.worker.worker.pass.number }
 {
     let topics = Topics::none();

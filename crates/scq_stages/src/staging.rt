@@ -2,6 +2,10 @@
 ghost use Rattle.std.specs.Prelude.{◌≡◌, ℕ, ◌<◌, ◌≤◌, List, [], None, length, map, slice_index_or, vec_len, IfOk, IfErr, IfSome, IsErrOf, IsSomeAnd, OnOk};
 ghost use Rattle.std.specs.List.Sorted.{IsPermutation};
 ghost use Rattle.scq_frames.specs.declared.message.Message.{Message as TheMessage};
+ghost use Rattle.std.specs.List.{All};
+ghost use Rattle.scq_block.specs.Frames.{bytes_of};
+ghost use Rattle.scq_passes.specs.Leaving.{HasLeftSwept};
+ghost use Rattle.scq_passes.specs.Records.{IsGivenBack};
 ghost use Rattle.scq_files.specs.Ends.{AreGiven, HasMoved, all_left, messages_in};
 ghost use Rattle.scq_files.specs.Reading.{IsWhole};
 ghost use Rattle.scq_stages.specs.AllStages.{HasStaged, NothingIsStranded};
@@ -55,6 +59,10 @@ pub fn stage_work<R: Threads + Sync, S: Source>(
     // whose reading didn't stop for want of memory.
     ensures cause { IfErr result.result (λ fault. HasCause job.now.size S.faults S.ends S.left sources.items result.sources.items fault) }
     ensures memory_first { IfErr result.result (λ fault. MemoryIsFirst job.now.size S.faults S.ends S.left sources.items result.sources.items fault) }
+
+    // Each worker asked before each of its sweeps whether all had retired, and left after the first before which they had, or after 64 in a
+    // row that took nothing.
+    ensures behind { IfSome result.passes (λ passes. All (HasLeftSwept bytes_of IsGivenBack 2 64) passes.value.items) }
 {
     let Ok(room) = make_room(alloc, job, sources.len()) else {
         return StageEnd::starved(sources);

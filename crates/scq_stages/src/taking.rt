@@ -4,9 +4,12 @@ ghost use Rattle.std.specs.List.{filter_map};
 ghost use Rattle.scq_core.specs.declared.ended.Ended.{Ended as TheEnded};
 ghost use Rattle.scq_frames.specs.Encoded.{BeginsWith, part_at};
 ghost use Rattle.scq_queue.specs.Lists.{takes_of};
-ghost use Rattle.scq_queue.specs.Passes.{known_on, IsHeldBy, WasGivenBack, after_put, after_spent_put, having_seen};
+ghost use Rattle.scq_band.specs.Buffers.{opening_of};
+ghost use Rattle.scq_band.specs.RunSeen.{IsCallInRun};
+ghost use Rattle.scq_queue.specs.Passes.{caller_of, known_on, IsHeldBy, WasGivenBack, after_put, after_spent_put, having_seen};
 ghost use Rattle.scq_passes.specs.Calls.{Suits, HasLeftSo, TookNoneBelow, since};
-ghost use Rattle.scq_passes.specs.Leaving.{FoundTopicEmpty, TookNothing};
+ghost use Rattle.scq_passes.specs.Leaving.{FoundTopicEmpty, HasOnlyCalled, TookNothing};
+ghost use Rattle.scq_passes.specs.Waiting.{TookMore};
 ghost use Rattle.scq_stages.specs.Stages.{redacted, squeezed, both};
 ghost use Rattle.scq_stages.specs.Handling.{after};
 ghost use Rattle.scq_stages.specs.Members.{finished};
@@ -34,6 +37,8 @@ impl<B: Buffer> Worker<B> {
         requires pass { (self.old.pass.queue ≡ queue.now) × (self.old.pass.spent ≡ None) }
         requires held { IsHeldBy self.old.pass held }
         ensures given { OnOk result ((later : List ℕ) × WasGivenBack later held.index self.old.pass self.new.pass) }
+        ensures run { IsCallInRun queue.now.setup (opening_of B.contents queue.now.given)
+            (caller_of self.old.pass) (caller_of self.new.pass) }
         ensures finished { self.new.starved ≡ false → IfSome (part_at (B.contents held.buffer)) (λ part.
             self.new.members.items ≡ self.old.members.items ++ finished (StageWay.Second place) squeezed part ∷ []) }
         ensures passed_over { part_at (B.contents held.buffer) ≡ None → self.new.members.items ≡ self.old.members.items }
@@ -59,6 +64,8 @@ impl<B: Buffer> Worker<B> {
         requires pass { (self.old.pass.queue ≡ queue.now) × (self.old.pass.spent ≡ None) }
         requires held { IsHeldBy self.old.pass held }
         ensures given { OnOk result ((later : List ℕ) × WasGivenBack later held.index self.old.pass self.new.pass) }
+        ensures run { IsCallInRun queue.now.setup (opening_of B.contents queue.now.given)
+            (caller_of self.old.pass) (caller_of self.new.pass) }
         ensures finished { self.new.starved ≡ false → IfSome (part_at (B.contents held.buffer)) (λ part.
             self.new.members.items ≡ self.old.members.items ++ finished (StageWay.First place) both part ∷ []) }
         ensures passed_over { part_at (B.contents held.buffer) ≡ None → self.new.members.items ≡ self.old.members.items }
@@ -83,6 +90,7 @@ impl<B: Buffer> Worker<B> {
             × BeginsWith bytes (after redacted part))) }
         ensures passed_over { OnOk result (part_at (B.contents held.buffer) ≡ None
             → (later : List ℕ) × WasGivenBack later held.index self.old.pass self.new.pass) }
+        ensures gates { OnOk result (self.new.pass.gates ≡ self.old.pass.gates) }
         ensures back { IfErr result (λ l. IsSomeAnd l.held (λ h. (h.index ≡ held.index) × (h.queue ≡ held.queue)
             × ((ring : ℕ) × (ticket : ℕ) × ((ring ≡ 0) ⊎ (ring ≡ suc second))
             × (self.new.pass ≡ having_seen self.new.pass.seen (after_spent_put ring ticket self.old.pass))))) }
@@ -115,6 +123,8 @@ impl<B: Buffer> Worker<B> {
             × ((known_on second self.old.pass).head < queue.now.setup.limit) }
         ensures empty { result ≡ Ok false → (known_on second self.new.pass).finished < (known_on second self.new.pass).head }
         ensures found { result ≡ Ok false → FoundTopicEmpty second self.old.pass self.new.pass }
+        ensures only { OnOk result (HasOnlyCalled B.contents queue.now self.old.pass self.new.pass) }
+        ensures more { result ≡ Ok true → TookMore self.old.pass self.new.pass }
         ensures nothing { result ≡ Ok false → TookNothing self.old.pass self.new.pass }
         ensures left { IfErr result (λ l. (messages : ℕ) → HasLeftSo HasFewStageCalls messages messages self.old.pass self.new.pass l.held) }
         ensures starved { self.new.starved ≡ false → self.old.starved ≡ false }
@@ -136,6 +146,7 @@ impl<B: Buffer> Worker<B> {
         ensures taken { OnOk result (HasTakenOrMoved self.old.pass self.new.pass) }
         ensures one { OnOk result (filter_map take_topic (since self.old.pass self.new.pass) ≡ first ∷ []) }
         ensures moves { OnOk result (HasMovedIts self.old.pass self.new.pass) }
+        ensures gates { OnOk result (self.new.pass.gates ≡ self.old.pass.gates) }
         ensures helped { OnOk result (HasFinishedOnlySeconds self.old.pass self.new.pass self.old.members.items self.new.members.items) }
         ensures same { (self.new.members.items ≡ self.old.members.items) × (self.new.starved ≡ self.old.starved) }
         ensures some { result ≡ Ok true → ((known_on first self.old.pass).head < (known_on first self.new.pass).head)
@@ -165,6 +176,8 @@ impl<B: Buffer> Worker<B> {
             × ((known_on first self.old.pass).head < queue.now.setup.limit) }
         ensures empty { result ≡ Ok false → (known_on first self.new.pass).finished < (known_on first self.new.pass).head }
         ensures found { result ≡ Ok false → FoundTopicEmpty first self.old.pass self.new.pass }
+        ensures only { OnOk result (HasOnlyCalled B.contents queue.now self.old.pass self.new.pass) }
+        ensures more { result ≡ Ok true → TookMore self.old.pass self.new.pass }
         ensures nothing { result ≡ Ok false → TookNothing self.old.pass self.new.pass }
         ensures left { IfErr result (λ l. (messages : ℕ) → HasLeftSo HasFewStageCalls messages messages self.old.pass self.new.pass l.held) }
         ensures starved { self.new.starved ≡ false → self.old.starved ≡ false }
@@ -186,6 +199,7 @@ impl<B: Buffer> Worker<B> {
         ensures taken { OnOk result (HasTakenOrMoved self.old.pass self.new.pass) }
         ensures each { OnOk result (filter_map take_topic (since self.old.pass self.new.pass) ≡ second ∷ first ∷ []) }
         ensures moves { OnOk result (HasMovedIts self.old.pass self.new.pass) }
+        ensures gates { OnOk result (self.new.pass.gates ≡ self.old.pass.gates) }
         ensures helped { OnOk result (self.new.starved ≡ false
             → HasFinishedOnlySeconds self.old.pass self.new.pass self.old.members.items self.new.members.items) }
         ensures left { IfErr result (λ l. (messages : ℕ) → HasLeftSo HasFewStageCalls messages messages self.old.pass self.new.pass l.held) }

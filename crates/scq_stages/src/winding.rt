@@ -1,5 +1,5 @@
 //! The end of the stages, once each worker has done its own work.
-ghost use Rattle.std.specs.Prelude.{◌≡◌, ℕ, ◌^◌, ◌<◌, ◌≤◌, ◌||◌, List, [], None, Some, false, length, map, slice_index_or, vec_len, vec_capacity, IfOk, IfErr, IfSome, IsErrOf, IsSomeAnd, OnOk};
+ghost use Rattle.std.specs.Prelude.{◌≡◌, ℕ, ◌^◌, ◌<◌, ◌≤◌, ◌||◌, List, [], None, Some, false, length, map, slice_index_or, vec_len, vec_capacity, IfOk, IfErr, IfSome, IsSome, IsErrOf, IsSomeAnd, OnOk};
 ghost use Rattle.std.specs.List.{All};
 ghost use Rattle.std.specs.List.Sorted.{IsPermutation};
 ghost use Rattle.scq_block.specs.Blocks.{AreAllOf};
@@ -92,6 +92,9 @@ pub(crate) fn wind_up<S: Source>(
         × HasStaged job.now.workers given s) }
     ensures left { IfSome result.left (λ left. IsSomeAnd result.passes (λ passes.
         NothingIsStranded job.now.order job.now.workers passes.value.items left.items)) }
+    ensures passes { IfSome result.passes (λ passes. passes.value.items ≡ map (λ d. d.worker.worker.pass) desks.items) }
+    ensures there { IsSome result.passes }
+    ensures closed { IsSome result.left }
     ensures none { result.left ≡ None → IsErrOf result.result StageFault.NoMemory }
     ensures same { IfOk result.result (λ s. IsSomeAnd result.passes (λ passes. passes.value.items ≡ s.passes.value.items)) }
     ensures cause { IfErr result.result (λ fault. HasCause job.now.size S.faults S.ends S.left laid.was.value.items result.sources.items fault) }

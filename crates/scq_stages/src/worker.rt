@@ -1,7 +1,9 @@
 //! A worker of the stages: what it makes of a message itself, and of what it takes.
 ghost use Rattle.std.specs.Prelude.{◌≡◌, ℕ, suc, ◌+◌, ◌≤◌, ◌++◌, ◌∷◌, [], true, false, length, take, drop, Some, None, IfOk, IfErr, IfSome, IsSome, OnOk};
 ghost use Rattle.scq_frames.specs.Encoded.{BeginsWith, part_at};
-ghost use Rattle.scq_queue.specs.Passes.{IsHeldBy, WasGivenBack, after_put, after_spent_put, having_seen};
+ghost use Rattle.scq_band.specs.Buffers.{opening_of};
+ghost use Rattle.scq_band.specs.RunSeen.{IsCallInRun};
+ghost use Rattle.scq_queue.specs.Passes.{caller_of, IsHeldBy, WasGivenBack, after_put, after_spent_put, having_seen};
 ghost use Rattle.scq_passes.specs.Calls.{Suits};
 ghost use Rattle.scq_stages.specs.Stages.{redacted, squeezed, both as the_both};
 ghost use Rattle.scq_stages.specs.Handling.{after};
@@ -106,6 +108,8 @@ impl<B: Buffer> Worker<B> {
         requires pass { (self.old.pass.queue ≡ queue.now) × (self.old.pass.spent ≡ None) }
         requires held { IsHeldBy self.old.pass held }
         ensures given { OnOk result (WasGivenBack (B.contents held.buffer) held.index self.old.pass self.new.pass) }
+        ensures run { IsCallInRun queue.now.setup (opening_of B.contents queue.now.given)
+            (caller_of self.old.pass) (caller_of self.new.pass) }
         ensures spent { IfErr result (λ l. (ticket : ℕ)
             × (self.new.pass ≡ having_seen self.new.pass.seen (after_spent_put 0 ticket self.old.pass))) }
         ensures back { IfErr result (λ l. IfSome l.held (λ h. (h.index ≡ held.index) × (h.queue ≡ held.queue))) }

@@ -110,7 +110,7 @@ module _ {B S : Type 0} where
     all-few : All (λ (w : ℕ × PassStanding B). HasFewCalls 1 w.0 w.1) works
     all-few = All-map (λ (w : ℕ × PassStanding B). HasFewCalls 1 w.0 w.1) (counted size) desks (λ k d less. (ran.run k d less).few_calls)
 
-    module _ (left_in : List ℕ) (closed : HasClosed c (passes_at desks) (held_at desks) left_in) where
+    module _ (left_in : List ℕ) (closed : HasClosed c shared.given (passes_at desks) (held_at desks) left_in) where
       pub unspent : NoneSpent (passes_at desks)
       unspent =
           subst (λ (ps : List (PassStanding B)). NoneSpent ps) passes-same
@@ -135,7 +135,7 @@ module _ {B S : Type 0} where
       swept = All-map HasSwept (λ (d : Desk B S). d.worker.pass) desks (λ k d less. (ran.run k d less).swept (spent-none k d less))
 
       pub same : SendsAreTakes (passes_at desks)
-      same = takes-are-sends c (passes_at desks) (held_at desks) left_in closed swept
+      same = takes-are-sends c shared.given (passes_at desks) (held_at desks) left_in closed swept
 
       messages-known : (k : ℕ) (d : Desk B S) → k < length desks → All (λ m. m.topic ≤ length topics) (worker_messages (get_or desks k d))
       messages-known k d less =
@@ -183,7 +183,7 @@ module _ {B S : Type 0} where
       -- whatever the workers met
       pub all-shared : HaveShared (HasHelped (length topics + 1)) (2 ^ 36) (length topics + 1) c (passes_at desks) left_in
       all-shared =
-          have-shared c (passes_at desks) (held_at desks) left_in closed (HasHelped (length topics + 1)) (2 ^ 36) (length topics + 1) shared ran.setup
+          have-shared c shared.given (passes_at desks) (held_at desks) left_in closed (HasHelped (length topics + 1)) (2 ^ 36) (length topics + 1) shared ran.setup refl
           (omega (arith, ran.rings))
           (All-map (λ (p : PassStanding B). p.queue ≡ shared) (λ (d : Desk B S). d.worker.pass) desks (λ k d less. (ran.run k d less).queue))
           pass-numbers unspent swept

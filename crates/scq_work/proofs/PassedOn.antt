@@ -42,11 +42,11 @@ module _ {B : Type 0} where
       (before after : Bool)
       → IsAtWork topics messages p was before → HasFoundFull head p q → HasTaken q r
       → ((topic : ℕ) → topic < length topics + 1 → count_by (is_take topic) r.calls ≡ count_by (is_take topic) q.calls + 1)
-      → (after ≡ false → before ≡ false) → (after ≡ false → mid ≡ was ++ answered topics (Direct head) m ∷ []) → (after ≡ false → HasAnswered topics q r mid is)
+      → r.gates ≡ q.gates → (after ≡ false → before ≡ false) → (after ≡ false → mid ≡ was ++ answered topics (Direct head) m ∷ []) → (after ≡ false → HasAnswered topics q r mid is)
       → IsAtWork topics (messages ++ m ∷ []) r is after
-  work-helped topics messages m head p q r was mid is before after work full taken each fed_before grown more =
+  work-helped topics messages m head p q r was mid is before after work full taken each gates fed_before grown more =
       record {
-        producing = producing-helped (length topics + 1) head p q r work.producing full taken each;
+        producing = producing-helped (length topics + 1) head p q r work.producing full taken each gates;
         few_calls = subst (λ n. HasFewCalls 0 n r) (sym (length-append messages (m ∷ [])))
             (few_calls-taken (length messages + 1) q r (few_calls-full (length messages) head p q work.few_calls full) taken);
         listed = λ fed.

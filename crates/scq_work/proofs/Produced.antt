@@ -7,7 +7,9 @@ use Rattle.scq_queue.specs.Passes.{PassStanding, HeldStanding, first_pass, known
 use Rattle.scq_files.specs.OwnFiles.{all_given}
 use Rattle.scq_work.specs.Desks.{IsToSweep, HasProduced, HasRun}
 use Rattle.scq_work.specs.Passing.{parts_in}
-use Rattle.scq_passes.specs.Waiting.{HelpsInVain, SweepsInVain}
+use Rattle.scq_passes.specs.Leaving.{HasLeftSwept, HasSweptLast}
+use Rattle.scq_passes.specs.Records.{IsReturn}
+use Rattle.scq_passes.specs.Waiting.{HasLeftTold, HasSweptTold, HelpsInVain, SweepsInVain}
 use Rattle.scq_work.specs.Waiting.{HasWaited}
 use Rattle.scq_passes.specs.Calls.{Suits, HasTaken, HasLeft, after_retire}
 use Rattle.scq_work.specs.Working.{HasAnswered, IsAtWork, HasStopped}
@@ -33,9 +35,13 @@ module _ {B : Type 0} where
   answered-awake topics p q was is h = record { takes = h.takes; directs = h.directs }
 
   -- one that met a ticket past the limit is asked for nothing more
-  pub waited-spent : (topics rests ticket : ℕ) (p : PassStanding B) → p.spent ≡ Some ticket → HasWaited topics rests p
-  waited-spent topics rests ticket p is =
-      record { told = λ none. absurd (none-or p.spent ticket is none); vain = λ none. absurd (none-or p.spent ticket is none) }
+  pub waited-spent : (contents : B → List ℕ) (topics rests ticket : ℕ) (p : PassStanding B) → p.spent ≡ Some ticket
+      → HasWaited contents topics rests p
+  waited-spent contents topics rests ticket p is = record {
+    told = λ none. absurd (none-or p.spent ticket is none);
+    vain = λ none. absurd (none-or p.spent ticket is none);
+    left = λ none. absurd (none-or p.spent ticket is none);
+  }
 
 module _ {B S : Type 0} (shared : Identity B) (topics : List (List ℕ × Kind)) (size longest : ℕ) (faults end_count : S → ℕ) (left : S → Option (List ℕ))
     (files : List (OwnFile S)) where
@@ -93,12 +99,40 @@ module _ {B S : Type 0} (shared : Identity B) (topics : List (List ℕ × Kind))
         run-late shared topics size longest faults end_count left files t.before q was is before after now held t.read t.suits t.work
         (subst (λ (x : PassStanding B). HasLeft n n x q held) t.retired (end n)) same
 
+    -- its queue, once it has swept
+    queue-swept : HasTaken p q → q.queue ≡ shared
+    queue-swept taken =
+        ap (λ (x : PassStanding B). x.queue) taken.pass ∙ ap (λ (x : PassStanding B). x.queue) t.retired ∙ t.suits.queue
+
+    -- it swept until it left
+    pub left-swept : (contents : B → List ℕ) → HasTaken p q → HasSweptLast contents shared IsReturn (length topics + 1) 64 p q
+        → HasLeftSwept contents IsReturn (length topics + 1) 64 q
+    left-swept contents taken end = record {
+      before = t.before;
+      unasked = t.work.producing.unasked;
+      swept = subst (λ (k : Identity B). HasSweptLast contents k IsReturn (length topics + 1) 64 (after_retire t.before) q)
+          (sym (queue-swept taken))
+          (subst (λ (x : PassStanding B). HasSweptLast contents shared IsReturn (length topics + 1) 64 x q) t.retired end);
+    }
+
+    left-told : (contents : B → List ℕ) → HasTaken p q → HasSweptTold contents shared IsReturn (length topics + 1) p q
+        → HasLeftTold contents IsReturn (length topics + 1) q
+    left-told contents taken end = record {
+      before = t.before;
+      unasked = t.work.producing.unasked;
+      swept = subst (λ (k : Identity B). HasSweptTold contents k IsReturn (length topics + 1) (after_retire t.before) q)
+          (sym (queue-swept taken))
+          (subst (λ (x : PassStanding B). HasSweptTold contents shared IsReturn (length topics + 1) x q) t.retired end);
+    }
+
     -- it swept and rested until it was told
-    pub waited-told : (first rests : ℕ) → q.gate ≡ Some 0 → (SweepsInVain (length topics + 1) 0 first p → SweepsInVain (length topics + 1) 1 rests q)
-        → HasWaited (length topics + 1) rests q
-    waited-told first rests told more =
+    pub waited-told : (contents : B → List ℕ) (first rests : ℕ) → HasTaken p q → HasSweptTold contents shared IsReturn (length topics + 1) p q
+        → q.gate ≡ Some 0 → (SweepsInVain (length topics + 1) 0 first p → SweepsInVain (length topics + 1) 1 rests q)
+        → HasWaited contents (length topics + 1) rests q
+    waited-told contents first rests taken end told more =
         record {
           told = λ awake. told;
           vain = λ awake. more (subst (λ (x : PassStanding B). SweepsInVain (length topics + 1) 0 first x) (sym t.retired)
               (sweeps-begin (length topics + 1) first t.before t.vain));
+          left = λ awake. left-told contents taken end;
         }

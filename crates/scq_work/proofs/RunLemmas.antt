@@ -59,6 +59,7 @@ module _ {B : Type 0} where
             unspent = λ ring ticket put has. absurd (search rules);
             knows = record { sends = λ m has. absurd (search rules) };
           };
+          unasked = refl;
         };
         few_calls = record { sends = omega arith; fulls = omega arith; puts = λ topic. omega arith; returns = omega arith };
         listed = λ fed. record { passed = passing.none; follows = no_call; takes = none; fulls = tt };

@@ -1,6 +1,6 @@
 -- Desks with their stands, before the work and behind it; and what is told of workers that waited, where their crew closes.
-use Rattle.std.proofs.Common.{◌≡◌, ◌∙◌, ◌⊎◌, refl, sym, ap, subst, arith, inl, inr, zero, suc, ℕ, ◌+◌, ◌-◌, ◌^◌, ◌<◌, ◌≤◌, Bool, true, List, [], ◌∷◌, length, map, get_or, Some, None}
-use Rattle.std.specs.Prelude.{slice_get, slice_index_or}
+use Rattle.std.proofs.Common.{◌≡◌, ◌∙◌, ◌⊎◌, refl, sym, ap, subst, arith, inl, inr, zero, suc, ℕ, ◌+◌, ◌-◌, ◌^◌, ◌<◌, ◌≤◌, Bool, true, List, [], ◌∷◌, length, map, get_or, Option, Some, None}
+use Rattle.std.specs.Prelude.{slice_get, slice_index_or, IfSome, IsSome}
 use Rattle.std.specs.List.{All, AllZip}
 use Rattle.std.proofs.lemmas.Bool.{cases_lt}
 use Rattle.std.proofs.lemmas.List.{get_or-map, length-map}
@@ -16,6 +16,9 @@ use Rattle.scq_work.specs.Resting.{AreSettled}
 use Rattle.scq_work.specs.Threads.{Task, IsGiven, HasDone}
 use Rattle.scq_passes.specs.Together.{NoneSpent}
 use Rattle.scq_passes.specs.Waiting.{SweepsInVain}
+use Rattle.scq_block.specs.Frames.{bytes_of}
+use Rattle.scq_passes.specs.Records.{IsReturn}
+use Rattle.scq_passes.specs.Waiting.{HasLeftTold}
 use Rattle.scq_work.specs.Waiting.{HasWaited, EachWaited, HaveWaited}
 use Rattle.scq_work.specs.declared.desk.Desk.{Desk}
 use Rattle.scq_work.specs.declared.threads.Work.{Work}
@@ -109,8 +112,8 @@ module _ {S : Type 0} where
   each-waited t (x ∷ xs) (y ∷ ys) z zero s p stands passes =
       let stand : y.stand ≡ s = cc in
       let pass : y.desk.worker.pass ≡ p = cc in
-      subst (λ (q : PassStanding Frame). HasWaited (length t.topics + 1) s.rests q) pass
-      (subst (λ (q : Post). HasWaited (length t.topics + 1) q.rests y.desk.worker.pass) stand z.0.waited)
+      subst (λ (q : PassStanding Frame). HasWaited bytes_of (length t.topics + 1) s.rests q) pass
+      (subst (λ (q : Post). HasWaited bytes_of (length t.topics + 1) q.rests y.desk.worker.pass) stand z.0.waited)
   each-waited t (x ∷ xs) (y ∷ ys) z (suc w) s p stands passes = each-waited t xs ys z.1 w s p stands passes
 
   pub settled : (t : Task S) (xs ys : List (Work S)) → AllZip (HasDone t) xs ys → AreAll t.crew (map stand_of xs)
@@ -148,54 +151,86 @@ counted-cases n = elim (cases_lt n (2 ^ 64 - 1)) [
   | inr high ↦ inl (omega (arith, high))
 ]
 
-module _ {B : Type 0} where
-  -- each worker's count of rests, by its stand
-  vain-told : (topics : ℕ) (ps : List Post) (ns : List ℕ) (passes : List (PassStanding B)) → NoneSpent passes → EachWaited topics ps passes
-      → (w : ℕ) (p : PassStanding B) (r : Rested) → slice_get passes w ≡ Some p → slice_get (ended ps ns) w ≡ Some r
-      → (r.rests ≡ 2 ^ 64 - 1) ⊎ SweepsInVain topics 1 r.rests p
-  vain-told topics [] ns passes none each w p r pass rest = absurd (cc)
-  vain-told topics (s ∷ ps) [] passes none each w p r pass rest = absurd (cc)
-  vain-told topics (s ∷ ps) (n ∷ ns) [] none each w p r pass rest = absurd (cc)
-  vain-told topics (s ∷ ps) (n ∷ ns) (q ∷ passes) none each zero p r pass rest =
-      let same : q ≡ p = cc in
-      let its : rested_of s.rests n ≡ r = cc in
-      let told : SweepsInVain topics 1 s.rests q = (each zero s q refl refl).vain (All-head (λ (x : PassStanding B). x.spent ≡ None) q passes none) in
-      let rests : r.rests ≡ counted s.rests = sym (ap (λ (x : Rested). x.rests) its) in
-      elim (counted-cases s.rests) [
-        | inl last ↦ inl (rests ∙ last)
-        | inr exact ↦
-            inr (subst (λ (x : PassStanding B). SweepsInVain topics 1 r.rests x) same
-            (subst (λ k. SweepsInVain topics 1 k q) (sym (rests ∙ exact)) told))
-      ]
-  vain-told topics (s ∷ ps) (n ∷ ns) (q ∷ passes) none each (suc w) p r pass rest =
-      vain-told topics ps ns passes (All-tail (λ (x : PassStanding B). x.spent ≡ None) q passes none) (λ v t x stand its. each (suc v) t x stand its) w p r pass rest
+-- each worker's count of rests, by its stand
+vain-told : (topics : ℕ) (ps : List Post) (ns : List ℕ) (passes : List (PassStanding Frame)) → NoneSpent passes → EachWaited topics ps passes
+    → (w : ℕ) (p : PassStanding Frame) (r : Rested) → slice_get passes w ≡ Some p → slice_get (ended ps ns) w ≡ Some r
+    → (r.rests ≡ 2 ^ 64 - 1) ⊎ SweepsInVain topics 1 r.rests p
+vain-told topics [] ns passes none each w p r pass rest = absurd (cc)
+vain-told topics (s ∷ ps) [] passes none each w p r pass rest = absurd (cc)
+vain-told topics (s ∷ ps) (n ∷ ns) [] none each w p r pass rest = absurd (cc)
+vain-told topics (s ∷ ps) (n ∷ ns) (q ∷ passes) none each zero p r pass rest =
+    let same : q ≡ p = cc in
+    let its : rested_of s.rests n ≡ r = cc in
+    let told : SweepsInVain topics 1 s.rests q = (each zero s q refl refl).vain (All-head (λ (x : PassStanding Frame). x.spent ≡ None) q passes none) in
+    let rests : r.rests ≡ counted s.rests = sym (ap (λ (x : Rested). x.rests) its) in
+    elim (counted-cases s.rests) [
+      | inl last ↦ inl (rests ∙ last)
+      | inr exact ↦
+          inr (subst (λ (x : PassStanding Frame). SweepsInVain topics 1 r.rests x) same
+          (subst (λ k. SweepsInVain topics 1 k q) (sym (rests ∙ exact)) told))
+    ]
+vain-told topics (s ∷ ps) (n ∷ ns) (q ∷ passes) none each (suc w) p r pass rest =
+    vain-told topics ps ns passes (All-tail (λ (x : PassStanding Frame). x.spent ≡ None) q passes none) (λ v t x stand its. each (suc v) t x stand its) w p r pass rest
 
-  -- each saw that all had retired
-  closed-told : (topics : ℕ) (ps : List Post) (passes : List (PassStanding B)) → length ps ≡ length passes → NoneSpent passes → EachWaited topics ps passes
-      → All (λ (s : Bool). s ≡ true) (map (λ (p : PassStanding B). was_told p.gate) passes)
-  closed-told topics ps [] long none each = All-nil (λ (s : Bool). s ≡ true)
-  closed-told topics [] (q ∷ passes) long none each = absurd (omega arith)
-  closed-told topics (s ∷ ps) (q ∷ passes) long none each =
-      let told = (each zero s q refl refl).told (All-head (λ (x : PassStanding B). x.spent ≡ None) q passes none) in
-      All-cons (λ (b : Bool). b ≡ true) (was_told q.gate) (map (λ (p : PassStanding B). was_told p.gate) passes) (ap was_told told)
-      (closed-told topics ps passes (omega arith) (All-tail (λ (x : PassStanding B). x.spent ≡ None) q passes none) (λ v t x stand its. each (suc v) t x stand its))
+-- each saw that all had retired
+closed-told : (topics : ℕ) (ps : List Post) (passes : List (PassStanding Frame)) → length ps ≡ length passes → NoneSpent passes → EachWaited topics ps passes
+    → All (λ (s : Bool). s ≡ true) (map (λ (p : PassStanding Frame). was_told p.gate) passes)
+closed-told topics ps [] long none each = All-nil (λ (s : Bool). s ≡ true)
+closed-told topics [] (q ∷ passes) long none each = absurd (omega arith)
+closed-told topics (s ∷ ps) (q ∷ passes) long none each =
+    let told = (each zero s q refl refl).told (All-head (λ (x : PassStanding Frame). x.spent ≡ None) q passes none) in
+    All-cons (λ (b : Bool). b ≡ true) (was_told q.gate) (map (λ (p : PassStanding Frame). was_told p.gate) passes) (ap was_told told)
+    (closed-told topics ps passes (omega arith) (All-tail (λ (x : PassStanding Frame). x.spent ≡ None) q passes none) (λ v t x stand its. each (suc v) t x stand its))
 
-  pub have-waited : (topics workers : ℕ) (crew : List TableId) (ps : List Post) (passes : List (PassStanding B)) (saw : List Bool) (rested : List Rested)
-      → AreSettled crew topics ps passes → NoneSpent passes → length passes ≡ workers
-      → saw ≡ map (λ (p : PassStanding B). was_told p.gate) passes
-      → rested ≡ ended ps (woken (no_wakes crew) ps) → All (λ (r : Rested). r.rests ≤ r.wakes) rested
-      → HaveWaited topics workers passes saw rested
-  have-waited topics workers crew ps passes saw rested settled none long saw_is rested_is woke =
-      let posts : length ps ≡ workers = settled.many ∙ long in
-      let counts : length (woken (no_wakes crew) ps) ≡ length crew =
-      woken-length (no_wakes crew) ps ∙ length-map crew (λ (x : TableId). zero) in
-      record {
-        each_saw = ap length saw_is ∙ length-map passes (λ (p : PassStanding B). was_told p.gate) ∙ long;
-        each_rested = ap length rested_is ∙ ended-length ps (woken (no_wakes crew) ps) (settled.all.many ∙ sym counts) ∙ posts;
-        told = saw_is;
-        closed = subst (All (λ (s : Bool). s ≡ true)) (sym saw_is) (closed-told topics ps passes settled.many none settled.waited);
-        woken = woke;
-        vain = λ w p r pass rest.
-            vain-told topics ps (woken (no_wakes crew) ps) passes none settled.waited w p r pass
-            (subst (λ (rs : List Rested). slice_get rs w ≡ Some r) rested_is rest);
-      }
+-- each left after the first sweep before which all had retired
+all-left : (topics : ℕ) (ps : List Post) (passes : List (PassStanding Frame)) → length ps ≡ length passes → NoneSpent passes → EachWaited topics ps passes
+    → All (HasLeftTold bytes_of IsReturn topics) passes
+all-left topics ps [] long none each = All-nil (HasLeftTold bytes_of IsReturn topics)
+all-left topics [] (q ∷ passes) long none each = absurd (omega arith)
+all-left topics (s ∷ ps) (q ∷ passes) long none each =
+    let left = (each zero s q refl refl).left (All-head (λ (x : PassStanding Frame). x.spent ≡ None) q passes none) in
+    All-cons (HasLeftTold bytes_of IsReturn topics) q passes left
+    (all-left topics ps passes (omega arith) (All-tail (λ (x : PassStanding Frame). x.spent ≡ None) q passes none) (λ v t x stand its. each (suc v) t x stand its))
+
+pub have-waited : (topics workers : ℕ) (crew : List TableId) (ps : List Post) (passes : List (PassStanding Frame)) (saw : List Bool) (rested : List Rested)
+    → AreSettled crew topics ps passes → NoneSpent passes → length passes ≡ workers
+    → saw ≡ map (λ (p : PassStanding Frame). was_told p.gate) passes
+    → rested ≡ ended ps (woken (no_wakes crew) ps) → All (λ (r : Rested). r.rests ≤ r.wakes) rested
+    → HaveWaited topics workers passes saw rested
+have-waited topics workers crew ps passes saw rested settled none long saw_is rested_is woke =
+    let posts : length ps ≡ workers = settled.many ∙ long in
+    let counts : length (woken (no_wakes crew) ps) ≡ length crew =
+    woken-length (no_wakes crew) ps ∙ length-map crew (λ (x : TableId). zero) in
+    record {
+      each_saw = ap length saw_is ∙ length-map passes (λ (p : PassStanding Frame). was_told p.gate) ∙ long;
+      each_rested = ap length rested_is ∙ ended-length ps (woken (no_wakes crew) ps) (settled.all.many ∙ sym counts) ∙ posts;
+      told = saw_is;
+      closed = subst (All (λ (s : Bool). s ≡ true)) (sym saw_is) (closed-told topics ps passes settled.many none settled.waited);
+      woken = woke;
+      left = all-left topics ps passes settled.many none settled.waited;
+      vain = λ w p r pass rest.
+          vain-told topics ps (woken (no_wakes crew) ps) passes none settled.waited w p r pass
+          (subst (λ (rs : List Rested). slice_get rs w ≡ Some r) rested_is rest);
+    }
+
+-- what holds of the pass of each worker that met no ticket past the limit holds of all passes, where none met one
+pub all-behind : {B S : Type 0} (P : PassStanding B → Type 0) (desks : List (Desk B S))
+    → All (λ (d : Desk B S). d.worker.pass.spent ≡ None → P d.worker.pass) desks
+    → NoneSpent (map (λ (d : Desk B S). d.worker.pass) desks) → All P (map (λ (d : Desk B S). d.worker.pass) desks)
+all-behind P [] each none = All-nil P
+all-behind {B} {S} P (d ∷ desks) each none =
+    let passes = map (λ (e : Desk B S). e.worker.pass) desks in
+    let Q : Desk B S → Type 0 = λ e. e.worker.pass.spent ≡ None → P e.worker.pass in
+    let R : PassStanding B → Type 0 = λ x. x.spent ≡ None in
+    All-cons P d.worker.pass passes (All-head Q d desks each (All-head R d.worker.pass passes none))
+    (all-behind P desks (All-tail Q d desks each) (All-tail R d.worker.pass passes none))
+
+-- what is there, with what holds of it
+pub record Shown {X : Type 0} (o : Option X) (P : X → Type 0) : Type 0 where
+  pub it : X
+  pub same : o ≡ Some it
+  pub holds : P it
+
+pub some-of : {X : Type 0} (o : Option X) (P : X → Type 0) → IsSome o → IfSome o P → Shown o P
+some-of None P there so = absurd (cc)
+some-of (Some x) P there so = record { it = x; same = refl; holds = so }

@@ -37,12 +37,14 @@ module _ {B : Type 0} where
         helps = subst (HelpsOnceAfterEachFull topics) (sym (sent-calls m.topic (Sends m) p q h))
             (helps-sent topics p.calls h.from (suc m.topic) h.place h.over h.bytes was.helps);
         between = between-sent m.topic (Sends m) p q was.between within h;
+        unasked = ap (λ (x : PassStanding B). x.gates) h.pass ∙ was.unasked;
       }
 
   -- no buffer was free, and a take of each topic was made
   pub producing-helped : (topics head : ℕ) (p q r : PassStanding B) → IsProducing topics p → HasFoundFull head p q → HasTaken q r
-      → ((topic : ℕ) → topic < topics → count_by (is_take topic) r.calls ≡ count_by (is_take topic) q.calls + 1) → IsProducing topics r
-  producing-helped topics head p q r was full h each =
+      → ((topic : ℕ) → topic < topics → count_by (is_take topic) r.calls ≡ count_by (is_take topic) q.calls + 1) → r.gates ≡ q.gates
+      → IsProducing topics r
+  producing-helped topics head p q r was full h each gates =
       let calls : r.calls ≡ (p.calls ++ Nothing 0 ∷ []) ++ h.block = taken-calls q r h ∙ ap (λ l. l ++ h.block) (full-calls head p q full) in
       let one : (topic : ℕ) → topic < topics → count_by (is_take topic) h.block ≡ 1 = λ topic low.
       let all : count_by (is_take topic) r.calls ≡ count_by (is_take topic) q.calls + count_by (is_take topic) h.block =
@@ -52,6 +54,7 @@ module _ {B : Type 0} where
       record {
         helps = subst (HelpsOnceAfterEachFull topics) (sym calls) (helps-helped topics p.calls h.block h.are one was.helps);
         between = between-taken q r (between-full head p q was.between full) h;
+        unasked = gates ∙ ap (λ (x : PassStanding B). x.gates) full.pass ∙ was.unasked;
       }
 
   -- the files are read

@@ -1,6 +1,7 @@
 -- What the worker of a thread is given, what it makes of that, and how its thread ends.
 use Rattle.std.specs.Prelude.{◌≡◌, ℕ, ◌+◌, ◌<◌, ◌≤◌, List, Option, length, All}
 use Rattle.atomic_table.specs.Seated.{TableId}
+use Rattle.scq_block.specs.Frames.{bytes_of}
 use Rattle.scq_block.specs.declared.frame.Frame.{Frame}
 use Rattle.scq_topics.specs.declared.kind.Kind.{Kind}
 use Rattle.scq_band.specs.Standing.{Identity}
@@ -75,7 +76,7 @@ module _ {S : Type 0} where
   pub record HasDone (t : Task S) (old new : Work S) : Type 0 where
     pub run : HasRun t.queue t.topics t.size t.longest t.faults t.end_count t.left new.desk.files.items new.desk.worker.pass
         new.desk.worker.members.items new.desk.worker.starved new.desk.kept
-    pub waited : HasWaited (length t.topics + 1) new.stand.rests new.desk.worker.pass
+    pub waited : HasWaited bytes_of (length t.topics + 1) new.stand.rests new.desk.worker.pass
     pub files : ids_of new.desk.files.items ≡ ids_of old.desk.files.items
     pub number : new.desk.worker.pass.number ≡ old.desk.worker.pass.number
     pub crew : new.stand.crew ≡ old.stand.crew

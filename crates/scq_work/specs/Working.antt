@@ -16,10 +16,12 @@ module _ {B : Type 0} where
   abbrev pub HasSent : Part → PassStanding B → PassStanding B → Type 0
   HasSent part old new = HasSentSo part.topic (Sends part) old new
 
-  -- the pass of a worker that reads its files, so far: it took just once from each topic after each Full
+  -- the pass of a worker that reads its files, so far: it took just once from each topic after each Full, and never asked whether all had
+  -- retired
   pub record IsProducing (topics : ℕ) (p : PassStanding B) : Type 0 where
     pub helps : HelpsOnceAfterEachFull topics p.calls
     pub between : IsBetweenParts p
+    pub unasked : p.gates ≡ 0
 
   -- that of a worker that sweeps: the same, but that it may have taken more since the last Full
   pub record IsSweeping (topics : ℕ) (p : PassStanding B) : Type 0 where

@@ -1,6 +1,9 @@
 //! Workers that leave early in place of waiting.
-ghost use Rattle.std.specs.Prelude.{◌≡◌, ℕ, ◌+◌, ◌<◌, ◌≤◌, length, slice_index_or};
+ghost use Rattle.std.specs.Prelude.{◌≡◌, ℕ, ◌+◌, ◌<◌, ◌≤◌, None, length, slice_index_or};
 ghost use Rattle.std.specs.List.{All};
+ghost use Rattle.scq_block.specs.Frames.{bytes_of};
+ghost use Rattle.scq_passes.specs.Leaving.{HasLeftSwept};
+ghost use Rattle.scq_passes.specs.Records.{IsReturn};
 ghost use Rattle.scq_work.specs.Dealings.{IsFresh};
 ghost use Rattle.scq_files.specs.OwnFiles.{IsNew, ids_of};
 ghost use Rattle.scq_work.specs.Desks.{HasRun};
@@ -37,6 +40,7 @@ pub fn run_apart<R: Threads + Sync, S: Source, G: Gate>(
         HasRun queue.now job.now.topics job.now.size job.now.longest S.faults S.ends S.left d.files.items d.worker.pass
         d.worker.members.items d.worker.starved d.kept)
         result.items }
+    ensures behind { All (λ d. d.worker.pass.spent ≡ None → HasLeftSwept bytes_of IsReturn (length job.now.topics + 1) 64 d.worker.pass) result.items }
 {
     let mut desks = desks;
     run_each(rt, alloc, job, queue, gate, desks.as_mut_slice());
@@ -65,6 +69,7 @@ fn run_each<R: Threads + Sync, S: Source, G: Gate>(
         HasRun queue.now job.now.topics job.now.size job.now.longest S.faults S.ends S.left d.files.items d.worker.pass
         d.worker.members.items d.worker.starved d.kept)
         desks.new }
+    ensures behind { All (λ d. d.worker.pass.spent ≡ None → HasLeftSwept bytes_of IsReturn (length job.now.topics + 1) 64 d.worker.pass) desks.new }
 {
     let threads = desks.len();
     let run = |_: usize, desk: &mut Desk<Frame, S>|
@@ -74,7 +79,9 @@ fn run_each<R: Threads + Sync, S: Source, G: Gate>(
             × (desk.exit.now.worker.pass.number ≡ desk.entry.now.worker.pass.number)
             × HasRun queue.entry.now job.entry.now.topics job.entry.now.size job.entry.now.longest S.faults S.ends S.left
             desk.exit.now.files.items desk.exit.now.worker.pass
-            desk.exit.now.worker.members.items desk.exit.now.worker.starved desk.exit.now.kept }
+            desk.exit.now.worker.members.items desk.exit.now.worker.starved desk.exit.now.kept
+            × (desk.exit.now.worker.pass.spent ≡ None
+            → HasLeftSwept bytes_of IsReturn (length job.entry.now.topics + 1) 64 desk.exit.now.worker.pass) }
     { desk.run(alloc, job, queue, gate) };
     thread::for_each_mut(rt, desks, threads, &run);
 }

@@ -3,6 +3,8 @@ ghost use Rattle.std.specs.Prelude.{◌≡◌, ◌≤◌, ◌<◌, ◌+◌, ◌+
 ghost use Rattle.scq_queue.specs.Passes.{first_pass};
 ghost use Rattle.scq_files.specs.OwnFiles.{IsNew, ids_of};
 ghost use Rattle.scq_work.specs.Desks.{HasProduced, IsToSweep, HasRun};
+ghost use Rattle.scq_passes.specs.Leaving.{HasLeftSwept};
+ghost use Rattle.scq_passes.specs.Records.{IsReturn};
 ghost use Rattle.scq_work.specs.Waiting.{HasWaited};
 
 use crate::bell::{Bell, NoBell};
@@ -95,6 +97,7 @@ impl<B: Buffer, S: Source> Desk<B, S> {
         ensures same { ids_of self.new.files.items ≡ ids_of self.old.files.items }
         ensures run { HasRun queue.now job.now.topics job.now.size job.now.longest S.faults S.ends S.left self.new.files.items self.new.worker.pass
             self.new.worker.members.items self.new.worker.starved self.new.kept }
+        ensures behind { self.new.worker.pass.spent ≡ None → HasLeftSwept B.contents IsReturn (length job.now.topics + 1) 64 self.new.worker.pass }
         ensures number { (self.new.worker.number ≡ self.old.worker.number) × (self.new.worker.pass.number ≡ self.old.worker.number) }
     {
         let mut nobody = NoBell;
@@ -112,6 +115,7 @@ impl<B: Buffer, S: Source> Desk<B, S> {
         ensures same { self.new.files.items ≡ self.old.files.items }
         ensures run { HasRun queue.now job.now.topics job.now.size job.now.longest S.faults S.ends S.left self.new.files.items self.new.worker.pass
             self.new.worker.members.items self.new.worker.starved self.new.kept }
+        ensures behind { self.new.worker.pass.spent ≡ None → HasLeftSwept B.contents IsReturn (length job.now.topics + 1) 64 self.new.worker.pass }
         ensures number { (self.new.worker.number ≡ self.old.worker.number) × (self.new.worker.pass.number ≡ self.old.worker.pass.number) }
     {
         if let Err(at_limit) = self.worker.sweep_out(alloc, job, queue, gate) {
@@ -137,7 +141,7 @@ impl<B: Buffer, S: Source> Desk<B, S> {
         ensures same { self.new.files.items ≡ self.old.files.items }
         ensures run { HasRun queue.now job.now.topics job.now.size job.now.longest S.faults S.ends S.left self.new.files.items self.new.worker.pass
             self.new.worker.members.items self.new.worker.starved self.new.kept }
-        ensures waited { HasWaited (length job.now.topics + 1) stand.new.rests self.new.worker.pass }
+        ensures waited { HasWaited B.contents (length job.now.topics + 1) stand.new.rests self.new.worker.pass }
         ensures number { (self.new.worker.number ≡ self.old.worker.number) × (self.new.worker.pass.number ≡ self.old.worker.pass.number) }
         ensures stand { (stand.new.crew ≡ stand.old.crew) × (stand.new.worker ≡ stand.old.worker) }
     {
@@ -164,7 +168,7 @@ impl<B: Buffer, S: Source> Desk<B, S> {
         ensures same { self.new.files.items ≡ self.old.files.items }
         ensures run { HasRun queue.now job.now.topics job.now.size job.now.longest S.faults S.ends S.left self.new.files.items self.new.worker.pass
             self.new.worker.members.items self.new.worker.starved self.new.kept }
-        ensures waited { HasWaited (length job.now.topics + 1) stand.new.rests self.new.worker.pass }
+        ensures waited { HasWaited B.contents (length job.now.topics + 1) stand.new.rests self.new.worker.pass }
         ensures number { (self.new.worker.number ≡ self.old.worker.number) × (self.new.worker.pass.number ≡ self.old.worker.pass.number) }
         ensures stand { (stand.new.crew ≡ stand.old.crew) × (stand.new.worker ≡ stand.old.worker) }
     {

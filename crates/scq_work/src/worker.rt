@@ -7,7 +7,7 @@ ghost use Rattle.scq_queue.specs.Passes.{known_on, IsHeldBy, after_put, after_sp
 ghost use Rattle.scq_passes.specs.Records.{is_take};
 ghost use Rattle.scq_work.specs.Members.{answered, is_taken, is_direct, AnswersSoFar};
 ghost use Rattle.scq_work.specs.Passing.{Sends};
-ghost use Rattle.scq_passes.specs.Leaving.{FoundTopicEmpty, TookNothing};
+ghost use Rattle.scq_passes.specs.Leaving.{FoundTopicEmpty, HasOnlyCalled, TookNothing};
 ghost use Rattle.scq_passes.specs.Waiting.{TookInVain, TookMore};
 ghost use Rattle.scq_passes.specs.Calls.{Suits, HasTaken, HasLeft};
 ghost use Rattle.scq_work.specs.Working.{HasAnswered};
@@ -119,7 +119,7 @@ impl<B: Buffer> Worker<B> {
         ensures nothing { result ≡ Ok false → TookNothing self.old.pass self.new.pass }
         ensures vain { OnOk result (TookInVain 1 self.old.pass self.new.pass) }
         ensures more { result ≡ Ok true → TookInVain 0 self.old.pass self.new.pass × TookMore self.old.pass self.new.pass }
-        ensures gate { OnOk result (self.new.pass.gate ≡ self.old.pass.gate) }
+        ensures only { OnOk result (HasOnlyCalled B.contents queue.now self.old.pass self.new.pass) }
         ensures left { IfErr result (λ l. (parts : ℕ) → HasLeft parts parts self.old.pass self.new.pass l.held) }
         ensures starved { self.new.starved ≡ false → self.old.starved ≡ false }
         ensures number { self.new.number ≡ self.old.number }
@@ -153,6 +153,7 @@ impl<B: Buffer> Worker<B> {
         ensures answered { OnOk result (self.new.starved ≡ false
             → HasAnswered job.now.topics self.old.pass self.new.pass self.old.members.items self.new.members.items) }
         ensures vain { OnOk result (TookInVain (length job.now.topics + 1) self.old.pass self.new.pass) }
+        ensures gates { OnOk result (self.new.pass.gates ≡ self.old.pass.gates) }
         ensures left { IfErr result (λ l. (parts : ℕ) → HasLeft parts parts self.old.pass self.new.pass l.held) }
         ensures starved { self.new.starved ≡ false → self.old.starved ≡ false }
         ensures number { self.new.number ≡ self.old.number }

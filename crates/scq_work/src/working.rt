@@ -5,6 +5,10 @@ ghost use Rattle.scq_frames.specs.declared.message.Message.{Message as TheMessag
 ghost use Rattle.scq_collect.specs.Collected.{messages_to};
 ghost use Rattle.scq_collect.specs.Joined.{part_answers, without_way};
 ghost use Rattle.scq_collect.specs.Merging.{members_in};
+ghost use Rattle.std.specs.List.{All};
+ghost use Rattle.scq_block.specs.Frames.{bytes_of};
+ghost use Rattle.scq_passes.specs.Leaving.{HasLeftSwept};
+ghost use Rattle.scq_passes.specs.Records.{IsReturn};
 ghost use Rattle.scq_work.specs.AllWorkers.{HasWorked, NothingIsStranded};
 ghost use Rattle.scq_files.specs.Ends.{AreGiven, HasMoved, all_left, messages_in};
 ghost use Rattle.scq_work.specs.Ends.{HasCause, MemoryIsFirst};
@@ -58,6 +62,10 @@ pub fn work<R: Threads + Sync, S: Source, G: Gate>(
     // whose reading didn't stop for want of memory.
     ensures cause { IfErr result.result (λ fault. HasCause job.now.longest S.faults S.ends S.left sources.items result.sources.items fault) }
     ensures memory_first { IfErr result.result (λ fault. MemoryIsFirst job.now.longest S.faults S.ends S.left sources.items result.sources.items fault) }
+
+    // Each worker asked before each of its sweeps whether all had retired, and left after the first before which they had, or after 64 in a
+    // row that took nothing.
+    ensures behind { IfSome result.passes (λ passes. All (HasLeftSwept bytes_of IsReturn (length job.now.topics + 1) 64) passes.value.items) }
 {
     let Ok(room) = make_room(alloc, job, sources.len()) else {
         return WorkEnd::starved(sources);

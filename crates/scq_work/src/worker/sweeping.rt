@@ -2,7 +2,7 @@
 ghost use Rattle.std.specs.Prelude.{◌≡◌, ◌≤◌, ◌<◌, ◌+◌, ℕ, true, false, length, None, Ok, IfErr, OnOk};
 ghost use Rattle.scq_queue.specs.Passes.{known_on};
 ghost use Rattle.scq_passes.specs.Records.{IsReturn};
-ghost use Rattle.scq_passes.specs.Leaving.{FoundTopicEmpty, HasSweptLast, TookNothing};
+ghost use Rattle.scq_passes.specs.Leaving.{FoundTopicEmpty, HasOnlyCalled, HasSweptLast, TookNothing};
 ghost use Rattle.scq_passes.specs.Waiting.{TookInVain, TookMore};
 ghost use Rattle.scq_passes.specs.Calls.{Suits, HasTaken, HasLeft, takes_left, after_retire};
 ghost use Rattle.scq_work.specs.Working.{HasAnswered};
@@ -36,7 +36,7 @@ impl<B: Buffer> Worker<B> {
         ensures nothing { result ≡ Ok false → TookNothing self.old.pass self.new.pass }
         ensures vain { OnOk result (TookInVain 1 self.old.pass self.new.pass) }
         ensures more { result ≡ Ok true → TookMore self.old.pass self.new.pass }
-        ensures gate { OnOk result (self.new.pass.gate ≡ self.old.pass.gate) }
+        ensures only { OnOk result (HasOnlyCalled B.contents queue.now self.old.pass self.new.pass) }
         ensures answered { OnOk result (self.new.starved ≡ false
             → HasAnswered job.now.topics self.old.pass self.new.pass self.old.members.items self.new.members.items) }
         ensures some { result ≡ Ok true → ((known_on topic self.old.pass).head < (known_on topic self.new.pass).head)
@@ -72,7 +72,7 @@ impl<B: Buffer> Worker<B> {
         ensures nothing { result ≡ Ok false → TookNothing self.old.pass self.new.pass }
         ensures vain { OnOk result (TookInVain (length job.now.topics + 1) self.old.pass self.new.pass) }
         ensures more { result ≡ Ok true → TookMore self.old.pass self.new.pass }
-        ensures gate { OnOk result (self.new.pass.gate ≡ self.old.pass.gate) }
+        ensures only { OnOk result (HasOnlyCalled B.contents queue.now self.old.pass self.new.pass) }
         ensures answered { OnOk result (self.new.starved ≡ false
             → HasAnswered job.now.topics self.old.pass self.new.pass self.old.members.items self.new.members.items) }
         ensures some { result ≡ Ok true → takes_left queue.now.setup.limit (length job.now.topics + 1) self.new.pass
@@ -114,7 +114,8 @@ impl<B: Buffer> Worker<B> {
         ensures taken { OnOk result (HasTaken self.old.pass self.new.pass) }
         ensures empty { OnOk result ((t : ℕ) → t < length job.now.topics + 1
             → (known_on t self.new.pass).finished < (known_on t self.new.pass).head) }
-        ensures swept { OnOk result (HasSweptLast IsReturn (length job.now.topics + 1) 64 self.old.pass self.new.pass) }
+        ensures swept { OnOk result (HasSweptLast B.contents queue.now IsReturn (length job.now.topics + 1) 64
+            self.old.pass self.new.pass) }
         ensures answered { OnOk result (self.new.starved ≡ false
             → HasAnswered job.now.topics self.old.pass self.new.pass self.old.members.items self.new.members.items) }
         ensures left { IfErr result (λ l. (parts : ℕ) → HasLeft parts parts self.old.pass self.new.pass l.held) }

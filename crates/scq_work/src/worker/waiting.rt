@@ -33,7 +33,7 @@ impl<B: Buffer> Worker<B> {
         ensures taken { OnOk result (HasTaken self.old.pass self.new.pass) }
         ensures empty { OnOk result ((t : ℕ) → t < length job.now.topics + 1
             → (known_on t self.new.pass).finished < (known_on t self.new.pass).head) }
-        ensures swept { OnOk result (HasSweptTold IsReturn (length job.now.topics + 1) self.old.pass self.new.pass) }
+        ensures swept { OnOk result (HasSweptTold B.contents queue.now IsReturn (length job.now.topics + 1) self.old.pass self.new.pass) }
         ensures told { OnOk result (self.new.pass.gate ≡ Some 0) }
         ensures vain { OnOk result (SweepsInVain (length job.now.topics + 1) 0 stand.old.rests self.old.pass
             → SweepsInVain (length job.now.topics + 1) 1 stand.new.rests self.new.pass) }

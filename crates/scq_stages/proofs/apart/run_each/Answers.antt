@@ -1,5 +1,12 @@
+use Rattle.std.proofs.Common.{◌≡◌, subst, arith, None}
 use denote.Param.Send.{IsSync, param_sync}
 use Rattle.std.proofs.Crossing as crossing
+use Rattle.scq_block.specs.Frames.{bytes_of}
+use Rattle.scq_block.specs.declared.frame.Frame.{Frame}
+use Rattle.scq_passes.specs.Leaving.{HasLeftSwept}
+use Rattle.scq_passes.specs.Records.{IsGivenBack}
+use Rattle.scq_files.specs.declared.desk.Desk.{Desk}
+use Rattle.scq_stages.specs.declared.seating.Seated.{Seated}
 use Rattle.scq_block.proofs.FramesSent.{frame_sent, frame_shared}
 use Rattle.scq_block.specs.contracts.frame.Frame as frame
 use Rattle.scq_block.specs.contracts.frame.FrameBuffer.TheImpl as buffer
@@ -30,3 +37,11 @@ for_each_mut-requires-sync-F g c κs within =
       );
     } in
     param_sync 2 row here
+
+pub returns-clause-behind : goal.returns-clause-behind
+returns-clause-behind g c k d less awake =
+    let S = g.row.S.Denot in
+    let at = (c.for_each_mut.ensures k d (omega (arith, less, c.for_each_mut.auto.s))).1 in
+    let P : Desk (Seated Frame) S → Type 0 = λ e. e.worker.worker.pass.spent ≡ None
+        → HasLeftSwept bytes_of IsGivenBack 2 64 e.worker.worker.pass in
+    subst P at.left at.call.3 awake

@@ -1,4 +1,9 @@
-use Rattle.std.proofs.Common.{◌≡◌, ◌∙◌, ap, sym, subst, arith, [], ◌++◌, List, length, take, drop}
+use Rattle.std.proofs.Common.{◌≡◌, ◌∙◌, ap, sym, subst, arith, ℕ, [], ◌++◌, List, length, take, drop, Option, Some, None}
+use Rattle.scq_band.specs.Standing.{Identity}
+use Rattle.scq_queue.specs.Passes.{PassStanding}
+use Rattle.scq_passes.specs.Calls.{after_retire}
+use Rattle.scq_passes.specs.Leaving.{HasSweptLast}
+use Rattle.scq_passes.specs.Records.{IsGivenBack}
 use Rattle.scq_files.specs.OwnFiles.{all_given}
 use Rattle.scq_files.specs.declared.own_file.OwnFile.{OwnFile}
 use Rattle.scq_files.proofs.Lists.{written-back}
@@ -7,6 +12,10 @@ use Rattle.scq_stages.specs.Working.{HasRun, IsAtWork, IsDone}
 use Rattle.scq_stages.proofs.Runs.{AllRead, work-first, run-left, run-late, run-stopped}
 use Rattle.scq_stages.proofs.running.run.Goals as goal
 use Rattle.scq_stages.proofs.running.run.Goals.{After-work, In-Ok, In-Err}
+
+-- no ticket is kept, or this one
+none-or : (o : Option ℕ) (ticket : ℕ) → o ≡ Some ticket → o ≡ None → ⊥
+none-or o ticket is none = absurd (cc)
 
 -- nothing was passed on before
 begun : (g : _) (c : After-work g)
@@ -98,3 +107,33 @@ returns-in-Err-clause-run g c =
     (run-stopped c.args.queue.now job.size faults end_count left files mid.pass later.worker.pass later.worker.members.items later.worker.starved
     later.kept c.in-Err.at_limit.held (read g at) (c.in-Err.ensures.left (begun g at))
     (ap (λ (w : Worker _). w.pass) c.keep-in-Err.ensures.same ∙ c.retire.ensures) c.keep-in-Err.ensures.kept)
+
+-- it asked before each of its sweeps
+pub returns-in_default-clause-behind : goal.returns-in_default-clause-behind
+returns-in_default-clause-behind g c awake =
+    let queue = c.args.queue.now in
+    let contents = g.B.Buffer.contents in
+    let mid = c.work.new.self in
+    let now = c.leave.new.self.pass in
+    let done : IsDone (all_given c.work.new.files) mid.pass mid.members.items mid.starved =
+    c.in-Ok.ensures.done (begun g (goal.at.returns-in_default-clause-behind g c).After-work) in
+    let its = c.in_default.ensures in
+    let same : now.queue ≡ queue = ap (λ (x : PassStanding _). x.queue) its.taken.pass ∙ c.in-Ok.ensures.suits.queue in
+    record {
+      before = mid.pass;
+      unasked = done.moved.unasked;
+      swept = subst (λ (k : Identity _). HasSweptLast contents k IsGivenBack 2 64 (after_retire mid.pass) now) (sym same) its.swept;
+    }
+
+pub returns-in-Err-leave-clause-behind : goal.returns-in-Err-leave-clause-behind
+returns-in-Err-leave-clause-behind g c awake =
+    let left = c.in-Err-leave.ensures.left 0 in
+    let none = ap (λ (w : Worker _). w.pass.spent) (sym c.keep.ensures.same) ∙ awake in
+    absurd (none-or c.leave.new.self.pass.spent left.spent.0 left.spent.1 none)
+
+pub returns-in-Err-clause-behind : goal.returns-in-Err-clause-behind
+returns-in-Err-clause-behind g c awake =
+    let end = c.in-Err.ensures.left (begun g (goal.at.returns-in-Err-clause-behind g c).After-work) in
+    let retired = ap (λ (w : Worker _). w.pass) c.keep-in-Err.ensures.same ∙ c.retire.ensures in
+    let none = sym (ap (λ (x : PassStanding _). x.spent) retired) ∙ awake in
+    absurd (none-or c.work.new.self.pass.spent end.spent.0 end.spent.1 none)

@@ -1,5 +1,16 @@
 -- The sources are those that were laid out.
-use Rattle.std.proofs.Common.{sym, ap}
+use Rattle.std.proofs.Common.{◌≡◌, sym, ap, subst, List}
+use Rattle.std.specs.Prelude.{IfSome, IsSomeAnd}
+use Rattle.std.specs.List.{All}
+use Rattle.scq_block.specs.Frames.{bytes_of}
+use Rattle.scq_block.specs.declared.frame.Frame.{Frame}
+use Rattle.scq_queue.specs.Passes.{PassStanding}
+use Rattle.scq_passes.specs.Leaving.{HasLeftSwept}
+use Rattle.scq_passes.specs.Records.{IsGivenBack}
+use Rattle.scq_passes.specs.Together.{NoneSpent}
+use Rattle.scq_stages.specs.AllStages.{NothingIsStranded}
+use Rattle.scq_stages.proofs.DeskWorks.{passes_at}
+use Rattle.scq_stages.proofs.Settled.{all-behind, some-of}
 use Rattle.scq_stages.proofs.staging.stage_work.Goals as goal
 
 pub returns-in-Ok-make_queue-clause-moved : goal.returns-in-Ok-make_queue-clause-moved
@@ -7,3 +18,19 @@ returns-in-Ok-make_queue-clause-moved g c = rw (sym (ap (λ v. v.items) c.lay_ou
 
 pub returns-in-Ok-make_queue-clause-whole : goal.returns-in-Ok-make_queue-clause-whole
 returns-in-Ok-make_queue-clause-whole g c = rw (sym (ap (λ v. v.items) c.lay_out-laid.ensures.was)) c.wind_up.ensures.whole
+
+-- the passes were there when the queue was closed
+pub returns-in-Ok-make_queue-clause-behind : goal.returns-in-Ok-make_queue-clause-behind
+returns-in-Ok-make_queue-clause-behind g c =
+    let job = c.args.job.now in
+    let ran = c.run_all-desks.result.items in
+    let end = c.wind_up.result in
+    let said = c.wind_up.ensures in
+    let P : PassStanding Frame → Type 0 = HasLeftSwept bytes_of IsGivenBack 2 64 in
+    let its = some-of end.passes (λ ps. ps.value.items ≡ passes_at ran) said.there said.passes in
+    let left = some-of end.left (λ l. IsSomeAnd end.passes (λ ps. NothingIsStranded job.order job.workers ps.value.items l.items)) said.closed said.left in
+    let closed : NothingIsStranded job.order job.workers its.it.value.items left.it.items =
+    subst (λ o. IsSomeAnd o (λ ps. NothingIsStranded job.order job.workers ps.value.items left.it.items)) its.same left.holds in
+    let none : NoneSpent (passes_at ran) = subst (λ (ps : List (PassStanding Frame)). NoneSpent ps) its.holds closed.shared.unspent in
+    subst (λ o. IfSome o (λ ps. All P ps.value.items)) (sym its.same)
+    (subst (λ (ps : List (PassStanding Frame)). All P ps) (sym its.holds) (all-behind P ran c.run_all-desks.ensures.behind none))

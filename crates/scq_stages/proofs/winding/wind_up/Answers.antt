@@ -96,7 +96,7 @@ record Facts {S : Type 0} (order size workers : ℕ) (faults end_count : S → �
     passes : their_passes ≡ passes_at ran
     lists : their_lists ≡ lists_at ran
     all : AllRan queue.setup queue size faults end_count left sources ran
-    closed : HasClosed queue.setup (passes_at ran) (held_at ran) left_in
+    closed : HasClosed queue.setup queue.given (passes_at ran) (held_at ran) left_in
 
 facts : (g : _) (c : After-conclude g) → Facts c.args.job.now.order c.args.job.now.size c.args.job.now.workers
     g.S.Source.faults g.S.Source.ends g.S.Source.left c.args.laid.was.value.items c.args.queue c.args.desks.items c.clear.new.left.passes.items
@@ -141,9 +141,9 @@ facts g c =
         seats = setup.2 ∙ sym c.requires.count;
         limit = setup.3;
       };
-      closed = subst (λ (hs : List (HeldStanding Frame)). HasClosed queue.setup (passes_at ran) hs c.close-buffers.result.left.items) held
-          (subst (λ (ps : List (PassStanding Frame)). HasClosed queue.setup ps c.clear.new.left.held.items c.close-buffers.result.left.items) passes (record {
-            run = (_, close.run.one);
+      closed = subst (λ (hs : List (HeldStanding Frame)). HasClosed queue.setup queue.given (passes_at ran) hs c.close-buffers.result.left.items) held
+          (subst (λ (ps : List (PassStanding Frame)). HasClosed queue.setup queue.given ps c.clear.new.left.held.items c.close-buffers.result.left.items) passes (record {
+            run = (_, _, close.run);
             takes = close.takes;
             sent_once = close.sent_once;
             taken_once = close.taken_once;
@@ -273,3 +273,8 @@ returns-clause-memory_first g c =
     (λ (f : StageFault) why. memory-first c.args.job.now.size g.S.Source.faults g.S.Source.ends g.S.Source.left c.args.laid.was.value.items
     c.gather.new.gathered.sources.items (starved || wants) c.gather.new.gathered.fault f why
     (λ none. (as-gathered g at).fed (or_parts starved wants none).1)) c.conclude.ensures.err
+
+pub returns-clause-passes : goal.returns-clause-passes
+returns-clause-passes g c =
+    let at = (goal.at.returns-clause-passes g c).After-conclude in
+    ap (λ v. v.items) c.of-closing.ensures ∙ (facts g at).passes

@@ -1,8 +1,11 @@
 -- A slice of the desks is lent, and written back whole.
-use Rattle.std.proofs.Common.{◌≡◌, ◌∙◌, sym, ap, subst, arith, List, ◌++◌, length, take, drop}
+use Rattle.std.proofs.Common.{◌≡◌, ◌∙◌, sym, ap, subst, arith, ◌+◌, List, ◌++◌, None, length, take, drop}
 use Rattle.std.specs.Prelude.{slice_index_or}
 use Rattle.std.specs.List.{All}
 use Rattle.scq_block.specs.declared.frame.Frame.{Frame}
+use Rattle.scq_block.specs.Frames.{bytes_of}
+use Rattle.scq_passes.specs.Leaving.{HasLeftSwept}
+use Rattle.scq_passes.specs.Records.{IsReturn}
 use Rattle.scq_files.specs.OwnFiles.{ids_of}
 use Rattle.scq_work.specs.Desks.{HasRun}
 use Rattle.scq_work.specs.declared.desk.Desk.{Desk}
@@ -44,3 +47,10 @@ returns-clause-run g c =
     subst (λ (ds : List (Desk Frame S)). All (λ d. HasRun c.args.queue.now job.topics job.size job.longest g.S.Source.faults g.S.Source.ends
     g.S.Source.left d.files.items d.worker.pass d.worker.members.items d.worker.starved d.kept) ds)
     (sym (whole g (goal.at.returns-clause-run g c).After-run_each)) c.run_each.ensures.run
+
+pub returns-clause-behind : goal.returns-clause-behind
+returns-clause-behind g c =
+    let S = g.row.S.Denot in
+    let all = length c.args.job.now.topics + 1 in
+    subst (λ (ds : List (Desk Frame S)). All (λ d. d.worker.pass.spent ≡ None → HasLeftSwept bytes_of IsReturn all 64 d.worker.pass) ds)
+    (sym (whole g (goal.at.returns-clause-behind g c).After-run_each)) c.run_each.ensures.behind

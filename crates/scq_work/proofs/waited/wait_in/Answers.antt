@@ -1,6 +1,6 @@
 -- The passes were there when the queue was closed, and the crew is closed with all its stands.
-use Rattle.std.proofs.Common.{◌≡◌, ◌∙◌, ◌+◌, sym, ap, subst, List, length, map, Option, Some, None, refl}
-use Rattle.std.specs.Prelude.{IfSome, IsSome, IsSomeAnd, Vec}
+use Rattle.std.proofs.Common.{◌≡◌, ◌∙◌, ◌+◌, sym, ap, subst, List, length, map}
+use Rattle.std.specs.Prelude.{IfSome, IsSomeAnd, Vec}
 use Rattle.std.specs.Global.{Global}
 use Rattle.std.proofs.lemmas.List.{length-map}
 use Rattle.scq_block.specs.declared.frame.Frame.{Frame}
@@ -11,18 +11,8 @@ use Rattle.scq_work.specs.Resting.{AreSettled}
 use Rattle.scq_work.specs.Waiting.{HaveWaited}
 use Rattle.scq_work.specs.declared.desk.Desk.{Desk}
 use Rattle.scq_work.proofs.DeskLemmas.{still-dealt}
-use Rattle.scq_work.proofs.Settling.{have-waited}
+use Rattle.scq_work.proofs.Settling.{have-waited, some-of}
 use Rattle.scq_work.proofs.waited.wait_in.Goals as goal
-
--- what is there, with what holds of it
-record Shown {X : Type 0} (o : Option X) (P : X → Type 0) : Type 0 where
-  it : X
-  same : o ≡ Some it
-  holds : P it
-
-some-of : {X : Type 0} (o : Option X) (P : X → Type 0) → IsSome o → IfSome o P → Shown o P
-some-of None P there so = absurd (cc)
-some-of (Some x) P there so = record { it = x; same = refl; holds = so }
 
 pub wind_up-end-requires-clause-dealt : goal.wind_up-end-requires-clause-dealt
 wind_up-end-requires-clause-dealt g c κs within =

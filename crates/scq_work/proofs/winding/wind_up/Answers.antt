@@ -110,7 +110,7 @@ record Facts {S : Type 0} (topics : List (List ℕ × Kind)) (order size longest
   passes : their_passes ≡ passes_at ran
   lists : their_lists ≡ lists_at ran
   all : AllRan queue.setup queue topics size longest faults end_count left sources ran
-  closed : HasClosed queue.setup (passes_at ran) (held_at ran) left_in
+  closed : HasClosed queue.setup queue.given (passes_at ran) (held_at ran) left_in
 
 facts : (g : _) (c : After-conclude g) → Facts c.args.job.now.topics c.args.job.now.order c.args.job.now.size c.args.job.now.longest c.args.job.now.workers
     g.S.Source.faults g.S.Source.ends g.S.Source.left c.args.laid.was.value.items c.args.queue c.args.desks.items c.clear.new.left.passes.items
@@ -163,9 +163,9 @@ facts g c =
         limit = setup.3;
         some_size = valid.some_size;
       };
-      closed = subst (λ (hs : List (HeldStanding Frame)). HasClosed queue.setup (passes_at ran) hs c.close-buffers.result.left.items) held
-          (subst (λ (ps : List (PassStanding Frame)). HasClosed queue.setup ps c.clear.new.left.held.items c.close-buffers.result.left.items) passes (record {
-            run = (_, close.run.one);
+      closed = subst (λ (hs : List (HeldStanding Frame)). HasClosed queue.setup queue.given (passes_at ran) hs c.close-buffers.result.left.items) held
+          (subst (λ (ps : List (PassStanding Frame)). HasClosed queue.setup queue.given ps c.clear.new.left.held.items c.close-buffers.result.left.items) passes (record {
+            run = (_, _, close.run);
             takes = close.takes;
             sent_once = close.sent_once;
             taken_once = close.taken_once;

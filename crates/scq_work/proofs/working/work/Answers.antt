@@ -1,5 +1,16 @@
 -- The sources are those that were laid out.
-use Rattle.std.proofs.Common.{sym, ap}
+use Rattle.std.proofs.Common.{◌≡◌, ◌+◌, sym, ap, subst, List, length, map}
+use Rattle.std.specs.Prelude.{IfSome, IsSomeAnd}
+use Rattle.std.specs.List.{All}
+use Rattle.scq_block.specs.Frames.{bytes_of}
+use Rattle.scq_block.specs.declared.frame.Frame.{Frame}
+use Rattle.scq_queue.specs.Passes.{PassStanding}
+use Rattle.scq_passes.specs.Leaving.{HasLeftSwept}
+use Rattle.scq_passes.specs.Records.{IsReturn}
+use Rattle.scq_passes.specs.Together.{NoneSpent}
+use Rattle.scq_work.specs.AllWorkers.{NothingIsStranded}
+use Rattle.scq_work.specs.declared.desk.Desk.{Desk}
+use Rattle.scq_work.proofs.Settling.{all-behind, some-of}
 use Rattle.scq_work.proofs.working.work.Goals as goal
 
 pub returns-in-Ok-make_queue-clause-moved : goal.returns-in-Ok-make_queue-clause-moved
@@ -7,3 +18,23 @@ returns-in-Ok-make_queue-clause-moved g c = rw (sym (ap (λ v. v.items) c.lay_ou
 
 pub returns-in-Ok-make_queue-clause-whole : goal.returns-in-Ok-make_queue-clause-whole
 returns-in-Ok-make_queue-clause-whole g c = rw (sym (ap (λ v. v.items) c.lay_out-laid.ensures.was)) c.wind_up-end.ensures.end.whole
+
+-- the passes were there when the queue was closed
+pub returns-in-Ok-make_queue-clause-behind : goal.returns-in-Ok-make_queue-clause-behind
+returns-in-Ok-make_queue-clause-behind g c =
+    let S = g.row.S.Denot in
+    let job = c.args.job.now in
+    let topics = length job.topics + 1 in
+    let ran = c.run_apart-desks.result.items in
+    let end = c.wind_up-end.result.0 in
+    let said = c.wind_up-end.ensures in
+    let P : PassStanding Frame → Type 0 = HasLeftSwept bytes_of IsReturn topics 64 in
+    let its = some-of end.passes (λ ps. ps.value.items ≡ map (λ (d : Desk Frame S). d.worker.pass) ran) said.there said.passes in
+    let left = some-of end.left (λ l. IsSomeAnd end.passes (λ ps. NothingIsStranded job.order topics job.workers ps.value.items l.items)) said.closed
+    said.end.none_stranded in
+    let closed : NothingIsStranded job.order topics job.workers its.it.value.items left.it.items =
+    subst (λ o. IsSomeAnd o (λ ps. NothingIsStranded job.order topics job.workers ps.value.items left.it.items)) its.same left.holds in
+    let none : NoneSpent (map (λ (d : Desk Frame S). d.worker.pass) ran) =
+    subst (λ (ps : List (PassStanding Frame)). NoneSpent ps) its.holds closed.shared.unspent in
+    subst (λ o. IfSome o (λ ps. All P ps.value.items)) (sym its.same)
+    (subst (λ (ps : List (PassStanding Frame)). All P ps) (sym its.holds) (all-behind P ran c.run_apart-desks.ensures.behind none))

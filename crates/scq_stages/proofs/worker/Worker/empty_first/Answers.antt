@@ -26,6 +26,7 @@ moves-init g c =
       helped = helped-nothing p p c.args.self.now.members.items c.args.self.now.members.items (ap (λ l. on second (takes_of l)) none_) refl;
       members = refl;
       starved = refl;
+      gates = refl;
     }
 
 pub moves-preserved : goal.moves-preserved
@@ -42,6 +43,7 @@ moves-preserved g c =
       helped = helped-along p q r c.args.self.now.members.items c.moves.self.members.items c.move_one.new.self.members.items split inv.helped said.helped;
       members = c.move_one.ensures.same.0 ∙ inv.members;
       starved = c.move_one.ensures.same.1 ∙ inv.starved;
+      gates = said.gates ∙ inv.gates;
     }
 
 -- the last take found nothing
@@ -55,7 +57,7 @@ returns-clause-done g c messages work =
     let split = since-takes was.pass mid.pass now.pass inv.taken said.taken in
     let last = c.move_one.ensures.last (cc) in
     work-done messages was.pass now.pass mid.pass.calls was.members.items now.members.items was.starved now.starved work
-    (taken-along was.pass mid.pass now.pass inv.taken said.taken) (moved-along was.pass mid.pass now.pass split inv.moves said.moves)
+    (taken-along was.pass mid.pass now.pass inv.taken said.taken) (said.gates ∙ inv.gates) (moved-along was.pass mid.pass now.pass split inv.moves said.moves)
     (helped-along was.pass mid.pass now.pass was.members.items mid.members.items now.members.items split inv.helped said.helped)
     (λ fed. sym (c.move_one.ensures.same.1 ∙ inv.starved) ∙ fed) last.0 last.1
 

@@ -12,6 +12,7 @@ invariant-moves g l = record {
   helped : HasFinishedOnlySeconds l.fn.self.pass l.self.pass l.fn.self.members.items l.self.members.items;
   members : l.self.members.items ≡ l.fn.self.members.items;
   starved : l.self.starved ≡ l.fn.self.starved;
+  gates : l.self.pass.gates ≡ l.fn.self.pass.gates;
 }
 
 -- each take that gets something has a place that is not below the head known, and below the limit

@@ -50,3 +50,6 @@ returns-clause-helped g c fed =
     let mid = c.take_second.new.self in
     helped-along c.args.self.now.pass mid.pass c.move_one.new.self.pass c.args.self.now.members.items mid.members.items c.move_one.new.self.members.items
     (both-calls g c) (c.in_ok-take_second.ensures.helped (sym c.move_one.ensures.same.1 ∙ fed)) c.in_ok-move_one.ensures.helped
+
+pub returns-clause-gates : goal.returns-clause-gates
+returns-clause-gates g c = c.in_ok-move_one.ensures.gates ∙ c.in_ok-take_second.ensures.only.gates

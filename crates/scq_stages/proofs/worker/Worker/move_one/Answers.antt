@@ -1,4 +1,4 @@
-use Rattle.std.proofs.Common.{rules, ◌≡◌, ap, sym, subst, arith, refl, suc, ℕ, length, ◌<◌, ◌∷◌, [], Err, Result}
+use Rattle.std.proofs.Common.{rules, ◌≡◌, ◌∙◌, ap, sym, subst, arith, refl, suc, ℕ, length, ◌<◌, ◌∷◌, [], Err, Result}
 use Rattle.std.specs.Prelude.{IfErr}
 use Rattle.std.specs.List.{filter_map}
 use Rattle.scq_core.specs.declared.ended.Ended.TheVariants.{Nothing}
@@ -74,3 +74,12 @@ pub returns-in-Err-Spent-clause-left : goal.returns-in-Err-Spent-clause-left
 returns-in-Err-Spent-clause-left g c messages =
     left-take messages first c.in-Err-Spent.field-0-0 c.args.self.now.pass c.take.new.pass
     (c.in-Err-Spent.ensures.spent c.in-Err-Spent.field-0-0 (cc) c.requires.suits.spent).0
+
+pub returns-in_ok-move_on-in-Ok-clause-gates : goal.returns-in_ok-move_on-in-Ok-clause-gates
+returns-in_ok-move_on-in-Ok-clause-gates g c =
+    c.in_ok-move_on-in-Ok.ensures.gates ∙ ap (λ (x : PassStanding _). x.gates) c.in-Ok.ensures.took.pass
+
+pub returns-in-Err-Empty-clause-gates : goal.returns-in-Err-Empty-clause-gates
+returns-in-Err-Empty-clause-gates g c =
+    let empty = c.in-Err-Empty.ensures.empty c.in-Err-Empty.field-0-0 (cc) in
+    ap (λ (x : PassStanding _). x.gates) empty.pass

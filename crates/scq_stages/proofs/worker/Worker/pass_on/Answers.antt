@@ -144,6 +144,7 @@ returns-in_ok-help-in-Err-Full-clause-work g c messages work =
     was.starved now.starved work full (helped g c)
     (subst (λ (q : PassStanding _). filter_map take_topic (since q now.pass) ≡ second ∷ first ∷ []) same said.each)
     (subst (λ (q : PassStanding _). HasMovedIts q now.pass) same said.moves)
+    (said.gates ∙ ap (λ (x : PassStanding _). x.gates) same)
     (λ fed. c.finish_directly.ensures.starved (c.help.ensures.starved fed))
     (λ fed. c.finish_directly.ensures.listed (c.help.ensures.starved fed))
     (λ fed. subst (λ (q : PassStanding _). HasFinishedOnlySeconds q now.pass mid.members.items now.members.items) same (said.helped fed))

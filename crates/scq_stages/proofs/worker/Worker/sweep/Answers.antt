@@ -1,12 +1,15 @@
-use Rattle.std.proofs.Common.{rules, ◌≡◌, ◌<◌, ◌++◌, sym, subst, arith, ℕ, zero, suc, Err, Result}
+use Rattle.std.proofs.Common.{rules, ◌≡◌, ◌<◌, ◌++◌, ap, sym, subst, arith, inl, inr, ℕ, zero, suc, true, Ok, Err, Result}
 use Rattle.std.specs.Prelude.{IfErr}
-use Rattle.scq_queue.specs.Passes.{known_on}
+use Rattle.std.proofs.lemmas.Bool.{cases_Bool}
+use Rattle.scq_queue.specs.Passes.{PassStanding, known_on}
 use Rattle.scq_passes.specs.Leaving.{FoundTopicEmpty}
 use Rattle.scq_passes.specs.Calls.{HasLeftSo, since}
+use Rattle.scq_passes.proofs.InRun.{only-along}
 use Rattle.scq_passes.proofs.PassLemmas.{taken-along, empty-still}
 use Rattle.scq_passes.proofs.LeftLemmas.{left-so-taken}
 use Rattle.scq_passes.proofs.Since.{since-takes, none_below-along}
 use Rattle.scq_passes.proofs.Sweeps.{found-earlier, found-later}
+use Rattle.scq_passes.proofs.Vain.{takes-rise}
 use Rattle.scq_stages.specs.Records.{first, second}
 use Rattle.scq_stages.specs.Working.{HasFewStageCalls}
 use Rattle.scq_stages.proofs.Finishing.{finished-along}
@@ -70,3 +73,26 @@ returns-clause-found g c =
     let r = c.sweep_second.new.self.pass in
     two (λ t. FoundTopicEmpty t p r) (found-later first p q r c.in_ok-from_first.ensures.found c.in_ok-from_second.ensures.taken)
     (found-earlier second p q r c.in_ok-from_first.ensures.taken c.in_ok-from_second.ensures.found)
+
+pub returns-clause-only : goal.returns-clause-only
+returns-clause-only g c =
+    let p = c.args.self.now.pass in
+    let q = c.sweep_first.new.self.pass in
+    only-along p q c.sweep_second.new.self.pass (ap (λ (x : PassStanding _). x.number) c.in_ok-from_first.ensures.taken.pass)
+    c.in_ok-from_first.ensures.only c.in_ok-from_second.ensures.only
+
+-- one of both got something, and the other lost nothing
+pub returns-clause-more : goal.returns-clause-more
+returns-clause-more g c is =
+    let p = c.args.self.now.pass in
+    let q = c.sweep_first.new.self.pass in
+    let r = c.sweep_second.new.self.pass in
+    let one = takes-rise p q c.in_ok-from_first.ensures.taken in
+    let two_ = takes-rise q r c.in_ok-from_second.ensures.taken in
+    elim (cases_Bool c.in_ok-from_first.from_first) [
+      | inl full ↦ let more = c.in_ok-from_first.ensures.more (ap Ok full) in omega (arith, more, two_)
+      | inr idle ↦
+          let full : c.in_ok-from_second.from_second ≡ true = cc in
+          let more = c.in_ok-from_second.ensures.more (ap Ok full) in
+          omega (arith, one, more)
+    ]

@@ -1,9 +1,11 @@
-use Rattle.std.proofs.Common.{rules, ◌≡◌, ◌∙◌, ap, sym, subst, arith, refl, [], ℕ, Err, Result}
+use Rattle.std.proofs.Common.{rules, ◌≡◌, ◌∙◌, ap, sym, subst, arith, refl, inl, inr, [], ℕ, length, Err, Result}
 use Rattle.std.specs.Prelude.{IfErr}
 use Rattle.std.proofs.lemmas.List.{append-nil}
 use Rattle.scq_queue.specs.Lists.{takes_of}
+use Rattle.scq_queue.specs.Passes.{PassStanding}
 use Rattle.scq_passes.specs.Records.{on}
 use Rattle.scq_passes.specs.Calls.{HasLeftSo, since}
+use Rattle.scq_passes.proofs.InRun.{only-from}
 use Rattle.scq_passes.proofs.PassLemmas.{taken-nothing, taken-along}
 use Rattle.scq_passes.proofs.LeftLemmas.{left-so-taken}
 use Rattle.scq_passes.proofs.Since.{since-of, since-takes, none_below-nothing, none_below-along}
@@ -26,6 +28,9 @@ takes-init g c =
       starved = λ fed. fed;
       some = λ h. absurd (cc);
       nothing = λ none. refl;
+      only = inl refl;
+      long = omega arith;
+      more = λ h. absurd (cc);
     }
 
 pub takes-preserved : goal.takes-preserved
@@ -46,6 +51,9 @@ takes-preserved g c =
       starved = λ fed. inv.starved (c.finish_one.ensures.starved fed);
       some = λ h. (let rises = said.0 in omega arith, let low = said.1 in omega arith);
       nothing = λ none. absurd (cc);
+      only = inr (only-from p q r (ap (λ (x : PassStanding _). x.number) inv.taken.pass) inv.only its.only);
+      long = let got = c.finish_one.ensures.more (cc) in omega (arith, inv.long, got);
+      more = λ h. let got = c.finish_one.ensures.more (cc) in omega (arith, inv.long, got);
     }
 
 pub takes-smaller : goal.takes-smaller
@@ -99,3 +107,14 @@ returns-in_err-more-clause-left g c =
     subst (λ (x : Result _ _). IfErr x (λ l. (messages : ℕ) → HasLeftSo HasFewStageCalls messages messages p r l.held)) (sym is)
     (λ messages. left-so-taken HasFewStageCalls messages messages messages p q r _ taken (few_calls-moved messages p q taken)
     (c.in_err-more.ensures.left messages))
+
+pub returns-else-more-clause-only : goal.returns-else-more-clause-only
+returns-else-more-clause-only g c =
+    let inv = c.takes.invariant in
+    only-from c.args.self.now.pass c.takes.self.pass c.finish_one.new.self.pass (ap (λ (x : PassStanding _). x.number) inv.taken.pass) inv.only
+    c.in_ok-more.ensures.only
+
+pub returns-else-more-clause-more : goal.returns-else-more-clause-more
+returns-else-more-clause-more g c is =
+    let was = c.takes.invariant.more (cc) in
+    omega (arith, was, ap length (c.finish_one.ensures.nothing (cc)))

@@ -1,16 +1,16 @@
-use Rattle.std.proofs.Common.{rules, ◌≡◌, ◌++◌, ◌∙◌, ap, sym, subst, arith, [], inl, inr, ℕ, Ok, Err, Result}
+use Rattle.std.proofs.Common.{rules, ◌≡◌, ◌++◌, ◌∙◌, ap, sym, subst, arith, [], inl, inr, ℕ, ◌<◌, false, Ok, Err, Result}
 use Rattle.std.specs.Prelude.{IfErr}
 use Rattle.std.proofs.lemmas.Bool.{eqb-true}
 use Rattle.std.proofs.lemmas.List.{append-nil}
 use Rattle.scq_queue.specs.Lists.{takes_of}
 use Rattle.scq_queue.specs.Passes.{PassStanding}
 use Rattle.scq_passes.specs.Records.{IsGivenBack, on}
-use Rattle.scq_passes.specs.Leaving.{HasIdled, IsSweep}
+use Rattle.scq_passes.specs.Leaving.{AreSweeps, IsSweep, no_sweep, and_some, and_idle}
 use Rattle.scq_passes.specs.Calls.{HasLeftSo, TookNoneBelow, since}
 use Rattle.scq_passes.proofs.PassLemmas.{taken-nothing, taken-along, left-falls, looked}
 use Rattle.scq_passes.proofs.LeftLemmas.{left-so-taken}
 use Rattle.scq_passes.proofs.Since.{since-of, since-takes, none_below-nothing, none_below-along}
-use Rattle.scq_passes.proofs.Sweeps.{sweep-of, idle-more, idle-none}
+use Rattle.scq_passes.proofs.Sweeps.{sweep-of, some-left, took-nothing, took-some}
 use Rattle.scq_stages.specs.Records.{first}
 use Rattle.scq_stages.specs.Steps.{HasGivenBack, HasFinished}
 use Rattle.scq_stages.specs.Working.{HasFewStageCalls}
@@ -62,10 +62,13 @@ whole g c =
     (subst (λ (q : PassStanding _). HasGivenBack c.sweeps.self.pass q) (sym c.closed-over.ensures.looked.1)
     (looked c.sweeps.self.pass c.closed-over.ensures.looked.0 c.closed-over.new.pass.seen))) c.in_ok-some.ensures.taken
 
-swept-once : (g : _) (c : In_ok-some g) → IsSweep IsGivenBack 2 c.closed-over.ensures.looked.0 c.sweeps.self.pass c.sweep.new.self.pass
+swept-once : (g : _) (c : In_ok-some g) → IsSweep g.B.Buffer.contents c.args.queue.now IsGivenBack 2 c.closed-over.ensures.looked.0
+    c.sweeps.self.pass c.sweep.new.self.pass
 swept-once g c =
     let said = c.closed-over.ensures.looked in
-    sweep-of 2 said.0 c.sweeps.self.pass c.closed-over.new.pass c.sweep.new.self.pass said.1 c.in_ok-some.ensures.taken c.in_ok-some.ensures.found
+    let read = c.closed-over.ensures.in_run said.0 (ap (λ (x : PassStanding _). x.gate) said.1) in
+    sweep-of 2 said.0 c.sweeps.self.pass c.closed-over.new.pass c.sweep.new.self.pass said.1 read c.in_ok-some.ensures.taken
+    c.in_ok-some.ensures.only c.in_ok-some.ensures.found
 
 pub sweeps-init : goal.sweeps-init
 sweeps-init g c =
@@ -77,7 +80,7 @@ sweeps-init g c =
       below = none_below-nothing first p p (ap (λ l. on first (takes_of l)) none_);
       starved = λ fed. fed;
       idle = omega arith;
-      idling = idle-none 2 p p (taken-nothing p);
+      sweeps = no_sweep p;
     }
 
 pub returns-in_err-some-clause-left : goal.returns-in_err-some-clause-left
@@ -112,6 +115,9 @@ sweeps-preserved g c =
     let said = c.closed-over.ensures.looked in
     let at_look = (goal.at.sweeps-preserved g c).After-closed-over in
     let at_some = (goal.at.sweeps-preserved g c).In_ok-some in
+    let contents = g.B.Buffer.contents in
+    let queue = c.args.queue.now in
+    let going : c.closed-over.result ≡ false = c.if-over.false in
     let split = since-takes p c.closed-over.new.pass now (before g at_look) c.in_ok-some.ensures.taken in
     record {
       taken = whole g at_some;
@@ -120,11 +126,14 @@ sweeps-preserved g c =
       below = none_below-along first p c.closed-over.new.pass now (before g at_look).knows split (below-before g at_look) c.in_ok-some.ensures.below;
       starved = λ fed. inv.starved (c.sweep.ensures.starved fed);
       idle = elim c.if-some.branch [ then-some w ↦ omega arith | else-some w ↦ omega arith ];
-      idling = elim c.if-some.branch [
-        | then-some w ↦ subst (λ n. HasIdled IsGivenBack 2 n p now) (sym w.idle-is) (idle-none 2 p now (whole g at_some))
-        | else-some w ↦ subst (λ n. HasIdled IsGivenBack 2 n p now) (sym w.idle-is)
-            (idle-more 2 c.sweeps.idle said.0 p c.sweeps.self.pass c.closed-over.new.pass now inv.idling said.1 (swept-once g at_some)
-            (c.in_ok-some.ensures.nothing (ap Ok w.if-some.false)))
+      sweeps = elim c.if-some.branch [
+        | then-some w ↦ subst (λ n. AreSweeps contents queue IsGivenBack 2 (λ k. k < 64) n p now) (sym w.idle-is)
+            (and_some said.0 inv.sweeps (swept-once g at_some) (some-left said.0 (sym said.2 ∙ going))
+            (took-some said.0 c.sweeps.self.pass c.closed-over.new.pass now said.1 (c.in_ok-some.ensures.more (ap Ok w.if-some.true))))
+        | else-some w ↦ subst (λ n. AreSweeps contents queue IsGivenBack 2 (λ k. k < 64) n p now) (sym w.idle-is)
+            (and_idle said.0 inv.sweeps (swept-once g at_some) (some-left said.0 (sym said.2 ∙ going))
+            (took-nothing said.0 c.sweeps.self.pass c.closed-over.new.pass now said.1 (c.in_ok-some.ensures.nothing (ap Ok w.if-some.false)))
+            (omega arith))
       ];
     }
 
@@ -149,23 +158,23 @@ returns-clause-below g c =
 
 pub returns-clause-swept : goal.returns-clause-swept
 returns-clause-swept g c =
-    let p = c.args.self.now.pass in
+    let at = c.sweeps.self.pass in
     let now = c.sweep.new.self.pass in
     let said = c.closed-over.ensures.looked in
-    let at_some = (goal.at.returns-clause-swept g c).In_ok-some in
     record {
-      begun = c.sweeps.self.pass;
-      before = c.sweeps.invariant.taken;
+      idle = c.sweeps.idle;
+      begun = at;
+      before = c.sweeps.invariant.sweeps;
       found = said.0;
-      sweep = swept-once g at_some;
+      sweep = swept-once g (goal.at.returns-clause-swept g c).In_ok-some;
       why = elim c.then-over.either [
         | inl over ↦ inl (eqb-true said.0 0 (sym said.2 ∙ over))
         | inr (going, full) ↦ inr (elim c.if-some.branch [
           | then-some w ↦ let none : c.if-some.idle ≡ 0 = w.idle-is in absurd (omega (arith, none, full))
-          | else-some w ↦
-              subst (λ n. HasIdled IsGivenBack 2 n p now) (sym w.idle-is ∙ full)
-              (idle-more 2 c.sweeps.idle said.0 p c.sweeps.self.pass c.closed-over.new.pass now c.sweeps.invariant.idling said.1 (swept-once g at_some)
-              (c.in_ok-some.ensures.nothing (ap Ok w.if-some.false)))
+          | else-some w ↦ (
+              sym w.idle-is ∙ full,
+              took-nothing said.0 at c.closed-over.new.pass now said.1 (c.in_ok-some.ensures.nothing (ap Ok w.if-some.false)),
+            )
         ])
       ];
     }

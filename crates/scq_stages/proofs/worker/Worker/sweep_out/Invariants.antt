@@ -1,6 +1,6 @@
 use Rattle.std.proofs.Common.{◌≡◌, ◌<◌, ◌+◌, ◌-◌, ◌*◌, false}
 use Rattle.scq_passes.specs.Records.{IsGivenBack}
-use Rattle.scq_passes.specs.Leaving.{HasIdled}
+use Rattle.scq_passes.specs.Leaving.{AreSweeps}
 use Rattle.scq_passes.specs.Calls.{TookNoneBelow, takes_left}
 use Rattle.scq_stages.specs.Records.{first}
 use Rattle.scq_stages.specs.Steps.{HasGivenBack, HasFinished}
@@ -13,7 +13,7 @@ invariant-sweeps g l = record {
   below : TookNoneBelow first l.fn.self.pass l.self.pass;
   starved : l.self.starved ≡ false → l.fn.self.starved ≡ false;
   idle : l.idle < 64;
-  idling : HasIdled IsGivenBack 2 l.idle l.fn.self.pass l.self.pass;
+  sweeps : AreSweeps g.B.Buffer.contents l.queue IsGivenBack 2 (λ n. n < 64) l.idle l.fn.self.pass l.self.pass;
 }
 
 -- a sweep that takes something leaves less to take, and one that doesn't is one of at most 64 in a row

@@ -6,9 +6,11 @@ use Rattle.scq_queue.specs.Lists.{sends_of, takes_of}
 use Rattle.scq_queue.specs.Passes.{PassStanding}
 use Rattle.scq_passes.specs.Calls.{HasLeftSo, since}
 use Rattle.scq_passes.specs.Records.{on}
+use Rattle.scq_passes.proofs.InRun.{only-along, only-back, only-got, only-nothing}
 use Rattle.scq_passes.proofs.PassLemmas.{took-and-gave, found-none, found-past}
 use Rattle.scq_passes.proofs.Since.{none_below-nothing}
 use Rattle.scq_passes.proofs.Sweeps.{found-now, found-takes}
+use Rattle.scq_passes.proofs.Vain.{vain-got}
 use Rattle.scq_stages.specs.Records.{first, second, take_topic}
 use Rattle.scq_stages.specs.Working.{HasFewStageCalls}
 use Rattle.scq_stages.proofs.Finishing.{since-took, since-found, finished-second, helped-second, finished-nothing, helped-nothing, moved-nothing, left-take, left-given}
@@ -113,3 +115,22 @@ pub returns-in-Err-Spent-clause-left : goal.returns-in-Err-Spent-clause-left
 returns-in-Err-Spent-clause-left g c messages =
     left-take messages second c.in-Err-Spent.field-0-0 c.args.self.now.pass c.take.new.pass
     (c.in-Err-Spent.ensures.spent c.in-Err-Spent.field-0-0 (cc) c.requires.suits.spent).0
+
+pub returns-in_ok-end_second-in-Ok-clause-only : goal.returns-in_ok-end_second-in-Ok-clause-only
+returns-in_ok-end_second-in-Ok-clause-only g c =
+    let took = c.in-Ok.ensures.took in
+    let given = c.in_ok-end_second-in-Ok.ensures.given in
+    only-along c.args.self.now.pass c.take.new.pass c.end_second.new.self.pass (ap (λ (x : PassStanding _). x.number) took.pass)
+    (only-got (suc second) c.in-Ok.place c.args.self.now.pass c.take.new.pass c.in-Ok.held took (c.take.ensures.run c.requires.suits.spent))
+    (only-back given.0 c.in-Ok.held.index c.take.new.pass c.end_second.new.self.pass given.1 c.end_second.ensures.run)
+
+pub returns-in_ok-end_second-in-Ok-clause-more : goal.returns-in_ok-end_second-in-Ok-clause-more
+returns-in_ok-end_second-in-Ok-clause-more g c is =
+    let given = c.in_ok-end_second-in-Ok.ensures.given in
+    (vain-got g.B.Buffer.contents second c.in-Ok.place given.0 c.args.self.now.pass c.take.new.pass c.end_second.new.self.pass c.in-Ok.held
+    c.in-Ok.ensures.took given.1).1
+
+pub returns-in-Err-Empty-clause-only : goal.returns-in-Err-Empty-clause-only
+returns-in-Err-Empty-clause-only g c =
+    only-nothing (suc second) c.in-Err-Empty.field-0-0 c.args.self.now.pass c.take.new.pass
+    (c.in-Err-Empty.ensures.empty c.in-Err-Empty.field-0-0 (cc)) (c.take.ensures.run c.requires.suits.spent)

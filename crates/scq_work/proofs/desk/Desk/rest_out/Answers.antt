@@ -59,13 +59,14 @@ returns-in_default-clause-waited g c =
     let d = c.args.self.now in
     let now = c.sweep_and_rest.new.self in
     waited-told c.args.queue.now job.topics job.size job.longest g.S.Source.faults g.S.Source.ends g.S.Source.left d.files.items d.worker.pass now.pass
-    d.worker.members.items now.members.items d.worker.starved now.starved d.kept c.requires.sweep c.args.stand.now.rests c.sweep_and_rest.new.stand.rests
-    c.in_default.ensures.told c.in_default.ensures.vain
+    d.worker.members.items now.members.items d.worker.starved now.starved d.kept c.requires.sweep g.B.Buffer.contents c.args.stand.now.rests
+    c.sweep_and_rest.new.stand.rests c.in_default.ensures.taken c.in_default.ensures.swept c.in_default.ensures.told c.in_default.ensures.vain
 
 pub returns-in-Err-clause-waited : goal.returns-in-Err-clause-waited
 returns-in-Err-clause-waited g c =
+    let contents = g.B.Buffer.contents in
     let all = length c.args.job.now.topics + 1 in
     let rests = c.sweep_and_rest.new.stand.rests in
     let left = c.in-Err.ensures.left 0 in
-    subst (λ (w : Worker _). HasWaited all rests w.pass) (sym c.keep.ensures.same.0)
-    (waited-spent all rests left.spent.0 c.sweep_and_rest.new.self.pass left.spent.1)
+    subst (λ (w : Worker _). HasWaited contents all rests w.pass) (sym c.keep.ensures.same.0)
+    (waited-spent contents all rests left.spent.0 c.sweep_and_rest.new.self.pass left.spent.1)

@@ -1,9 +1,9 @@
-use Rattle.std.proofs.Common.{◌∙◌, ap, sym, subst, List}
+use Rattle.std.proofs.Common.{◌≡◌, ◌∙◌, ap, sym, subst, List, None}
 use Rattle.scq_queue.specs.Passes.{PassStanding}
 use Rattle.scq_work.specs.Desks.{HasRun}
 use Rattle.scq_files.specs.declared.own_file.OwnFile.{OwnFile}
 use Rattle.scq_work.specs.declared.worker.Worker.{Worker}
-use Rattle.scq_work.proofs.Produced.{sweep-suits, swept-out, late-out}
+use Rattle.scq_work.proofs.Produced.{sweep-suits, swept-out, late-out, left-swept, none-or}
 use Rattle.scq_work.proofs.desk.Desk.sweep_out.Goals as goal
 
 pub sweep_out-requires-clause-suits : goal.sweep_out-requires-clause-suits
@@ -51,3 +51,18 @@ returns-in-Err-clause-number g c =
       ap (λ (w : Worker _). w.number) c.keep.ensures.same.0 ∙ c.sweep_out.ensures.number,
       ap (λ (w : Worker _). w.pass.number) c.keep.ensures.same.0 ∙ left.own.1,
     )
+
+pub returns-in_default-clause-behind : goal.returns-in_default-clause-behind
+returns-in_default-clause-behind g c awake =
+    let job = c.args.job.now in
+    let d = c.args.self.now in
+    let now = c.sweep_out.new.self in
+    let end = c.in_default.ensures in
+    left-swept c.args.queue.now job.topics job.size job.longest g.S.Source.faults g.S.Source.ends g.S.Source.left d.files.items d.worker.pass now.pass
+    d.worker.members.items now.members.items d.worker.starved now.starved d.kept c.requires.sweep g.B.Buffer.contents end.taken end.swept
+
+pub returns-in-Err-clause-behind : goal.returns-in-Err-clause-behind
+returns-in-Err-clause-behind g c awake =
+    let left = c.in-Err.ensures.left 0 in
+    let none = subst (λ (w : Worker _). w.pass.spent ≡ None) c.keep.ensures.same.0 awake in
+    absurd (none-or c.sweep_out.new.self.pass.spent left.spent.0 left.spent.1 none)

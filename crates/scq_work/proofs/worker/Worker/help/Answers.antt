@@ -14,6 +14,7 @@ topics-init g c = record {
   starved = λ fed. fed;
   number = refl;
   vain = omega arith;
+  gates = refl;
   below = λ t low. absurd (omega arith);
   above = λ t low. refl;
 }
@@ -28,6 +29,7 @@ topics-preserved g c =
       starved = λ fed. inv.starved (c.take_one.ensures.starved fed);
       number = c.take_one.ensures.number ∙ inv.number;
       vain = omega (arith, inv.vain, c.in_ok-take_one.ensures.vain);
+      gates = c.in_ok-take_one.ensures.only.gates ∙ inv.gates;
       below = counted-below c.topics.topic (λ t. count_by (is_take t) c.args.self.now.pass.calls) (λ t. count_by (is_take t) c.topics.self.pass.calls)
           (λ t. count_by (is_take t) c.take_one.new.self.pass.calls) inv.below inv.above c.in_ok-take_one.ensures.one;
       above = counted-above c.topics.topic (λ t. count_by (is_take t) c.args.self.now.pass.calls) (λ t. count_by (is_take t) c.topics.self.pass.calls)

@@ -14,6 +14,7 @@ invariant-topics g l = record {
   starved : l.self.starved ≡ false → l.fn.self.starved ≡ false;
   number : l.self.number ≡ l.fn.self.number;
   vain : TookInVain l.topic l.fn.self.pass l.self.pass;
+  gates : l.self.pass.gates ≡ l.fn.self.pass.gates;
   below : (t : ℕ) → t < l.topic → count_by (is_take t) l.self.pass.calls ≡ count_by (is_take t) l.fn.self.pass.calls + 1;
   above : (t : ℕ) → l.topic ≤ t → count_by (is_take t) l.self.pass.calls ≡ count_by (is_take t) l.fn.self.pass.calls;
 }

@@ -139,6 +139,7 @@ returns-in_ok-help-in-Err-Full-clause-work g c messages was =
     mid.members.items now.members.items
     c.args.self.now.starved now.starved was full (helped g c)
     (λ t low. said.each t low ∙ ap (λ (x : PassStanding _). count_by (is_take t) x.calls + 1) same)
+    (said.gates ∙ ap (λ (x : PassStanding _). x.gates) same)
     (λ fed. c.answer_directly.ensures.starved (c.help.ensures.starved fed))
     (λ fed. c.answer_directly.ensures.listed (c.help.ensures.starved fed))
     (λ fed. subst (λ (x : PassStanding _). HasAnswered topics x now.pass mid.members.items now.members.items) same (said.answered fed))

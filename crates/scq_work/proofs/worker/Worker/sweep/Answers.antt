@@ -2,7 +2,9 @@ use Rattle.std.proofs.Common.{rules, ◌≡◌, ◌+◌, ◌∙◌, ap, sym, sub
 use Rattle.std.proofs.lemmas.Bool.{cases_lt, cases_Bool}
 use Rattle.std.specs.Prelude.{IfErr, Result, Err}
 use Rattle.scq_passes.specs.Leaving.{FoundTopicEmpty}
+use Rattle.scq_queue.specs.Passes.{PassStanding}
 use Rattle.scq_passes.specs.Calls.{HasLeft}
+use Rattle.scq_passes.proofs.InRun.{only-from, only-found}
 use Rattle.scq_passes.proofs.Blocks.{returns}
 use Rattle.scq_passes.proofs.PassLemmas.{taken-nothing, taken-along, left-falls, left-falls-at, empty-more}
 use Rattle.scq_passes.proofs.LeftLemmas.{left-taken}
@@ -23,7 +25,7 @@ swept-init g c = record {
   some = λ h. absurd (cc);
   vain = omega arith;
   long = omega arith;
-  gate = refl;
+  only = inl refl;
   more = λ h. absurd (cc);
 }
 
@@ -67,7 +69,8 @@ swept-preserved g c =
                 let falls = left-falls-at limit all c.swept.topic c.swept.self.pass c.sweep_topic.new.self.pass more.knows (omega arith) said.0 said.1 in
                 omega arith
           ];
-      gate = c.in_ok-more.ensures.gate ∙ inv.gate;
+      only = inr (only-from c.args.self.now.pass c.swept.self.pass c.sweep_topic.new.self.pass
+          (ap (λ (x : PassStanding _). x.number) inv.taken.pass) inv.only c.in_ok-more.ensures.only);
       vain = omega (arith, inv.vain, c.in_ok-more.ensures.vain);
       long = elim (cases_Bool c.in_ok-more.more) [
         | inl full ↦ let some_ = c.in_ok-more.ensures.more (ap Ok full) in omega (arith, inv.long, some_)
@@ -88,3 +91,9 @@ returns-in_err-more-clause-left g c =
     subst (λ (r : Result _ _). IfErr r (λ l. (messages : ℕ) → HasLeft messages messages c.args.self.now.pass c.sweep_topic.new.self.pass l.held)) (sym is)
     (λ messages. left-taken messages messages c.args.self.now.pass c.swept.self.pass c.sweep_topic.new.self.pass _ c.swept.invariant.taken
     (c.in_err-more.ensures.left messages))
+
+-- each topic was found empty, so some call was made
+pub returns-clause-only : goal.returns-clause-only
+returns-clause-only g c =
+    let inv = c.swept.invariant in
+    only-found 0 c.args.self.now.pass c.swept.self.pass (inv.found 0 (omega arith)) inv.only

@@ -1,7 +1,7 @@
-use Rattle.std.proofs.Common.{◌≡◌, ◌<◌, ◌≤◌, ◌+◌, ℕ, true, false, length}
+use Rattle.std.proofs.Common.{◌≡◌, ◌⊎◌, ◌<◌, ◌≤◌, ◌+◌, ℕ, true, false, length}
 use Rattle.scq_queue.specs.Lists.{takes_of}
 use Rattle.scq_queue.specs.Passes.{known_on}
-use Rattle.scq_passes.specs.Leaving.{FoundTopicEmpty, TookNothing}
+use Rattle.scq_passes.specs.Leaving.{FoundTopicEmpty, HasOnlyCalled, TookNothing}
 use Rattle.scq_passes.specs.Waiting.{TookInVain, TookMore}
 use Rattle.scq_passes.specs.Calls.{HasTaken, takes_left}
 use Rattle.scq_work.specs.Working.{HasAnswered}
@@ -21,6 +21,6 @@ invariant-swept g l = record {
       < takes_left l.queue.setup.limit (length l.job.topics + 1) l.fn.self.pass;
   vain : TookInVain l.topic l.fn.self.pass l.self.pass;
   long : length (takes_of l.fn.self.pass.calls) ≤ length (takes_of l.self.pass.calls);
-  gate : l.self.pass.gate ≡ l.fn.self.pass.gate;
+  only : (l.self.pass ≡ l.fn.self.pass) ⊎ HasOnlyCalled g.B.Buffer.contents l.queue l.fn.self.pass l.self.pass;
   more : l.some ≡ true → TookMore l.fn.self.pass l.self.pass;
 }

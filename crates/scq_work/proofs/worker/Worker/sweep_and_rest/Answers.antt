@@ -1,19 +1,20 @@
-use Rattle.std.proofs.Common.{rules, ◌≡◌, ◌+◌, ◌∙◌, ap, sym, subst, arith, refl, ℕ, true, length, Ok}
+use Rattle.std.proofs.Common.{rules, ◌≡◌, ◌+◌, ◌∙◌, ap, sym, subst, arith, refl, ℕ, true, false, length, Ok, Some}
 use Rattle.std.specs.Prelude.{IfErr, Result, Err}
 use Rattle.std.proofs.lemmas.Bool.{eqb-true}
 use Rattle.scq_park.specs.Crews.{Post}
 use Rattle.scq_queue.specs.Lists.{takes_of}
 use Rattle.scq_queue.specs.Passes.{PassStanding}
 use Rattle.scq_passes.specs.Records.{IsReturn}
-use Rattle.scq_passes.specs.Leaving.{IsSweep}
+use Rattle.scq_passes.specs.Leaving.{IsSweep, no_sweep, and_some, and_idle}
 use Rattle.scq_passes.specs.Calls.{HasTaken, HasLeft}
 use Rattle.scq_work.specs.Working.{HasAnswered}
 use Rattle.scq_passes.proofs.PassLemmas.{taken-nothing, taken-along, looked}
 use Rattle.scq_passes.proofs.LeftLemmas.{left-taken}
-use Rattle.scq_passes.proofs.Sweeps.{sweep-of}
+use Rattle.scq_passes.proofs.Sweeps.{sweep-of, some-left, took-nothing, took-some}
 use Rattle.scq_passes.proofs.Vain.{vain-swept, takes-rise}
 use Rattle.scq_work.proofs.WorkerSteps.{answered-along, answered-nothing}
 use Rattle.scq_work.proofs.worker.Worker.sweep_and_rest.Goals as goal
+use Rattle.scq_work.proofs.worker.Worker.sweep_and_rest.Goals.{In_ok-some}
 
 pub sweeps-init : goal.sweeps-init
 sweeps-init g c = record {
@@ -24,6 +25,7 @@ sweeps-init g c = record {
   starved = λ fed. fed;
   number = refl;
   vain = λ was. was;
+  sweeps = (0, no_sweep c.args.self.now.pass);
   crew = refl;
   worker = refl;
 }
@@ -48,6 +50,15 @@ returns-then-over-clause-taken g c =
     taken-along p c.closed-over.new.pass c.sweep.new.self.pass (taken-along p at c.closed-over.new.pass c.sweeps.invariant.taken look)
     c.in_ok-some.ensures.taken
 
+-- it asked whether all had retired, and then swept
+swept-once : (g : _) (c : In_ok-some g) → IsSweep g.B.Buffer.contents c.args.queue.now IsReturn (length c.args.job.now.topics + 1)
+    c.closed-over.ensures.looked.0 c.sweeps.self.pass c.sweep.new.self.pass
+swept-once g c =
+    let said = c.closed-over.ensures.looked in
+    let read = c.closed-over.ensures.in_run said.0 (ap (λ (x : PassStanding _). x.gate) said.1) in
+    sweep-of (length c.args.job.now.topics + 1) said.0 c.sweeps.self.pass c.closed-over.new.pass c.sweep.new.self.pass said.1 read
+    c.in_ok-some.ensures.taken c.in_ok-some.ensures.only c.in_ok-some.ensures.found
+
 pub returns-then-over-clause-swept : goal.returns-then-over-clause-swept
 returns-then-over-clause-swept g c =
     let at = c.sweeps.self.pass in
@@ -56,10 +67,18 @@ returns-then-over-clause-swept g c =
     let said = c.closed-over.ensures.looked in
     let none : said.0 ≡ 0 = eqb-true said.0 0 (sym said.2 ∙ c.if-over.true) in
     record {
+      idle = c.sweeps.invariant.sweeps.0;
       begun = at;
-      before = c.sweeps.invariant.taken;
-      sweep = subst (λ n. IsSweep IsReturn all n at now) none (sweep-of all said.0 at c.closed-over.new.pass now said.1 c.in_ok-some.ensures.taken c.in_ok-some.ensures.found);
+      before = c.sweeps.invariant.sweeps.1;
+      sweep = subst (λ n. IsSweep g.B.Buffer.contents c.args.queue.now IsReturn all n at now) none
+          (swept-once g (goal.at.returns-then-over-clause-swept g c).In_ok-some);
     }
+
+pub returns-then-over-clause-told : goal.returns-then-over-clause-told
+returns-then-over-clause-told g c =
+    let said = c.closed-over.ensures.looked in
+    let none : said.0 ≡ 0 = eqb-true said.0 0 (sym said.2 ∙ c.if-over.true) in
+    c.in_ok-some.ensures.only.gate ∙ ap (λ (x : PassStanding _). x.gate) said.1 ∙ ap Some none
 
 pub returns-then-over-clause-vain : goal.returns-then-over-clause-vain
 returns-then-over-clause-vain g c was =
@@ -106,6 +125,12 @@ sweeps-preserved-then-not-some g c =
       number = c.sweep.ensures.number ∙ inv.number;
       vain = λ was. vain-swept all 0 c.sweeps.stand.rests 0 c.rest.new.stand.rests at mid now calls (ap (λ (x : PassStanding _). x.fulls) said.1)
           (ap (λ (x : PassStanding _). x.fulls) took.pass) c.in_ok-some.ensures.vain (omega (arith, rise, same, rested)) (inv.vain was);
+      sweeps = (
+        inv.sweeps.0 + 1,
+        and_idle said.0 inv.sweeps.1 (swept-once g (goal.at.sweeps-preserved-then-not-some g c).In_ok-some)
+            (some-left said.0 (sym said.2 ∙ c.if-over.false))
+            (took-nothing said.0 at mid now said.1 (c.in_ok-some.ensures.nothing (ap Ok c.if-not-some.true))) tt,
+      );
       crew = ap (λ (s : Post). s.crew) c.rest.ensures ∙ inv.crew;
       worker = ap (λ (s : Post). s.worker) c.rest.ensures ∙ inv.worker;
     }
@@ -141,6 +166,11 @@ sweeps-preserved g c =
       number = c.sweep.ensures.number ∙ inv.number;
       vain = λ was. vain-swept all 0 c.sweeps.stand.rests 0 c.sweeps.stand.rests at mid now calls (ap (λ (x : PassStanding _). x.fulls) said.1)
           (ap (λ (x : PassStanding _). x.fulls) took.pass) c.in_ok-some.ensures.vain (omega (arith, more, same)) (inv.vain was);
+      sweeps = (
+        0,
+        and_some said.0 inv.sweeps.1 (swept-once g (goal.at.sweeps-preserved g c).In_ok-some)
+            (some-left said.0 (sym said.2 ∙ c.if-over.false)) (took-some said.0 at mid now said.1 more),
+      );
       crew = inv.crew;
       worker = inv.worker;
     }

@@ -1,4 +1,6 @@
-use Rattle.std.proofs.Common.{◌≡◌, ◌+◌, false, length}
+use Rattle.std.proofs.Common.{◌≡◌, ◌+◌, ℕ, false, length}
+use Rattle.scq_passes.specs.Leaving.{AreSweeps}
+use Rattle.scq_passes.specs.Records.{IsReturn}
 use Rattle.scq_passes.specs.Waiting.{SweepsInVain}
 use Rattle.scq_passes.specs.Calls.{HasTaken}
 use Rattle.scq_work.specs.Working.{HasAnswered}
@@ -14,6 +16,7 @@ invariant-sweeps g l = record {
   starved : l.self.starved ≡ false → l.fn.self.starved ≡ false;
   number : l.self.number ≡ l.fn.self.number;
   vain : SweepsInVain (length l.job.topics + 1) 0 l.fn.stand.rests l.fn.self.pass → SweepsInVain (length l.job.topics + 1) 0 l.stand.rests l.self.pass;
+  sweeps : (idle : ℕ) × AreSweeps g.B.Buffer.contents l.queue IsReturn (length l.job.topics + 1) (λ n. Unit {0}) idle l.fn.self.pass l.self.pass;
   crew : l.stand.crew ≡ l.fn.stand.crew;
   worker : l.stand.worker ≡ l.fn.stand.worker;
 }

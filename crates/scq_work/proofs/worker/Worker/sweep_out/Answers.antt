@@ -1,19 +1,27 @@
-use Rattle.std.proofs.Common.{rules, ◌≡◌, ◌+◌, ◌∙◌, ap, sym, subst, arith, refl, inl, inr, ℕ, true, length, Ok}
+use Rattle.std.proofs.Common.{rules, ◌≡◌, ◌+◌, ◌∙◌, ap, sym, subst, arith, refl, inl, inr, ℕ, ◌<◌, true, false, length, Ok}
 use Rattle.std.specs.Prelude.{IfErr, Result, Err}
 use Rattle.std.proofs.lemmas.Bool.{eqb-true}
 use Rattle.scq_queue.specs.Passes.{PassStanding}
 use Rattle.scq_passes.specs.Records.{IsReturn}
-use Rattle.scq_passes.specs.Leaving.{HasIdled}
+use Rattle.scq_passes.specs.Leaving.{AreSweeps, IsSweep, no_sweep, and_some, and_idle}
 use Rattle.scq_passes.specs.Calls.{HasTaken, HasLeft}
 use Rattle.scq_work.specs.Working.{HasAnswered}
 use Rattle.scq_passes.proofs.PassLemmas.{taken-nothing, taken-along, left-falls, looked}
 use Rattle.scq_passes.proofs.LeftLemmas.{left-taken}
-use Rattle.scq_passes.proofs.Sweeps.{sweep-of, idle-more, idle-none}
+use Rattle.scq_passes.proofs.Sweeps.{sweep-of, some-left, took-nothing, took-some}
 use Rattle.scq_work.proofs.WorkerSteps.{answered-along, answered-nothing}
 use Rattle.scq_work.proofs.worker.Worker.sweep_out.Goals as goal
-use Rattle.scq_work.proofs.worker.Worker.sweep_out.Goals.{then-some, else-some}
+use Rattle.scq_work.proofs.worker.Worker.sweep_out.Goals.{then-some, else-some, In_ok-some}
 
 -- it asked whether all had retired, and then swept
+swept-once : (g : _) (c : In_ok-some g) → IsSweep g.B.Buffer.contents c.args.queue.now IsReturn (length c.args.job.now.topics + 1)
+    c.closed-over.ensures.looked.0 c.sweeps.self.pass c.sweep.new.self.pass
+swept-once g c =
+    let said = c.closed-over.ensures.looked in
+    let read = c.closed-over.ensures.in_run said.0 (ap (λ (x : PassStanding _). x.gate) said.1) in
+    sweep-of (length c.args.job.now.topics + 1) said.0 c.sweeps.self.pass c.closed-over.new.pass c.sweep.new.self.pass said.1 read
+    c.in_ok-some.ensures.taken c.in_ok-some.ensures.only c.in_ok-some.ensures.found
+
 pub sweeps-init : goal.sweeps-init
 sweeps-init g c =
     let p = c.args.self.now.pass in
@@ -23,7 +31,7 @@ sweeps-init g c =
       starved = λ fed. fed;
       number = refl;
       idle = omega arith;
-      idling = idle-none (length c.args.job.now.topics + 1) p p (taken-nothing p);
+      sweeps = no_sweep p;
     }
 
 pub returns-in_err-some-clause-left : goal.returns-in_err-some-clause-left
@@ -69,7 +77,10 @@ sweeps-preserved g c =
     let all = length topics + 1 in
     let taken = taken-along p c.closed-over.new.pass now (taken-along p at c.closed-over.new.pass inv.taken look)
     c.in_ok-some.ensures.taken in
-    let sweep = sweep-of all said.0 at c.closed-over.new.pass now said.1 c.in_ok-some.ensures.taken c.in_ok-some.ensures.found in
+    let contents = g.B.Buffer.contents in
+    let queue = c.args.queue.now in
+    let sweep = swept-once g (goal.at.sweeps-preserved g c).In_ok-some in
+    let going : c.closed-over.result ≡ false = c.if-over.false in
     record {
       taken = taken-along p c.closed-over.new.pass c.sweep.new.self.pass (taken-along p at c.closed-over.new.pass inv.taken look)
           c.in_ok-some.ensures.taken;
@@ -79,11 +90,13 @@ sweeps-preserved g c =
       starved = λ fed. inv.starved (c.sweep.ensures.starved fed);
       number = c.sweep.ensures.number ∙ inv.number;
       idle = elim c.if-some.branch [ then-some w ↦ omega arith | else-some w ↦ omega arith ];
-      idling = elim c.if-some.branch [
-        | then-some w ↦ subst (λ n. HasIdled IsReturn all n p now) (sym w.idle-is) (idle-none all p now taken)
-        | else-some w ↦ subst (λ n. HasIdled IsReturn all n p now) (sym w.idle-is)
-            (idle-more all c.sweeps.idle said.0 p at c.closed-over.new.pass now inv.idling said.1 sweep
-            (c.in_ok-some.ensures.nothing (ap Ok w.if-some.false)))
+      sweeps = elim c.if-some.branch [
+        | then-some w ↦ subst (λ n. AreSweeps contents queue IsReturn all (λ k. k < 64) n p now) (sym w.idle-is)
+            (and_some said.0 inv.sweeps sweep (some-left said.0 (sym said.2 ∙ going))
+            (took-some said.0 at c.closed-over.new.pass now said.1 (c.in_ok-some.ensures.more (ap Ok w.if-some.true))))
+        | else-some w ↦ subst (λ n. AreSweeps contents queue IsReturn all (λ k. k < 64) n p now) (sym w.idle-is)
+            (and_idle said.0 inv.sweeps sweep (some-left said.0 (sym said.2 ∙ going))
+            (took-nothing said.0 at c.closed-over.new.pass now said.1 (c.in_ok-some.ensures.nothing (ap Ok w.if-some.false))) (omega arith))
       ];
     }
 
@@ -99,25 +112,23 @@ returns-clause-taken g c =
 
 pub returns-clause-swept : goal.returns-clause-swept
 returns-clause-swept g c =
-    let p = c.args.self.now.pass in
     let at = c.sweeps.self.pass in
     let now = c.sweep.new.self.pass in
-    let all = length c.args.job.now.topics + 1 in
     let said = c.closed-over.ensures.looked in
-    let sweep = sweep-of all said.0 at c.closed-over.new.pass now said.1 c.in_ok-some.ensures.taken c.in_ok-some.ensures.found in
     record {
+      idle = c.sweeps.idle;
       begun = at;
-      before = c.sweeps.invariant.taken;
+      before = c.sweeps.invariant.sweeps;
       found = said.0;
-      sweep = sweep;
+      sweep = swept-once g (goal.at.returns-clause-swept g c).In_ok-some;
       why = elim c.then-over.either [
         | inl over ↦ inl (eqb-true said.0 0 (sym said.2 ∙ over))
         | inr (going, full) ↦ inr (elim c.if-some.branch [
           | then-some w ↦ let none : c.if-some.idle ≡ 0 = w.idle-is in absurd (omega (arith, none, full))
-          | else-some w ↦
-              subst (λ n. HasIdled IsReturn all n p now) (sym w.idle-is ∙ full)
-              (idle-more all c.sweeps.idle said.0 p at c.closed-over.new.pass now c.sweeps.invariant.idling said.1 sweep
-              (c.in_ok-some.ensures.nothing (ap Ok w.if-some.false)))
+          | else-some w ↦ (
+            sym w.idle-is ∙ full,
+            took-nothing said.0 at c.closed-over.new.pass now said.1 (c.in_ok-some.ensures.nothing (ap Ok w.if-some.false)),
+          )
         ])
       ];
     }

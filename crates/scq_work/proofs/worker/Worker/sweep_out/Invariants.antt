@@ -1,6 +1,6 @@
 use Rattle.std.proofs.Common.{◌≡◌, ◌<◌, ◌+◌, ◌-◌, ◌*◌, false, length}
 use Rattle.scq_passes.specs.Records.{IsReturn}
-use Rattle.scq_passes.specs.Leaving.{HasIdled}
+use Rattle.scq_passes.specs.Leaving.{AreSweeps}
 use Rattle.scq_passes.specs.Calls.{HasTaken, takes_left}
 use Rattle.scq_work.specs.Working.{HasAnswered}
 use Rattle.scq_work.proofs.worker.Worker.sweep_out.Given as goal
@@ -12,7 +12,7 @@ invariant-sweeps g l = record {
   starved : l.self.starved ≡ false → l.fn.self.starved ≡ false;
   number : l.self.number ≡ l.fn.self.number;
   idle : l.idle < 64;
-  idling : HasIdled IsReturn (length l.job.topics + 1) l.idle l.fn.self.pass l.self.pass;
+  sweeps : AreSweeps g.B.Buffer.contents l.queue IsReturn (length l.job.topics + 1) (λ n. n < 64) l.idle l.fn.self.pass l.self.pass;
 }
 
 -- a sweep that takes something leaves less to take, and one that doesn't is one of at most 64 in a row

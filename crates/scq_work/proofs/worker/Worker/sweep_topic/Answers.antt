@@ -1,6 +1,8 @@
-use Rattle.std.proofs.Common.{rules, ◌≡◌, ◌∙◌, ap, sym, subst, arith, refl, ℕ, length}
+use Rattle.std.proofs.Common.{rules, ◌≡◌, ◌∙◌, ap, sym, subst, arith, refl, inl, inr, ℕ, length}
 use Rattle.std.specs.Prelude.{IfErr, Result, Err}
+use Rattle.scq_queue.specs.Passes.{PassStanding}
 use Rattle.scq_passes.specs.Calls.{HasLeft}
+use Rattle.scq_passes.proofs.InRun.{only-from}
 use Rattle.scq_passes.proofs.PassLemmas.{taken-nothing, taken-along}
 use Rattle.scq_passes.proofs.LeftLemmas.{left-taken}
 use Rattle.scq_passes.proofs.Sweeps.{found-earlier}
@@ -17,7 +19,7 @@ takes-init g c = record {
   nothing = λ none. refl;
   vain = omega arith;
   long = omega arith;
-  gate = refl;
+  only = inl refl;
   more = λ h. absurd (cc);
 }
 
@@ -35,7 +37,8 @@ takes-preserved g c =
       number = c.take_one.ensures.number ∙ inv.number;
       some = λ h. (let rises = said.0 in omega arith, let low = said.1 in omega arith);
       nothing = λ none. absurd (cc);
-      gate = c.in_ok-more.ensures.gate ∙ inv.gate;
+      only = inr (only-from c.args.self.now.pass c.takes.self.pass c.take_one.new.self.pass
+          (ap (λ (x : PassStanding _). x.number) inv.taken.pass) inv.only c.in_ok-more.ensures.only);
       vain = omega (arith, inv.vain, got.0);
       long = omega (arith, inv.long, got.1);
       more = λ h. omega (arith, inv.long, got.1);
@@ -72,5 +75,8 @@ returns-else-more-clause-vain g c = omega (arith, c.takes.invariant.vain, c.in_o
 pub returns-else-more-clause-more : goal.returns-else-more-clause-more
 returns-else-more-clause-more g c is = let was = c.takes.invariant.more (cc) in omega (arith, was, ap length (c.take_one.ensures.nothing (cc)))
 
-pub returns-else-more-clause-gate : goal.returns-else-more-clause-gate
-returns-else-more-clause-gate g c = c.in_ok-more.ensures.gate ∙ c.takes.invariant.gate
+pub returns-else-more-clause-only : goal.returns-else-more-clause-only
+returns-else-more-clause-only g c =
+    let inv = c.takes.invariant in
+    only-from c.args.self.now.pass c.takes.self.pass c.take_one.new.self.pass (ap (λ (x : PassStanding _). x.number) inv.taken.pass) inv.only
+    c.in_ok-more.ensures.only

@@ -1,7 +1,7 @@
-use Rattle.std.proofs.Common.{◌≡◌, ◌<◌, ◌≤◌, ◌-◌, true, false, length}
+use Rattle.std.proofs.Common.{◌≡◌, ◌⊎◌, ◌<◌, ◌≤◌, ◌-◌, true, false, length}
 use Rattle.scq_queue.specs.Lists.{takes_of}
 use Rattle.scq_queue.specs.Passes.{known_on}
-use Rattle.scq_passes.specs.Leaving.{TookNothing}
+use Rattle.scq_passes.specs.Leaving.{HasOnlyCalled, TookNothing}
 use Rattle.scq_passes.specs.Waiting.{TookInVain, TookMore}
 use Rattle.scq_passes.specs.Calls.{HasTaken}
 use Rattle.scq_work.specs.Working.{HasAnswered}
@@ -19,7 +19,7 @@ invariant-takes g l = record {
   nothing : l.some ≡ false → TookNothing l.fn.self.pass l.self.pass;
   vain : TookInVain 0 l.fn.self.pass l.self.pass;
   long : length (takes_of l.fn.self.pass.calls) ≤ length (takes_of l.self.pass.calls);
-  gate : l.self.pass.gate ≡ l.fn.self.pass.gate;
+  only : (l.self.pass ≡ l.fn.self.pass) ⊎ HasOnlyCalled g.B.Buffer.contents l.queue l.fn.self.pass l.self.pass;
   more : l.some ≡ true → TookMore l.fn.self.pass l.self.pass;
 }
 

@@ -2,9 +2,12 @@ use Rattle.std.proofs.Common.{◌≡◌, ◌<◌, ◌++◌, ◌∷◌, ◌∙◌
 use Rattle.std.specs.Prelude.{count_by}
 use Rattle.std.proofs.lemmas.List.Sums.{sum_by-append}
 use Rattle.scq_core.specs.declared.ended.Ended.TheVariants.{Nothing}
-use Rattle.scq_queue.specs.Passes.{PassStanding, WasGivenBack, having_seen, after_spent_put}
+use Rattle.scq_band.specs.Buffers.{opening_of}
+use Rattle.scq_band.specs.RunSeen.{IsCallInRun}
+use Rattle.scq_queue.specs.Passes.{PassStanding, WasGivenBack, having_seen, after_spent_put, caller_of}
 use Rattle.scq_passes.specs.Records.{is_take}
 use Rattle.scq_passes.specs.Waiting.{TookInVain, TookMore}
+use Rattle.scq_passes.proofs.InRun.{only-along, only-back, only-got, only-nothing}
 use Rattle.scq_passes.proofs.PassLemmas.{took-one, found-none, found-past}
 use Rattle.scq_passes.proofs.Sweeps.{found-now, found-takes}
 use Rattle.scq_passes.proofs.Vain.{vain-none, vain-got}
@@ -63,7 +66,7 @@ returns-in-Err-Spent-clause-left g c messages =
 -- what it got it gave back
 once : (g : _) (c : goal.In-Ok-give_back g) → TookInVain 0 c.args.self.now.pass c.give_back.new.pass × TookMore c.args.self.now.pass c.give_back.new.pass
 once g c =
-    vain-got g.B.Buffer.contents c.args.topic c.in-Ok.place c.args.self.now.pass c.take.new.pass c.give_back.new.pass c.in-Ok.held c.in-Ok.ensures.took
+    vain-got g.B.Buffer.contents c.args.topic c.in-Ok.place _ c.args.self.now.pass c.take.new.pass c.give_back.new.pass c.in-Ok.held c.in-Ok.ensures.took
     (subst (λ (p : PassStanding _). WasGivenBack (g.B.Buffer.contents c.in-Ok.held.buffer) c.in-Ok.held.index p c.give_back.new.pass)
     c.answer_taken.ensures.same.0 c.in-Ok-give_back.ensures.given)
 
@@ -78,13 +81,25 @@ returns-in-Err-Empty-clause-vain g c =
     let found = c.in-Err-Empty.ensures.empty c.in-Err-Empty.field-0-0 (cc) in
     vain-none c.args.topic c.args.self.now.pass c.take.new.pass (ap (λ (x : PassStanding _). x.calls) found.pass)
 
--- no call of these reads the gate
-pub returns-in-Ok-give_back-clause-gate : goal.returns-in-Ok-give_back-clause-gate
-returns-in-Ok-give_back-clause-gate g c =
-    ap (λ (x : PassStanding _). x.gate) c.in-Ok-give_back.ensures.given.pass ∙ ap (λ (x : PassStanding _). x.gate) c.answer_taken.ensures.same.0
-    ∙ ap (λ (x : PassStanding _). x.gate) c.in-Ok.ensures.took.pass
+-- these calls alone were made
+pub returns-in-Ok-give_back-clause-only : goal.returns-in-Ok-give_back-clause-only
+returns-in-Ok-give_back-clause-only g c =
+    let p = c.args.self.now.pass in
+    let q = c.take.new.pass in
+    let r = c.give_back.new.pass in
+    let contents = g.B.Buffer.contents in
+    let queue = c.args.queue.now in
+    let took = c.in-Ok.ensures.took in
+    let same = c.answer_taken.ensures.same.0 in
+    let Back = λ (x : PassStanding _). WasGivenBack (contents c.in-Ok.held.buffer) c.in-Ok.held.index x r in
+    let InRun = λ (x : PassStanding _). IsCallInRun queue.setup (opening_of contents queue.given) (caller_of x) (caller_of r) in
+    let fresh : c.answer_taken.new.self.pass.spent ≡ None =
+    ap (λ (x : PassStanding _). x.spent) (same ∙ took.pass) ∙ c.requires.suits.spent in
+    only-along p q r (ap (λ (x : PassStanding _). x.number) took.pass)
+    (only-got (suc c.args.topic) c.in-Ok.place p q c.in-Ok.held took (c.take.ensures.run c.requires.suits.spent))
+    (only-back _ c.in-Ok.held.index q r (subst Back same c.in-Ok-give_back.ensures.given) (subst InRun same (c.give_back.ensures.run fresh)))
 
-pub returns-in-Err-Empty-clause-gate : goal.returns-in-Err-Empty-clause-gate
-returns-in-Err-Empty-clause-gate g c =
-    let found = c.in-Err-Empty.ensures.empty c.in-Err-Empty.field-0-0 (cc) in
-    ap (λ (x : PassStanding _). x.gate) found.pass
+pub returns-in-Err-Empty-clause-only : goal.returns-in-Err-Empty-clause-only
+returns-in-Err-Empty-clause-only g c =
+    only-nothing (suc c.args.topic) c.in-Err-Empty.field-0-0 c.args.self.now.pass c.take.new.pass
+    (c.in-Err-Empty.ensures.empty c.in-Err-Empty.field-0-0 (cc)) (c.take.ensures.run c.requires.suits.spent)
