@@ -31,6 +31,9 @@ fn request_text(alloc: Global, request: &Request) -> Result<String> {
         Request::Text(TextRequest { command, file }) => write!(text, "{command:?} {file}")?,
         Request::Judge(judge) => {
             text.push_str("judge")?;
+            if let Some(room) = judge.room {
+                write!(text, " room {room}")?;
+            }
             write_files(&mut text, &judge.files)?;
         }
     }

@@ -79,25 +79,27 @@ have_all left faults names table opens olds news same come all = record {
 }
 
 -- how a run ends whose recordings were refused for this fault
-pub ends_refused : {S : Type 0} (left : S → Option (List ℕ)) (faults end_count : S → ℕ) (names : List (List ℕ))
+pub ends_refused : {S : Type 0} (left : S → Option (List ℕ)) (faults end_count : S → ℕ) (room : Option ℕ) (names : List (List ℕ))
     (table : Change (Option Table)) (opens : Change ℕ) (olds news : List S)
     (w : Wrote) (fault : JudgeFault) → length news ≡ length olds
     → HaveCome faults left names (record { table = table; opens = opens; sources = olds; read = 0 })
     → HaveAllCome names (record { table = table; opens = opens; sources = olds; read = 0 }) true
     → ((contents : List (List ℕ)) → HaveContents left olds contents → IsCause contents fault) → AreReadUntil faults end_count left olds news fault
     → IsUnwritten w
-    → EndsJudged faults end_count left names olds (record { table = table; opens = opens; sources = news; read = 0 }) w (Some (fault_of_judge fault))
-ends_refused {S} left faults end_count names table opens olds news w fault same come all cause until unwritten = by fault cause until where
+    → EndsJudged faults end_count left room names olds (record { table = table; opens = opens; sources = news; read = 0 }) w (Some (fault_of_judge fault))
+ends_refused {S} left faults end_count room names table opens olds news w fault same come all cause until unwritten = by fault cause until where
   have : HaveAll names (record { table = table; opens = opens; sources = news; read = 0 })
   have = have_all left faults names table opens olds news same come all
 
   by : (fault : JudgeFault) → ((contents : List (List ℕ)) → HaveContents left olds contents → IsCause contents fault)
       → AreReadUntil faults end_count left olds news fault
-      → EndsJudged faults end_count left names olds (record { table = table; opens = opens; sources = news; read = 0 }) w (Some (fault_of_judge fault))
+      → EndsJudged faults end_count left room names olds (record { table = table; opens = opens; sources = news; read = 0 }) w (Some (fault_of_judge fault))
   by (judge.ReadFault file) cause until =
       (have, (judge.ReadFault file, refl, (until, told_of left olds (λ contents. IsCause contents (judge.ReadFault file)) cause)), unwritten)
   by (judge.BadLine file line) cause until =
       (have, (judge.BadLine file line, refl, (until, told_of left olds (λ contents. IsCause contents (judge.BadLine file line)) cause)), unwritten)
+  by (judge.Shared what file line g m) cause until =
+      (have, (judge.Shared what file line g m, refl, (until, told_of left olds (λ contents. IsCause contents (judge.Shared what file line g m)) cause)), unwritten)
   by (judge.Unlawful file line) cause until =
       (have, (judge.Unlawful file line, refl, (until, told_of left olds (λ contents. IsCause contents (judge.Unlawful file line)) cause)), unwritten)
   by (judge.TooLarge file) cause until =
@@ -105,11 +107,11 @@ ends_refused {S} left faults end_count names table opens olds news w fault same 
   by judge.NoMemory cause until = ((let a = have.all in omega arith), until, refl, unwritten)
 
 -- an end of equal sources, counts and faults
-pub ends_so : {S : Type 0} (faults end_count : S → ℕ) (left : S → Option (List ℕ)) (names : List (List ℕ)) (table : Change (Option Table)) (opens : Change ℕ)
+pub ends_so : {S : Type 0} (faults end_count : S → ℕ) (left : S → Option (List ℕ)) (room : Option ℕ) (names : List (List ℕ)) (table : Change (Option Table)) (opens : Change ℕ)
     (w : Wrote) (got olds a b : List S) (read : ℕ) (x y : Option Fault) → got ≡ olds → a ≡ b → read ≡ 0 → x ≡ y
-    → EndsJudged faults end_count left names olds (record { table = table; opens = opens; sources = b; read = 0 }) w y
-    → EndsJudged faults end_count left names got (record { table = table; opens = opens; sources = a; read = read }) w x
-ends_so {S} faults end_count left names table opens w got olds a b read x y were sources none fault ends =
+    → EndsJudged faults end_count left room names olds (record { table = table; opens = opens; sources = b; read = 0 }) w y
+    → EndsJudged faults end_count left room names got (record { table = table; opens = opens; sources = a; read = read }) w x
+ends_so {S} faults end_count left room names table opens w got olds a b read x y were sources none fault ends =
     let E : List S → List S → ℕ → Option Fault → Type 0 =
-    λ g s n f. EndsJudged faults end_count left names g (record { table = table; opens = opens; sources = s; read = n }) w f in
+    λ g s n f. EndsJudged faults end_count left room names g (record { table = table; opens = opens; sources = s; read = n }) w f in
     subst (λ g. E g a read x) (sym were) (subst (λ s. E olds s read x) (sym sources) (subst (λ n. E olds b n x) (sym none) (subst (λ f. E olds b 0 f) (sym fault) ends)))

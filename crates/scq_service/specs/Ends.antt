@@ -25,7 +25,7 @@ use Rattle.scq_service.specs.Contents.{IfVisible, IsMissing, without_names}
 use Rattle.scq_service.specs.Telling.{Tells, IsOfText}
 use Rattle.scq_service.specs.Writing.{written_with, WrotePart}
 use Rattle.scq_service.specs.declared.fault.Fault.{Fault}
-use Rattle.scq_service.specs.declared.fault.Fault.TheVariants.{Words, OpenFault, ReadFault, TooLong, TooLarge, WriteFault, BadLine, NotEnabled, Unlawful, Unfinished, BadLineOf, UnlawfulOf, NoMemory}
+use Rattle.scq_service.specs.declared.fault.Fault.TheVariants.{Words, OpenFault, ReadFault, TooLong, TooLarge, WriteFault, BadLine, NotEnabled, Unlawful, Unfinished, BadLineOf, SharedOf, UnlawfulOf, NoMemory}
 
 -- a count or what is visible of an object, before a call and after it
 pub record Change (A : Type 0) : Type 0 where
@@ -154,6 +154,7 @@ ReadsOver size faults end_count left names got r (Some (NotEnabled line)) = ⊥
 ReadsOver size faults end_count left names got r (Some (Unlawful line)) = ⊥
 ReadsOver size faults end_count left names got r (Some (Unfinished seat)) = ⊥
 ReadsOver size faults end_count left names got r (Some (BadLineOf file line)) = ⊥
+ReadsOver size faults end_count left names got r (Some (SharedOf what file line g m)) = ⊥
 ReadsOver size faults end_count left names got r (Some (UnlawfulOf file line)) = ⊥
 ReadsOver size faults end_count left names got r (Some (Words fault)) = ⊥
 
@@ -272,9 +273,9 @@ pub record HaveAll {S : Type 0} (names : List (List ℕ)) (r : Inputs S) : Type 
   pub table : r.table.new ≡ option_map (without_names names) r.table.old
   pub read : r.read ≡ 0
 
--- what recordings tell meets P, where each source told its own when it was got
-abbrev pub IsReported : {S : Type 0} → (S → Option (List ℕ)) → List S → (List ℕ → Type 0) → Type 0
-IsReported left got P = IfTold left got (λ contents. (text : List ℕ) × IsJudged contents text × P text)
+-- what recordings tell of queues with this room, where that is known, meets P, where each source told its own when it was got
+abbrev pub IsReported : {S : Type 0} → (S → Option (List ℕ)) → Option ℕ → List S → (List ℕ → Type 0) → Type 0
+IsReported left room got P = IfTold left got (λ contents. (text : List ℕ) × IsJudged room contents text × P text)
 
 -- recordings were refused: sources were read so far, and this is at fault in what they told
 abbrev pub IsRefusedBy : {S : Type 0} → (S → ℕ) → (S → ℕ) → (S → Option (List ℕ)) → List S → Inputs S → JudgeFault → Type 0
@@ -283,18 +284,18 @@ IsRefusedBy faults end_count left got r refused =
 
 -- how a run over recordings of these names ends. With its report every source was read to its end, and no read failed; none was read
 -- where one was not got
-abbrev pub EndsJudged : {S : Type 0} → (S → ℕ) → (S → ℕ) → (S → Option (List ℕ)) → List (List ℕ) → List S → Inputs S → Wrote → Option Fault → Type 0
-EndsJudged faults end_count left names got r w None =
+abbrev pub EndsJudged : {S : Type 0} → (S → ℕ) → (S → ℕ) → (S → Option (List ℕ)) → Option ℕ → List (List ℕ) → List S → Inputs S → Wrote → Option Fault → Type 0
+EndsJudged faults end_count left room names got r w None =
     HaveAll names r × AreReadWhole faults end_count left (length names) got r.sources × IsUnchanged w.faults
-    × IsReported left got (λ text. w.written.new ≡ written_with w.written.old text)
-EndsJudged faults end_count left names got r w (Some WriteFault) =
+    × IsReported left room got (λ text. w.written.new ≡ written_with w.written.old text)
+EndsJudged faults end_count left room names got r w (Some WriteFault) =
     HaveAll names r × AreReadWhole faults end_count left (length names) got r.sources × Rose w.faults.old w.faults.new
-    × IsReported left got (λ text. WrotePart w.written.old w.written.new text)
-EndsJudged faults end_count left names got r w (Some (OpenFault file)) =
+    × IsReported left room got (λ text. WrotePart w.written.old w.written.new text)
+EndsJudged faults end_count left room names got r w (Some (OpenFault file)) =
     (file ≡ length r.sources + 1) × (length r.sources < length names) × HasMissed names r × (r.sources ≡ got) × (r.read ≡ 0) × IsUnwritten w
-EndsJudged faults end_count left names got r w (Some NoMemory) =
+EndsJudged faults end_count left room names got r w (Some NoMemory) =
     (length r.sources ≤ length names) × AreQuiet faults got r.sources × (r.read ≡ 0) × IsUnwritten w
-EndsJudged faults end_count left names got r w (Some fault) =
+EndsJudged faults end_count left room names got r w (Some fault) =
     HaveAll names r × ((refused : JudgeFault) × (fault ≡ fault_of_judge refused) × IsRefusedBy faults end_count left got r refused) × IsUnwritten w
 
 -- no file was asked for
@@ -309,7 +310,7 @@ EndsAs faults end_count left (Ok (run a)) got r w end =
     HasGotSources faults left a.files got r × EndsOver most_payload (one_thread_output a.topics) faults end_count left a.files got r w end
 EndsAs faults end_count left (Ok (generated a)) got r w end = IsClosed r × EndsAlone (self_summary a.seed a.lines) w end
 EndsAs faults end_count left (Ok (judged a)) got r w end =
-    HasGotSources faults left a.files got r × EndsJudged faults end_count left a.files got r w end
+    HasGotSources faults left a.files got r × EndsJudged faults end_count left a.room a.files got r w end
 EndsAs faults end_count left (Ok (whole a)) got r w end =
     EndsWhole a.command faults end_count left a.file got r w end
 EndsAs faults end_count left (Ok (staged a)) got r w end =

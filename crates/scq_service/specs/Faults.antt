@@ -3,18 +3,20 @@ use Rattle.std.specs.Prelude.{ℕ, ◌-◌, ◌^◌, List, ◌++◌, Option, Som
 use Rattle.scq_topics.specs.declared.topics.TopicFault.{TopicFault}
 use Rattle.scq_topics.specs.declared.topics.TopicFault.TheVariants.{TooMany, BadName, BadKind, Twice}
 use Rattle.scq_words.specs.declared.fault.WordsFault.{WordsFault}
-use Rattle.scq_words.specs.declared.fault.WordsFault.TheVariants.{NotUnderstood, Workers, Order, Size, Topics, TooManyFiles, NoName, Seed, Lines}
+use Rattle.scq_words.specs.declared.fault.WordsFault.TheVariants.{NotUnderstood, Workers, Order, Size, Topics, TooManyFiles, NoName, Seed, Lines, Room}
 use Rattle.scq_work.specs.declared.worked.WorkFault.{WorkFault}
 use Rattle.scq_work.specs.declared.worked.WorkFault.TheVariants as work
 use Rattle.scq_stages.specs.declared.staged.StageFault.{StageFault}
 use Rattle.scq_stages.specs.declared.staged.StageFault.TheVariants as stage
 use Rattle.scq_service.specs.declared.fault.Fault.{Fault}
-use Rattle.scq_service.specs.declared.fault.Fault.TheVariants.{Words, OpenFault, ReadFault, TooLong, TooLarge, WriteFault, BadLine, NotEnabled, Unlawful, Unfinished, BadLineOf, UnlawfulOf, NoMemory}
+use Rattle.scq_service.specs.declared.fault.Fault.TheVariants.{Words, OpenFault, ReadFault, TooLong, TooLarge, WriteFault, BadLine, NotEnabled, Unlawful, Unfinished, BadLineOf, SharedOf, UnlawfulOf, NoMemory}
 use Rattle.scq_outside.specs.declared.read_all_fault.ReadAllFault.{ReadAllFault}
 use Rattle.scq_outside.specs.declared.read_all_fault.ReadAllFault.TheVariants as whole
 use Rattle.scq_check.specs.declared.history.HistoryFault.{HistoryFault}
 use Rattle.scq_check.specs.declared.history.HistoryFault.TheVariants as history
 use Rattle.scq_judge.specs.declared.judging.JudgeFault.{JudgeFault}
+use Rattle.scq_judge.specs.declared.judging.Shared.{Shared}
+use Rattle.scq_judge.specs.declared.judging.Shared.TheVariants.{Stamp, Seat}
 use Rattle.scq_judge.specs.declared.judging.JudgeFault.TheVariants as judge
 use Rattle.scq_replay.specs.declared.replaying.ScheduleFault.{ScheduleFault}
 use Rattle.scq_replay.specs.declared.replaying.ScheduleFault.TheVariants as schedule
@@ -32,6 +34,7 @@ status_of_fault (NotEnabled line) = 9
 status_of_fault (Unlawful line) = 10
 status_of_fault (Unfinished seat) = 11
 status_of_fault (BadLineOf file line) = 8
+status_of_fault (SharedOf what file line other_file other_line) = 8
 status_of_fault (UnlawfulOf file line) = 10
 status_of_fault NoMemory = 5
 
@@ -65,6 +68,7 @@ words_line TooManyFiles = codes "more than 64 files\n"
 words_line (NoName file) = file_line file (codes " has no name\n")
 words_line Seed = codes "seed is not in 0..2147483647\n"
 words_line Lines = codes "lines is not in 1..1000000\n"
+words_line Room = codes "room is not in 1..4294967295\n"
 
 -- `X bytes, limit S`, and the same after the line's number
 abbrev pub limit_line : ℕ → ℕ → List ℕ
@@ -85,6 +89,11 @@ place_line file line what = file_line file (codes " line ") ++ (decimal line ++ 
 abbrev pub seat_line : ℕ → List ℕ → List ℕ
 seat_line seat what = codes "seat " ++ decimal seat ++ what
 
+-- what an event shares with another
+abbrev pub shared_words : Shared → List ℕ
+shared_words Stamp = codes ": same stamp as "
+shared_words Seat = codes ": same seat as "
+
 -- the line about a fault
 abbrev pub fault_line : Fault → List ℕ
 fault_line (Words fault) = words_line fault
@@ -98,6 +107,7 @@ fault_line (NotEnabled line) = text_line line (codes ": step not enabled\n")
 fault_line (Unlawful line) = text_line line (codes ": event out of place\n")
 fault_line (Unfinished seat) = seat_line seat (codes ": call not ended\n")
 fault_line (BadLineOf file line) = place_line file line (codes ": not understood\n")
+fault_line (SharedOf what file line other_file other_line) = place_line file line (shared_words what) ++ place_line other_file other_line (codes "\n")
 fault_line (UnlawfulOf file line) = place_line file line (codes ": event out of place\n")
 fault_line NoMemory = codes "out of memory\n"
 
@@ -145,6 +155,7 @@ fault_of_schedule schedule.NoMemory = NoMemory
 -- a fault of recordings
 abbrev pub fault_of_judge : JudgeFault → Fault
 fault_of_judge (judge.BadLine file line) = BadLineOf file line
+fault_of_judge (judge.Shared what file line other_file other_line) = SharedOf what file line other_file other_line
 fault_of_judge (judge.Unlawful file line) = UnlawfulOf file line
 fault_of_judge (judge.ReadFault file) = ReadFault file
 fault_of_judge (judge.TooLarge file) = TooLarge file (2 ^ 31 - 2)

@@ -1,5 +1,5 @@
 use scq_check::HistoryFault;
-use scq_judge::JudgeFault;
+use scq_judge::{JudgeFault, Shared};
 use scq_replay::ScheduleFault;
 use scq_word::NoMemory;
 use scq_words::WordsFault;
@@ -48,10 +48,18 @@ pub enum Fault {
     Unlawful {
         line: u32,
     },
-    /// This line of this file of recordings is not of the form, or may not stand there, or has the stamp of another.
+    /// This line of this file of recordings is not of the form, or may not stand there.
     BadLineOf {
         file: u32,
         line: u32,
+    },
+    /// The event of this line of this file of recordings has the stamp or the seat of one in another file.
+    SharedOf {
+        what: Shared,
+        file: u32,
+        line: u32,
+        other_file: u32,
+        other_line: u32,
     },
     /// The event of this line of this file of recordings is out of place.
     UnlawfulOf {
@@ -75,7 +83,7 @@ impl Fault {
             Fault::WriteFault => 4,
             Fault::NoMemory => 5,
             Fault::TooLarge { .. } => 6,
-            Fault::BadLine { .. } | Fault::BadLineOf { .. } => 8,
+            Fault::BadLine { .. } | Fault::BadLineOf { .. } | Fault::SharedOf { .. } => 8,
             Fault::NotEnabled { .. } => 9,
             Fault::Unlawful { .. } | Fault::UnlawfulOf { .. } => 10,
             Fault::Unfinished { .. } => 11,
@@ -134,6 +142,19 @@ impl From<JudgeFault> for Fault {
     fn from(refused: JudgeFault) -> Fault {
         match refused {
             JudgeFault::BadLine { file, line } => Fault::BadLineOf { file, line },
+            JudgeFault::Shared {
+                what,
+                file,
+                line,
+                other_file,
+                other_line,
+            } => Fault::SharedOf {
+                what,
+                file,
+                line,
+                other_file,
+                other_line,
+            },
             JudgeFault::Unlawful { file, line } => Fault::UnlawfulOf { file, line },
             JudgeFault::ReadFault { file } => Fault::ReadFault { file },
             JudgeFault::TooLarge { file } => Fault::TooLarge {

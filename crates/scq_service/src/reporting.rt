@@ -1,11 +1,12 @@
 ghost use Rattle.std.specs.Prelude.{◌≡◌, ◌++◌, codes, decimal, OnOk, OnErr};
 ghost use Rattle.scq_outside.specs.Counts.{Rose};
-ghost use Rattle.scq_service.specs.Faults.{entry_line, fault_line, file_line, limit_line, payload_line, place_line, seat_line, text_line, topics_line, words_line};
+ghost use Rattle.scq_service.specs.Faults.{entry_line, fault_line, file_line, limit_line, payload_line, place_line, seat_line, shared_words, text_line, topics_line, words_line};
 ghost use Rattle.scq_service.specs.Writing.{written_with, WrotePart};
 
 use crate::Fault;
 use crate::writing::write_all;
 use itoa::Buffer;
+use scq_judge::Shared;
 use scq_outside::{Failed, Sink};
 use scq_topics::TopicFault;
 use scq_words::WordsFault;
@@ -39,6 +40,13 @@ pub fn report<K: Sink>(sink: &mut K, fault: &Fault) -> Result<(), Failed>
             *line,
             b": not understood\n",
         ),
+        Fault::SharedOf {
+            what,
+            file,
+            line,
+            other_file,
+            other_line,
+        } => write_of_shared(sink, *what, *file, *line, *other_file, *other_line),
         Fault::UnlawfulOf { file, line } => {
             write_of_place(sink, *file, *line, b": event out of place\n")
         }
@@ -62,6 +70,7 @@ fn write_words<K: Sink>(sink: &mut K, fault: &WordsFault) -> Result<(), Failed>
         WordsFault::NoName { file } => write_about(sink, *file, b" has no name\n"),
         WordsFault::Seed => write_all(sink, b"seed is not in 0..2147483647\n"),
         WordsFault::Lines => write_all(sink, b"lines is not in 1..1000000\n"),
+        WordsFault::Room => write_all(sink, b"room is not in 1..4294967295\n"),
     }
 }
 
@@ -152,6 +161,35 @@ fn write_of_place<K: Sink>(sink: &mut K, file: u32, line: u32, what: &[u8]) -> R
 {
     write_about(sink, file, b" line ")?;
     write_count(sink, u64::from(line), what)
+}
+
+fn write_of_shared<K: Sink>(
+    sink: &mut K,
+    what: Shared,
+    file: u32,
+    line: u32,
+    other_file: u32,
+    other_line: u32,
+) -> Result<(), Failed>
+    ensures whole { OnOk result (K.written sink.new ≡ written_with (K.written sink.old) (place_line file line (shared_words what) ++ place_line other_file other_line (codes "\n"))) }
+    ensures part { WrotePart (K.written sink.old) (K.written sink.new) (place_line file line (shared_words what) ++ place_line other_file other_line (codes "\n")) }
+    ensures kept { OnOk result (K.faults sink.new ≡ K.faults sink.old) }
+    ensures rose { OnErr result (Rose (K.faults sink.old) (K.faults sink.new)) }
+{
+    write_shared(sink, what, file, line)?;
+    write_of_place(sink, other_file, other_line, b"\n")
+}
+
+fn write_shared<K: Sink>(sink: &mut K, what: Shared, file: u32, line: u32) -> Result<(), Failed>
+    ensures whole { OnOk result (K.written sink.new ≡ written_with (K.written sink.old) (place_line file line (shared_words what))) }
+    ensures part { WrotePart (K.written sink.old) (K.written sink.new) (place_line file line (shared_words what)) }
+    ensures kept { OnOk result (K.faults sink.new ≡ K.faults sink.old) }
+    ensures rose { OnErr result (Rose (K.faults sink.old) (K.faults sink.new)) }
+{
+    match what {
+        Shared::Stamp => write_of_place(sink, file, line, b": same stamp as "),
+        Shared::Seat => write_of_place(sink, file, line, b": same seat as "),
+    }
 }
 
 fn write_of_seat<K: Sink>(sink: &mut K, seat: u32, what: &[u8]) -> Result<(), Failed>

@@ -164,7 +164,7 @@ fn run<R: Threads + Sync, F: Files, K: Sink, G: Gate>(
         }
         Ok(Request::Judge(asked)) => {
             let names = asked.files.as_slice();
-            Ran::quiet(run_judge(alloc, names, files, out))
+            Ran::quiet(run_judge(alloc, asked.room, names, files, out))
         }
         Ok(Request::Text(asked)) => {
             let name = asked.file.as_str();

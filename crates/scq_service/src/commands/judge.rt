@@ -16,9 +16,11 @@ use scq_word::Bytes;
 use std::alloc::Global;
 use std::snapshot::Snapshot;
 
-/// Gets the files of recordings, reads them, and writes the report of their merged history.
+/// Gets the files of recordings, reads them, and writes the report of their merged history. Where it is told for how many values each
+/// queue had room, refused puts are judged too.
 pub fn run_judge<F: Files, K: Sink>(
     alloc: Global,
+    room: Option<u32>,
     names: &[String],
     files: &mut F,
     out: &mut K,
@@ -27,7 +29,7 @@ pub fn run_judge<F: Files, K: Sink>(
     ensures status { result.status ≡ status_of result.fault }
     ensures got { HasGotSources F.Src.faults F.Src.left (map string_bytes names.now) result.got.value.items
         (inputs_of F.table F.faults files.old files.new result.sources.items result.read) }
-    ensures ends { EndsJudged F.Src.faults F.Src.ends F.Src.left (map string_bytes names.now) result.got.value.items
+    ensures ends { EndsJudged F.Src.faults F.Src.ends F.Src.left room (map string_bytes names.now) result.got.value.items
         (inputs_of F.table F.faults files.old files.new result.sources.items result.read)
         (wrote_of K.written K.faults out.old out.new) result.fault }
     ensures worked { result.worked ≡ None }
@@ -41,7 +43,7 @@ pub fn run_judge<F: Files, K: Sink>(
     let all = get_sources(names, files, &mut sources);
     if all {
         let got = Snapshot::of(&sources);
-        let (sources, report) = report_on(alloc, sources);
+        let (sources, report) = report_on(alloc, room, sources);
         match report {
             Ok(text) => match write_all(out, text.bytes()) {
                 Ok(()) => Outcome::whole(sources).behind(got, None, None, None),
@@ -58,16 +60,20 @@ pub fn run_judge<F: Files, K: Sink>(
 }
 
 /// The sources once they were read, and the report of their merged history, or why they were not judged.
-fn report_on<S: Source>(alloc: Global, sources: Vec<S>) -> (Vec<S>, Result<Bytes, JudgeFault>)
+fn report_on<S: Source>(
+    alloc: Global,
+    room: Option<u32>,
+    sources: Vec<S>,
+) -> (Vec<S>, Result<Bytes, JudgeFault>)
     requires { length sources.items < 2 ^ 31 }
     ensures count { length result.0.items ≡ length sources.items }
-    ensures judged { IfOk result.1 (λ text. (contents : List (List ℕ)) → HaveContents S.left sources.items contents → IsJudged contents text) }
+    ensures judged { IfOk result.1 (λ text. (contents : List (List ℕ)) → HaveContents S.left sources.items contents → IsJudged room contents text) }
     ensures refused { IfErr result.1 (λ fault. (contents : List (List ℕ)) → HaveContents S.left sources.items contents → IsCause contents fault) }
     ensures whole { OnOk result.1 (AreReadWhole S.faults S.ends S.left (length sources.items) sources.items result.0.items) }
     ensures until { IfErr result.1 (AreReadUntil S.faults S.ends S.left sources.items result.0.items) }
     ensures given { OfEach (length sources.items) (HasGiven S.faults S.left) sources.items result.0.items }
 {
     let mut sources = sources;
-    let report = judge_recordings(alloc, &mut sources);
+    let report = judge_recordings(alloc, room, &mut sources);
     (sources, report)
 }

@@ -49,7 +49,7 @@ returns-in-Ok-write_all-clause-ends g c =
     let end = c.whole.ensures in
     let after = c.behind.ensures in
     let were : c.behind.result.got.value.items ≡ olds = ap (λ v. v.value.items) after.got ∙ ap (λ v. v.items) c.of-got.ensures in
-    let J : Result (List ℕ) JudgeFault → Type 0 = λ r. IfOk r (λ text. (contents : List (List ℕ)) → HaveContents left olds contents → IsJudged contents text) in
+    let J : Result (List ℕ) JudgeFault → Type 0 = λ r. IfOk r (λ text. (contents : List (List ℕ)) → HaveContents left olds contents → IsJudged c.args.room contents text) in
     let judged = subst J c.in-Ok-report.is read.judged in
     let R : Result (List ℕ) JudgeFault → Type 0 = λ r. OnOk r (AreReadWhole faults end_count left (length olds) olds news) in
     let whole = subst R c.in-Ok-report.is read.whole in
@@ -58,7 +58,7 @@ returns-in-Ok-write_all-clause-ends g c =
       have_all left faults names table opens olds news read.count came.come all,
       subst (λ n. AreReadWhole faults end_count left n olds news) all.0 whole,
       c.in-Ok-write_all.ensures.kept,
-      told_of left olds (λ contents. (text : List ℕ) × IsJudged contents text × W text)
+      told_of left olds (λ contents. (text : List ℕ) × IsJudged c.args.room contents text × W text)
           (λ contents have. (c.in-Ok-report.text, judged contents have, subst W c.bytes.ensures c.in-Ok-write_all.ensures.whole)),
     )
 
@@ -99,7 +99,7 @@ returns-in-Ok-report-clause-ends g c =
     let end = c.at-in-Err-write_all.ensures in
     let after = c.behind-in-Err-write_all.ensures in
     let were : c.behind-in-Err-write_all.result.got.value.items ≡ olds = ap (λ v. v.value.items) after.got ∙ ap (λ v. v.items) c.of-got.ensures in
-    let J : Result (List ℕ) JudgeFault → Type 0 = λ r. IfOk r (λ text. (contents : List (List ℕ)) → HaveContents left olds contents → IsJudged contents text) in
+    let J : Result (List ℕ) JudgeFault → Type 0 = λ r. IfOk r (λ text. (contents : List (List ℕ)) → HaveContents left olds contents → IsJudged c.args.room contents text) in
     let judged = subst J c.in-Ok-report.is read.judged in
     let R : Result (List ℕ) JudgeFault → Type 0 = λ r. OnOk r (AreReadWhole faults end_count left (length olds) olds news) in
     let whole = subst R c.in-Ok-report.is read.whole in
@@ -108,7 +108,7 @@ returns-in-Ok-report-clause-ends g c =
       have_all left faults names table opens olds news read.count came.come all,
       subst (λ n. AreReadWhole faults end_count left n olds news) all.0 whole,
       c.in-Err-write_all.ensures.rose,
-      told_of left olds (λ contents. (text : List ℕ) × IsJudged contents text × W text)
+      told_of left olds (λ contents. (text : List ℕ) × IsJudged c.args.room contents text × W text)
           (λ contents have. (c.in-Ok-report.text, judged contents have, subst W c.bytes.ensures c.in-Err-write_all.ensures.part)),
     )
 
@@ -153,9 +153,9 @@ returns-then-all-clause-ends g c =
     let cause = subst J c.in-Err.is read.refused in
     let R : Result (List ℕ) JudgeFault → Type 0 = λ r. IfErr r (AreReadUntil faults end_count left olds news) in
     let until = subst R c.in-Err.is read.until in
-    ends_so faults end_count left names table opens _ _ olds _ news _ _ (Some (fault_of_judge c.in-Err.fault)) were
+    ends_so faults end_count left c.args.room names table opens _ _ olds _ news _ _ (Some (fault_of_judge c.in-Err.fault)) were
     (ap (λ v. v.items) (after.sources ∙ end.sources)) (after.read ∙ end.read) (after.fault ∙ end.fault ∙ ap Some c.from.ensures)
-    (ends_refused left faults end_count names table opens olds news _ c.in-Err.fault read.count came.come all cause until (refl, refl))
+    (ends_refused left faults end_count c.args.room names table opens olds news _ c.in-Err.fault read.count came.come all cause until (refl, refl))
 
 pub returns-clause-got : goal.returns-clause-got
 returns-clause-got g c =
