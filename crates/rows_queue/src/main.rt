@@ -11,6 +11,7 @@ mod pair;
 mod ports;
 mod replies;
 mod threads;
+mod ways;
 
 use anyhow::{Result, anyhow};
 use bands::lifted;
@@ -33,7 +34,7 @@ impl Calls for Queues {
             "moves" => moves(alloc, given),
             "lifted" => lifted(alloc),
             "called" => called(alloc, given),
-            "told" => told(alloc),
+            "told" => told(alloc, given),
             "ported" => ported(alloc, given),
             _ => Err(anyhow!("no such call")),
         }

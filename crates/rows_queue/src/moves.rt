@@ -5,6 +5,7 @@ ghost use Rattle.scq_band.specs.Closing.{lifted_of};
 use crate::bands::{closed, made};
 use crate::replies::{show_buffers, show_left};
 use crate::threads::{Outcome, moved};
+use crate::ways::{tell_last, way_of};
 use anyhow::{Context, Result, anyhow};
 use rows_text::field;
 use scq_band::{Band, DeqRefusal, Seat};
@@ -44,7 +45,7 @@ fn setup_in(text: &str) -> Result<Setup> {
     Ok(Setup::new(order, rings, seats, limit)?)
 }
 
-/// Adds the replies to moves.
+/// Adds the replies to moves. The last seat is told by another between them, as in `mark from 0`.
 fn replies(
     into: &mut String,
     band: &Band<HeapBuffer>,
@@ -60,6 +61,10 @@ fn replies(
     ensures count { vec_len seats.new ≡ vec_len seats.old }
 {
     for text in moves.split("; ") {
+        if let Some((way, seat)) = text.split_once(" from ") {
+            tell_last(band, seats, seat.parse::<u32>()? as usize, way_of(way)?)?;
+            continue;
+        }
         let (seat, from, to) = numbers(text)?;
         if seat >= seats.len() || from >= rings || to >= rings {
             return Err(anyhow!("no such seat or ring"));
@@ -69,8 +74,9 @@ fn replies(
     Ok(())
 }
 
-/// `ORDER RINGS SEATS LIMIT; SEAT FROM TO; ..`: for each move the place that the index was got at, the index, and the place at which it was
-/// put; or the head of an Empty, or the ticket of a Spent; and what the band closed with.
+/// `ORDER RINGS SEATS LIMIT; SEAT FROM TO; WAY from SEAT; ..`: for each move the place that the
+/// index was got at, the index, and the place at which it was put; or the head of an Empty, or the
+/// ticket of a Spent; and what the band closed with.
 pub fn moves(alloc: Global, given: &str) -> Result<String> {
     let (setup, moves) = given.split_once("; ").unwrap_or((given, ""));
     let setup = setup_in(setup)?;

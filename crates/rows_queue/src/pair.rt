@@ -1,22 +1,34 @@
-//! Two passes of a queue in turn: one tells the other by a note what it sent, and the gate closes once both have retired.
-ghost use Rattle.std.specs.Prelude.{◌≡◌, ◌≤◌, [], vec_capacity};
+//! Two passes of a queue in turn: one tells the other what it sent, in one of the ways, and the
+//! gate closes once both have retired.
+ghost use Rattle.std.specs.Prelude.{◌≡◌, ◌≤◌, [], None, vec_capacity};
 ghost use Rattle.scq_queue.specs.Passes.{first_passes};
 
 use crate::calls::{lent, made, sent, took};
-use crate::replies::{of_lend, of_send, of_take, show_closed, tell};
+use crate::replies;
+use crate::replies::{of_lend, of_send, of_take, show_closed};
+use crate::ways::{Way, tell, way_of};
 use anyhow::{Context, Result, anyhow};
 use scq_band::Lifted;
 use scq_queue::{Closed, Held, LendRefusal, Pass, Queue, Spent, TakeRefusal};
 use scq_word::Buffer;
 use std::alloc::Global;
 
-/// What the passes were answered: the index lent, the places of the send and of the take, and whether the gate was closed at first,
-/// once the first had retired, and for each of them once both had.
+/// Whether the gate was closed at first; for each of the passes, the first of which had retired,
+/// once the other was told so; and for each once both had, in the other order.
+#[derive(Clone, Copy)]
+struct Gates {
+    at_first: bool,
+    by_one: (bool, bool),
+    by_both: (bool, bool),
+}
+
+/// What the passes were answered: the index lent, the places of the send and of the take, and
+/// whether the gate was closed.
 struct Answers {
     lent: Result<u32, LendRefusal>,
     sent: Option<Result<u64, Spent>>,
     taken: Result<u64, TakeRefusal>,
-    gates: (bool, bool, bool, bool),
+    gates: Gates,
 }
 
 /// Lets values go.
@@ -27,13 +39,42 @@ fn let_go<B: Buffer + Drop>(mut values: Vec<Held<B>>) {
     values.destroy_empty();
 }
 
-/// The first pass sends and tells the second, which takes at the place that it learned of; then both retire. The queue closes with
+/// The first retires and tells the second, which retires and tells the first. Each asks the gate.
+fn retire_in_turn<B: Buffer>(
+    queue: &Queue<B>,
+    first: &mut Pass<B>,
+    second: &mut Pass<B>,
+    way: Way,
+) -> Gates
+    requires first { (first.old.queue ≡ queue.now) × (first.old.retired ≡ None) }
+    requires second { (second.old.queue ≡ queue.now) × (second.old.retired ≡ None) }
+    ensures first { (first.new.queue ≡ queue.now) × (first.new.held ≡ first.old.held) }
+    ensures second { (second.new.queue ≡ queue.now) × (second.new.held ≡ second.old.held) }
+{
+    let at_first = queue.closed(first);
+    queue.retire(first);
+    let itself = queue.closed(first);
+    tell(queue, first, second, way);
+    let told = queue.closed(second);
+    queue.retire(second);
+    let itself_last = queue.closed(second);
+    tell(queue, second, first, way);
+    let told_last = queue.closed(first);
+    Gates {
+        at_first,
+        by_one: (itself, told),
+        by_both: (itself_last, told_last),
+    }
+}
+
+/// The first pass sends and tells the second, which takes; then both retire. The queue closes with
 /// the value that the second holds. Nothing where nothing could be sent.
 fn run<B: Buffer + Drop>(
     queue: Queue<B>,
     mut passes: Vec<Pass<B>>,
     mut sender: Vec<Held<B>>,
     mut taker: Vec<Held<B>>,
+    way: Way,
 ) -> Option<(Answers, Closed<B>)>
     requires setup { (queue.setup.rings ≡ 2) × (queue.setup.seats ≡ 2) }
     requires passes { passes.items ≡ first_passes queue 2 }
@@ -46,7 +87,6 @@ fn run<B: Buffer + Drop>(
     let Some(mut first) = passes.pop() else {
         unreachable!()
     };
-    let at_first = queue.closed(&mut first);
     let index = lent(&queue, &mut first, &mut sender);
     let place = sent(&queue, &mut first, 0, &mut sender);
     if !sender.is_empty() {
@@ -56,17 +96,9 @@ fn run<B: Buffer + Drop>(
         return None;
     }
     sender.destroy_empty();
-    let told = queue.note(&mut first);
-    let own = queue.note(&mut first);
-    let _dropped = queue.note(&mut first);
-    queue.learn(&mut first, own);
-    queue.retire(&mut first);
-    let by_one = queue.closed(&mut first);
-    queue.learn(&mut second, told);
+    tell(&queue, &mut first, &mut second, way);
     let got = took(&queue, &mut second, 0, &mut taker);
-    queue.retire(&mut second);
-    let seen = queue.closed(&mut first);
-    let also = queue.closed(&mut second);
+    let gates = retire_in_turn(&queue, &mut first, &mut second, way);
     passes.push_reserved(first);
     passes.push_reserved(second);
     let closed = queue.close(passes, taker);
@@ -74,13 +106,29 @@ fn run<B: Buffer + Drop>(
         lent: index,
         sent: place,
         taken: got,
-        gates: (at_first, by_one, seen, also),
+        gates,
     };
     Some((answers, closed))
 }
 
-/// What the passes were answered, and what the queue closed with.
-pub fn told(alloc: Global) -> Result<String> {
+/// Adds what the gate was read as.
+fn show_gates(into: &mut String, gates: Gates) -> Result<()> {
+    let Gates {
+        at_first,
+        by_one: (itself, told),
+        by_both: (itself_last, told_last),
+    } = gates;
+    write!(
+        into,
+        "{at_first}, {itself} {told}, {itself_last} {told_last}"
+    )?;
+    Ok(())
+}
+
+/// `WAY`: what the passes were answered, of which each tells the other in this way, and what the
+/// queue closed with.
+pub fn told(alloc: Global, given: &str) -> Result<String> {
+    let way = way_of(given)?;
     let sender = Vec::with_capacity(alloc, 1)?;
     let Ok(taker) = Vec::with_capacity(alloc, 1) else {
         sender.destroy_empty();
@@ -94,18 +142,18 @@ pub fn told(alloc: Global) -> Result<String> {
             return Err(fail);
         }
     };
-    let (answers, closed) = run(queue, passes, sender, taker).context("nothing was sent")?;
+    let (answers, closed) = run(queue, passes, sender, taker, way).context("nothing was sent")?;
     let Answers {
         lent,
         sent,
         taken,
-        gates: (at_first, by_one, seen, also),
+        gates,
     } = answers;
     let mut text = String::new(alloc);
-    tell(&mut text, of_lend(lent))?;
-    tell(&mut text, of_send(sent))?;
-    tell(&mut text, of_take(taken))?;
-    write!(text, "{at_first} {by_one} {seen} {also}")?;
+    replies::tell(&mut text, of_lend(lent))?;
+    replies::tell(&mut text, of_send(sent))?;
+    replies::tell(&mut text, of_take(taken))?;
+    show_gates(&mut text, gates)?;
     show_closed(&mut text, &closed)?;
     Ok(text)
 }
