@@ -19,9 +19,9 @@ mod worded;
 
 use anyhow::Result;
 use calls::Libraries;
-use outside::on_disk;
+use outside::{on_disk, on_stream, whole_on_disk};
 use rows_text::run_rows;
-use scq_outside::{Sink, StdSink, StdStream};
+use scq_outside::StdStream;
 use std::{env, fs};
 
 fn main(rt: HostRuntime) -> Result<()> {
@@ -35,11 +35,15 @@ fn main(rt: HostRuntime) -> Result<()> {
         let given = on_disk(&rt, rt.alloc(), name)?;
         println!(rt; "file: {given:?}")?;
     }
+    for bytes in [4096, 10_000] {
+        let given = whole_on_disk(&rt, rt.alloc(), bytes)?;
+        println!(rt; "file of {bytes} bytes: {given}")?;
+    }
     for stream in [
         StdStream::Output(rt.stdout()),
         StdStream::Errors(rt.stderr()),
     ] {
-        let taken = StdSink::new(stream).write(b"taken\n").is_ok();
+        let taken = on_stream(&rt, rt.alloc(), stream)?;
         println!(rt; "stream: {taken}")?;
     }
     Ok(())

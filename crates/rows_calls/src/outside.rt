@@ -2,11 +2,13 @@
 ghost use Rattle.std.specs.Prelude.{◌≡◌, IfOk};
 
 use crate::given::{bytes_of, number};
-use anyhow::{Context, Result, ensure};
+use anyhow::{Context, Result, anyhow, ensure};
 use rows_text::field;
 use scq_outside::{
     DiskFiles, Failed, Files, MemFiles, MemSink, MemSource, PlainSource, Sink, Source, StdSink,
+    StdStream,
 };
+use sha2::{Digest, Sha256};
 use std::alloc::{AllocError, Global};
 use std::fs::{self, File};
 use std::io::{self, Write};
@@ -137,6 +139,68 @@ pub fn streamed(alloc: Global, given: &str) -> Result<String> {
         field(given, 1),
     )?;
     Ok(text)
+}
+
+/// How many bytes each read gives, of at most 4,096 up to the end, and the digest of all.
+fn pieces_of<S: Source>(alloc: Global, source: &mut S) -> Result<String> {
+    let mut text = String::new(alloc);
+    let mut digest = Sha256::new();
+    let mut into = vec![in alloc; 0; 4096]?;
+    for _ in 0..9u32 {
+        let count = match source.read(&mut into) {
+            Ok(0) => break,
+            Ok(count) => count,
+            Err(Failed) => return Err(anyhow!("a read failed")),
+        };
+        write!(text, "{count};")?;
+        digest.update(into.get(..count).context("no more than was asked for")?);
+    }
+    text.push_str(&hex::encode(alloc, digest.finalize())?)?;
+    Ok(text)
+}
+
+/// What the reads of a file of the system give that has the numbers from 0 up, so many, modulo 251.
+pub fn whole_on_disk<R: rt::Files<File = File>>(
+    system: &R,
+    alloc: Global,
+    bytes: u32,
+) -> Result<String> {
+    let name = "whole.txt";
+    let mut content = Vec::new(alloc);
+    for number in 0..bytes {
+        content.push((number % 251) as u8)?;
+    }
+    fs::write(system, name, content.as_slice())?;
+    let said = match DiskFiles::new(system).source(name) {
+        Ok(mut source) => pieces_of(alloc, &mut source)?,
+        Err(Failed) => String::from_str(alloc, "none")?,
+    };
+    fs::remove_file(system, name)?;
+    Ok(said)
+}
+
+/// How many bytes the program has written to files and streams, where the system tells.
+fn written_so_far<R: rt::Files<File = File> + AllocGlobal>(system: &R) -> Option<u64> {
+    let told = fs::read_to_string(system, "/proc/self/io").ok()?;
+    let line = told.lines().find(|line| line.starts_with("wchar: "))?;
+    line.strip_prefix("wchar: ")?.parse().ok()
+}
+
+/// Whether a stream of the system took a piece of six bytes; and how many were written, six also
+/// where the system doesn't tell.
+pub fn on_stream<R: rt::Files<File = File> + AllocGlobal>(
+    system: &R,
+    alloc: Global,
+    stream: StdStream,
+) -> Result<String> {
+    let before = written_so_far(system);
+    let taken = StdSink::new(stream).write(b"taken\n").is_ok();
+    let after = written_so_far(system);
+    let written = match (before, after) {
+        (Some(before), Some(after)) => after.saturating_sub(before),
+        _ => 6,
+    };
+    Ok(format!(in alloc; "{taken}, {written} bytes")?)
 }
 
 /// What a file of the system of this name gives that has `a b` and an LF, and what comes of its name when it is gone.

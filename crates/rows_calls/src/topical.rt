@@ -7,7 +7,7 @@ use rows_text::{field, word_of};
 use scq_self::generate;
 use scq_topics::{Kind, Topics, reply};
 use sha2::{Digest, Sha256};
-use std::alloc::Global;
+use std::alloc::{AllocError, Global};
 
 fn kind_of(name: &str) -> Option<Kind> {
     Some(match name {
@@ -28,6 +28,11 @@ pub fn reply_to(alloc: Global, given: &str) -> Result<String> {
     Ok(hex::encode(alloc, reply.bytes())?)
 }
 
+/// An equal value.
+fn copied<T: Clone>(value: &T) -> Result<T, AllocError> {
+    value.clone()
+}
+
 /// `TABLE`: the names and kinds of the topics, and the length of the longest name, or why they are refused.
 pub fn topics(alloc: Global, given: &str) -> Result<String> {
     let table = word_of(alloc, given)?;
@@ -41,7 +46,7 @@ fn listed(alloc: Global, topics: &Topics) -> Result<String> {
     let mut text = String::new(alloc);
     for number in 0..topics.len() + 1 {
         let name = String::from_utf8_lossy(alloc, topics.name(number))?;
-        let kind = topics.kind(number);
+        let kind = copied(&topics.kind(number))?;
         write!(text, "{name} {kind:?} ")?;
     }
     let most = topics.most_name();

@@ -74,9 +74,9 @@ fn replies(
     Ok(())
 }
 
-/// `ORDER RINGS SEATS LIMIT; SEAT FROM TO; WAY from SEAT; ..`: for each move the place that the index was
-/// got at, the index, and the place at which it was put; or the head of an Empty, or the ticket of a
-/// Spent; and what the band closed with.
+/// `ORDER RINGS SEATS LIMIT; SEAT FROM TO; WAY from SEAT; ..`: for each move the place that the
+/// index was got at, the index, and the place at which it was put; or the head of an Empty, or the
+/// ticket of a Spent; and what the band closed with.
 pub fn moves(alloc: Global, given: &str) -> Result<String> {
     let (setup, moves) = given.split_once("; ").unwrap_or((given, ""));
     let setup = setup_in(setup)?;

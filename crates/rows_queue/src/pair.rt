@@ -1,5 +1,5 @@
-//! Two passes of a queue in turn: one tells the other what it sent, in one of the ways, and the gate
-//! closes once both have retired.
+//! Two passes of a queue in turn: one tells the other what it sent, in one of the ways, and the
+//! gate closes once both have retired.
 ghost use Rattle.std.specs.Prelude.{◌≡◌, ◌≤◌, [], None, vec_capacity};
 ghost use Rattle.scq_queue.specs.Passes.{first_passes};
 
@@ -13,8 +13,8 @@ use scq_queue::{Closed, Held, LendRefusal, Pass, Queue, Spent, TakeRefusal};
 use scq_word::BufferMut;
 use std::alloc::Global;
 
-/// Whether the gate was closed at first; for each of the passes, the first of which had retired, once
-/// the other was told so; and for each once both had, in the other order.
+/// Whether the gate was closed at first; for each of the passes, the first of which had retired,
+/// once the other was told so; and for each once both had, in the other order.
 #[derive(Clone, Copy)]
 struct Gates {
     at_first: bool,
@@ -22,8 +22,8 @@ struct Gates {
     by_both: (bool, bool),
 }
 
-/// What the passes were answered: the index lent, the places of the send and of the take, and whether
-/// the gate was closed.
+/// What the passes were answered: the index lent, the places of the send and of the take, and
+/// whether the gate was closed.
 struct Answers {
     lent: Result<u32, LendRefusal>,
     sent: Option<Result<u64, Spent>>,
@@ -67,8 +67,8 @@ fn retire_in_turn<B: BufferMut>(
     }
 }
 
-/// The first pass sends and tells the second, which takes; then both retire. The queue closes with the
-/// value that the second holds. Nothing where nothing could be sent.
+/// The first pass sends and tells the second, which takes; then both retire. The queue closes with
+/// the value that the second holds. Nothing where nothing could be sent.
 fn run<B: BufferMut + Drop>(
     queue: Queue<B>,
     mut passes: Vec<Pass<B>>,
@@ -125,8 +125,8 @@ fn show_gates(into: &mut String, gates: Gates) -> Result<()> {
     Ok(())
 }
 
-/// `WAY`: what the passes were answered, of which each tells the other in this way, and what the queue
-/// closed with.
+/// `WAY`: what the passes were answered, of which each tells the other in this way, and what the
+/// queue closed with.
 pub fn told(alloc: Global, given: &str) -> Result<String> {
     let way = way_of(given)?;
     let sender = Vec::with_capacity(alloc, 1)?;
