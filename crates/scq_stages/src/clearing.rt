@@ -9,7 +9,7 @@ use crate::worker::Worker;
 use scq_files::Desk;
 use scq_outside::Source;
 use scq_queue::{Held, Pass};
-use scq_word::{Buffer, NoMemory};
+use scq_word::{Buffer, BufferMut, NoMemory};
 use std::alloc::Global;
 
 /// What workers leave behind, in the order of their numbers: their passes, the values that they kept, their lists, and whether any wanted
@@ -21,7 +21,7 @@ pub struct Left<B: Buffer> {
     pub starved: bool,
 }
 
-impl<B: Buffer> Left<B> {
+impl<B: BufferMut> Left<B> {
     ghost use Rattle.std.specs.Prelude.{◌≡◌, ◌+◌, ◌<◌, ◌≤◌, ◌++◌, ◌∷◌, [], false, vec_len, vec_capacity};
     ghost use Rattle.std.specs.Option.{option_to_list};
 
@@ -68,7 +68,7 @@ impl<B: Buffer> Left<B> {
 }
 
 /// Room for what so many workers leave behind.
-pub(crate) fn make_left<B: Buffer>(alloc: Global, workers: usize) -> Result<Left<B>, NoMemory>
+pub(crate) fn make_left<B: BufferMut>(alloc: Global, workers: usize) -> Result<Left<B>, NoMemory>
     ensures empty { IfOk result (λ left. (left.passes.items ≡ []) × (left.held.items ≡ []) × (left.lists.items ≡ [])) }
     ensures room { IfOk result (λ left. (workers ≤ vec_capacity left.passes) × (workers ≤ vec_capacity left.held) × (workers ≤ vec_capacity left.lists)) }
 {
@@ -84,7 +84,7 @@ pub(crate) fn make_left<B: Buffer>(alloc: Global, workers: usize) -> Result<Left
 }
 
 /// Takes the desks apart. What the workers leave behind is put into empty lists with room.
-pub(crate) fn clear<B: Buffer, S: Source>(mut desks: Vec<Desk<Seated<B>, S>>, left: &mut Left<B>)
+pub(crate) fn clear<B: BufferMut, S: Source>(mut desks: Vec<Desk<Seated<B>, S>>, left: &mut Left<B>)
     requires empty { (left.old.passes.items ≡ []) × (left.old.held.items ≡ []) × (left.old.lists.items ≡ []) }
     requires room { (vec_len desks ≤ vec_capacity left.old.passes) × (vec_len desks ≤ vec_capacity left.old.held)
         × (vec_len desks ≤ vec_capacity left.old.lists) }

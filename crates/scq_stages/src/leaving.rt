@@ -13,13 +13,13 @@ ghost use Rattle.scq_stages.specs.Working.{HasFewStageCalls, IsDone, IsLeaving};
 use crate::worker::Worker;
 use scq_passes::AtLimit;
 use scq_queue::Queue;
-use scq_word::Buffer;
+use scq_word::BufferMut;
 use std::alloc::Global;
 
 /// How many sweeps in a row that take nothing let a worker leave.
 const MOST_IDLE: u32 = 64;
 
-impl<B: Buffer> Worker<B> {
+impl<B: BufferMut> Worker<B> {
     /// Takes from first until nothing is there. Whether anything was.
     fn sweep_first(&mut self, alloc: Global, queue: &Queue<B>) -> Result<bool, AtLimit<B>>
         requires suits { Suits queue.now 1 self.old.pass }

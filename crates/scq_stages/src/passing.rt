@@ -11,10 +11,10 @@ use crate::worker::{FIRST, Worker};
 use scq_frames::{Message, encode};
 use scq_passes::AtLimit;
 use scq_queue::{Held, LendRefusal, Queue};
-use scq_word::Buffer;
+use scq_word::BufferMut;
 use std::alloc::Global;
 
-impl<B: Buffer> Worker<B> {
+impl<B: BufferMut> Worker<B> {
     /// Sends a message to first in a value that it holds.
     fn send_in(
         &mut self,

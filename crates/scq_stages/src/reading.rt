@@ -15,14 +15,14 @@ use scq_outside::Source;
 use scq_passes::AtLimit;
 use scq_queue::Queue;
 use scq_topics::Topics;
-use scq_word::Buffer;
+use scq_word::BufferMut;
 use std::alloc::Global;
 use std::snapshot::Snapshot;
 
 /// The greatest number of bytes of a file.
 const MOST_BYTES: u64 = 1 << 30;
 
-impl<B: Buffer> Worker<B> {
+impl<B: BufferMut> Worker<B> {
     /// Passes on the messages of a file one by one, and says how far it was read. One that is left at a ticket past the limit is as one whose
     /// reading stopped for want of memory.
     fn read_messages<S: Source>(

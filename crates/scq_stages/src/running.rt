@@ -17,11 +17,11 @@ use scq_outside::Source;
 use scq_passes::AtLimit;
 use scq_queue::Queue;
 use scq_topics::Topics;
-use scq_word::Buffer;
+use scq_word::BufferMut;
 use std::alloc::Global;
 use std::mem;
 
-impl<B: Buffer> Worker<B> {
+impl<B: BufferMut> Worker<B> {
     /// Reads files and passes their messages on, and then moves what is in first until nothing is there.
     fn work<S: Source>(
         &mut self,
@@ -52,7 +52,7 @@ impl<B: Buffer> Worker<B> {
     }
 }
 
-impl<B: Buffer> Seated<B> {
+impl<B: BufferMut> Seated<B> {
     /// Keeps the value that came back, where there is one.
     fn keep(&mut self, at_limit: AtLimit<B>)
         requires { self.old.kept ≡ None }
@@ -69,7 +69,7 @@ impl<B: Buffer> Seated<B> {
 
 /// The worker's whole work: it reads its files and passes their messages on, moves what is in first, retires, and sweeps until it leaves. Where it
 /// met a ticket past the limit, it retires at once where it hasn't yet, leaves, and keeps the value that came back.
-pub(crate) fn run<B: Buffer, S: Source>(
+pub(crate) fn run<B: BufferMut, S: Source>(
     desk: &mut Desk<Seated<B>, S>,
     alloc: Global,
     job: &StageJob,

@@ -8,7 +8,7 @@ use crate::worker::Worker;
 use scq_files::{Desk, OwnFile};
 use scq_outside::Source;
 use scq_queue::{Held, Pass, Queue};
-use scq_word::Buffer;
+use scq_word::{Buffer, BufferMut};
 use std::alloc::Global;
 
 /// A worker, and the value that it keeps where it met a ticket past the limit.
@@ -19,7 +19,7 @@ pub struct Seated<B: Buffer> {
 
 /// A desk for each of the new passes of a queue, in their order, with one of the lists for files. They are put into an empty list with
 /// room.
-pub(crate) fn make_desks<B: Buffer, S: Source>(
+pub(crate) fn make_desks<B: BufferMut, S: Source>(
     alloc: Global,
     queue: &Queue<B>,
     mut passes: Vec<Pass<B>>,
@@ -47,7 +47,7 @@ pub(crate) fn make_desks<B: Buffer, S: Source>(
 }
 
 /// The desk of a worker that is to begin.
-fn make_desk<B: Buffer, S: Source>(
+fn make_desk<B: BufferMut, S: Source>(
     alloc: Global,
     pass: Pass<B>,
     files: Vec<OwnFile<S>>,

@@ -6,10 +6,10 @@ ghost use Rattle.scq_stages.specs.Handling.{after};
 
 use crate::handling::{Rest, finish_part, redact_part, squeeze_part};
 use scq_queue::Held;
-use scq_word::Buffer;
+use scq_word::BufferMut;
 
 /// Redacts the part that comes first. Whether there is one.
-pub fn redact_in<B: Buffer>(held: &mut Held<B>) -> bool
+pub fn redact_in<B: BufferMut>(held: &mut Held<B>) -> bool
     ensures redacted { IfSome (part_at (B.contents held.old.buffer))
         (λ p. (result ≡ true) × BeginsWith (B.contents held.new.buffer) (after redacted p)) }
     ensures none { part_at (B.contents held.old.buffer) ≡ None → result ≡ false }
@@ -19,7 +19,7 @@ pub fn redact_in<B: Buffer>(held: &mut Held<B>) -> bool
 }
 
 /// Squeezes the spaces of the part that comes first. What is left of its bytes comes first behind its numbers.
-pub fn squeeze_in<B: Buffer>(held: &mut Held<B>) -> Option<Rest>
+pub fn squeeze_in<B: BufferMut>(held: &mut Held<B>) -> Option<Rest>
     ensures squeezed { IfSome (part_at (B.contents held.old.buffer)) (λ p. IsSomeAnd result (λ rest. (rest.file ≡ p.file) × (rest.line ≡ p.line)
         × (24 + rest.len ≤ length (B.contents held.new.buffer)) × (take rest.len (drop 24 (B.contents held.new.buffer)) ≡ squeezed p.payload))) }
     ensures none { part_at (B.contents held.old.buffer) ≡ None → result ≡ None }
@@ -29,7 +29,7 @@ pub fn squeeze_in<B: Buffer>(held: &mut Held<B>) -> Option<Rest>
 }
 
 /// Does both stages to the part that comes first. What is left of its bytes comes first behind its numbers.
-pub fn finish_in<B: Buffer>(held: &mut Held<B>) -> Option<Rest>
+pub fn finish_in<B: BufferMut>(held: &mut Held<B>) -> Option<Rest>
     ensures finished { IfSome (part_at (B.contents held.old.buffer)) (λ p. IsSomeAnd result (λ rest. (rest.file ≡ p.file) × (rest.line ≡ p.line)
         × (24 + rest.len ≤ length (B.contents held.new.buffer)) × (take rest.len (drop 24 (B.contents held.new.buffer)) ≡ both p.payload))) }
     ensures none { part_at (B.contents held.old.buffer) ≡ None → result ≡ None }

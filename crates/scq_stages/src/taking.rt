@@ -22,10 +22,10 @@ use crate::taken::{finish_in, redact_in, squeeze_in};
 use crate::worker::{FIRST, SECOND, Worker};
 use scq_passes::AtLimit;
 use scq_queue::{Held, Queue, TakeRefusal};
-use scq_word::Buffer;
+use scq_word::BufferMut;
 use std::alloc::Global;
 
-impl<B: Buffer> Worker<B> {
+impl<B: BufferMut> Worker<B> {
     /// Ends what was taken from second at this place: squeezes it, finishes it and gives it back.
     fn end_second(
         &mut self,

@@ -16,7 +16,7 @@ use crate::in_place::{redact, squeeze};
 use scq_frames::Message;
 use scq_passes::AtLimit;
 use scq_queue::{Held, Pass, Queue};
-use scq_word::{Buffer, Bytes, NoMemory};
+use scq_word::{Buffer, BufferMut, Bytes, NoMemory};
 use std::alloc::Global;
 
 /// The topic to which messages are sent.
@@ -52,7 +52,7 @@ fn both(alloc: Global, payload: &[u8]) -> Result<Bytes, NoMemory>
     Ok(Bytes::from(bytes))
 }
 
-impl<B: Buffer> Worker<B> {
+impl<B: BufferMut> Worker<B> {
     /// Puts a member behind the list, where there was memory for it and for its payload.
     fn list(&mut self, file: u32, line: u32, payload: Result<Bytes, NoMemory>, way: StageWay)
         ensures listed { IfOk payload (λ bytes. self.new.starved ≡ false → self.new.members.items ≡ self.old.members.items

@@ -8,7 +8,7 @@ use crate::worker::Worker;
 use scq_collect::Answered;
 use scq_outside::Source;
 use scq_queue::{Held, Pass};
-use scq_word::Buffer;
+use scq_word::{Buffer, BufferMut};
 
 /// What workers leave behind, in the order of their numbers: their passes, the values that they kept, their lists, and whether any wanted
 /// memory.
@@ -19,7 +19,7 @@ pub struct LeftBehind<B: Buffer> {
     pub starved: bool,
 }
 
-impl<B: Buffer> LeftBehind<B> {
+impl<B: BufferMut> LeftBehind<B> {
     ghost use Rattle.std.specs.Prelude.{◌≡◌, ◌+◌, ◌<◌, ◌≤◌, ◌++◌, ◌∷◌, [], false, vec_len, vec_capacity};
     ghost use Rattle.std.specs.Option.{option_to_list};
 
@@ -70,7 +70,7 @@ impl<B: Buffer> LeftBehind<B> {
 }
 
 /// Takes the desks apart. What the workers leave behind is put into empty lists with room.
-pub fn clear<B: Buffer, S: Source>(mut desks: Vec<Desk<B, S>>, left: &mut LeftBehind<B>)
+pub fn clear<B: BufferMut, S: Source>(mut desks: Vec<Desk<B, S>>, left: &mut LeftBehind<B>)
     requires empty { (left.old.passes.items ≡ []) × (left.old.held.items ≡ []) × (left.old.lists.items ≡ []) }
     requires room { (vec_len desks ≤ vec_capacity left.old.passes) × (vec_len desks ≤ vec_capacity left.old.held)
         × (vec_len desks ≤ vec_capacity left.old.lists) }

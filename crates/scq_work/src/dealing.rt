@@ -10,13 +10,13 @@ use crate::worker::Worker;
 use scq_files::OwnFile;
 use scq_outside::Source;
 use scq_queue::{Pass, Queue};
-use scq_word::Buffer;
+use scq_word::BufferMut;
 use std::alloc::Global;
 use std::snapshot::Snapshot;
 
 /// A desk for each of the new passes of a queue, in their order, with one of the lists for files. They are put into an empty list with
 /// room.
-pub fn make_desks<B: Buffer, S: Source>(
+pub fn make_desks<B: BufferMut, S: Source>(
     alloc: Global,
     queue: &Queue<B>,
     mut passes: Vec<Pass<B>>,
@@ -45,7 +45,7 @@ pub fn make_desks<B: Buffer, S: Source>(
 }
 
 /// The desk of a worker that is to begin.
-fn make_desk<B: Buffer, S: Source>(
+fn make_desk<B: BufferMut, S: Source>(
     alloc: Global,
     number: u32,
     pass: Pass<B>,
@@ -70,7 +70,7 @@ fn make_desk<B: Buffer, S: Source>(
 }
 
 /// Deals files to desks: file f, from 1, to the desk (f - 1) mod their number.
-pub fn deal<B: Buffer, S: Source>(
+pub fn deal<B: BufferMut, S: Source>(
     was: &Snapshot<Vec<S>>,
     sources: &mut Vec<S>,
     desks: &mut [Desk<B, S>],

@@ -15,7 +15,7 @@ use scq_outside::Source;
 use scq_park::{Crew, Stand};
 use scq_passes::AtLimit;
 use scq_queue::{Held, Queue};
-use scq_word::Buffer;
+use scq_word::{Buffer, BufferMut};
 use std::alloc::Global;
 use std::mem;
 use std::sync::Wait;
@@ -27,7 +27,7 @@ pub struct Desk<B: Buffer, S> {
     pub kept: Option<Held<B>>,
 }
 
-impl<B: Buffer, S: Source> Desk<B, S> {
+impl<B: BufferMut, S: Source> Desk<B, S> {
     /// Lays a file on the desk.
     pub fn lay(&mut self, file: OwnFile<S>)
         requires { vec_len self.old.files < vec_capacity self.old.files }

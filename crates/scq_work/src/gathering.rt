@@ -12,7 +12,7 @@ use crate::desk::Desk;
 use scq_files::{FileEnd, OwnFile};
 use scq_frames::FrameFault;
 use scq_outside::Source;
-use scq_word::Buffer;
+use scq_word::BufferMut;
 use std::snapshot::Snapshot;
 
 /// What is gathered of files in their order: their sources, the first fault with its file's number, and whether memory was wanted.
@@ -64,7 +64,7 @@ impl<S> Gathered<S> {
 }
 
 /// Gathers the files of all desks in their order.
-pub fn gather<B: Buffer, S: Source>(
+pub fn gather<B: BufferMut, S: Source>(
     job: &Job,
     was: &Snapshot<Vec<S>>,
     desks: &mut [Desk<B, S>],

@@ -24,7 +24,7 @@ use scq_frames::{Message, View, decode, encode, view_of};
 use scq_passes::AtLimit;
 use scq_queue::{Held, Pass, Queue, TakeRefusal};
 use scq_topics::{ReplyBytes, reply};
-use scq_word::{Buffer, NoMemory};
+use scq_word::{Buffer, BufferMut, NoMemory};
 use std::alloc::Global;
 
 /// A worker: the pass by which it makes its calls, what it has answered, and whether it wanted memory.
@@ -48,7 +48,7 @@ fn text_of(alloc: Global, job: &Job, part: View<'_>) -> Result<ReplyBytes, NoMem
     ReplyBytes::copy_of(alloc, part.payload)
 }
 
-impl<B: Buffer> Worker<B> {
+impl<B: BufferMut> Worker<B> {
     /// Puts the answer to this part behind the list.
     fn answer(&mut self, alloc: Global, job: &Job, part: View<'_>, way: Way)
         requires { part.topic ≤ length job.now.topics }

@@ -11,10 +11,10 @@ use crate::{Gate, Job, Point};
 use scq_frames::{Message, parts_of};
 use scq_passes::AtLimit;
 use scq_queue::{LendRefusal, Queue};
-use scq_word::Buffer;
+use scq_word::BufferMut;
 use std::alloc::Global;
 
-impl<B: Buffer> Worker<B> {
+impl<B: BufferMut> Worker<B> {
     /// Passes a part of a message on: sends it in a buffer that nobody holds, or, where there is none, answers it itself and helps.
     fn pass_part<G: Gate, T, W: Bell<T>>(
         &mut self,

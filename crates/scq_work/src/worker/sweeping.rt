@@ -12,13 +12,13 @@ use crate::worker::Worker;
 use crate::{Gate, Job, Point};
 use scq_passes::AtLimit;
 use scq_queue::Queue;
-use scq_word::Buffer;
+use scq_word::BufferMut;
 use std::alloc::Global;
 
 /// How many sweeps in a row that take nothing let a worker leave.
 const MOST_IDLE: u32 = 64;
 
-impl<B: Buffer> Worker<B> {
+impl<B: BufferMut> Worker<B> {
     /// Takes from a topic until nothing is there. Whether anything was.
     fn sweep_topic<G: Gate>(
         &mut self,

@@ -11,11 +11,11 @@ use crate::{Gate, Job, Point};
 use scq_park::{Crew, Stand};
 use scq_passes::AtLimit;
 use scq_queue::Queue;
-use scq_word::Buffer;
+use scq_word::BufferMut;
 use std::alloc::Global;
 use std::sync::Wait;
 
-impl<B: Buffer> Worker<B> {
+impl<B: BufferMut> Worker<B> {
     /// Sweeps until all have retired, and rests after each sweep that took nothing. It leaves only after a sweep before which all had
     /// retired: where no wake comes it never returns.
     pub fn sweep_and_rest<G: Gate, R: Wait>(

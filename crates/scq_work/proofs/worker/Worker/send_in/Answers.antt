@@ -13,13 +13,13 @@ returns-in-Ok-clause-sent g c =
     let size = c.args.job.now.size in
     let valid = c.args.job.now.valid in
     let p = part_of size m c.args.part in
-    let laws = g.met.B.Buffer g.world.𝓛 g.world.𝓜 g.world.𝓡 ((λ s x. x), (λ x. x), (λ x. x), (λ x. x)) in
+    let laws = g.met.B.BufferMut g.world.𝓛 g.world.𝓜 g.world.𝓡 ((λ s x. x), (λ x. x), (λ x. x), (λ x. x)) in
     let bytes = c.encode.new.into in
     let small : length m.payload < 2 ^ 32 = omega (arith, c.requires.short, c.args.job.now.limit) in
     let start = (c.args.part - 1) * size in
     let begins : bytes ≡ message_bytes p ++ drop (24 + length p.payload) c.bytes_mut.result.now = c.encode.ensures in
     let long : length bytes ≡ length (g.B.Buffer.contents c.args.held.buffer) = c.encode.auto.into ∙ ap length c.bytes_mut.ensures.bytes in
-    let is : g.B.Buffer.contents (g.B.Buffer.written c.args.held.buffer bytes) ≡ bytes = laws.written_bytes c.args.held.buffer bytes long in
+    let is : g.B.Buffer.contents (g.B.BufferMut.written c.args.held.buffer bytes) ≡ bytes = laws.written_bytes c.args.held.buffer bytes long in
     let sent = c.in-Ok.ensures.sent in (
       c.in-Ok.field-0,
       bytes,
