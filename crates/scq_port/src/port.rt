@@ -48,8 +48,9 @@ impl Model for Port {
 impl Port {
     /// Lends a buffer that nobody holds: answers its index.
     ///
-    /// NoRoom where the port holds as many values as it may. Full and Spent as with `scq_queue`. Damaged where the value that came doesn't
-    /// contain the number of its index, which no run without others' writes has shown; the port holds it then.
+    /// NoRoom where the port holds as many values as it may. Full and Spent as with `scq_queue`.
+    /// Damaged where the value that came doesn't contain the number of its index; the port holds it
+    /// then. No call here writes a number, so it is for memory that somebody else wrote.
     #[inline(always)]
     pub fn lend(&mut self) -> Result<u32, LendRefusal>
         ensures lent { IfOk result (λ index. IsLent index self.old self.new) }
@@ -66,7 +67,8 @@ impl Port {
 
     /// Takes a value from a topic: answers its place and its index.
     ///
-    /// NoTopic where there are not so many topics, NoRoom and Damaged as with `lend`. Empty and Spent as with `scq_queue`.
+    /// NoTopic where there are not so many topics, NoRoom and Damaged as with `lend`. Empty and Spent
+    /// as with `scq_queue`.
     #[inline(always)]
     pub fn take(&mut self, topic: u32) -> Result<(u64, u32), TakeRefusal>
         ensures taken { IfOk result (λ r. IsTaken topic r.0 r.1 self.old self.new) }
@@ -87,8 +89,9 @@ impl Port {
 
     /// Sends the value of an index on a topic: answers its place.
     ///
-    /// NoTopic where there are not so many topics, Retired where the port has retired, NotHeld where it holds no value of this index. Spent as with `scq_queue`; then
-    /// the port still holds the value.
+    /// NoTopic where there are not so many topics, Retired where the port has retired, NotHeld where
+    /// it holds no value of this index. Spent as with `scq_queue`; then the port still holds the
+    /// value.
     #[inline(always)]
     pub fn send(&mut self, index: u32, topic: u32) -> Result<u64, SendRefusal>
         ensures sent { IfOk result (λ place. IsSent index topic place self.old self.new) }
@@ -153,8 +156,8 @@ impl Port {
         self.pass.spent()
     }
 
-    /// Closes the port, as dropping it does: retires it, gives back what it holds, and answers for contracts
-    /// alone what its pass was then. The last port of a queue that closes closes the queue, and is
+    /// Closes the port, as dropping it does: retires it, gives back what it holds, and answers for
+    /// contracts alone what its pass was then. The last port of a queue that closes closes the queue, and is
     /// told of all passes together.
     ///
     /// Where the pass keeps a spent ticket, or draws one, what can't be given back goes with it,

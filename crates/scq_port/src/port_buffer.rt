@@ -9,8 +9,8 @@ use crate::cells::Cells;
 use scq_word::Buffer;
 
 /// The number of a buffer, from 0, as four bytes, the lowest first. They are what the buffer contains, so that what the queue promises of
-/// bytes it promises of numbers: a take is a send of the same one. No call of a port writes them, and each value that a port is lent or takes
-/// is tested to contain the number of its index.
+/// bytes it promises of numbers: a take is a send of the same one. No call of a port writes them, and
+/// each value that a port is lent or takes is tested to contain the number of its index.
 #[derive(Drop)]
 pub struct PortBuffer {
     number: Cells<u8, 4>,

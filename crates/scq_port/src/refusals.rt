@@ -1,7 +1,8 @@
 //! Why a port's calls did nothing.
 
-/// Why no index was lent: the port holds as many values as it may; no buffer was free, the free ring's Head being at or past this number;
-/// the port keeps a ticket at or past the limit; or the value that came doesn't contain the number of its index, and the port holds it.
+/// Why no index was lent: the port holds as many values as it may; no buffer was free, the free
+/// ring's Head being at or past this number; the port keeps a ticket at or past the limit; or the
+/// value that came doesn't contain the number of its index, and the port holds it.
 #[derive(Clone, Copy, Debug, PartialEq, Eq)]
 pub enum LendRefusal {
     NoRoom,
@@ -10,9 +11,9 @@ pub enum LendRefusal {
     Damaged,
 }
 
-/// Why no index was taken: there is no such topic; the port holds as many values as it may; the topic was empty, its ring's Head being at
-/// or past this number; the port keeps a ticket at or past the limit; or the value that came doesn't contain the number of its index, and
-/// the port holds it.
+/// Why no index was taken: there is no such topic; the port holds as many values as it may; the topic
+/// was empty, its ring's Head being at or past this number; the port keeps a ticket at or past the
+/// limit; or the value that came doesn't contain the number of its index, and the port holds it.
 #[derive(Clone, Copy, Debug, PartialEq, Eq)]
 pub enum TakeRefusal {
     NoTopic,
@@ -22,8 +23,8 @@ pub enum TakeRefusal {
     Damaged,
 }
 
-/// Why nothing was sent: there is no such topic; the port has retired; it holds no value of this index; or it keeps a ticket at or past the
-/// limit.
+/// Why nothing was sent: there is no such topic; the port has retired; it holds no value of this
+/// index; or it keeps a ticket at or past the limit.
 #[derive(Clone, Copy, Debug, PartialEq, Eq)]
 pub enum SendRefusal {
     NoTopic,
