@@ -108,16 +108,19 @@ pub record OfOpen (order topics hold limit : ℕ) (memory : Memory) (code : ℕ)
   pub is_open : code ≡ 15 → All IsClosed before → ⊥
   pub known : (code ≡ 0) ⊎ ((8 ≤ code) × (code ≤ 15))
 
--- the last port of a queue closed, with this pass: all passes of the queue are these, what the queue's close says holds of them, and
--- their counts were written out
-pub record AllHaveEnded (x : PortStanding) (its : PassStanding PortBuffer) (before after : List Tally) : Type 0 where
+-- the last port of a queue closed, with this pass: all passes of the queue are these, what the
+-- queue's close says holds of them, and their counts were written out
+pub record AllHaveEnded (x : PortStanding) (its : PassStanding PortBuffer)
+    (before after : List Tally) : Type 0 where
   pub passes : List (PassStanding PortBuffer)
   pub left : List ℕ
   pub bytes : List (List ℕ)
   pub closed : HasClosed x.pass.queue its passes left bytes
-  pub counts : AreWritten (map (λ (p : PassStanding PortBuffer). counts_of (lists_of p)) passes) before after
+  pub counts : AreWritten (map (λ (p : PassStanding PortBuffer). counts_of (lists_of p)) passes)
+      before after
 
--- of a port's end: it retired, what it held was given back, and where 1 is written out the queue closed with it; else no count is written
+-- of a port's end: it retired, what it held was given back, and where 1 is written out the queue
+-- closed with it; else no count is written
 pub record OfEnd (x : PortStanding) (e : End) (before after : List Tally) : Type 0 where
   pub its : PassStanding PortBuffer
   pub ended : HasEnded (retired_port x) its

@@ -7,8 +7,10 @@ use Rattle.scq_c.specs.declared.tally.Tally.{Tally}
 abbrev pub tally_of : Counts → Tally
 tally_of c = record { sent = c.sent; taken = c.taken; full = c.full }
 
--- these counts stand at the front of an array, in their order, as many as fit; behind them it is as it was
+-- these counts stand at the front of an array, in their order, as many as fit; behind them it is as
+-- it was
 pub record AreWritten (counts : List Counts) (before after : List Tally) : Type 0 where
   pub whole : length after ≡ length before
-  pub written : (k : ℕ) (c : Counts) (t : Tally) → slice_get counts k ≡ Some c → slice_get after k ≡ Some t → t ≡ tally_of c
+  pub written : (k : ℕ) (c : Counts) (t : Tally) → slice_get counts k ≡ Some c
+      → slice_get after k ≡ Some t → t ≡ tally_of c
   pub rest : (k : ℕ) → slice_get counts k ≡ None → slice_get after k ≡ slice_get before k

@@ -297,7 +297,8 @@ pub extern "C" fn scq_spent(alloc: Global, handle: &mut Handle, ticket: &mut u64
     }
 }
 
-/// Closes a port, and tells whether the queue closed with it; where it did, with the counts of all ports.
+/// Closes a port, and tells whether the queue closed with it; where it did, with the counts of all
+/// ports.
 fn end_of(port: Port, out: &mut End, counts: &mut [Tally])
     ensures { OfEnd port out.new counts.old counts.new }
 {
@@ -312,8 +313,9 @@ fn end_of(port: Port, out: &mut End, counts: &mut [Tally])
     };
 }
 
-/// Closes a port: what it holds is given back, as `Port::close` says, and the last port of a queue frees it, which is told, with the counts of
-/// all ports in the order of their numbers, as many as fit.
+/// Closes a port: what it holds is given back, as `Port::close` says, and the last port of a queue
+/// frees it, which is told, with the counts of all ports in the order of their numbers, as many as
+/// fit.
 #[unsafe(no_mangle)]
 pub extern "C" fn scq_end(
     alloc: Global,
@@ -322,7 +324,8 @@ pub extern "C" fn scq_end(
     counts: &mut [Tally],
 ) -> u32
     ensures closed { handle.new.port ≡ None }
-    ensures was_closed { handle.old.port ≡ None → (result ≡ 4) × (out.new ≡ out.old) × (counts.new ≡ counts.old) }
+    ensures was_closed { handle.old.port ≡ None
+        → (result ≡ 4) × (out.new ≡ out.old) × (counts.new ≡ counts.old) }
     ensures was_open { (x : PortStanding) → handle.old.port ≡ Some x
         → (result ≡ 0) × OfEnd x out.new counts.old counts.new }
 {

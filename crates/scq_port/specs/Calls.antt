@@ -149,7 +149,7 @@ retired_pass p = retired_as p.retired p
 abbrev pub retired_port : PortStanding → PortStanding
 retired_port x = record x { pass = retired_pass x.pass }
 
--- the port asked whether all had retired, when so many had not: where it had seen each retired, none
+-- the port asked whether all had retired, when so many had not; none, where it had seen each retired
 pub record HasAsked (found : ℕ) (old new : PortStanding) : Type 0 where
   pub looked : new ≡ record old { pass = having_seen new.pass.seen (after_look found old.pass) }
   pub in_run : IsReadingInRun old.pass.queue.setup (opening_of bytes_of old.pass.queue.given) old.pass.retired

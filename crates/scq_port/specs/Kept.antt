@@ -18,7 +18,8 @@ pub record StandsAt (queue : PortQueue) (p : PassStanding PortBuffer) (i : ℕ) 
   pub index : h.index ≡ i
   pub holds : times i p.held ≡ 1
 
--- a pass of the queue, with all the values that it holds, each at its index; how many they are, and how many there may be
+-- a pass of the queue, with all the values that it holds, each at its index; how many they are, and
+-- how many there may be
 pub record Keeps (queue : PortQueue) (p : PassStanding PortBuffer) (slots : List (Option Value)) (count hold : ℕ) : Type 0 where
   pub own : p.queue ≡ queue
   pub places : length slots ≡ n_of queue.setup.order
@@ -31,7 +32,8 @@ pub record Keeps (queue : PortQueue) (p : PassStanding PortBuffer) (slots : List
 abbrev pub KeepsHand : PortQueue → PassStanding PortBuffer → Hand → Type 0
 KeepsHand queue p hand = Keeps queue p hand.slots.items hand.used hand.hold
 
--- a port's pass and values, how many topics its queue has, the number of its pass, and whether that hasn't retired
+-- a port's pass and values, how many topics its queue has, the number of its pass, and whether that
+-- hasn't retired
 pub record IsPort (queue : PortQueue) (p : PassStanding PortBuffer) (hand : Hand)
     (many number : ℕ) (awake : Bool) : Type 0 where
   pub keeps : KeepsHand queue p hand

@@ -84,8 +84,9 @@ impl Port {
 
     /// Sends the value of an index on a topic: answers its place.
     ///
-    /// NoTopic where there are not so many topics, Retired where the port has retired, NotHeld where it holds no value of this index. Spent as with `scq_queue`; then
-    /// the port still holds the value.
+    /// NoTopic where there are not so many topics, Retired where the port has retired, NotHeld where
+    /// it holds no value of this index. Spent as with `scq_queue`; then the port still holds the
+    /// value.
     #[inline(always)]
     pub fn send(&mut self, index: u32, topic: u32) -> Result<u64, SendRefusal>
         ensures sent { IfOk result (λ place. IsSent index topic place self.old self.new) }
@@ -150,8 +151,8 @@ impl Port {
         self.pass.spent()
     }
 
-    /// Closes the port, as dropping it does: retires it, gives back what it holds, and answers for contracts
-    /// alone what its pass was then. The last port of a queue that closes closes the queue, and is
+    /// Closes the port, as dropping it does: retires it, gives back what it holds, and answers for
+    /// contracts alone what its pass was then. The last port of a queue that closes closes the queue, and is
     /// told of all passes together.
     ///
     /// Where the pass keeps a spent ticket, or draws one, what can't be given back goes with it,

@@ -19,8 +19,8 @@ pub enum TakeRefusal {
     Spent { ticket: u64 },
 }
 
-/// Why nothing was sent: there is no such topic; the port has retired; it holds no value of this index; or it keeps a ticket at or past the
-/// limit.
+/// Why nothing was sent: there is no such topic; the port has retired; it holds no value of this
+/// index; or it keeps a ticket at or past the limit.
 #[derive(Clone, Copy, Debug, PartialEq, Eq)]
 pub enum SendRefusal {
     NoTopic,
