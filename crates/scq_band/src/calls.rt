@@ -42,7 +42,8 @@ fn let_go(hand: &mut Vec<u32>, numbers: &mut Vec<Numbers>, ring: u32, place: u64
     requires some { 0 < length hand.old.items }
     requires low { ring < length numbers.old.items }
     requires above { (known_of numbers.old.items ring).seen < place }
-    requires order { (known_of numbers.old.items ring).finished ≤ (known_of numbers.old.items ring).seen }
+    requires order { (known_of numbers.old.items ring).finished
+        ≤ (known_of numbers.old.items ring).seen }
     ensures hand { (others : List ℕ) (index : ℕ) → hand.old.items ≡ others ++ index ∷ [] → hand.new.items ≡ others }
     ensures room { vec_capacity hand.new ≡ vec_capacity hand.old }
     ensures numbers { numbers.new.items ≡ changed (finishes place) ring numbers.old.items }
