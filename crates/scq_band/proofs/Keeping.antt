@@ -19,7 +19,7 @@ use Rattle.scq_law.specs.Hands.{times}
 use Rattle.scq_band.specs.declared.numbers.Numbers.{Numbers}
 use Rattle.scq_band.specs.declared.slot.Slot.{Slot}
 use Rattle.scq_band.specs.declared.rule.Key.{Key}
-use Rattle.scq_band.specs.Numbers.{known_of, changed, finishes, sees, passes, drew, empties}
+use Rattle.scq_band.specs.Numbers.{known_of, changed, finishes, sees, passes, drew, empties, RisesInHead}
 use Rattle.scq_band.specs.Known.{Member, Known}
 use Rattle.scq_band.specs.Sights.{Sight, StandsAfter, Went, Looked, retired_ones, WasShownRun}
 use Rattle.scq_law.specs.Prefixes.{IsRecordAfter}
@@ -60,6 +60,19 @@ pub known_there : (ns : List Numbers) (r : ℕ) → r < length ns → slice_get 
 known_there [] r low = absurd (omega arith)
 known_there (n ∷ ns) zero low = refl
 known_there (n ∷ ns) (suc r) low = known_there ns r (omega arith)
+
+-- where a head has not risen, nothing has to be written
+pub set_same : (ns : List Numbers) (r : ℕ) (y : Numbers) → y ≡ known_of ns r → r < length ns → ns ≡ slice_set ns r y
+set_same [] r y is low = absurd (omega arith)
+set_same (n ∷ ns) zero y is low = ap (λ (x : Numbers). x ∷ ns) (sym is)
+set_same (n ∷ ns) (suc r) y is low = ap (λ (l : List Numbers). n ∷ l) (set_same ns r y is (omega arith))
+
+pub same_head : (x y : Numbers) → RisesInHead x y → y.head ≤ x.head → y ≡ x
+same_head x y rises low =
+    let made : ℕ → ℕ → ℕ → Numbers = λ f s h. record { finished = f; seen = s; head = h } in
+    let up = rises.head in
+    let head : y.head ≡ x.head = omega (arith, up, low) in
+    ap (λ f. made f y.seen y.head) rises.finished ∙ ap (λ s. made x.finished s y.head) rises.seen ∙ ap (λ h. made x.finished x.seen h) head
 
 -- two changes of one ring are one change
 pub changed_twice : (f g : Numbers → Numbers) (r : ℕ) (ns : List Numbers) → r < length ns → changed f r (changed g r ns) ≡ changed (λ x. f (g x)) r ns
@@ -376,6 +389,15 @@ found_none r (Some t) v u low first later =
 none_small : (drawn : Option ℕ) (x : Numbers) → IsSmall x → IsSmall (empties (drew drawn x))
 none_small None x small = small
 none_small (Some t) x small = small
+
+pub none_rises : (drawn : Option ℕ) (x : Numbers) → RisesInHead x (empties (drew drawn x))
+none_rises None x = record { finished = refl; seen = refl; head = max_above x.head (x.finished + 1) }
+none_rises (Some t) x =
+    record {
+      finished = refl;
+      seen = refl;
+      head = let a = max_above x.head (t + 1) in let b = max_above (max x.head (t + 1)) (x.finished + 1) in omega (arith, a, b);
+    }
 
 pub if_drawn : (P : ℕ → Type 0) (drawn : Option ℕ) → ((t : ℕ) → drawn ≡ Some t → P t) → IfSome drawn P
 if_drawn P None holds = tt

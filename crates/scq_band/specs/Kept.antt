@@ -61,7 +61,8 @@ module _ {B : Type 0} where
   AllGiven IsSame given [] = Unit {0}
   AllGiven IsSame given (x ∷ xs) = ((b : B) → x.1.buffer ≡ Some b → IsAsGiven IsSame given x.0 b) × AllGiven IsSame given xs
 
--- which numbers a seat can count on from: a known finished place is below the largest limit, and none above the seen one
+-- which numbers a seat can count on from: a known finished place is below the largest limit, and
+-- not above the seen one
 abbrev pub IsSmall : Numbers → Type 0
 IsSmall x = (x.finished < 2 ^ 60) × (x.finished ≤ x.seen)
 

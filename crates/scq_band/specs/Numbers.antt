@@ -53,6 +53,12 @@ drew (Some ticket) x = passes (ticket + 1) x
 abbrev pub empties : Numbers → Numbers
 empties x = passes (x.finished + 1) x
 
+-- the one number that may have risen is the head
+pub record RisesInHead (x y : Numbers) : Type 0 where
+  pub finished : y.finished ≡ x.finished
+  pub seen : y.seen ≡ x.seen
+  pub head : x.head ≤ y.head
+
 -- the larger of each
 abbrev pub larger : Numbers → Numbers → Numbers
 larger x y = record { finished = max x.finished y.finished; seen = max x.seen y.seen; head = max x.head y.head }

@@ -6,10 +6,10 @@
 //! bound is astronomical. The linearization points are those of `scq_law`'s `specs/Points`: of an
 //! enqueue mostly the step that drew its place, of a dequeue the one that drew its own or the
 //! enqueue's point, whichever is later, and of an Empty the step that decided it.
-ghost use Rattle.std.specs.Prelude.{◌≡◌, ℕ, ◌<◌, ◌≤◌, List, [], ◌∷◌, ◌++◌, Some, None, Err, IfOk, IfErr, length, vec_capacity};
+ghost use Rattle.std.specs.Prelude.{◌≡◌, ℕ, ◌<◌, ◌≤◌, List, [], ◌∷◌, ◌++◌, Some, None, Err, IfOk, IfErr, length, vec_capacity, slice_set};
 ghost use Rattle.scq_word.specs.Sizes.{n_of};
 ghost use Rattle.scq_band.specs.Buffers.{opening_of};
-ghost use Rattle.scq_band.specs.Numbers.{known_of, changed, finishes};
+ghost use Rattle.scq_band.specs.Numbers.{known_of, changed, finishes, RisesInHead};
 ghost use Rattle.scq_band.specs.RunSeen.{IsCallInRun, WasEmptyInRun};
 ghost use Rattle.scq_band.specs.Standing.{caller_of, in_hand, bytes_in_hand, having_seen, after_put, after_spent_put, after_spent_get, IsAsGiven, HasTaken, FoundEmpty};
 
@@ -42,7 +42,8 @@ fn let_go(hand: &mut Vec<u32>, numbers: &mut Vec<Numbers>, ring: u32, place: u64
     requires some { 0 < length hand.old.items }
     requires low { ring < length numbers.old.items }
     requires above { (known_of numbers.old.items ring).seen < place }
-    requires order { (known_of numbers.old.items ring).finished ≤ (known_of numbers.old.items ring).seen }
+    requires order { (known_of numbers.old.items ring).finished
+        ≤ (known_of numbers.old.items ring).seen }
     ensures hand { (others : List ℕ) (index : ℕ) → hand.old.items ≡ others ++ index ∷ [] → hand.new.items ≡ others }
     ensures room { vec_capacity hand.new ≡ vec_capacity hand.old }
     ensures numbers { numbers.new.items ≡ changed (finishes place) ring numbers.old.items }
@@ -50,6 +51,20 @@ fn let_go(hand: &mut Vec<u32>, numbers: &mut Vec<Numbers>, ring: u32, place: u64
     let _index = hand.take_last();
     let known = numbers[ring as usize];
     numbers[ring as usize] = known.finishes(place);
+}
+
+// Notes a head that rose. Where it didn't, nothing is written: so a call on a ring that stays empty
+// doesn't wait for what the last one wrote.
+#[inline(always)]
+fn note_head(numbers: &mut Vec<Numbers>, ring: u32, known: Numbers, later: Numbers)
+    requires low { ring < length numbers.old.items }
+    requires known { known ≡ known_of numbers.old.items ring }
+    requires rises { RisesInHead known later }
+    ensures { numbers.new.items ≡ slice_set numbers.old.items ring later }
+{
+    if later.head > known.head {
+        numbers[ring as usize] = later;
+    }
 }
 
 impl<B: Buffer> Band<B> {
@@ -166,7 +181,7 @@ impl<B: Buffer> Band<B> {
             Err(end) => match end {
                 Without::Nothing(drawn) => {
                     let later = known.finds_none(drawn);
-                    seat.numbers[ring as usize] = later;
+                    note_head(&mut seat.numbers, ring, known, later);
                     Err(DeqRefusal::Empty { head: later.head })
                 }
                 Without::Spent(ticket) => {

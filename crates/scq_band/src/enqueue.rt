@@ -19,8 +19,8 @@ use crate::rule::{Token, Words};
 use crate::steps::{draw, exchange, load, reset};
 use scq_word::{Buffer, cycle_of, unpack};
 
-/// E2, and E3 where the entry is unsafe: loads the entry of the ticket's slot, and answers it where an index may be placed there. `new` is
-/// what it is to become.
+/// E2, and E3 where the entry is unsafe: loads the entry of the ticket's slot, and answers it where
+/// an index may be placed there. `new` is what it is to become.
 #[inline(always)]
 fn load_vacant<B: Buffer>(
     words: &Words<B>,

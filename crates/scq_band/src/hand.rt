@@ -29,12 +29,14 @@ fn turn_to_front<B: Buffer>(token: &mut Token<B>, hand: &mut Vec<u32>, index: u3
     }
 }
 
-/// Turns the row of the slots, and with it the hand, so that the slot of the index stands first. Mostly it does.
+/// Turns the row of the slots, and with it the hand, so that the slot of the index stands first.
+/// Mostly it does.
 #[inline(always)]
 pub fn bring_to_front<B: Buffer>(token: &mut Token<B>, hand: &mut Vec<u32>, index: u32)
     requires order { hand.old.items ≡ in_order token.old.me.1 }
     requires held { 0 < times index hand.old.items }
-    ensures own { (token.new.table_id ≡ token.old.table_id) × (token.new.id ≡ token.old.id) × (token.new.me.0 ≡ token.old.me.0) }
+    ensures own { (token.new.table_id ≡ token.old.table_id) × (token.new.id ≡ token.old.id)
+        × (token.new.me.0 ≡ token.old.me.0) }
     ensures turned { IsRotation token.old.me.1 token.new.me.1 }
     ensures order { hand.new.items ≡ in_order token.new.me.1 }
     ensures first { front_index token.new.me.1 ≡ index }

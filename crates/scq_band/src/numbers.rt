@@ -48,7 +48,8 @@ impl Numbers {
         }
     }
 
-    /// The seat has dequeued an index from a place, which is its ticket, and not below the head number.
+    /// The seat has dequeued an index from a place, which is its ticket, and not below the head
+    /// number.
     #[inline(always)]
     pub(crate) fn gets(self, place: u64) -> Numbers
         requires above { self.head ≤ place }

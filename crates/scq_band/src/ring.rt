@@ -11,8 +11,8 @@ use crate::layout::{entry_word, head_word, tail_word, threshold_word};
 use scq_core::reset_level;
 use scq_word::{Setup, Shape, slot_of};
 
-/// `tail` is the word of its Tail, which tells where its other words are. `level` is what Threshold is reset to. `mark` says "no index" in
-/// an entry, and has all bits of an index.
+/// `tail` is the word of its Tail, which tells where its other words are. `level` is what Threshold
+/// is reset to. `mark` says "no index" in an entry, and has all bits of an index.
 #[derive(Clone, Copy)]
 pub struct Ring {
     pub number: u32,
@@ -68,17 +68,21 @@ impl Ring {
     #[inline(always)]
     pub fn filled(&self, ticket: u64, index: u32) -> u64
         requires small { ticket < 2 ^ 60 }
-        ensures { (c : Setup) → IsRing c self.now → result ≡ packed (ring_slots c) (cycle c ticket) 1 index }
+        ensures { (c : Setup) → IsRing c self.now
+            → result ≡ packed (ring_slots c) (cycle c ticket) 1 index }
     {
         let mark = u64::from(self.mark);
         2 * (ticket - (ticket & mark)) + (mark + 1) + u64::from(index)
     }
 
-    /// Whether an entry is of a ticket's cycle: the bits above those of a slot and of an index with the safe bit are the same.
+    /// Whether an entry is of a ticket's cycle: the bits above those of a slot, and above those of
+    /// an index with the safe bit, are the same.
     #[inline(always)]
     pub fn is_of_cycle(&self, entry: u64, ticket: u64) -> bool
-        ensures own { IsTrue result → (c : Setup) → IsRing c self.now → cycle_in (ring_slots c) entry ≡ cycle c ticket }
-        ensures other { IsFalse result → (c : Setup) → IsRing c self.now → cycle_in (ring_slots c) entry ≢ cycle c ticket }
+        ensures own { IsTrue result → (c : Setup) → IsRing c self.now
+            → cycle_in (ring_slots c) entry ≡ cycle c ticket }
+        ensures other { IsFalse result → (c : Setup) → IsRing c self.now
+            → cycle_in (ring_slots c) entry ≢ cycle c ticket }
     {
         (entry / 2) ^ ticket <= u64::from(self.mark)
     }
@@ -91,11 +95,12 @@ impl Ring {
         (entry & u64::from(self.mark)) as u32
     }
 
-    /// Whether an entry is vacant to a ticket of which `new` is to be the entry, as far as can be told by two comparisons: it is of an
-    /// earlier cycle, safe, and has no index.
+    /// Whether an entry is vacant to a ticket of which `new` is to be the entry, as far as can be
+    /// told by two comparisons: it is of an earlier cycle, safe, and has no index.
     #[inline(always)]
     pub fn is_plainly_vacant(&self, entry: u64, new: u64) -> bool
-        ensures { IsTrue result → (c : Setup) → IsRing c self.now → (ticket : ℕ) → IsFilled c ticket new → IsPlainlyVacant c ticket entry }
+        ensures { IsTrue result → (c : Setup) → IsRing c self.now → (ticket : ℕ)
+            → IsFilled c ticket new → IsPlainlyVacant c ticket entry }
     {
         let safe_and_mark = 2 * u64::from(self.mark) + 1;
         entry < new && entry & safe_and_mark == safe_and_mark

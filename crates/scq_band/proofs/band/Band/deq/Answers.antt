@@ -5,13 +5,13 @@ use Rattle.scq_word.specs.Sizes.{n_of}
 use Rattle.scq_band.specs.declared.numbers.Numbers.{Numbers}
 use Rattle.scq_band.specs.declared.dequeue.Without.TheVariants as without
 use Rattle.scq_band.specs.Buffers.{LiesIn}
-use Rattle.scq_band.specs.Numbers.{known_of, changed, sees, passes, drew, empties}
+use Rattle.scq_band.specs.Numbers.{known_of, changed, sees, passes, drew, empties, RisesInHead}
 use Rattle.scq_band.specs.Known.{Known}
 use Rattle.scq_band.specs.Seats.{HasGotAfter, nothing_at, drew_head}
 use Rattle.scq_band.specs.Sights.{known_me}
 use Rattle.scq_band.specs.Steps.{my}
 use Rattle.scq_band.specs.Standing.{Identity, Standing}
-use Rattle.scq_band.proofs.Keeping.{call_seen, empty_seen, kept_got, got_standing, found_none, if_drawn, kept_none, none_standing, known_read, known_there, known_here}
+use Rattle.scq_band.proofs.Keeping.{none_rises, call_seen, empty_seen, kept_got, got_standing, found_none, if_drawn, kept_none, none_standing, known_read, known_there, known_here}
 use Rattle.scq_band.proofs.band.Band.deq.Goals as goal
 
 pub invariant_of-seat : goal.invariant_of-seat
@@ -113,6 +113,21 @@ finds_none-later-requires-clause-drawn g c =
     let below = (c.dequeue-found.ensures.nothing_left t (c.in-Err.is ∙ ap (λ w. Err w) (c.in-Nothing.is ∙ ap without.Nothing is))).1 in
     omega (arith, limit))
 
+pub note_head-requires-clause-known : goal.note_head-requires-clause-known
+note_head-requires-clause-known g c =
+    let numbers = c.seat.inside.numbers.items in
+    let low : c.args.ring < length numbers =
+    let rings = c.seat.invariant.rings in
+    let same = ap (λ (i : Identity g.row.B.Denot). i.setup.rings) (ap (λ (s : Standing g.row.B.Denot). s.band) c.seat.view_is ∙ c.requires.seat) in
+    let ring = c.requires.ring in
+    omega (arith, rings, same, ring) in
+    known_read numbers c.args.ring c.index-known.result.now low c.index-known.ensures
+
+pub note_head-requires-clause-rises : goal.note_head-requires-clause-rises
+note_head-requires-clause-rises g c =
+    let known = c.index-known.result.now in
+    subst (λ (y : Numbers). RisesInHead known y) (sym c.finds_none-later.ensures) (none_rises c.in-Nothing.drawn known)
+
 pub invariant_of-seat-in-Nothing : goal.invariant_of-seat-in-Nothing
 invariant_of-seat-in-Nothing g c =
     let Same = g.B.Buffer.IsSameBuffer in
@@ -134,7 +149,7 @@ invariant_of-seat-in-Nothing g c =
     (λ t is. (c.dequeue-found.ensures.nothing_left t (found t is)).0 ∙ ap (λ n. nothing_at n (drew_head n t me.0)) c.ring.ensures.number) in
     let known = known_read numbers r c.index-known.result.now low c.index-known.ensures in
     let drawn = c.in-Nothing.drawn in
-    let new = ap (λ (x : Numbers). slice_set numbers r x) (c.finds_none-later.ensures ∙ ap (λ x. empties (drew drawn x)) known) in
+    let new = c.note_head.ensures ∙ ap (λ (x : Numbers). slice_set numbers r x) (c.finds_none-later.ensures ∙ ap (λ x. empties (drew drawn x)) known) in
     kept_none Same key me (known_me c.dequeue-found.new.token.me) c.seat.inside.hand.items _ numbers _ _ r drawn c.seat.invariant seen c.in-Err.ensures.kept new
 
 pub returns-in-Nothing-clause-empty : goal.returns-in-Nothing-clause-empty
