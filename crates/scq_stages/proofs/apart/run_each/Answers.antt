@@ -43,5 +43,5 @@ returns-clause-behind g c k d less awake =
     let S = g.row.S.Denot in
     let at = (c.for_each_mut.ensures k d (omega (arith, less, c.for_each_mut.auto.s))).1 in
     let P : Desk (Seated Frame) S → Type 0 = λ e. e.worker.worker.pass.spent ≡ None
-        → HasLeftSwept bytes_of IsGivenBack 2 64 e.worker.worker.pass in
+    → HasLeftSwept bytes_of IsGivenBack 2 64 e.worker.worker.pass in
     subst P at.left at.call.3 awake

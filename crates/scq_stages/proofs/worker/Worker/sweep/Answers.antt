@@ -1,5 +1,5 @@
-use Rattle.std.proofs.Common.{rules, ◌≡◌, ◌<◌, ◌++◌, ap, sym, subst, arith, inl, inr, ℕ, zero, suc, true, Ok, Err, Result}
-use Rattle.std.specs.Prelude.{IfErr}
+use Rattle.std.proofs.Common.{rules, ◌≡◌, ◌<◌, ◌++◌, ap, sym, subst, arith, refl, inl, inr, ℕ, zero, suc, Bool, true, false, Ok, Err, Result}
+use Rattle.std.specs.Prelude.{IfErr, ◌||◌}
 use Rattle.std.proofs.lemmas.Bool.{cases_Bool}
 use Rattle.scq_queue.specs.Passes.{PassStanding, known_on}
 use Rattle.scq_passes.specs.Leaving.{FoundTopicEmpty}
@@ -17,6 +17,11 @@ use Rattle.scq_stages.proofs.Moving.{gives, moved-of}
 use Rattle.scq_stages.proofs.FewCalls.{few_calls-moved}
 use Rattle.scq_stages.proofs.worker.Worker.sweep.Goals as goal
 use Rattle.scq_stages.proofs.worker.Worker.sweep.Goals.{In_ok-from_second}
+
+-- where either is true, and the first is not, the second is
+or-ok : {E : Type 0} (a b : Bool) (r : Result Bool E) → r ≡ Ok (a || b) → r ≡ Ok true → a ≡ false → b ≡ true
+or-ok true b r made is idle = absurd (cc)
+or-ok false b r made is idle = cc
 
 -- of the two topics
 two : (P : ℕ → Type 0) → P first → P second → (t : ℕ) → t < 2 → P t
@@ -92,7 +97,7 @@ returns-clause-more g c is =
     elim (cases_Bool c.in_ok-from_first.from_first) [
       | inl full ↦ let more = c.in_ok-from_first.ensures.more (ap Ok full) in omega (arith, more, two_)
       | inr idle ↦
-          let full : c.in_ok-from_second.from_second ≡ true = cc in
+          let full = or-ok c.in_ok-from_first.from_first c.in_ok-from_second.from_second _ refl is idle in
           let more = c.in_ok-from_second.ensures.more (ap Ok full) in
           omega (arith, one, more)
     ]

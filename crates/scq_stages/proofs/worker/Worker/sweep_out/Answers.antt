@@ -172,9 +172,9 @@ returns-clause-swept g c =
         | inr (going, full) ↦ inr (elim c.if-some.branch [
           | then-some w ↦ let none : c.if-some.idle ≡ 0 = w.idle-is in absurd (omega (arith, none, full))
           | else-some w ↦ (
-              sym w.idle-is ∙ full,
-              took-nothing said.0 at c.closed-over.new.pass now said.1 (c.in_ok-some.ensures.nothing (ap Ok w.if-some.false)),
-            )
+            sym w.idle-is ∙ full,
+            took-nothing said.0 at c.closed-over.new.pass now said.1 (c.in_ok-some.ensures.nothing (ap Ok w.if-some.false)),
+          )
         ])
       ];
     }
