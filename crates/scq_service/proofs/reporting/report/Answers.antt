@@ -15,6 +15,21 @@ returns-in-BadLineOf-clause-part g c =
     let W : Fault → Type 0 = λ fault. WrotePart (g.K.Sink.written c.args.sink.now) (g.K.Sink.written c.write_of_place.new.sink) (fault_line fault) in
     subst W (sym c.in-BadLineOf.is) c.write_of_place.ensures.part
 
+pub returns-in-SharedOf-clause-whole : goal.returns-in-SharedOf-clause-whole
+returns-in-SharedOf-clause-whole g c =
+    let W : Fault → Type 0 = λ fault. OnOk c.write_of_shared.result (g.K.Sink.written c.write_of_shared.new.sink ≡ written_with (g.K.Sink.written c.args.sink.now) (fault_line fault)) in
+    subst W (sym c.in-SharedOf.is) c.write_of_shared.ensures.whole
+
+pub returns-in-SharedOf-clause-part : goal.returns-in-SharedOf-clause-part
+returns-in-SharedOf-clause-part g c =
+    let W : Fault → Type 0 = λ fault. WrotePart (g.K.Sink.written c.args.sink.now) (g.K.Sink.written c.write_of_shared.new.sink) (fault_line fault) in
+    subst W (sym c.in-SharedOf.is) c.write_of_shared.ensures.part
+
+pub returns-in-UnlawfulOf-clause-whole : goal.returns-in-UnlawfulOf-clause-whole
+returns-in-UnlawfulOf-clause-whole g c =
+    let W : Fault → Type 0 = λ fault. OnOk c.write_of_place-in-UnlawfulOf.result (g.K.Sink.written c.write_of_place-in-UnlawfulOf.new.sink ≡ written_with (g.K.Sink.written c.args.sink.now) (fault_line fault)) in
+    subst W (sym c.in-UnlawfulOf.is) c.write_of_place-in-UnlawfulOf.ensures.whole
+
 pub returns-in-UnlawfulOf-clause-part : goal.returns-in-UnlawfulOf-clause-part
 returns-in-UnlawfulOf-clause-part g c =
     let W : Fault → Type 0 = λ fault. WrotePart (g.K.Sink.written c.args.sink.now) (g.K.Sink.written c.write_of_place-in-UnlawfulOf.new.sink) (fault_line fault) in
