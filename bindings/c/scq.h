@@ -25,8 +25,8 @@
  * 6. After fork the child makes no call with the parent's ports, and doesn't touch their buffers.
  *
  * Everything else is tested by the calls, and answered. Of each call there stands below what is tested and what is answered; where several
- * answers would be right, one of them comes. Where it isn't SCQ_OK no buffer has changed hands (with SCQ_DAMAGED the port keeps the one that
- * came), and nothing is written through the pointers but what is said there.
+ * answers would be right, one of them comes. Where it isn't SCQ_OK no buffer has changed hands, and nothing is written through the pointers but
+ * what is said there.
  */
 #ifndef SCQ_H
 #define SCQ_H
