@@ -6,9 +6,7 @@ ghost use Rattle.scq_port.specs.Ports.{PortStanding};
 ghost use Rattle.scq_port.specs.Calls.{retired_port};
 ghost use Rattle.scq_c.specs.Answers.{OfLend, OfTake, OfSend, OfGiveBack, OfOpen, OfEnd, OfRetired, shown_at};
 
-use crate::answers::{
-    CLOSED, EMPTY, FULL, NO_ROOM, NO_TOPIC, NOT_HELD, OK, RETIRED, SPENT,
-};
+use crate::answers::{CLOSED, EMPTY, FULL, NO_ROOM, NO_TOPIC, NOT_HELD, OK, RETIRED, SPENT};
 use crate::c_port::{CPort, Memory};
 use crate::handle::{Handle, put, taken};
 use crate::opening::open;

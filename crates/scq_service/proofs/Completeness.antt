@@ -96,15 +96,15 @@ fits-or-large left [] sources read one some visible more large fits = cc
 fits-or-large left (g ∷ gs) [] read one some visible more large fits = cc
 fits-or-large left (g ∷ gs) (x ∷ xs) read one some visible more large fits =
     at (left g) (visible 0 g (omega arith)) (large 0 g (omega arith)) (fits 0 g (omega arith)) where
-  past : (o : Option (List ℕ)) (count : ℕ) → Some count ≡ option_map (λ rest. read + length rest) o → count ≤ most_text → ⊥
-  past None count is low = cc
-  past (Some rest) count is low = let same : count ≡ read + length rest = cc in omega (arith, same, more, low)
+      past : (o : Option (List ℕ)) (count : ℕ) → Some count ≡ option_map (λ rest. read + length rest) o → count ≤ most_text → ⊥
+      past None count is low = cc
+      past (Some rest) count is low = let same : count ≡ read + length rest = cc in omega (arith, same, more, low)
 
-  at : (o : Option (List ℕ)) → IsSome o
-      → IfSome o (λ content. All (λ source. Some (length content) ≡ option_map (λ rest. read + length rest) (left source)) (x ∷ xs))
-      → IfSome o (λ content. length content ≤ most_text) → ⊥
-  at None there large fits = there
-  at (Some content) there large fits = past (left x) (length content) (large 0 x (omega arith)) fits
+      at : (o : Option (List ℕ)) → IsSome o
+          → IfSome o (λ content. All (λ source. Some (length content) ≡ option_map (λ rest. read + length rest) (left source)) (x ∷ xs))
+          → IfSome o (λ content. length content ≤ most_text) → ⊥
+      at None there large fits = there
+      at (Some content) there large fits = past (left x) (length content) (large 0 x (omega arith)) fits
 
 -- a run over one whole file, in whose way nothing stood, ends by its text or for want of memory
 pub complete-text : {S : Type 0} (command : TextCommand) (faults end_count : S → ℕ) (left : S → Option (List ℕ)) (name : List ℕ) (got : List S) (r : Inputs S)
