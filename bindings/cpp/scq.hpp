@@ -51,7 +51,8 @@ enum class Answer : std::uint32_t {
     BadLimit = SCQ_BAD_LIMIT,
     BadSize = SCQ_BAD_SIZE,
     BadHold = SCQ_BAD_HOLD,
-    IsOpen = SCQ_IS_OPEN
+    IsOpen = SCQ_IS_OPEN,
+    BadVersion = SCQ_BAD_VERSION
 };
 
 // The text of an answer.

@@ -80,3 +80,4 @@ pub const BAD_LIMIT: u32 = 12;
 pub const BAD_SIZE: u32 = 13;
 pub const BAD_HOLD: u32 = 14;
 pub const IS_OPEN: u32 = 15;
+pub const BAD_VERSION: u32 = 31;
