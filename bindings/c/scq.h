@@ -183,7 +183,7 @@ SCQ_ANSWERED uint32_t scq_open_over(uint32_t order, uint32_t topics, uint32_t ho
 /* The same, over memory that it takes: the buffers have `size` zero bytes, each at a multiple of SCQ_CACHE_LINE. None of them is touched before
  * it is used. scq_close frees them with the last port, by whichever thread that is closed.
  *
- * Answers besides: SCQ_NO_MEMORY where the buffers are more than a size_t counts. */
+ * Answers: as scq_open_over; SCQ_NO_MEMORY also where the buffers are more than a size_t counts. */
 static inline SCQ_ANSWERED uint32_t scq_open(uint32_t order, uint32_t topics, uint32_t size, uint32_t hold, uint64_t limit, scq_port *ports,
     size_t n) {
     const size_t line = SCQ_CACHE_LINE;
