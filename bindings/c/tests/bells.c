@@ -121,8 +121,11 @@ static void *hands_on(void *handed_over) {
                                              : scq_bell_take(&bell, &ports[own], own, SCQ_FOREVER, &held);
         if (answer == SCQ_ENDED) return NULL;
         CHECK(answer == SCQ_OK);
-        if (__atomic_add_fetch(&handed, 1, __ATOMIC_RELAXED) == hands)
+        if (__atomic_add_fetch(&handed, 1, __ATOMIC_RELAXED) >= hands) {
             scq_bell_finish(&bell, SCQ_ALL_LINES);
+            CHECK(scq_bell_give_back(&bell, &ports[own], held.index) == SCQ_OK);
+            return NULL;
+        }
         CHECK(scq_bell_send(&bell, &ports[own], held.index, (own + 1) % threads, &place) == SCQ_OK);
     }
 }

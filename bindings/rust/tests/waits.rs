@@ -254,3 +254,27 @@ fn tasks_wait() {
     });
     assert_eq!(sums, (0..MESSAGES).map(|number| number as u8 as u64).sum());
 }
+
+/// One that waits for two topics is rung for the second and takes from the first: what is on the second
+/// is left to the next sleeper.
+#[test]
+fn what_is_left_is_passed_on() {
+    let bell = Bell::new();
+    let mut ports = ports(Setup { topics: 2, ..Setup::default() }, 3);
+    let (third, second, first) = (ports.remove(0), ports.remove(0), ports.remove(0));
+    thread::scope(|scope| {
+        let bell = &bell;
+        let waits_for_both =
+            scope.spawn(move || bell.take_any(&third, &[0, 1]).map(|(topic, _)| topic));
+        thread::sleep(soon());
+        let long = Duration::from_secs(10);
+        let waits_for_one = scope.spawn(move || bell.take_for(&second, 1, long).map(drop));
+        thread::sleep(soon());
+        for topic in [0, 1] {
+            first.lend().unwrap().send(topic).unwrap();
+        }
+        bell.ring(1);
+        assert_eq!(waits_for_both.join().unwrap(), Ok(0));
+        assert_eq!(waits_for_one.join().unwrap(), Ok(()));
+    });
+}
