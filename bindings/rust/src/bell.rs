@@ -426,12 +426,18 @@ impl Listener<'_> {
     }
 
     /// Says who is to be woken. Answers whether it was rung already.
-    fn is_rung(&mut self, waker: &Waker) -> bool {
+    fn is_rung(&mut self, waker: Waker) -> bool {
         let mut sleepers = self.bell.lock();
-        match sleepers.list.iter_mut().find(|sleeper| sleeper.number == self.number) {
-            Some(sleeper) => sleeper.waker = Some(waker.clone()),
-            None => self.is_on_list = false,
-        }
+        // (A waker is dropped outside of the lock, as it may be the last of its task.)
+        let last = match sleepers.list.iter_mut().find(|sleeper| sleeper.number == self.number) {
+            Some(sleeper) => sleeper.waker.replace(waker),
+            None => {
+                self.is_on_list = false;
+                Some(waker)
+            }
+        };
+        drop(sleepers);
+        drop(last);
         !self.is_on_list
     }
 
@@ -439,7 +445,7 @@ impl Listener<'_> {
     fn sleep(mut self, until: Option<Instant>) -> bool {
         let signal =
             Arc::new(Signal { thread: thread::current(), is_rung: AtomicBool::new(false) });
-        if self.is_rung(&signal.clone().into()) {
+        if self.is_rung(signal.clone().into()) {
             return true;
         }
         while !signal.is_rung.load(SeqCst) {
@@ -458,7 +464,7 @@ impl Future for Listener<'_> {
     type Output = ();
 
     fn poll(mut self: Pin<&mut Self>, context: &mut Context<'_>) -> Poll<()> {
-        if !self.is_on_list || self.is_rung(context.waker()) {
+        if !self.is_on_list || self.is_rung(context.waker().clone()) {
             // Of several topics he may leave one out that was rung.
             let lines = if self.lines.count_ones() > 1 { self.lines } else { 0 };
             each(lines).for_each(|line| self.bell.ring_line(line));

@@ -9,7 +9,7 @@ use std::thread;
 use std::time::{Duration, Instant};
 
 /// How many messages are handed over.
-const MESSAGES: usize = if cfg!(miri) { 100 } else { 20_000 };
+const MESSAGES: usize = 20_000;
 
 fn ports(setup: Setup, count: usize) -> Vec<Port> {
     Queue::new(setup, count).unwrap().into_ports()
