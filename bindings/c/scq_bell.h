@@ -356,6 +356,18 @@ static inline void scq_bell_finish(scq_bell *bell, uint32_t lines) {
     scq_bell_wake(bell, lines, INT_MAX);
 }
 
+/* As scq.h declares them, where its library has them. */
+uint32_t scq_retire(scq_port *port);
+uint32_t scq_retired(scq_port *port);
+
+/* Retires a port as scq_retire, with its tests and answers; where all ports of the queue have retired
+ * then, all topics end, as by scq_bell_finish. A port that only takes retires before it waits. */
+static inline uint32_t scq_bell_retire(scq_bell *bell, scq_port *port) {
+    const uint32_t answer = scq_retire(port);
+    if (answer == SCQ_OK && scq_retired(port) != SCQ_OK) scq_bell_finish(bell, SCQ_LINE(SCQ_FREE) - 1);
+    return answer;
+}
+
 /* -- Watches -------------------------------------------------------------------------------------- */
 
 /* Adds a watch to a bell, which stays where it is as long as the bell is used. `ring` and `with` are set

@@ -139,6 +139,13 @@ public:
     // buffer is to give up. Who waits is woken, and takes what is left before his wait ends.
     void finish(std::uint32_t lines) noexcept { scq_bell_finish(&bell_, lines); }
 
+    // Retires a port, where the library has that; and ends all topics where all ports have retired.
+    template <class Retiring> Answer retire(Retiring &port) noexcept {
+        const Answer answer = port.retire();
+        if (answer == Answer::Ok && port.retired() != Answer::Ok) finish(line(SCQ_FREE) - 1);
+        return answer;
+    }
+
     // Rings for a topic or for SCQ_FREE, behind what was sent or given back without the bell.
     void ring(std::uint32_t topic) noexcept { scq_bell_ring(&bell_, topic); }
 

@@ -7,7 +7,8 @@
  * two of them.
  *
  * Compiled with -DPAUSES it pauses at random before each atomic step of the bell, before each call of
- * the queue and before each call of the system, so that these meet in every order. */
+ * the queue and before each call of the system, so that these meet in every order. With -DRETIRES the
+ * senders' topics end as all ports retire, and not by a counter. */
 #include "scq.h"
 
 #ifdef PAUSES
@@ -176,9 +177,13 @@ static void *sends(void *handed_over) {
         const uint32_t topic = (uint32_t)(next(&state) % topics);
         CHECK(scq_bell_send(&bell, port, held.index, topic, &place) == SCQ_OK);
     }
+#ifdef RETIRES
+    CHECK(scq_bell_retire(&bell, port) == SCQ_OK && scq_bell_close(&bell, port) == SCQ_OK);
+#else
     CHECK(scq_bell_close(&bell, port) == SCQ_OK);
     if (__atomic_sub_fetch(&senders_left, 1, __ATOMIC_SEQ_CST) == 0)
         scq_bell_finish(&bell, SCQ_LINE(topics) - 1);
+#endif
     return NULL;
 }
 
@@ -187,6 +192,9 @@ static void *takes(void *handed_over) {
     scq_port *port = &ports[own];
     uint64_t state = seed * 1000 + own + 1, number;
     scq_held held = {NULL, 0, 0, 0};
+#ifdef RETIRES
+    CHECK(scq_bell_retire(&bell, port) == SCQ_OK);
+#endif
     for (;;) {
         uint32_t answer, topic = own % topics;
         const uint32_t lines = SCQ_LINE(topics) - 1;
