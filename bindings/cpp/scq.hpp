@@ -52,7 +52,8 @@ enum class Answer : std::uint32_t {
     BadSize = SCQ_BAD_SIZE,
     BadHold = SCQ_BAD_HOLD,
     IsOpen = SCQ_IS_OPEN,
-    Retired = SCQ_RETIRED
+    Retired = SCQ_RETIRED,
+    BadVersion = SCQ_BAD_VERSION
 };
 
 // The text of an answer.

@@ -83,3 +83,4 @@ pub const BAD_SIZE: u32 = 13;
 pub const BAD_HOLD: u32 = 14;
 pub const IS_OPEN: u32 = 15;
 pub const RETIRED: u32 = 16;
+pub const BAD_VERSION: u32 = 31;
