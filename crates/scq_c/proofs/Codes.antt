@@ -1,7 +1,7 @@
 -- What each call answers, one lemma for each of its numbers.
-use Rattle.std.proofs.Common.{ℕ, suc, refl, inl, inr, arith}
+use Rattle.std.proofs.Common.{◌≡◌, None, ℕ, suc, refl, inl, inr, arith}
 use Rattle.scq_port.specs.Ports.{PortStanding}
-use Rattle.scq_port.specs.Calls.{IsLent, IsTaken, IsSent, IsGivenBack, WasFull, WasEmpty, IsSpentGet, IsSpentPut, HasNoRoom, HasNoTopic, HoldsNoSuch, HasRetired}
+use Rattle.scq_port.specs.Calls.{IsLent, IsTaken, IsSent, IsGivenBack, WasFull, WasEmpty, IsSpentGet, IsSpentPut, HasNoRoom, HasTopic, HasNoTopic, HoldsNoSuch, HasRetired}
 use Rattle.scq_c.specs.declared.exports.Held.{Held}
 use Rattle.scq_c.specs.Answers.{OfLend, OfTake, OfSend, OfGiveBack, shown_at, with_place}
 
@@ -90,7 +90,7 @@ take_no_topic topic before old new is =
       known = inr (inr (inr (inl refl)));
     }
 
-pub take_no_room : (topic : ℕ) (before : Held) (old new : PortStanding) → HasNoRoom old new → OfTake topic 7 before before old new
+pub take_no_room : (topic : ℕ) (before : Held) (old new : PortStanding) → HasNoRoom old new × HasTopic topic old → OfTake topic 7 before before old new
 take_no_room topic before old new is =
     record {
       taken = λ e. absurd (omega (arith, e));
@@ -123,7 +123,8 @@ send_spent ticket index topic before old new is =
       known = inr (inl refl);
     }
 
-pub send_not_held : (index topic before : ℕ) (old new : PortStanding) → HoldsNoSuch index old new → OfSend index topic 5 before before old new
+pub send_not_held : (index topic before : ℕ) (old new : PortStanding)
+    → HoldsNoSuch index old new × HasTopic topic old × (old.pass.retired ≡ None) → OfSend index topic 5 before before old new
 send_not_held index topic before old new is =
     record {
       sent = λ e. absurd (omega (arith, e));
@@ -145,7 +146,8 @@ send_no_topic index topic before old new is =
       known = inr (inr (inr (inl refl)));
     }
 
-pub send_retired : (index topic before : ℕ) (old new : PortStanding) → HasRetired old new → OfSend index topic 16 before before old new
+pub send_retired : (index topic before : ℕ) (old new : PortStanding) → HasRetired old new × HasTopic topic old
+    → OfSend index topic 16 before before old new
 send_retired index topic before old new is =
     record {
       sent = λ e. absurd (omega (arith, e));

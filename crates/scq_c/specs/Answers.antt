@@ -6,7 +6,7 @@ use Rattle.scq_word.specs.Sizes.{n_of}
 use Rattle.scq_word.specs.Ranges.{IsOutside}
 use Rattle.scq_queue.specs.Lists.{counts_of}
 use Rattle.scq_port.specs.Ports.{PortStanding}
-use Rattle.scq_port.specs.Calls.{IsLent, IsTaken, IsSent, IsGivenBack, WasFull, WasEmpty, IsSpentGet, IsSpentPut, HasNoRoom, HasNoTopic, HoldsNoSuch, HasRetired, HasAsked, retired_port, AreOpened, HasEnded}
+use Rattle.scq_port.specs.Calls.{IsLent, IsTaken, IsSent, IsGivenBack, WasFull, WasEmpty, IsSpentGet, IsSpentPut, HasNoRoom, HasTopic, HasNoTopic, HoldsNoSuch, HasRetired, HasAsked, retired_port, AreOpened, HasEnded}
 use Rattle.scq_queue.specs.Passes.{PassStanding, lists_of}
 use Rattle.scq_port.specs.declared.port_buffer.PortBuffer.{PortBuffer}
 use Rattle.scq_port.specs.Closed.{HasClosed}
@@ -39,16 +39,17 @@ pub record OfTake (topic code : ℕ) (before after : Held) (old new : PortStandi
   pub empty : code ≡ 1 → (head : ℕ) × (after ≡ with_place head before) × WasEmpty topic head old new
   pub spent : code ≡ 3 → (ticket : ℕ) × (after ≡ with_place ticket before) × IsSpentGet (suc topic) ticket old new
   pub no_topic : code ≡ 6 → (after ≡ before) × HasNoTopic topic old new
-  pub no_room : code ≡ 7 → (after ≡ before) × HasNoRoom old new
+  pub no_room : code ≡ 7 → (after ≡ before) × HasNoRoom old new × HasTopic topic old
   pub known : (code ≡ 0) ⊎ (code ≡ 1) ⊎ (code ≡ 3) ⊎ (code ≡ 6) ⊎ (code ≡ 7)
 
 -- of a send: 0 sent, 3 spent, 5 not held, 6 no topic, 16 the port has retired
 pub record OfSend (index topic code before after : ℕ) (old new : PortStanding) : Type 0 where
   pub sent : code ≡ 0 → IsSent index topic after old new
   pub spent : code ≡ 3 → IsSpentPut (suc topic) after old new
-  pub not_held : code ≡ 5 → (after ≡ before) × HoldsNoSuch index old new
+  pub not_held : code ≡ 5 → (after ≡ before) × HoldsNoSuch index old new × HasTopic topic old
+      × (old.pass.retired ≡ None)
   pub no_topic : code ≡ 6 → (after ≡ before) × HasNoTopic topic old new
-  pub retired : code ≡ 16 → (after ≡ before) × HasRetired old new
+  pub retired : code ≡ 16 → (after ≡ before) × HasRetired old new × HasTopic topic old
   pub known : (code ≡ 0) ⊎ (code ≡ 3) ⊎ (code ≡ 5) ⊎ (code ≡ 6) ⊎ (code ≡ 16)
 
 -- of a give-back: 0 given back, 3 spent, 5 not held

@@ -1,11 +1,12 @@
 -- The buffer of an index has its number, as long as the queue was given buffers in the order of their numbers.
-use Rattle.std.proofs.Common.{◌≡◌, ℕ, zero, suc, List, [], ◌∷◌, ◌++◌, length, refl, sym, ◌∙◌, ap, inl, inr, arith}
+use Rattle.std.proofs.Common.{◌≡◌, ℕ, zero, suc, List, [], ◌∷◌, ◌++◌, length, map, refl, sym, ◌∙◌, ap, inl, inr, arith}
 use Rattle.std.specs.Prelude.{Some, None, slice_get}
 use Rattle.std.specs.Option.{option_map}
 use Rattle.std.proofs.lemmas.Bool.{cases_eq}
 use Rattle.std.proofs.lemmas.List.{length-append}
 use Rattle.std.proofs.lemmas.Option.{slice_get-map}
 use Rattle.scq_word.specs.Sizes.{n_of}
+use Rattle.scq_band.specs.Closing.{AreTheSame}
 use Rattle.scq_band.specs.Standing.{IsAsGiven}
 use Rattle.scq_queue.proofs.Leaving.{get_last}
 use Rattle.scq_port.specs.declared.port_buffer.PortBuffer.{PortBuffer}
@@ -46,3 +47,20 @@ number_of queue h numbers is =
     ∙ numbered (n_of queue.setup.order) h.index (bytes_of is.first)
     (ap (λ (l : List (List ℕ)). slice_get l h.index) (sym numbers) ∙ slice_get-map bytes_of queue.given h.index
     ∙ ap (λ o. option_map bytes_of o) is.was)
+
+-- the same buffers have the same numbers
+same_numbers : (given buffers : List PortBuffer) → AreTheSame (λ (a b : PortBuffer). a.number ≡ b.number) given buffers
+    → map bytes_of buffers ≡ map bytes_of given
+same_numbers [] [] is = refl
+same_numbers [] (b ∷ bs) is = absurd (omega (arith, is.0))
+same_numbers (g ∷ gs) [] is = absurd (omega (arith, is.0))
+same_numbers (g ∷ gs) (b ∷ bs) is =
+    let first : bytes_of b ≡ bytes_of g = sym (is.1 0 g b refl refl) in
+    let others = same_numbers gs bs (omega (arith, is.0), λ i f l there here. is.1 (suc i) f l there here) in
+    ap (λ (x : List ℕ). x ∷ map bytes_of bs) first ∙ ap (λ (l : List (List ℕ)). bytes_of g ∷ l) others
+
+-- the buffers that come back at the end have the numbers of the opening
+pub numbers_at_end : (queue : PortQueue) (buffers : List PortBuffer) → AreNumbered queue
+    → AreTheSame (λ (a b : PortBuffer). a.number ≡ b.number) queue.given buffers
+    → map bytes_of buffers ≡ numbers_below (n_of queue.setup.order)
+numbers_at_end queue buffers numbers is = same_numbers queue.given buffers is ∙ numbers

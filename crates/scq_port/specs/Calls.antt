@@ -121,6 +121,10 @@ pub record HasNoRoom (old new : PortStanding) : Type 0 where
   pub same : new ≡ old
   pub room : length old.pass.held ≡ old.hold
 
+-- the queue has this topic
+abbrev pub HasTopic : ℕ → PortStanding → Type 0
+HasTopic topic x = topic + 1 < x.pass.queue.setup.rings
+
 -- the queue has no such topic
 pub record HasNoTopic (topic : ℕ) (old new : PortStanding) : Type 0 where
   pub same : new ≡ old

@@ -1,8 +1,9 @@
 -- What the last port of a queue that closes is told: all that the queue's close says, of the passes
 -- of all ports as each of them closed.
-use Rattle.std.specs.Prelude.{ℕ, List}
+use Rattle.std.specs.Prelude.{◌≡◌, ℕ, List}
+use Rattle.scq_word.specs.Sizes.{n_of}
 use Rattle.scq_band.specs.Buffers.{opening_of}
-use Rattle.scq_band.specs.Closing.{IsOneRunToTheEnd, EachIsInOneHand}
+use Rattle.scq_band.specs.Closing.{IsOneRunToTheEnd, EachIsInOneHand, EachLeftIsItsPut}
 use Rattle.scq_queue.specs.Passes.{PassStanding}
 use Rattle.scq_queue.specs.Closing.{EachTakeIsASend, NoPlaceIsSentTwice, NoPlaceIsTakenTwice}
 use Rattle.scq_queue.specs.Closing.{IsBalance, EachSendPassedIsTaken, IsAllThere}
@@ -10,6 +11,7 @@ use Rattle.scq_queue.specs.Closing.{AllFullsStand, EachKeptIsPastTheBound}
 use Rattle.scq_queue.specs.Closing.{NoneIsKeptWithinTheLimit, records_of, all_held, callers_of}
 use Rattle.scq_queue.specs.Closing.{AllRetiredWhereTold, EachSeenRetiredHas}
 use Rattle.scq_port.specs.declared.port_buffer.PortBuffer.{PortBuffer}
+use Rattle.scq_port.specs.Numbers.{numbers_below}
 use Rattle.scq_port.specs.Ports.{PortQueue, Value, bytes_of}
 use Rattle.scq_port.specs.Ends.{AreAll}
 
@@ -34,5 +36,9 @@ pub record HasClosed (queue : PortQueue) (last : PassStanding PortBuffer)
   pub fulls : AllFullsStand passes
   pub kept : EachKeptIsPastTheBound queue.setup passes
   pub limits : NoneIsKeptWithinTheLimit queue.setup passes
+  -- what is left in a ring is what was put there
+  pub lefts : EachLeftIsItsPut queue.setup (opening_of bytes_of queue.given) (records_of passes)
+      (all_held passes) bytes
+  pub numbers : bytes ≡ numbers_below (n_of queue.setup.order)
   pub gate : AllRetiredWhereTold passes
   pub retirees : EachSeenRetiredHas passes

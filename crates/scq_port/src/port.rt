@@ -3,7 +3,7 @@ ghost use Rattle.std.specs.Prelude.{◌≡◌, ◌==◌, ℕ, suc, ◌+◌, ◌<
 ghost use Rattle.std.specs.Arc.{arc_value};
 ghost use Rattle.scq_queue.specs.Lists.{counts_of};
 ghost use Rattle.scq_queue.specs.Passes.{lists_of};
-ghost use Rattle.scq_port.specs.Calls.{HasRetired, HasAsked, retired_pass, retired_port, IsLent, IsTaken, IsSent, IsGivenBack, WasFull, WasEmpty, IsSpentGet, IsSpentPut, HasNoRoom, HasNoTopic, HoldsNoSuch, HasEnded};
+ghost use Rattle.scq_port.specs.Calls.{HasRetired, HasAsked, retired_pass, retired_port, IsLent, IsTaken, IsSent, IsGivenBack, WasFull, WasEmpty, IsSpentGet, IsSpentPut, HasNoRoom, HasTopic, HasNoTopic, HoldsNoSuch, HasEnded};
 ghost use Rattle.scq_port.specs.Kept.{KeepsHand, seen_as};
 ghost use Rattle.scq_port.specs.Ports.{bytes_of};
 ghost use Rattle.scq_port.specs.Closed.{HasClosed};
@@ -69,7 +69,8 @@ impl Port {
     pub fn take(&mut self, topic: u32) -> Result<(u64, u32), TakeRefusal>
         ensures taken { IfOk result (λ r. IsTaken topic r.0 r.1 self.old self.new) }
         ensures no_topic { result ≡ Err TakeRefusal.NoTopic → HasNoTopic topic self.old self.new }
-        ensures no_room { result ≡ Err TakeRefusal.NoRoom → HasNoRoom self.old self.new }
+        ensures no_room { result ≡ Err TakeRefusal.NoRoom
+            → HasNoRoom self.old self.new × HasTopic topic self.old }
         ensures empty { (head : ℕ) → result ≡ Err (TakeRefusal.Empty head) → WasEmpty topic head self.old self.new }
         ensures spent { (ticket : ℕ) → result ≡ Err (TakeRefusal.Spent ticket) → IsSpentGet (suc topic) ticket self.old self.new }
     {
@@ -91,8 +92,10 @@ impl Port {
     pub fn send(&mut self, index: u32, topic: u32) -> Result<u64, SendRefusal>
         ensures sent { IfOk result (λ place. IsSent index topic place self.old self.new) }
         ensures no_topic { result ≡ Err SendRefusal.NoTopic → HasNoTopic topic self.old self.new }
-        ensures retired { result ≡ Err SendRefusal.Retired → HasRetired self.old self.new }
-        ensures not_held { result ≡ Err SendRefusal.NotHeld → HoldsNoSuch index self.old self.new }
+        ensures retired { result ≡ Err SendRefusal.Retired
+            → HasRetired self.old self.new × HasTopic topic self.old }
+        ensures not_held { result ≡ Err SendRefusal.NotHeld
+            → HoldsNoSuch index self.old self.new × HasTopic topic self.old × (self.old.pass.retired ≡ None) }
         ensures spent { (ticket : ℕ) → result ≡ Err (SendRefusal.Spent ticket) → IsSpentPut (suc topic) ticket self.old self.new }
     {
         if topic >= self.topics {

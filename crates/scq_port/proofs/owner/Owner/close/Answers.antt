@@ -4,6 +4,7 @@ use Rattle.scq_port.specs.declared.port_buffer.PortBuffer.{PortBuffer}
 use Rattle.scq_port.specs.Ports.{PortQueue, bytes_of}
 use Rattle.scq_port.specs.Ends.{AreAll}
 use Rattle.scq_port.specs.Closed.{HasClosed}
+use Rattle.scq_port.proofs.Numbered.{numbers_at_end}
 use Rattle.scq_port.proofs.owner.Owner.close.Goals as goal
 
 pub returns-in-Some-clause-closed : goal.returns-in-Some-clause-closed
@@ -26,6 +27,8 @@ returns-in-Some-clause-closed c =
       fulls = e.fulls;
       kept = e.kept;
       limits = e.limits;
+      lefts = e.left;
+      numbers = numbers_at_end queue c.close.result.buffers.items c.args.self.numbers e.buffers;
       gate = e.gate;
       retirees = e.retirees;
     })

@@ -1,4 +1,4 @@
-use Rattle.std.proofs.Common.{rules, ◌≡◌, subst}
+use Rattle.std.proofs.Common.{rules, ◌≡◌, ◌+◌, ◌<◌, subst}
 use Rattle.std.specs.Prelude.{false}
 use Rattle.scq_port.specs.Ports.{PortStanding}
 use Rattle.scq_port.specs.Calls.{HasRetired}
@@ -9,7 +9,12 @@ use Rattle.scq_port.proofs.port.Port.send.Goals as goal
 asleep : (c : goal.Then-not-self) → c.self.inside.awake ≡ false
 asleep c = search (rules, c.if-not-self.true)
 
+there : (c : goal.Then-not-self) → c.args.topic + 1 < c.args.self.now.pass.queue.setup.rings
+there c = search rules
+
 pub returns-then-not-self-clause-retired : goal.returns-then-not-self-clause-retired
-returns-then-not-self-clause-retired c is =
-    subst (λ (p : PortStanding). HasRetired p p) c.self.view_is
-    (retired_of (seen_as c.self.inside.pass c.self.inside.hand) c.self.inside.awake c.self.invariant.awake_is (asleep c))
+returns-then-not-self-clause-retired c is = (
+  subst (λ (p : PortStanding). HasRetired p p) c.self.view_is
+      (retired_of (seen_as c.self.inside.pass c.self.inside.hand) c.self.inside.awake c.self.invariant.awake_is (asleep c)),
+  there c,
+)

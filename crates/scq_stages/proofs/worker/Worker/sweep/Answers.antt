@@ -1,6 +1,5 @@
-use Rattle.std.proofs.Common.{rules, ◌≡◌, ◌<◌, ◌++◌, ap, sym, subst, arith, refl, inl, inr, ℕ, zero, suc, Bool, true, false, Ok, Err, Result}
-use Rattle.std.specs.Prelude.{IfErr, ◌||◌}
-use Rattle.std.proofs.lemmas.Bool.{cases_Bool}
+use Rattle.std.proofs.Common.{rules, ◌≡◌, ◌<◌, ◌++◌, ◌∙◌, ap, sym, subst, arith, refl, ℕ, zero, suc, Bool, true, Ok, Err, Result}
+use Rattle.std.specs.Prelude.{IfErr}
 use Rattle.scq_queue.specs.Passes.{PassStanding, known_on}
 use Rattle.scq_passes.specs.Leaving.{FoundTopicEmpty}
 use Rattle.scq_passes.specs.Calls.{HasLeftSo, since}
@@ -16,12 +15,11 @@ use Rattle.scq_stages.proofs.Finishing.{finished-along}
 use Rattle.scq_stages.proofs.Moving.{gives, moved-of}
 use Rattle.scq_stages.proofs.FewCalls.{few_calls-moved}
 use Rattle.scq_stages.proofs.worker.Worker.sweep.Goals as goal
-use Rattle.scq_stages.proofs.worker.Worker.sweep.Goals.{In_ok-from_second}
+use Rattle.scq_stages.proofs.worker.Worker.sweep.Goals.{In_ok-from_second, then-from_first, else-from_first}
 
--- where either is true, and the first is not, the second is
-or-ok : {E : Type 0} (a b : Bool) (r : Result Bool E) → r ≡ Ok (a || b) → r ≡ Ok true → a ≡ false → b ≡ true
-or-ok true b r made is idle = absurd (cc)
-or-ok false b r made is idle = cc
+-- what an answer that is Ok has
+ok-true : {E : Type 0} (b : Bool) (r : Result Bool E) → r ≡ Ok b → r ≡ Ok true → b ≡ true
+ok-true b r made is = cc
 
 -- of the two topics
 two : (P : ℕ → Type 0) → P first → P second → (t : ℕ) → t < 2 → P t
@@ -94,10 +92,12 @@ returns-clause-more g c is =
     let r = c.sweep_second.new.self.pass in
     let one = takes-rise p q c.in_ok-from_first.ensures.taken in
     let two_ = takes-rise q r c.in_ok-from_second.ensures.taken in
-    elim (cases_Bool c.in_ok-from_first.from_first) [
-      | inl full ↦ let more = c.in_ok-from_first.ensures.more (ap Ok full) in omega (arith, more, two_)
-      | inr idle ↦
-          let full = or-ok c.in_ok-from_first.from_first c.in_ok-from_second.from_second _ refl is idle in
+    elim c.if-from_first.branch [
+      | then-from_first w ↦
+          let more = c.in_ok-from_first.ensures.more (ap Ok w.if-from_first.true) in
+          omega (arith, more, two_)
+      | else-from_first w ↦
+          let full = sym w.result-is ∙ ok-true c.if-from_first.result _ refl is in
           let more = c.in_ok-from_second.ensures.more (ap Ok full) in
           omega (arith, one, more)
     ]
