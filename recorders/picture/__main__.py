@@ -6,8 +6,8 @@
     python3 recorders/picture --schedule [--printed FILE] [--out PAGE] FILE
         what `scq replay` prints, or printed, of the steps of this file
 
-PAGE is picture.html where nothing is said. SCQ names the program; else it is that of the repository,
-or of the path. The status is 0, 1 where the marked events don't show what the verdict says (the page
+PAGE is picture.html where nothing is said. SCQ names the program, or its folder; else it is that of the
+repository, or of the path. The status is 0, 1 where the marked events don't show what the verdict says (the page
 says so too), and 2 where there is no picture, with a line that says why.
 """
 import argparse
@@ -27,8 +27,9 @@ TOP = os.path.dirname(os.path.dirname(os.path.dirname(os.path.abspath(__file__))
 
 
 def program():
-    if os.environ.get("SCQ"):
-        return os.environ["SCQ"]
+    named = os.environ.get("SCQ")
+    if named:
+        return os.path.join(named, "scq") if os.path.isdir(named) else named
     launcher = os.path.join(TOP, "scq")
     found = launcher if os.path.isfile(launcher) else shutil.which("scq")
     if not found:

@@ -71,7 +71,7 @@ def check(history, aspect):
     if rule is None:
         for it in events[1:]:
             shown.mark(it, "named beside it")
-        shown.says.append("This aspect isn't known to the picture: the events that are named are shown.")
+        shown.says.append("The picture doesn't know this aspect: it shows the events that are named.")
     else:
         rule(history, aspect, first, events[1:], shown)
     return shown
@@ -196,15 +196,13 @@ def in_order(history, aspect, first, others, shown):
     shown.mark(end, f"{name} had ended" if not isinstance(end, Opening) else f"{name} stood there")
     if start:
         shown.mark(start, f"{put_name(own)} begins")
-    is_opening = own[0] is None
-    if is_opening:
-        is_before = isinstance(end, Opening) and end.number < own[1]
-    else:
-        is_before = start is not None and end.rank < start.rank
+    # Nothing goes before an opening token.
+    is_before = start is not None and end.rank < start.rank
+    began = start.rank if start else "?"
     shown.claim(
         is_before,
-        f"The get of seat {first.seat} took {put_name(own)}"
-        + (f", which began at event {start.rank}, after {name} had ended." if start else f", behind {name}."),
+        f"The get of seat {first.seat} took {put_name(own)}, which began at event {began}, after {name}"
+        f" {'stood there' if isinstance(end, Opening) else 'had ended'}.",
         f"{name} had not been put wholly before {put_name(own)}.",
     )
     took_later(history, aspect, first, end, get, queue, shown)

@@ -119,7 +119,9 @@ function lay() {
   const words = [...svg.querySelectorAll("text.gap")];
   shown.gaps.forEach((gap, i) => {
     set(gaps[i], { x: x(gap.from - 0.5), y: HEAD - 6, width: x(gap.to) - x(gap.from), height: height() - HEAD });
-    set(words[i], { x: x((gap.from + gap.to) / 2 - 0.5), y: height() - 6 });
+    const px = x((gap.from + gap.to) / 2 - 0.5), py = HEAD + (shown.lanes.length * LANE) / 2;
+    const isNarrow = x(gap.to) - x(gap.from) < 7 * gap.count.length + 30;
+    set(words[i], { x: px, y: py + 4, transform: isNarrow ? `rotate(-90 ${px} ${py})` : "" });
     words[i].textContent = `… ${gap.count} …`;
   });
   for (const { call, box, over, text } of bars) {
@@ -131,6 +133,7 @@ function lay() {
     const room = (to - from) / 7.2;
     text.textContent = room >= call.label.length ? call.label : room >= call.short.length ? call.short : "";
   }
+  keepInSight();
   const lanes = new Map();
   [...svg.querySelectorAll("g.mark")].forEach((group, i) => {
     const mark = shown.marks[i];
@@ -158,6 +161,16 @@ function lay() {
       );
     }
   join(pinned);
+}
+
+// The words of a bar that is wider than what is seen of it stand in the middle of that.
+function keepInSight() {
+  const left = view.scrollLeft, right = left + view.clientWidth;
+  for (const { call, text } of bars) {
+    const from = x(call.from), to = x(call.to);
+    if (to - from < view.clientWidth / 3 || from > right || to < left) continue;
+    set(text, { x: (Math.max(from, left) + Math.min(to, right)) / 2 });
+  }
 }
 
 function centre(column) {
@@ -194,10 +207,11 @@ function join(index) {
   if (index === null) return;
   bars[index].group.classList.add("pointed");
   const all = joined.get(bars[index].call.name) || [];
-  const put = all.find((i) => bars[i].call.kind === "put");
+  // Where the put isn't in the window, two gets of it are joined with each other.
+  const put = all.find((i) => bars[i].call.kind === "put") ?? index;
   for (const other of all) {
     if (other !== index) bars[other].group.classList.add("partner");
-    if (other === put || put === undefined) continue;
+    if (other === put) continue;
     const a = bars[put].call, b = bars[other].call;
     const middle = (call) => lanesTop() + call.lane * LANE + LANE / 2;
     const down = middle(b) >= middle(a) ? BAR / 2 : -BAR / 2;
@@ -266,6 +280,8 @@ svg.addEventListener("pointerout", () => {
   join(pinned);
   tell(pinned);
 });
+
+view.addEventListener("scroll", keepInSight);
 
 let drag = null;
 view.addEventListener("pointerdown", (event) => {

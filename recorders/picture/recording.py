@@ -1,4 +1,6 @@
 """The page of a recording: windows of its history, each with its lanes, bars and marks, as data."""
+import os
+
 from check import Opening, check, named_by, put_name
 from history import content_of, is_put, queue_of
 from page import page, plain
@@ -16,8 +18,14 @@ LEGEND = (
 )
 
 
+def short_names(names):
+    """The names of the files without their folders, where these tell them apart."""
+    short = [spelled(os.path.basename(name)) for name in names]
+    return short if len(set(short)) == len(short) else [spelled(name) for name in names]
+
+
 def place_text(names, event):
-    return f"{spelled(names[event.file])} line {event.line}"
+    return f"{names[event.file]} line {event.line}"
 
 
 def event_text(names, event):
@@ -40,6 +48,7 @@ class Drawing:
 
     def __init__(self, history, window, shown, where):
         self.history, self.window, self.where = history, window, where
+        self.names = short_names(history.names)
         events = [event for event, _ in shown.events] if shown else []
         self.openings = sorted({e.number for e in events if isinstance(e, Opening)})
         self.seats = sorted({call.start.seat for call in window.calls})
@@ -53,7 +62,7 @@ class Drawing:
         files = {}
         for call in self.window.calls:
             names = files.setdefault(call.start.seat, [])
-            name = spelled(self.history.names[call.start.file]).rsplit("/", 1)[-1]
+            name = self.names[call.start.file]
             if name not in names:
                 names.append(name)
         head = [{"name": "opening", "detail": "before all"}] if self.openings else []
@@ -62,7 +71,7 @@ class Drawing:
         ]
 
     def call(self, call):
-        names, window, start, end = self.history.names, self.window, call.start, call.end
+        names, window, start, end = self.names, self.window, call.start, call.end
         kind = "put" if is_put(start) else "get"
         named = (start.seat, start.number) if kind == "put" else end.named if end else None
         reply = end.reply if end else "never" if call.is_never else "later"
@@ -120,7 +129,7 @@ class Drawing:
         }
 
     def mark(self, event, words):
-        names = self.history.names
+        names = self.names
         if isinstance(event, Opening):
             at, lane, call = -1, 0, len(self.window.calls) + self.openings.index(event.number)
             text = f"opening token {event.number}, {place_text(names, event)}"
