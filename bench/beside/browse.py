@@ -18,7 +18,7 @@ class Browser:
             "--disable-background-networking", "--no-first-run", "--hide-scrollbars",
             f"--user-data-dir={self.home.name}", f"--window-size={width},{height}", "about:blank",
         ]  # fmt: skip
-        line = f"exec 3<&{to_read} 4>&{to_write}; exec \"$@\""
+        line = f'exec 3<&{to_read} 4>&{to_write}; exec "$@"'
         self.run = subprocess.Popen(
             ["bash", "-c", line, "chromium", *words],
             pass_fds=(to_read, to_write), stdout=subprocess.DEVNULL, stderr=subprocess.DEVNULL,
@@ -78,8 +78,8 @@ class Browser:
     def key(self, key, code=None, number=0):
         text = key if len(key) == 1 else ""
         for kind in ("keyDown", "keyUp"):
-            self.ask("Input.dispatchKeyEvent", type=kind, key=key, code=code or key,
-                     windowsVirtualKeyCode=number, text=text if kind == "keyDown" else "")  # fmt: skip
+            said = {"text": text if kind == "keyDown" else "", "windowsVirtualKeyCode": number}
+            self.ask("Input.dispatchKeyEvent", type=kind, key=key, code=code or key, **said)
 
     def mouse(self, kind, x, y, **more):
         self.ask("Input.dispatchMouseEvent", type=kind, x=x, y=y, **more)
@@ -101,7 +101,9 @@ class Browser:
         return found
 
     def scheme(self, name):
-        self.ask("Emulation.setEmulatedMedia", features=[{"name": "prefers-color-scheme", "value": name}])
+        self.ask(
+            "Emulation.setEmulatedMedia", features=[{"name": "prefers-color-scheme", "value": name}]
+        )
 
     def picture(self, path, clip=None):
         more = {"clip": {**clip, "scale": 1}} if clip else {}

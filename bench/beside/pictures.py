@@ -1,5 +1,6 @@
-"""What bench/pictures asks of pages in headless Chromium. Files, verdicts and printed steps are read here
-anew, by nothing of recorders/picture. Each line of standard input is a task, with tabs between its words:
+"""What bench/pictures asks of pages in headless Chromium. Files, verdicts and printed steps are read
+here anew, by nothing of recorders/picture. Each line of standard input is a task, with tabs between
+its words:
 
     recording PAGE SHOT VERDICT FILE..    windows, lanes, bars, marks, joins, zoom, drag and keys
     schedule PAGE SHOT SCHEDULE PRINTED   slots, pointers, seats, and a step forward and back
@@ -7,6 +8,7 @@ anew, by nothing of recorders/picture. Each line of standard input is a task, wi
     svg PAGE OUT                          the page's drawing as a file of its own
 
 A line is written for each, and the status is 1 where anything was wrong."""
+import os
 import re
 import sys
 
@@ -66,6 +68,16 @@ def calls_of(events):
     return calls + [(rank, len(events) + 1) for rank in under_way.values()]
 
 
+def places_of(line, files):
+    """The places that a line of a verdict names, whether by the files' numbers or their names."""
+    found = []
+    for word, at in re.findall(r"(?:file )?(\S+) line (\d+)", line):
+        names = [os.path.basename(name) for name in files]
+        number = int(word) - 1 if word.isdigit() else names.index(os.path.basename(word))
+        found.append(f"{number}:{at}")
+    return found
+
+
 def recording(it, page, shot, verdict, *files):
     events, _ = events_of(files)
     calls = calls_of(events)
@@ -75,7 +87,9 @@ def recording(it, page, shot, verdict, *files):
     it.scheme("light")
     it.open(page)
     need(not it.faults(), f"faults: {it.faults()[:3]}")
-    need(not it.value("document.querySelectorAll('[data-wrong]').length"), "not as the verdict says")
+    need(
+        not it.value("document.querySelectorAll('[data-wrong]').length"), "not as the verdict says"
+    )
     windows = it.value("data.windows.map((w) => w.stretches.map((s) => [s.first, s.last]))")
     need(len(windows) == max(1, len(failing)), f"{len(windows)} windows of {len(failing)} breaches")
     bars = 0
@@ -83,7 +97,9 @@ def recording(it, page, shot, verdict, *files):
         it.value(f"document.querySelector('[data-show=\"{index}\"]').click()")
         inside = [c for c in calls if any(c[0] <= b and c[1] >= a for a, b in stretches)]
         openings = it.value("shown.lanes.filter((l) => l.name === 'opening').length")
-        tokens = it.value("shown.calls.filter((c) => shown.lanes[c.lane].name === 'opening').length")
+        tokens = it.value(
+            "shown.calls.filter((c) => shown.lanes[c.lane].name === 'opening').length"
+        )
         drawn = it.value("document.querySelectorAll('#bars .bar').length")
         need(drawn - tokens == len(inside), f"{drawn - tokens} bars of {len(inside)} calls")
         lanes = it.value("document.querySelectorAll('#lanes .lane').length")
@@ -94,11 +110,14 @@ def recording(it, page, shot, verdict, *files):
         bars += drawn
         if not failing:
             continue
-        places = re.findall(r"file (\d+) line (\d+)", failing[index])
-        places = [f"{int(file) - 1}:{line}" for file, line in places]
-        breach = it.value("[...document.querySelectorAll('.mark.breach')].map((m) => m.dataset.place)")
+        places = places_of(failing[index], files)
+        breach = it.value(
+            "[...document.querySelectorAll('.mark.breach')].map((m) => m.dataset.place)"
+        )
         need(breach == places[:1], f"marks {breach} and not {places[:1]}")
-        others = it.value("[...document.querySelectorAll('.mark.other')].map((m) => m.dataset.place)")
+        others = it.value(
+            "[...document.querySelectorAll('.mark.other')].map((m) => m.dataset.place)"
+        )
         need(set(places[1:]) <= set(others), f"marks {others} of {places[1:]}")
         need(all(it.value(EDGE)), "a mark isn't at its event")
         rank = it.value("document.querySelector('.mark.breach').dataset.rank")
@@ -117,7 +136,9 @@ def acts(it):
     if not it.value("bars.length"):
         return "no calls"
     told = "no pair is shown"
-    pair = it.value("(bars.findIndex((b) => b.call.kind === 'get' && (joined.get(b.call.name) || []).length > 1))")
+    pair = it.value(
+        "bars.findIndex((b) => b.call.kind === 'get' && (joined.get(b.call.name) || 0).length > 1)"
+    )
     if pair >= 0:
         it.value(f"centre(bars[{pair}].call.from); byId('view').scrollIntoView()")
         box = it.value(
@@ -126,7 +147,9 @@ def acts(it):
         )
         it.mouse("mouseMoved", *box)
         need(it.value("document.querySelectorAll('#joins .join').length") >= 1, "nothing is joined")
-        need(it.value("document.querySelectorAll('.bar.partner').length") >= 1, "no partner is shown")
+        need(
+            it.value("document.querySelectorAll('.bar.partner').length") >= 1, "no partner is shown"
+        )
         need("Joined with" in it.value("byId('told').textContent"), "the pair isn't told")
         it.mouse("mouseMoved", 2, 2)
         need(it.value("document.querySelectorAll('#joins .join').length") == 0, "the join stays")
@@ -153,7 +176,10 @@ def acts(it):
     it.key(".")
     need(it.value("pinned === 0"), "the point doesn't go to a call")
     it.value("byId('table').open = true; byId('table').ontoggle()")
-    need(it.value("byId('calls').children.length") == it.value("bars.length"), "the table lacks calls")
+    need(
+        it.value("byId('calls').children.length") == it.value("bars.length"),
+        "the table lacks calls",
+    )
     it.value("byId('table').open = false")
     it.key("0")
     return told
@@ -184,17 +210,29 @@ def schedule(it, page, shot, schedule_file, printed_file):
         for cell, word in zip(cells, words[12 : 12 + slots]):
             word = int(word)
             index = word % slots
-            want = [str(word // (2 * slots)), str(word // slots % 2), "" if index == slots - 1 else str(index)]
+            want = [
+                str(word // (2 * slots)),
+                str(word // slots % 2),
+                "" if index == slots - 1 else str(index),
+            ]
             need(cell == want, f"step {n}: a slot shows {cell} and not {want}")
-        label = it.value(f"document.querySelector('[data-ring=\"{ring}\"] svg').getAttribute('aria-label')")
+        label = it.value(
+            f"document.querySelector('[data-ring=\"{ring}\"] svg').getAttribute('aria-label')"
+        )
         need(label == f"Ring {ring}: Head {head}, Tail {tail}, Threshold {threshold}", label)
-        inner = it.value(f"[...document.querySelectorAll('[data-ring=\"{ring}\"] .inner')].map((t) => t.textContent)")
+        inner = it.value(
+            f"[...document.querySelectorAll('[data-ring=\"{ring}\"] .inner')]"
+            ".map((t) => t.textContent)"
+        )
         need(inner[1:] == [f"Head {head}", f"Tail {tail}", f"Threshold {threshold}"], str(inner))
         if n == middle:
             here = it.value("byId('rings').innerHTML")
             it.key("ArrowRight")
             it.key("ArrowLeft")
-            need(it.value("byId('rings').innerHTML") == here, "a step forward and back isn't the same")
+            need(
+                it.value("byId('rings').innerHTML") == here,
+                "a step forward and back isn't the same",
+            )
             it.picture(shot)
     it.key("ArrowRight")
     need(it.value("document.body.dataset.step") == str(len(printed)), "it goes past the end")
@@ -212,34 +250,20 @@ def quiet(it, page, shot):
     it.open(page)
     need(not it.faults(), f"faults: {it.faults()[:3]}")
     need(it.value("typeof window.ran") == "undefined", "something ran")
-    count = it.value("document.querySelectorAll('script, img, iframe, object, embed, link, form, base').length")
+    count = it.value(
+        "document.querySelectorAll('script, img, iframe, object, embed, link, form, base').length"
+    )
     need(count == 2, f"{count} elements that could do something, and not 2 scripts")
     it.picture(shot)
     return "nothing ran"
-
-
-SVG = """(() => {
-  const left = 104;
-  const wide = Number(svg.getAttribute("width")), high = Number(svg.getAttribute("height"));
-  const copy = svg.cloneNode(true);
-  copy.removeAttribute("id");
-  const style = document.querySelector("style").textContent;
-  const kept = [style.split("/* the page */")[0], style.split("/* the drawing of a recording */")[1].split("/* below it */")[0]];
-  const root = drawn("svg", { viewBox: `${-left} 0 ${wide + left} ${high}`, width: wide + left, height: high });
-  root.append(drawn("title", {}, document.title));
-  root.append(drawn("style", {}, kept.join("") + ".name { text-anchor: start; font-weight: 700; font-size: 13px; }"));
-  root.append(drawn("rect", { x: -left, y: 0, width: wide + left, height: high, fill: "var(--back)" }));
-  shown.lanes.forEach((lane, i) => root.append(drawn("text", { class: "name", x: 10 - left, y: HEAD + LANE * i + 21 }, lane.name)));
-  root.append(...copy.childNodes);
-  return new XMLSerializer().serializeToString(root);
-})()"""
 
 
 def as_svg(it, page, out):
     it.scheme("light")
     it.open(page)
     it.value("scale = 34; lay(); pin(shown.marks[0].call)")
-    text = it.value(SVG)
+    with open(os.path.join(os.path.dirname(os.path.abspath(__file__)), "drawing.js")) as file:
+        text = it.value(file.read())
     with open(out, "w", encoding="utf-8") as file:
         file.write(re.sub(r"(</(?:g|rect|text|title|style|defs)>|/>)(?=<)", r"\1\n", text) + "\n")
     return f"{len(text)} bytes"

@@ -1,14 +1,15 @@
 """Pictures of what scq says: one HTML file that needs nothing else.
 
-    python3 recorders/picture [--verdict FILE] [--at EVENT] [--width N] [--out PAGE] FILE...
-        the files of a recording, with what `scq judge` says of them, or said (--verdict): around the
-        first breach of each aspect the N events (400); where all hold, or at EVENT, around one event
+    python3 recorders/picture [--verdict SAID | --room N] [--at EVENT] [--width N] [--out PAGE] FILE..
+        the files of a recording, with what `scq judge` says of them (--room is for the judge), or
+        SAID: around the first breach of each aspect the N events (400); where all hold, or at
+        EVENT, around one event
     python3 recorders/picture --schedule [--printed FILE] [--out PAGE] FILE
         what `scq replay` prints, or printed, of the steps of this file
 
-PAGE is picture.html where nothing is said. SCQ names the program, or its folder; else it is that of the
-repository, or of the path. The status is 0, 1 where the marked events don't show what the verdict says (the page
-says so too), and 2 where there is no picture, with a line that says why.
+PAGE is picture.html where nothing is said. SCQ names the program, or its folder; else it is that of
+the repository, or of the path. The status is 0, 1 where the marked events don't show what the
+verdict says (the page says so too), and 2 where there is no picture, with a line that says why.
 """
 import argparse
 import os
@@ -41,7 +42,10 @@ def asked(words, names):
     """What the program prints, asked so of these files."""
     try:
         run = subprocess.run(
-            [program(), *words, "--", *names], stdin=subprocess.DEVNULL, capture_output=True, check=False
+            [program(), *words, "--", *names],
+            stdin=subprocess.DEVNULL,
+            capture_output=True,
+            check=False,
         )
     except OSError as fault:
         raise Refusal(f"scq can't be run: {fault.strerror}") from None
@@ -65,7 +69,8 @@ def make(words):
             raise Refusal("a schedule is one file")
         printed = text_of(words.printed) if words.printed else asked(["replay"], words.files)
         return replayed_page(words.files[0], text_of(words.files[0]), printed), []
-    said = text_of(words.verdict) if words.verdict else asked(["judge"], words.files)
+    room = [] if words.room is None else ["--room", str(words.room)]
+    said = text_of(words.verdict) if words.verdict else asked(["judge", *room], words.files)
     aspects, counts = read_verdict(said, words.files)
     history = History(words.files, [place for it in aspects for place in it.places])
     if words.at is not None and not 1 <= words.at <= history.events:
@@ -80,6 +85,7 @@ def main():
     usage.add_argument("--schedule", action="store_true", help=argparse.SUPPRESS)
     usage.add_argument("--verdict", help=argparse.SUPPRESS)
     usage.add_argument("--printed", help=argparse.SUPPRESS)
+    usage.add_argument("--room", type=int, help=argparse.SUPPRESS)
     usage.add_argument("--at", type=int, help=argparse.SUPPRESS)
     usage.add_argument("--width", type=int, default=400, help=argparse.SUPPRESS)
     usage.add_argument("--out", default="picture.html", help=argparse.SUPPRESS)

@@ -11,7 +11,7 @@ class Shown:
         self.events, self.says, self.wrong = [], [], []
 
     def mark(self, event, words):
-        if all(event is not other for other, _ in self.events):
+        if all((event.file, event.line) != (other.file, other.line) for other, _ in self.events):
             self.events.append((event, words))
 
     def claim(self, is_so, words, not_so):
@@ -67,11 +67,13 @@ def check(history, aspect):
         "empty": empty,
         "refused": refused,
         "full": full,
-    }.get(aspect.name)
+    }.get(aspect.rule)
     if rule is None:
         for it in events[1:]:
             shown.mark(it, "named beside it")
-        shown.says.append("The picture doesn't know this aspect: it shows the events that are named.")
+        shown.says.append(
+            "The picture doesn't know this aspect: it shows the events that are named."
+        )
     else:
         rule(history, aspect, first, events[1:], shown)
     return shown
@@ -153,7 +155,9 @@ def took_later(history, aspect, first, end, get, queue, shown):
     name = put_name(named)
     where = 0 if isinstance(end, Opening) else queue_of(end.start)
     if where != queue:
-        shown.wrong.append(f"{name} went into queue {where}, and event {first.rank} is of queue {queue}.")
+        shown.wrong.append(
+            f"{name} went into queue {where}, and event {first.rank} is of queue {queue}."
+        )
     if get is not None:
         shown.mark(get.start, f"the get that takes {name} begins")
         shown.mark(get, f"takes {name}")
@@ -172,7 +176,11 @@ def took_later(history, aspect, first, end, get, queue, shown):
         if history.is_got(named):
             shown.wrong.append(f"{name} was got, and the verdict says that it never was.")
         values = "1 value" if waiting == 1 else f"{waiting} values"
-        gets = "1 get that never ended was" if len(pending) == 1 else f"{len(pending)} gets that never ended were"
+        gets = (
+            "1 get that never ended was"
+            if len(pending) == 1
+            else f"{len(pending)} gets that never ended were"
+        )
         gets = gets if pending else "no get that never ended was"
         shown.claim(
             waiting > len(pending),
@@ -186,13 +194,15 @@ def took_later(history, aspect, first, end, get, queue, shown):
 def in_order(history, aspect, first, others, shown):
     if not needs_got(first, shown):
         return
-    own, queue = first.named, queue_of(first.start)
+    own = first.named
     end, get = waiting_put(history, others, own)
     if end is None:
         shown.wrong.append("The verdict names no put that waited.")
         return
     name = put_name(named_by(end))
     start = history.put(*own) if own[0] is not None else None
+    # Of the queue that the value went into, whichever the get was from.
+    queue = queue_of(start) if start else 0
     shown.mark(end, f"{name} had ended" if not isinstance(end, Opening) else f"{name} stood there")
     if start:
         shown.mark(start, f"{put_name(own)} begins")
@@ -201,8 +211,8 @@ def in_order(history, aspect, first, others, shown):
     began = start.rank if start else "?"
     shown.claim(
         is_before,
-        f"The get of seat {first.seat} took {put_name(own)}, which began at event {began}, after {name}"
-        f" {'stood there' if isinstance(end, Opening) else 'had ended'}.",
+        f"The get of seat {first.seat} took {put_name(own)}, which began at event {began}, after"
+        f" {name} {'stood there' if isinstance(end, Opening) else 'had ended'}.",
         f"{name} had not been put wholly before {put_name(own)}.",
     )
     took_later(history, aspect, first, end, get, queue, shown)
@@ -244,8 +254,10 @@ def refused(history, aspect, first, others, shown):
 def full(history, aspect, first, others, shown):
     for it in others:
         shown.mark(it, "named beside it")
+    name = put_name(named_by(first) or (0, 0))
     shown.claim(
         first.reply == "spent" and is_put(first.start),
-        f"The queue refused {put_name(named_by(first) or (0, 0))} though a place was free.",
+        f"The queue refused {name} though a place was free: the judge has counted them, the picture"
+        " doesn't.",
         f"Event {first.rank} is no put that was refused.",
     )

@@ -3,6 +3,7 @@ blocks of each file. A pass leaves marks behind (`Mark`) from which any stretch 
 """
 import bisect
 import os
+import re
 
 from verdict import Refusal, spelled
 
@@ -10,6 +11,13 @@ SEATS = 4096  # how many seats a picture knows
 MARKS = 256  # how many marks a pass leaves, at most
 BLOCK = 1 << 22  # bytes that are held of all files together
 LINE = 1024  # bytes of a line, at most
+
+# A line that is none of a recording.
+CONTENT = rb"(?:-|(?:[0-9a-f]{2}){1,64})"
+START = rb"start \d{1,19} (?:put \d{1,19} " + CONTENT + rb"|get \d{1,19})"
+END = rb"end \d{1,19} (?:done|nothing|spent|got (?:o|\d{1,19}) \d{1,19} " + CONTENT + rb")"
+EVENT = rb"(?:\d{1,19} )?(?:" + START + rb"|" + END + rb")"
+BAD = re.compile(rb"^(?!(?:" + EVENT + rb"|opening " + CONTENT + rb")$).*$", re.MULTILINE)
 
 
 class Event:
@@ -97,9 +105,10 @@ class Source:
 
     def parse(self, text):
         number, line, last = self.number, self.first_line, self.last
-        lines = text.split(b"\n")
-        if not lines[-1]:
-            lines.pop()
+        text = text.removesuffix(b"\n")
+        if bad := BAD.search(text) if text else None:
+            raise self.bad(line + 1 + text.count(b"\n", 0, bad.start()))
+        lines = text.split(b"\n") if text else []
         add = self.events.append
         try:
             for it in lines:

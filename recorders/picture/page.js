@@ -1,6 +1,6 @@
-"use strict";
+'use strict';
 // What both pages share: their data, and elements made of text alone.
-const data = JSON.parse(document.getElementById("data").textContent);
+const data = JSON.parse(document.getElementById('data').textContent);
 
 function set(element, attributes) {
   for (const [name, value] of Object.entries(attributes)) element.setAttribute(name, value);
@@ -8,7 +8,7 @@ function set(element, attributes) {
 }
 
 function drawn(tag, attributes = {}, text) {
-  const element = document.createElementNS("http://www.w3.org/2000/svg", tag);
+  const element = document.createElementNS('http://www.w3.org/2000/svg', tag);
   if (text !== undefined) element.textContent = text;
   return set(element, attributes);
 }
@@ -23,10 +23,10 @@ const byId = (id) => document.getElementById(id);
 
 // What a key does: a name of `KeyboardEvent.key` to a function.
 function onKeys(keys) {
-  document.addEventListener("keydown", (event) => {
+  document.addEventListener('keydown', (event) => {
     if (event.ctrlKey || event.metaKey || event.altKey) return;
     if (!Object.hasOwn(keys, event.key)) return;
-    if (event.key === " " && event.target.closest("button, summary")) return;
+    if (event.key === ' ' && event.target.closest('button, summary')) return;
     keys[event.key]();
     event.preventDefault();
   });

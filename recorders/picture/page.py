@@ -1,14 +1,16 @@
-"""One HTML file that needs nothing else and in which nothing but its own script runs: what comes from
-outside is text in it, never markup, and its policy allows no other script and no address."""
+"""One HTML file that needs nothing else, and in which nothing runs but its own script: what comes
+from outside is text in it, never markup, and its policy allows no other script and no address."""
 import base64
 import hashlib
 import html
 import json
 import os
+import string
 
 HERE = os.path.dirname(os.path.abspath(__file__))
 
-NOTE = "A picture proves nothing: what the program scq says is said by proved code, this page by plain code."
+NOTE = "A picture proves nothing: scq's words are those of proved code, this page is plain code."
+OFF = "The drawing needs this page's own script, which is off here."
 
 
 def part(name):
@@ -23,6 +25,11 @@ def digest(text):
 def plain(text):
     """Text that a page can hold whatever it is."""
     return html.escape(str(text).encode("utf-8", "backslashreplace").decode())
+
+
+def filled(name, **words):
+    """A template of this folder with these words, which are markup, in their places."""
+    return string.Template(part(name)).substitute(words)
 
 
 def page(title, body, data, script):
@@ -42,7 +49,7 @@ def page(title, body, data, script):
 </head>
 <body>
 {body}
-<noscript><p class="wrong">The drawing needs this page's own script, which is off here.</p></noscript>
+<noscript><p class="wrong">{OFF}</p></noscript>
 <footer>{plain(NOTE)}</footer>
 <script type="application/json" id="data">{held}</script>
 <script>{code}</script>

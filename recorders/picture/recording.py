@@ -3,7 +3,7 @@ import os
 
 from check import Opening, check, named_by, put_name
 from history import content_of, is_put, queue_of
-from page import page, plain
+from page import filled, page, plain
 from verdict import RULES, spelled
 from window import Window
 
@@ -67,7 +67,8 @@ class Drawing:
                 names.append(name)
         head = [{"name": "opening", "detail": "before all"}] if self.openings else []
         return head + [
-            {"name": f"seat {s}", "detail": ", ".join(files.get(s, ["no call here"]))} for s in self.seats
+            {"name": f"seat {s}", "detail": ", ".join(files.get(s, ["no call here"]))}
+            for s in self.seats
         ]
 
     def call(self, call):
@@ -153,11 +154,14 @@ class Drawing:
     def data(self):
         window = self.window
         ends = [
-            (at + last - first + 1, last) for (first, last), at in zip(window.stretches, window.starts)
+            (at + last - first + 1, last)
+            for (first, last), at in zip(window.stretches, window.starts)
         ]
         gaps = [
             {"from": left, "to": right, "count": f"{first - last - 1:,} events"}
-            for (left, last), right, (first, _) in zip(ends, window.starts[1:], window.stretches[1:])
+            for (left, last), right, (first, _) in zip(
+                ends, window.starts[1:], window.stretches[1:]
+            )
         ]
         return {
             "where": self.where,
@@ -169,7 +173,8 @@ class Drawing:
             ],
             "gaps": gaps,
             "lanes": self.lanes(),
-            "calls": [self.call(c) for c in window.calls] + [self.opening(n) for n in self.openings],
+            "calls": [self.call(c) for c in window.calls]
+            + [self.opening(n) for n in self.openings],
             "marks": [self.mark(e, w) for e, w in self.shown.events] if self.shown else [],
         }
 
@@ -182,9 +187,8 @@ def where_text(history, window):
     if not window.stretches:
         return "There are no events."
     rows = " and ".join(f"{first:,} to {last:,}" for first, last in window.stretches)
-    return (
-        f"Events {rows} of {history.events:,}: {window.before:,} lie before, {window.behind:,} behind."
-    )
+    around = f"{window.before:,} lie before, {window.behind:,} behind."
+    return f"Events {rows} of {history.events:,}: {around}"
 
 
 def windows_of(history, aspects, width, at):
@@ -203,42 +207,37 @@ def windows_of(history, aspects, width, at):
     return shown
 
 
-def rows_of(history, aspects, shown):
+def row_of(aspect, found, show):
+    """One aspect of the verdict's table: markup."""
+    name, rule = plain(aspect.name), plain(RULES.get(aspect.rule, ""))
+    told = f"<br><code>{plain(aspect.text)}</code>"
+    if aspect.holds:
+        told = "" if aspect.text == f"{aspect.name} holds" else told
+        return f"<tr><td><b>{name}</b></td><td>✓ holds</td><td>{rule}{told}</td></tr>"
+    says = " ".join(plain(it) for it in found.says)
+    wrong = "".join(f'<p class="wrong">Not so: {plain(it)}</p>' for it in found.wrong)
+    button = f'<button type="button" data-show="{show}" aria-pressed="false">✗ fails</button>'
+    cells = f"<td><b>{name}</b></td><td>{button}</td><td>{rule}<br>{says}{wrong}{told}</td>"
+    return f'<tr class="fails">{cells}</tr>'
+
+
+def rows_of(aspects, shown):
     """The table of the verdict: markup."""
-    rows = []
-    index = {aspect.name: i for i, (aspect, _, _) in enumerate(shown) if aspect}
-    for aspect in aspects:
-        rule = plain(RULES.get(aspect.name, ""))
-        if aspect.holds:
-            more = aspect.text[len(aspect.name) + len(" holds") :]
-            more = f"<br><code>{plain(aspect.text)}</code>" if more else ""
-            rows.append(
-                f'<tr data-aspect="{plain(aspect.name)}"><td><b>{plain(aspect.name)}</b></td><td>✓'
-                f" holds</td><td>{rule}{more}</td></tr>"
-            )
-            continue
-        found = shown[index[aspect.name]][1]
-        says = " ".join(plain(it) for it in found.says)
-        wrong = "".join(f'<p class="wrong">Not so: {plain(it)}</p>' for it in found.wrong)
-        rows.append(
-            f'<tr class="fails" data-aspect="{plain(aspect.name)}"><td><b>{plain(aspect.name)}</b></td>'
-            f'<td><button type="button" data-show="{index[aspect.name]}" aria-pressed="false">✗ fails'
-            f"</button></td><td>{rule}<br>{says}{wrong}<br><code>{plain(aspect.text)}</code></td></tr>"
-        )
-    return "".join(rows)
+    there = {id(aspect): (found, show) for show, (aspect, found, _) in enumerate(shown)}
+    return "".join(row_of(aspect, *there.get(id(aspect), (None, None))) for aspect in aspects)
 
 
 def legend():
     bits = []
     for kind, words in LEGEND:
-        shape = '<rect class="box" x="2" y="2" width="34" height="14" rx="%d"/>'
-        shape %= 7 if kind.startswith("get") else 2
-        over = '<rect class="over" x="2" y="2" width="34" height="14"/>' if "spent" in kind else ""
+        at = 'x="2" y="2" width="34" height="14"'
+        box = f'<rect class="box" {at} rx="{7 if kind.startswith("get") else 2}"/>'
+        over = f'<rect class="over" {at}/>' if "spent" in kind else ""
+        shape = f'<g class="bar {kind}">{box}{over}</g>'
         bits.append(
-            f'<span><svg width="38" height="18" aria-hidden="true"><g class="key {kind}">{shape}{over}'
-            f"</g></svg> {words}</span>"
+            f'<span><svg width="38" height="18" aria-hidden="true">{shape}</svg> {words}</span>'
         )
-    return "".join(bits).replace('class="key ', 'class="bar key ')
+    return "".join(bits)
 
 
 def recording_page(history, aspects, counts, at=None, width=400):
@@ -263,8 +262,13 @@ def recording_page(history, aspects, counts, at=None, width=400):
             (counts.get("overlapping", 0), "overlapping call"),
         )
     )
-    title = f"{' and '.join(fails)} fail{'' if len(fails) > 1 else 's'}" if fails else "all aspects hold"
-    banner = "".join(f'<p class="wrong" data-wrong>Not as the verdict says: {plain(w)}</p>' for w in wrong)
+    title = "all aspects hold"
+    if fails:
+        title = ", ".join(fails[:-1]) + (" and " if fails[1:] else "") + fails[-1]
+        title += " fail" if fails[1:] else " fails"
+    banner = "".join(
+        f'<p class="wrong" data-wrong>Not as the verdict says: {plain(w)}</p>' for w in wrong
+    )
     around = ""
     if shown[-1][0] is None:
         words = "The window that was asked for"
@@ -274,24 +278,14 @@ def recording_page(history, aspects, counts, at=None, width=400):
             f'<p><button type="button" data-show="{len(shown) - 1}" aria-pressed="false">'
             f"{words}</button></p>"
         )
-    body = f"""<h1>Recording: {plain(title)}</h1>
-<p>{plain(head)}. <span class="soft">{plain(names)}</span></p>
-{banner}
-<table class="aspects">{rows_of(history, aspects, shown)}</table>
-{around}
-<p id="where"></p>
-<ol id="marked"></ol>
-<div class="tools"><button type="button" id="in">+ closer</button>
-<button type="button" id="out">− wider</button><button type="button" id="fit">0 whole window</button>
-<span class="soft">drag or ← → to move, + − to zoom (or Ctrl and the wheel), n p for the marks,
-. , for the calls, a click holds a call, Esc lets it go</span></div>
-<div class="stage"><div id="lanes"></div>
-<div id="view" tabindex="0" role="group" aria-label="Lanes of seats with bars of calls; the table below has the same">
-<svg id="drawing" role="img" aria-label="Calls by seat, in the order of events"></svg></div></div>
-<p id="told" aria-live="polite"></p>
-<div class="legend">{legend()}<span>Across: the events in the order of their stamps. In a bar: the number
-of the put in its seat's count, or seat·number of the put that was got.</span></div>
-<details id="table"><summary>The calls of this window as a table</summary>
-<table class="rows"><thead><tr><th>seat</th><th>call</th><th>what it did</th></tr></thead>
-<tbody id="calls"></tbody></table></details>"""
+    body = filled(
+        "history.html",
+        title=plain(title),
+        head=plain(head),
+        names=plain(names),
+        banner=banner,
+        rows=rows_of(aspects, shown),
+        around=around,
+        legend=legend(),
+    )
     return page(f"scq judge: {title}", body, {"windows": windows}, "history.js"), wrong

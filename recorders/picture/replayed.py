@@ -5,7 +5,7 @@ what it printed and from the schedule. The start is docs/MACHINE.md's.
 """
 import re
 
-from page import page, plain
+from page import filled, page, plain
 from verdict import Refusal, spelled
 
 SETUP = re.compile(r"setup (\d{1,2}) (\d{1,2}) (\d{1,4}) (\d{1,19})")
@@ -75,12 +75,16 @@ class Steps:
         return self.rings[number]
 
     def add(self, at, given, printed, following):
-        """One step: the schedule's words, those that were printed, and the seat's next step here."""
+        """One step: the schedule's words, those printed, and the seat's next step here."""
         seat_number, name = int(given.group(1)), given.group(2)
         ring, reply = int(printed.group(4)), printed.group(9)
         words = [int(word) for word in printed.group(8).split()]
         after = [int(printed.group(5)), int(printed.group(6)), int(printed.group(7)), words]
-        if (int(printed.group(1)), int(printed.group(2)), printed.group(3)) != (at, seat_number, name):
+        if (int(printed.group(1)), int(printed.group(2)), printed.group(3)) != (
+            at,
+            seat_number,
+            name,
+        ):
             raise Refusal(f"step {at}: what was printed isn't of this schedule")
         if ring >= self.setup.rings or len(words) != self.setup.slots:
             raise Refusal(f"step {at}: what was printed isn't of this setup")
@@ -89,7 +93,11 @@ class Steps:
         if given.group(3) is not None:
             seat.ring, seat.ticket = ring, None
             seat.index = int(given.group(4)) if given.group(4) else None
-            seat.call = f"put of index {seat.index} into ring {ring}" if seat.index is not None else f"get from ring {ring}"
+            seat.call = (
+                f"put of index {seat.index} into ring {ring}"
+                if seat.index is not None
+                else f"get from ring {ring}"
+            )
         if seat.call is None or seat.ring != ring:
             raise Refusal(f"step {at}: seat {seat_number} is in no call on ring {ring}")
         if name in ("E1", "D2"):
@@ -125,7 +133,12 @@ class Steps:
         old = None if slot is None else before[3][slot]
         new = None if slot is None else after[3][slot]
         word = "" if old is None else entry_text(setup, old)
-        goes = {"E1": "draws again", "D2": "goes on", "D3": "loads it again", "E2": "loads it again"}
+        goes = {
+            "E1": "draws again",
+            "D2": "goes on",
+            "D3": "loads it again",
+            "E2": "loads it again",
+        }
         if name == "E1":
             text = f"draws ticket {ticket} from Tail: slot {slot} in cycle {ticket // setup.slots}"
         elif name == "E2":
@@ -133,10 +146,14 @@ class Steps:
             may["E1"] = "; the slot is passed over"
             text = f"loads the entry of slot {slot}: {word}{may.get(following, '')}"
         elif name == "E3":
-            may = {"E4": ": not past the ticket, it may place there", "E1": ": past the ticket, the slot is passed over"}
+            may = {
+                "E4": ": not past the ticket, it may place there",
+                "E1": ": past the ticket, the slot is passed over",
+            }
             text = f"loads Head: {before[0]}{may.get(following, '')}"
         elif name == "E4":
-            text = f"places index {seat.index} at ticket {ticket}: slot {slot} is {entry_text(setup, new)}"
+            text = f"places index {seat.index} at ticket {ticket}: slot {slot} is"
+            text += f" {entry_text(setup, new)}"
             if old == new:
                 text = f"finds the entry of slot {slot} changed, places nothing, and {goes['E2']}"
         elif name == "E5":
@@ -144,22 +161,36 @@ class Steps:
         elif name == "E6":
             text = f"stores the reset value in Threshold: {after[2]}"
         elif name == "D1":
-            text = f"loads Threshold: {before[2]}" + (", below 0: the ring is empty" if reply else "")
+            text = f"loads Threshold: {before[2]}" + (
+                ", below 0: the ring is empty" if reply else ""
+            )
         elif name == "D2":
             text = f"draws ticket {ticket} from Head: slot {slot} in cycle {ticket // setup.slots}"
         elif name == "D3":
-            may = {"D4": "; its own cycle, so it takes", "D6": "; a later cycle", "D5": "; an earlier cycle, so it gives the slot up"}
+            may = {
+                "D4": "; its own cycle, so it takes",
+                "D6": "; a later cycle",
+                "D5": "; an earlier cycle, so it gives the slot up",
+            }
             text = f"loads the entry of slot {slot}: {word}{may.get(following, '')}"
         elif name == "D4":
             text = f"takes index {setup.entry(old)[2]} out of slot {slot}: {entry_text(setup, new)}"
         elif name == "D5":
-            kind = "marks slot %d unsafe" if setup.entry(old)[2] is not None else "moves slot %d on, past any put of its ticket"
+            kind = (
+                "marks slot %d unsafe"
+                if setup.entry(old)[2] is not None
+                else "moves slot %d on, past any put of its ticket"
+            )
             text = f"{kind % slot}: {entry_text(setup, new)}"
             if old == new:
                 text = f"finds the entry of slot {slot} changed, and {goes['D3']}"
         elif name == "D6":
             ahead = before[1] > ticket + 1
-            text = f"loads Tail: {before[1]}, " + ("ahead of the ticket: there may be more" if ahead else "not ahead of the ticket: the ring is empty")
+            text = f"loads Tail: {before[1]}, " + (
+                "ahead of the ticket: there may be more"
+                if ahead
+                else "not ahead of the ticket: the ring is empty"
+            )
         elif name == "D7":
             text = f"brings Tail up from {before[1]} to {after[1]}"
             if before[1] == after[1]:
@@ -175,7 +206,9 @@ class Steps:
         ends = {"done": "Done at place", "got": "Got from place", "spent": "Spent, ticket"}
         if reply:
             word, *rest = reply.split(" ")
-            text += f". The call ends with {ends.get(word, 'Nothing')} {' '.join(rest[:1])}".rstrip()
+            text += (
+                f". The call ends with {ends.get(word, 'Nothing')} {' '.join(rest[:1])}".rstrip()
+            )
         return text + "."
 
 
@@ -234,24 +267,11 @@ def replayed_page(name, schedule, printed):
         row["headAt"], row["tailAt"] = row["head"] % setup.slots, row["tail"] % setup.slots
         row["head"], row["tail"] = str(row["head"]), str(row["tail"])
     title = f"{spelled(name).rsplit('/', 1)[-1]}"
-    body = f"""<h1>Schedule: {plain(title)}</h1>
-<p>{len(steps.steps):,} steps of {len(steps.seats)} seats on {len(touched)} rings; order {setup.order}: {setup.n}
-indices, {setup.slots} slots a ring; Threshold's reset value is {setup.reset}. The longest window of steps that
-end no call: {long} from step {first + 1} on.</p>
-<div class="tools"><button type="button" id="first">start</button>
-<button type="button" id="back">◀ back</button><button type="button" id="on">step ▶</button>
-<button type="button" id="last">end</button><button type="button" id="play" aria-pressed="false">play</button>
-<input type="range" id="at" min="0" max="{len(steps.steps)}" value="0" aria-label="step">
-<span id="number"></span></div>
-<p class="soft">← → a step, PageUp PageDown ten, Home End, space plays</p>
-<p id="says" aria-live="polite"></p>
-<div class="rings" id="rings"></div>
-<div class="columns"><div><h2>Seats: who is where</h2>
-<table class="rows"><thead><tr><th>seat</th><th>call</th><th>ticket, slot</th><th>made</th><th>next here</th></tr></thead>
-<tbody id="seats"></tbody></table></div>
-<div><h2>Steps</h2><ol id="steps"></ol></div></div>
-<p class="soft">A slot shows its cycle, s or u for safe or unsafe (dashed and hatched), and the index in it (filled), or –. Slots
-stand in the order of tickets, clockwise from the top; the number outside is the slot's. H and T stand at the slots of Head's and
-Tail's tickets, and the arc runs from one to the other. A disc is a seat, at the slot of the ticket that it drew. What the last step
-changed is red, and outlined.</p>"""
+    head = (
+        f"{len(steps.steps):,} steps of {len(steps.seats)} seats on {len(touched)} rings; order"
+        f" {setup.order}: {setup.n} indices, {setup.slots} slots a ring; Threshold's reset value is"
+        f" {setup.reset}. The longest window of steps that end no call: {long} from step {first + 1}"
+        " on."
+    )
+    body = filled("ring.html", title=plain(title), head=plain(head), steps=len(steps.steps))
     return page(f"scq replay: {title}", body, data, "ring.js")

@@ -26,19 +26,24 @@ RULES = {
 }
 
 
+# Aspects that are told by more than one name.
+NAMES = {"refused never got": "refused"}
+
+
 class Refusal(Exception):
     """Why there is no picture, in a line."""
 
 
 class Aspect:
-    """One line of a verdict. `places` are (file, line), the file's number from 0; the first is
-    that of the event that breaks the aspect."""
+    """One line of a verdict, and `rule`, by which name it stands in RULES. `places` are (file,
+    line), the file's number from 0; the first is that of the event that breaks the aspect."""
 
     def __init__(self, name, holds, text, places):
         self.name, self.holds, self.text, self.places = name, holds, text, places
+        self.rule = NAMES.get(name, name)
         waiting = re.search(r"\b(\d{1,19}) waiting\b", text)
         self.waiting = int(waiting.group(1)) if waiting else None
-        self.never = "never got" in text
+        self.never = text.endswith(", never got")
 
 
 def spelled(name):
