@@ -8,7 +8,7 @@
       style.split('/* the drawing of a recording */')[1].split('/* below it */')[0] +
       '.name { text-anchor: start; font-weight: 700; font-size: 13px; }';
   const size = {width: wide + left, height: high};
-  const root = drawn('svg', {viewBox: `${-left} 0 ${wide + left} ${high}`, ...size});
+  const root = drawn('svg', {role: 'img', viewBox: `${-left} 0 ${wide + left} ${high}`, ...size});
   root.append(
       drawn('title', {}, document.title), drawn('style', {}, needed),
       drawn('rect', {x: -left, y: 0, ...size, fill: 'var(--back)'}));
