@@ -123,13 +123,14 @@ class Source:
                 elif words[0] == b"opening":
                     self.opening(line, words)
                 else:
+                    last = line
                     add((line, number, line, words))
         except ValueError:
             raise self.bad(line) from None
         self.first_line, self.last = line, last
 
     def opening(self, line, words):
-        if len(words) != 2 or self.number or self.events:
+        if len(words) != 2 or self.number or self.last >= 0 or self.events:
             raise self.bad(line)
         if line > len(self.openings):
             self.openings.append(words[1])

@@ -20,7 +20,7 @@ class Window:
         self.stretches = []
         wanted = [(r, width // 2 if r == ranks[0] else width // 8) for r in ranks]
         for first, last in sorted((max(1, r - w), min(history.events, r + w)) for r, w in wanted):
-            if self.stretches and first <= self.stretches[-1][1] + GAP + 1:
+            if self.stretches and first <= self.stretches[-1][1] + width // 8 + GAP:
                 self.stretches[-1][1] = max(last, self.stretches[-1][1])
             else:
                 self.stretches.append([first, last])
