@@ -97,7 +97,7 @@ take_no_room topic before old new is =
       empty = λ e. absurd (omega (arith, e));
       spent = λ e. absurd (omega (arith, e));
       no_topic = λ e. absurd (omega (arith, e));
-      no_room = λ e. (refl, is);
+      no_room = λ e. (refl, is.0, is.1);
       known = inr (inr (inr (inr refl)));
     }
 
@@ -129,7 +129,7 @@ send_not_held index topic before old new is =
     record {
       sent = λ e. absurd (omega (arith, e));
       spent = λ e. absurd (omega (arith, e));
-      not_held = λ e. (refl, is);
+      not_held = λ e. (refl, is.0, is.1, is.2);
       no_topic = λ e. absurd (omega (arith, e));
       retired = λ e. absurd (omega (arith, e));
       known = inr (inr (inl refl));
@@ -154,7 +154,7 @@ send_retired index topic before old new is =
       spent = λ e. absurd (omega (arith, e));
       not_held = λ e. absurd (omega (arith, e));
       no_topic = λ e. absurd (omega (arith, e));
-      retired = λ e. (refl, is);
+      retired = λ e. (refl, is.0, is.1);
       known = inr (inr (inr (inr refl)));
     }
 
