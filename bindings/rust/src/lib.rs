@@ -61,13 +61,17 @@
 mod bell;
 mod error;
 mod held;
+mod listener;
 mod memory;
 mod port;
 mod queue;
+mod rung;
 mod sys;
 
-pub use bell::{Bell, Guard, Lending, Listener, Rung, Taking, TakingAny, WaitError};
+pub use bell::{Bell, Lending, Taking, TakingAny, WaitError};
 pub use error::{LendError, OpenError, Refused, SendRefusal, Spent, TakeError};
 pub use held::{Lent, Taken};
+pub use listener::Listener;
 pub use port::{Counts, Port};
 pub use queue::{Queue, Setup};
+pub use rung::{Guard, Rung};
