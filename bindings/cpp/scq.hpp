@@ -132,6 +132,49 @@ private:
     Cell *cell_ = nullptr;
 };
 
+// A message that was packed with others: bytes in the buffer that it came with.
+class Message {
+public:
+    Message(const unsigned char *data, std::size_t size) noexcept : data_(data), size_(size) {}
+    const unsigned char *data() const noexcept { return data_; }
+    std::size_t size() const noexcept { return size_; }
+    const unsigned char *begin() const noexcept { return data_; }
+    const unsigned char *end() const noexcept { return data_ + size_; }
+
+private:
+    const unsigned char *data_;
+    std::size_t size_;
+};
+
+// The messages that stand in a buffer, in their order: a range for a loop.
+class Messages {
+public:
+    class iterator {
+    public:
+        explicit iterator(const scq_held *held) noexcept : held_(held) { ++*this; }
+        Message operator*() const noexcept { return Message(at_, len_); }
+        iterator &operator++() noexcept {
+            if (held_ != nullptr && scq_unpack(held_, &next_, &at_, &len_) == 0) held_ = nullptr;
+            return *this;
+        }
+        // (For the end of a loop: whether both are at the end.)
+        bool operator!=(const iterator &other) const noexcept { return held_ != other.held_; }
+
+    private:
+        const scq_held *held_;
+        std::size_t next_ = 0;
+        const unsigned char *at_ = nullptr;
+        std::size_t len_ = 0;
+    };
+
+    explicit Messages(const scq_held &held) noexcept : held_(held) {}
+    iterator begin() const noexcept { return iterator(&held_); }
+    iterator end() const noexcept { return iterator(nullptr); }
+
+private:
+    scq_held held_;
+};
+
 // A buffer that a port holds, or none and why. Where it ends, the buffer is given back.
 class Held {
 public:
@@ -163,6 +206,23 @@ public:
     std::span<unsigned char> bytes() noexcept { return {data(), size()}; }
     std::span<const unsigned char> bytes() const noexcept { return {data(), size()}; }
 #endif
+
+    // Several small messages in one buffer, each behind its length: scq.h says how they stand
+    // there. `pack` answers whether there was room, `pack_room` where a message of `size` bytes is
+    // to be written, or null.
+    void pack_begin() noexcept {
+        const scq_held held = here();
+        scq_pack_begin(&held);
+    }
+    SCQ_NODISCARD bool pack(const void *message, std::size_t size) noexcept {
+        const scq_held held = here();
+        return scq_pack(&held, message, size) != 0;
+    }
+    SCQ_NODISCARD unsigned char *pack_room(std::size_t size) noexcept {
+        const scq_held held = here();
+        return scq_pack_room(&held, size);
+    }
+    Messages messages() const noexcept { return Messages(here()); }
 
     // The buffer's number, below the number of buffers.
     std::uint32_t index() const noexcept { return held_.index; }
@@ -207,6 +267,13 @@ protected:
     ~Held() { end_here(); }
 
 private:
+    // The buffer, or one without bytes.
+    scq_held here() const noexcept {
+        scq_held held = held_;
+        if (!*this) held.len = 0;
+        return held;
+    }
+
     Answer none() const noexcept {
         return answer_ == Answer::Closed ? Answer::Closed : Answer::NotHeld;
     }

@@ -8,6 +8,7 @@
 #include <array>
 #include <cstdio>
 #include <cstring>
+#include <string>
 #include <thread>
 #include <type_traits>
 #include <utility>
@@ -253,6 +254,26 @@ static void bytes_are_a_span() {
 #endif
 }
 
+static void messages_are_packed() {
+    Port port;
+    Setup setup = small();
+    setup.size = 32;
+    CHECK(Queue::open(setup, &port, 1) == Answer::Ok);
+    Lent lent = port.lend();
+    lent.pack_begin();
+    CHECK(lent.pack("first", 5) && lent.pack("second", 6) && !lent.pack("third", 10));
+    CHECK(lent.pack_room(1) != nullptr && lent.send(0));
+    CHECK(!lent.pack("x", 1) && lent.pack_room(0) == nullptr);
+    const Taken taken = port.take(0);
+    std::vector<std::string> all;
+    for (const scq::Message message : taken.messages()) {
+        all.emplace_back(message.begin(), message.end());
+    }
+    CHECK(all.size() == 3 && all[0] == "first" && all[1] == "second" && all[2].size() == 1);
+    lent.pack_begin();
+    for (const scq::Message message : lent.messages()) CHECK(message.size() > SIZE_MAX);
+}
+
 static void tickets_run_out() {
     Setup setup = small();
     setup.limit = 16;
@@ -285,6 +306,7 @@ int main() {
     guards_outlive_their_port();
     a_port_and_its_buffers_live_in_one_value();
     bytes_are_a_span();
+    messages_are_packed();
     tickets_run_out();
     std::puts("owners end what they have");
     return 0;

@@ -73,6 +73,7 @@
 mod error;
 mod held;
 mod memory;
+mod pack;
 mod port;
 mod queue;
 mod ring;
@@ -81,6 +82,7 @@ mod told;
 
 pub use error::{LendError, OpenError, Refused, SendRefusal, Spent, TakeError};
 pub use held::{Lent, OwnedLent, OwnedTaken, Taken};
+pub use pack::{messages, Messages, Packer};
 pub use port::{Counts, Port};
 pub use queue::{Queue, Setup};
 pub use ring::{Handle, Ring};
