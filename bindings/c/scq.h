@@ -13,15 +13,17 @@
  * What the caller has to uphold. Nothing of it is tested; where it is broken anything may happen, as where C's own rules are.
  *
  * 1. A port is SCQ_NONE before scq_open, and only these calls change it. An open one is never copied; but it may be moved to another place, if
- *    no call is made with it meanwhile and the old place is set to SCQ_NONE or not used again. scq_close makes it SCQ_NONE.
+ *    no call is made with it meanwhile and the old place is set to SCQ_NONE or not used again. scq_close makes it SCQ_NONE; one that isn't
+ *    closed keeps its queue, and what it holds, until the process ends.
  * 2. Every pointer that is handed in is non-null, aligned, and points to memory of its type that may be written; what two pointers of one call
  *    point to lies apart. `n` ports begin at `ports`; also where n is 0, `ports` is not null.
  * 3. One call at a time is made with a port, by whichever thread has it, also where a signal handler makes one. Calls with different ports may
- *    meet in any way.
+ *    meet in any way. A call that has begun is let end: no thread is cancelled asynchronously in it, and no signal handler jumps out of it.
+ *    (Where two threads call with one port, one of them is often told that the port is closed.)
  * 4. Who hands a port to another thread does so by what orders memory: starting or joining the thread, a lock, an atomic that is released and
  *    acquired. So with a buffer's address, if another thread is to use the bytes.
- * 5. The bytes of a buffer are touched only while a port holds it: from the scq_lend or scq_take that answered SCQ_OK until the scq_send or
- *    scq_give_back that does, or scq_close.
+ * 5. The bytes of a buffer, its `len` and no others, are touched only while a port holds it: from the scq_lend or scq_take that answered
+ *    SCQ_OK until the scq_send or scq_give_back that does, or scq_close.
  * 6. After fork the child makes no call with the parent's ports, and doesn't touch their buffers.
  *
  * Everything else is tested by the calls, and answered. Of each call there stands below what is tested and what is answered; where several
@@ -89,7 +91,8 @@ static inline scq_port scq_none() {
 #define SCQ_NONE scq_none()
 #endif
 
-/* A buffer that a port holds. */
+/* A buffer that a port holds. Once it was sent or given back, its index names whatever buffer of that number the port holds then, if any; and in
+ * the hands of another queue's port, that queue's. */
 typedef struct scq_held {
     unsigned char *at; /* its bytes; a buffer lies at this address as long as the queue lives */
     size_t len;        /* how many they are: the queue's `size` */

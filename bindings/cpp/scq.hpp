@@ -517,9 +517,11 @@ template <class T> class Ring {
             return *this;
         }
         ~Share() {
-            if (core_ != nullptr && core_->owners.fetch_sub(1, std::memory_order_acq_rel) == 1) {
-                delete core_;
-            }
+            if (core_ == nullptr) return;
+            scq_tell_before(core_);
+            if (core_->owners.fetch_sub(1, std::memory_order_acq_rel) != 1) return;
+            scq_tell_after(core_);
+            delete core_;
         }
         Core *get() const noexcept { return core_; }
 

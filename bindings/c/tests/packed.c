@@ -1,11 +1,11 @@
-/* What scq_pack and scq_unpack do with any bytes: what was appended is found again, nothing else is, and
- * no byte past a buffer is touched: each buffer is an allocation of its own, of just its length, so that
- * the address sanitizer and valgrind see it.
+/* What scq_pack and scq_unpack do with any bytes: what was appended is found again, nothing else
+ * is, and no byte past a buffer is touched: each buffer is an allocation of its own, of just its
+ * length, so that the address sanitizer and valgrind see it.
  *
  *     packed [ROUNDS [SEED]]
  *
- * makes so many rounds (100000) with bytes that are drawn. Compiled with -DFUZZ it has no main: a fuzzer
- * has the bytes.
+ * makes so many rounds (100000) with bytes that are drawn. Compiled with -DFUZZ it has no main: a
+ * fuzzer has the bytes.
  */
 #include "scq.h"
 
@@ -125,7 +125,8 @@ static void edges(void) {
     for (size_t size = 0; size < 20; size++) {
         held = buffer_of(size);
         scq_pack_begin(&held);
-        CHECK(scq_pack(&held, "123456", 6) == (size >= 14) && scq_pack_room(&held, SIZE_MAX) == NULL);
+        CHECK(scq_pack(&held, "123456", 6) == (size >= 14));
+        CHECK(scq_pack_room(&held, SIZE_MAX) == NULL);
         CHECK(scq_pack(&held, NULL, 0) == (size >= 18 || (size >= 8 && size < 14)));
         next = 0;
         CHECK(scq_unpack(&held, &next, &at, &len) == (size >= 8));
