@@ -37,7 +37,6 @@ fn main() {
         ));
     }
     // What ThreadSanitizer has to be told.
-    println!("cargo:rustc-check-cfg=cfg(scq_tsan)");
     if env::var("CARGO_CFG_SANITIZE").map_or(false, |names| names.contains("thread")) {
         println!("cargo:rustc-cfg=scq_tsan");
     }

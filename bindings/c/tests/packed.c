@@ -117,8 +117,8 @@ int LLVMFuzzerTestOneInput(const unsigned char *bytes, size_t count) {
 #ifndef FUZZ
 static void edges(void) {
     scq_held held = {NULL, 0, 0, 0};
-    size_t next = 0, len;
-    const unsigned char *at;
+    size_t next = 0, len = 0;
+    const unsigned char *at = NULL;
     /* A buffer that was refused. */
     scq_pack_begin(&held);
     CHECK(scq_pack(&held, "x", 1) == 0 && scq_unpack(&held, &next, &at, &len) == 0);

@@ -1,6 +1,10 @@
 //! What ThreadSanitizer is told. It doesn't see into the library, which isn't compiled with it: so
 //! it is told that what a thread did with a buffer before it let go of it comes before what the
 //! next holder does.
+
+// Compilers that know the names of all flags have to be told of this one, and older ones don't.
+#![allow(unknown_lints, unexpected_cfgs)]
+
 use std::os::raw::c_void;
 
 #[cfg(scq_tsan)]
