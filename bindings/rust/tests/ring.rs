@@ -61,7 +61,8 @@ fn what_is_out_of_range_is_refused() {
         assert_eq!(Ring::<u8>::new(1, handles).unwrap_err(), OpenError::Ports);
     }
     assert_eq!(Ring::<u8>::with_limit(1, 1, 15).unwrap_err(), OpenError::Limit);
-    assert_eq!(Ring::<u8>::new(12, 4096).unwrap().capacity(), 4096);
+    assert_eq!(Ring::<u8>::new(1, 4096).unwrap().capacity(), 2);
+    assert_eq!(Ring::<u8>::new(12, 1).unwrap().capacity(), 4096);
 }
 
 #[test]
