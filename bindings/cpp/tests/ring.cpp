@@ -223,9 +223,8 @@ static void boxes_between_threads(std::uint64_t boxes, std::uint64_t threads) {
             auto thrown = copies.handle();
             std::uint64_t next = t;
             Box mine;
-            while (popped < boxes) {
+            for (; popped < boxes; std::this_thread::yield()) { // so that another gets the handle
                 auto handle = ring.handle();
-                if (!handle) std::this_thread::yield();
                 for (int i = 0; handle && i < 1000 && popped < boxes; i++) {
                     if (!mine && next < boxes) {
                         mine.reset(new Counted(next));

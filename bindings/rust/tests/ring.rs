@@ -195,12 +195,11 @@ fn boxes_between_threads() {
         let mut mine = None;
         let mut next = thread;
         while popped.load(Ordering::SeqCst) < boxes {
+            // So that another thread gets the handle.
+            thread::yield_now();
             let handle = match ring.handle() {
                 Some(handle) => handle,
-                None => {
-                    thread::yield_now();
-                    continue;
-                }
+                None => continue,
             };
             for _ in 0..1000 {
                 if mine.is_none() && next < boxes {
