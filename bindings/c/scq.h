@@ -321,6 +321,7 @@ static inline uint32_t scq_end_told(scq_port *port, scq_ended *out) {
 #define scq_end scq_end_told
 #undef SCQ_ASIDE
 #endif
+#undef SCQ_TSAN
 
 /* The calls that the next two functions are made of: they write the buffer's index and place to `out`, and not where it lies. */
 SCQ_ANSWERED uint32_t scq_lend_index(scq_port *port, scq_held *out);
