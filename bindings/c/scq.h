@@ -13,15 +13,17 @@
  * What the caller has to uphold. Nothing of it is tested; where it is broken anything may happen, as where C's own rules are.
  *
  * 1. A port is SCQ_NONE before scq_open, and only these calls change it. An open one is never copied; but it may be moved to another place, if
- *    no call is made with it meanwhile and the old place is set to SCQ_NONE or not used again. scq_close makes it SCQ_NONE.
+ *    no call is made with it meanwhile and the old place is set to SCQ_NONE or not used again. scq_close makes it SCQ_NONE; one that isn't
+ *    closed keeps its queue, and what it holds, until the process ends.
  * 2. Every pointer that is handed in is non-null, aligned, and points to memory of its type that may be written; what two pointers of one call
  *    point to lies apart. `n` ports begin at `ports`, and `n` counts at `counts`; also where n is 0, neither is null.
  * 3. One call at a time is made with a port, by whichever thread has it, also where a signal handler makes one. Calls with different ports may
- *    meet in any way.
+ *    meet in any way. A call that has begun is let end: no thread is cancelled asynchronously in it, and no signal handler jumps out of it.
+ *    (Where two threads call with one port, one of them is often told that the port is closed.)
  * 4. Who hands a port to another thread does so by what orders memory: starting or joining the thread, a lock, an atomic that is released and
  *    acquired. So with a buffer's address, if another thread is to use the bytes.
- * 5. The bytes of a buffer are touched only while a port holds it: from the scq_lend or scq_take that answered SCQ_OK until the scq_send or
- *    scq_give_back that does, or scq_close.
+ * 5. The bytes of a buffer, its `len` and no others, are touched only while a port holds it: from the scq_lend or scq_take that answered
+ *    SCQ_OK until the scq_send or scq_give_back that does, or scq_close.
  * 6. After fork the child makes no call with the parent's ports, and doesn't touch their buffers.
  *
  * Everything else is tested by the calls, and answered. Of each call there stands below what is tested and what is answered; where several
@@ -34,6 +36,10 @@
 #include <stddef.h>
 #include <stdint.h>
 #include <stdlib.h>
+#include <string.h>
+#ifdef SCQ_VALGRIND
+#include <valgrind/helgrind.h>
+#endif
 
 #ifdef __cplusplus
 extern "C" {
@@ -85,7 +91,8 @@ static inline scq_port scq_none() {
 #define SCQ_NONE scq_none()
 #endif
 
-/* A buffer that a port holds. */
+/* A buffer that a port holds. Once it was sent or given back, its index names whatever buffer of that number the port holds then, if any; and in
+ * the hands of another queue's port, that queue's. */
 typedef struct scq_held {
     unsigned char *at; /* its bytes; a buffer lies at this address as long as the queue lives */
     size_t len;        /* how many they are: the queue's `size` */
@@ -217,6 +224,120 @@ static inline SCQ_ANSWERED uint32_t scq_open_over_checked(uint32_t order, uint32
 }
 #define scq_open_over scq_open_over_checked
 
+/* For tools that watch threads, which don't see into the library. ThreadSanitizer, where this file is
+ * compiled with it, is told that what a thread did with a buffer before it let go of it comes before
+ * what the next holder does. So are helgrind and DRD, where SCQ_VALGRIND is defined; what they would
+ * say of the library's own words is kept back then. Without these nothing of it is in a program. */
+
+#if defined(__SANITIZE_THREAD__)
+#define SCQ_TSAN
+#elif defined(__has_feature)
+#if __has_feature(thread_sanitizer)
+#define SCQ_TSAN
+#endif
+#endif
+#ifdef SCQ_TSAN
+void __tsan_release(void *address);
+void __tsan_acquire(void *address);
+#endif
+
+static inline void scq_tell_before(void *address) {
+    (void)address;
+#ifdef SCQ_TSAN
+    __tsan_release(address);
+#endif
+#ifdef SCQ_VALGRIND
+    ANNOTATE_HAPPENS_BEFORE(address);
+#endif
+}
+
+static inline void scq_tell_after(void *address) {
+    (void)address;
+#ifdef SCQ_TSAN
+    __tsan_acquire(address);
+#endif
+#ifdef SCQ_VALGRIND
+    ANNOTATE_HAPPENS_AFTER(address);
+#endif
+}
+
+#if defined(SCQ_TSAN) || defined(SCQ_VALGRIND)
+#ifdef SCQ_VALGRIND
+#define SCQ_ASIDE(call) \
+    VALGRIND_DISABLE_ERROR_REPORTING; \
+    call; \
+    VALGRIND_ENABLE_ERROR_REPORTING
+#else
+#define SCQ_ASIDE(call) call
+#endif
+
+SCQ_ANSWERED uint32_t scq_lend_index(scq_port *port, scq_held *out);
+SCQ_ANSWERED uint32_t scq_take_index(scq_port *port, uint32_t topic, scq_held *out);
+SCQ_ANSWERED uint32_t scq_send(scq_port *port, uint32_t index, uint32_t topic, uint64_t *place);
+uint32_t scq_give_back(scq_port *port, uint32_t index);
+uint32_t scq_end(scq_port *port, scq_ended *out, scq_counts *counts, size_t n);
+
+/* A buffer is named to the tools by an address of its own, base + index: there is a byte at it, and an
+ * index that is no buffer's makes no wild one. What a port holds that is closed is named by the base. */
+
+static inline void scq_tell_got(const scq_port *port, uint32_t answer, uint32_t index) {
+    if (answer != SCQ_OK) return;
+    scq_tell_after(port->memory.base + index);
+    scq_tell_after(port->memory.base);
+}
+
+static inline void scq_tell_lets_go(const scq_port *port, uint32_t index) {
+    if (port->at == SCQ_NULL || index >> SCQ_MAX_ORDER != 0) return;
+    scq_tell_before(port->memory.base + index);
+}
+
+static inline SCQ_ANSWERED uint32_t scq_lend_index_told(scq_port *port, scq_held *out) {
+    uint32_t answer;
+    SCQ_ASIDE(answer = scq_lend_index(port, out));
+    scq_tell_got(port, answer, out->index);
+    return answer;
+}
+
+static inline SCQ_ANSWERED uint32_t scq_take_index_told(scq_port *port, uint32_t topic,
+    scq_held *out) {
+    uint32_t answer;
+    SCQ_ASIDE(answer = scq_take_index(port, topic, out));
+    scq_tell_got(port, answer, out->index);
+    return answer;
+}
+
+static inline SCQ_ANSWERED uint32_t scq_send_told(scq_port *port, uint32_t index, uint32_t topic,
+    uint64_t *place) {
+    uint32_t answer;
+    scq_tell_lets_go(port, index);
+    SCQ_ASIDE(answer = scq_send(port, index, topic, place));
+    return answer;
+}
+
+static inline uint32_t scq_give_back_told(scq_port *port, uint32_t index) {
+    uint32_t answer;
+    scq_tell_lets_go(port, index);
+    SCQ_ASIDE(answer = scq_give_back(port, index));
+    return answer;
+}
+
+static inline uint32_t scq_end_told(scq_port *port, scq_ended *out, scq_counts *counts,
+    size_t n) {
+    uint32_t answer;
+    scq_tell_lets_go(port, 0);
+    SCQ_ASIDE(answer = scq_end(port, out, counts, n));
+    return answer;
+}
+
+#define scq_lend_index scq_lend_index_told
+#define scq_take_index scq_take_index_told
+#define scq_send scq_send_told
+#define scq_give_back scq_give_back_told
+#define scq_end scq_end_told
+#undef SCQ_ASIDE
+#endif
+#undef SCQ_TSAN
+
 /* The calls that the next two functions are made of, with the same answers: they write the buffer's
  * index and place to `out`, and not where it lies. */
 SCQ_ANSWERED uint32_t scq_lend_index(scq_port *port, scq_held *out);
@@ -312,7 +433,11 @@ uint32_t scq_end(scq_port *port, scq_ended *out, scq_counts *counts, size_t n);
 static inline void scq_free(scq_port *port) {
     void *const block = port->memory.block;
     *port = SCQ_NONE;
-    if (block != SCQ_NULL && __atomic_sub_fetch(SCQ_TO(uint32_t *, block), 1, __ATOMIC_ACQ_REL) == 0) free(block);
+    if (block == SCQ_NULL) return;
+    scq_tell_before(block);
+    if (__atomic_sub_fetch(SCQ_TO(uint32_t *, block), 1, __ATOMIC_ACQ_REL) != 0) return;
+    scq_tell_after(block);
+    free(block);
 }
 
 /* Both in one: closes the port.
@@ -324,6 +449,72 @@ static inline uint32_t scq_close(scq_port *port) {
     const uint32_t answer = scq_end(port, &ended, &none, 0);
     if (answer == SCQ_OK) scq_free(port);
     return answer;
+}
+
+/* Several small messages in one buffer: as many as there is room for, each behind its length. One send
+ * and one take then carry all of them. What stands in the buffer is, in four bytes with the lowest
+ * first, how many bytes the messages take; then of each message its length, likewise in four bytes,
+ * and its bytes. These functions make no call, and touch no byte but those of the buffer.
+ *
+ * Begins the packing: there are no messages in the buffer. */
+static inline void scq_pack_begin(const scq_held *held) {
+    if (held->len >= 4) memset(held->at, 0, 4);
+}
+
+/* The number in four bytes, and the four bytes of a number. */
+
+static inline uint32_t scq_pack_number(const unsigned char *at) {
+    const uint32_t low = at[0] | SCQ_TO(uint32_t, at[1]) << 8;
+    return low | SCQ_TO(uint32_t, at[2]) << 16 | SCQ_TO(uint32_t, at[3]) << 24;
+}
+
+static inline void scq_pack_set_number(unsigned char *at, uint32_t number) {
+    at[0] = SCQ_TO(unsigned char, number & 255);
+    at[1] = SCQ_TO(unsigned char, number >> 8 & 255);
+    at[2] = SCQ_TO(unsigned char, number >> 16 & 255);
+    at[3] = SCQ_TO(unsigned char, number >> 24);
+}
+
+/* Appends a message of `len` bytes, and answers where its bytes lie, to be written there: whatever
+ * stood in the buffer. Answers null, and leaves the buffer as it was, where there is no room for it
+ * behind the messages that are in it. A buffer has room for its `len` less 4, where each message takes
+ * its own length and 4. */
+static inline SCQ_ANSWERED unsigned char *scq_pack_room(const scq_held *held, size_t len) {
+    size_t used, room;
+    if (held->len < 4) return SCQ_NULL;
+    used = scq_pack_number(held->at);
+    room = held->len - 4 < UINT32_MAX ? held->len - 4 : UINT32_MAX;
+    if (used > room || room - used < 4 || room - used - 4 < len) return SCQ_NULL;
+    scq_pack_set_number(held->at, SCQ_TO(uint32_t, used + 4 + len));
+    scq_pack_set_number(held->at + 4 + used, SCQ_TO(uint32_t, len));
+    return held->at + 4 + used + 4;
+}
+
+/* The same with the message's bytes, which lie elsewhere. Answers whether it was appended: 1 or 0. */
+static inline SCQ_ANSWERED int scq_pack(const scq_held *held, const void *bytes, size_t len) {
+    unsigned char *const at = scq_pack_room(held, len);
+    if (at == SCQ_NULL) return 0;
+    if (len != 0) memcpy(at, bytes, len);
+    return 1;
+}
+
+/* Goes to the next message of a buffer: writes to *at where its bytes lie and to *len how many they
+ * are, and answers 1; or answers 0 where there is none. *next is 0 for the first message, and is moved
+ * on. Whatever stands in the buffer, none is answered that goes past its end. */
+static inline SCQ_ANSWERED int scq_unpack(const scq_held *held, size_t *next,
+    const unsigned char **at, size_t *len) {
+    size_t end, from, of;
+    if (held->len < 4) return 0;
+    end = scq_pack_number(held->at);
+    end = end < held->len - 4 ? end + 4 : held->len;
+    from = *next < 4 ? 4 : *next;
+    if (from > end || end - from < 4) return 0;
+    of = scq_pack_number(held->at + from);
+    if (of > end - from - 4) return 0;
+    *at = held->at + from + 4;
+    *len = of;
+    *next = from + 4 + of;
+    return 1;
 }
 
 #undef SCQ_ANSWERED

@@ -1,5 +1,7 @@
-// scq: fixed buffers that threads pass to one another, without locks. The calls of bindings/c/scq.h, with owners: a Port closes itself, and
-// the Lent and Taken that it gives are given back where they end. C++11 or later; include it with scq.h beside it, and link with libscq.a.
+// scq: fixed buffers that threads pass to one another, without locks. The calls of
+// bindings/c/scq.h, with owners: a Port closes itself, and the Lent and Taken that it gives are
+// given back where they end. A Ring has values of any type in place of bytes. C++11 or later;
+// include it with scq.h beside it, and link with libscq.a.
 //
 //     scq::Port ports[2];
 //     if (scq::Queue::open(scq::Setup(), ports) != scq::Answer::Ok) return 1;
@@ -9,27 +11,40 @@
 //     }
 //     if (scq::Taken taken = ports[1].take(0)) std::putchar(taken[0]);
 //
-// Nothing here throws: a call that was refused says so in what it returns. Only Queue::open takes memory, which the last port to close frees.
-// What scq.h asks of a caller holds here too; the owners see to it that a port is not copied, and that a buffer is sent or given back once. What
-// they leave to you:
+// Nothing of the library throws: a call that was refused says so in what it returns. Only
+// Queue::open and Ring::open take memory. What scq.h asks of a caller the owners see to: that a
+// port isn't copied, that a buffer is sent or given back once, that nobody reads what is no longer
+// held. A Lent and a Taken may be moved, as may their Port, in any order, and may outlive it: a
+// call that comes too late is answered, as in C. What is left to you:
 //
 // - One thread at a time uses a port and the buffers that it holds.
-// - A Lent or Taken ends before its port does, and before that is moved. (Where the port was closed or moved, but is still there, its
-//   buffers stay with the queue's port until that closes, and the bytes are not to be touched.)
+// - A pointer that you got of a buffer isn't used once the buffer is sent, given back, or its port
+//   closed; and operator[] is for a number below size(), which is 0 where there is no buffer.
 // - After fork the child uses none of its parent's.
 #ifndef SCQ_HPP
 #define SCQ_HPP
 
 #include "scq.h"
 
+#include <atomic>
 #include <cstddef>
 #include <cstdint>
+#include <cstdlib>
+#include <mutex>
+#include <new>
 #include <type_traits>
-
+#include <utility>
 #if __cplusplus >= 201703L
+#include <optional>
 #define SCQ_NODISCARD [[nodiscard]]
 #else
 #define SCQ_NODISCARD
+#endif
+#if __cplusplus >= 202002L
+#include <version>
+#endif
+#ifdef __cpp_lib_span
+#include <span>
 #endif
 
 namespace scq {
@@ -57,10 +72,12 @@ enum class Answer : std::uint32_t {
 };
 
 // The text of an answer.
-inline const char *text(Answer answer) noexcept { return scq_text(static_cast<std::uint32_t>(answer)); }
+inline const char *text(Answer answer) noexcept {
+    return scq_text(static_cast<std::uint32_t>(answer));
+}
 
-// What a queue is made of: 2^order buffers of `size` bytes and so many topics; how many buffers a port may hold at a time; and the limit
-// of tickets. Change what you need.
+// What a queue is made of: 2^order buffers of `size` bytes and so many topics; how many buffers a
+// port may hold at a time; and the limit of tickets. Change what you need.
 struct Setup {
     std::uint32_t order = 6;
     std::uint32_t topics = 1;
@@ -69,12 +86,95 @@ struct Setup {
     std::uint64_t limit = SCQ_MAX_LIMIT;
 };
 
-// What came of a send: whether it was sent, at which place, and where it wasn't, why. Where that is Spent, `place` is the ticket.
+// What came of a send: whether it was sent, at which place, and where it wasn't, why. Where that is
+// Spent, `place` is the ticket.
 struct Sent {
     Answer answer;
     std::uint64_t place;
 
     explicit operator bool() const noexcept { return answer == Answer::Ok; }
+};
+
+// The library's handle of a port, which stays where it is while the port and the guards of its
+// buffers are moved, and lasts as long as one of them. Between two of them lies a line of the
+// cache, since threads write their own all the time.
+class Shared {
+public:
+    Shared() noexcept = default;
+    Shared(const Shared &other) noexcept : cell_(other.cell_) {
+        if (cell_ != nullptr) cell_->users++;
+    }
+    Shared(Shared &&other) noexcept : cell_(other.cell_) { other.cell_ = nullptr; }
+    Shared &operator=(Shared other) noexcept {
+        std::swap(cell_, other.cell_);
+        return *this;
+    }
+    ~Shared() {
+        if (cell_ != nullptr && --cell_->users == 0) delete cell_;
+    }
+
+    // A handle that is closed; or none, where no memory was found.
+    static Shared make() noexcept {
+        Shared made;
+        made.cell_ = new (std::nothrow) Cell;
+        return made;
+    }
+
+    bool is_none() const noexcept { return cell_ == nullptr; }
+    bool is_open() const noexcept { return cell_ != nullptr && cell_->port.at != nullptr; }
+    scq_port *port() const noexcept { return &cell_->port; }
+
+private:
+    struct Cell {
+        scq_port port = SCQ_NONE;
+        std::size_t users = 1;
+        unsigned char apart[SCQ_CACHE_LINE];
+    };
+
+    Cell *cell_ = nullptr;
+};
+
+// A message that was packed with others: bytes in the buffer that it came with.
+class Message {
+public:
+    Message(const unsigned char *data, std::size_t size) noexcept : data_(data), size_(size) {}
+    const unsigned char *data() const noexcept { return data_; }
+    std::size_t size() const noexcept { return size_; }
+    const unsigned char *begin() const noexcept { return data_; }
+    const unsigned char *end() const noexcept { return data_ + size_; }
+
+private:
+    const unsigned char *data_;
+    std::size_t size_;
+};
+
+// The messages that stand in a buffer, in their order: a range for a loop.
+class Messages {
+public:
+    class iterator {
+    public:
+        explicit iterator(const scq_held *held) noexcept : held_(held) { ++*this; }
+        Message operator*() const noexcept { return Message(at_, len_); }
+        iterator &operator++() noexcept {
+            if (held_ != nullptr && scq_unpack(held_, &next_, &at_, &len_) == 0) held_ = nullptr;
+            return *this;
+        }
+        // (For the end of a loop: whether both are at the end.)
+        bool operator!=(const iterator &other) const noexcept { return held_ != other.held_; }
+
+    private:
+        const scq_held *held_;
+        std::size_t next_ = 0;
+        const unsigned char *at_ = nullptr;
+        std::size_t len_ = 0;
+    };
+
+    explicit Messages(const scq_held &held) noexcept : held_(held) {}
+    iterator begin() const noexcept { return iterator(&held_); }
+    iterator end() const noexcept { return iterator(nullptr); }
+
+private:
+    scq_held held_;
 };
 
 // A buffer that a port holds, or none and why. Where it ends, the buffer is given back.
@@ -83,67 +183,120 @@ public:
     Held(const Held &) = delete;
     Held &operator=(const Held &) = delete;
 
-    // Whether there is a buffer. Nothing but `answer` and `number` may be asked where there is none.
-    explicit operator bool() const noexcept { return port_ != nullptr; }
+    // Whether there is a buffer. There is none where the call was refused, where the buffer was
+    // sent, given back or moved from here, and where the port was closed.
+    explicit operator bool() const noexcept { return shared_.is_open(); }
 
-    // Ok where a buffer was got, and what was answered where it wasn't.
+    // What was answered to the call that this came from: Ok where a buffer was got. Once that was
+    // sent, given back or moved from here: NotHeld.
     Answer answer() const noexcept { return answer_; }
 
     // Where the answer is Full or Empty, the head; where it is Spent, the ticket.
     std::uint64_t number() const noexcept { return held_.place; }
 
-    unsigned char *data() noexcept { return held_.at; }
-    const unsigned char *data() const noexcept { return held_.at; }
-    std::size_t size() const noexcept { return held_.len; }
-    unsigned char *begin() noexcept { return held_.at; }
-    unsigned char *end() noexcept { return held_.at + held_.len; }
-    const unsigned char *begin() const noexcept { return held_.at; }
-    const unsigned char *end() const noexcept { return held_.at + held_.len; }
+    // The bytes: null and 0 where there is no buffer.
+    unsigned char *data() noexcept { return *this ? held_.at : nullptr; }
+    const unsigned char *data() const noexcept { return *this ? held_.at : nullptr; }
+    std::size_t size() const noexcept { return *this ? held_.len : 0; }
+    unsigned char *begin() noexcept { return data(); }
+    unsigned char *end() noexcept { return data() + size(); }
+    const unsigned char *begin() const noexcept { return data(); }
+    const unsigned char *end() const noexcept { return data() + size(); }
     unsigned char &operator[](std::size_t at) noexcept { return held_.at[at]; }
     const unsigned char &operator[](std::size_t at) const noexcept { return held_.at[at]; }
+#ifdef __cpp_lib_span
+    std::span<unsigned char> bytes() noexcept { return {data(), size()}; }
+    std::span<const unsigned char> bytes() const noexcept { return {data(), size()}; }
+#endif
+
+    // Several small messages in one buffer, each behind its length: scq.h says how they stand
+    // there. `pack` answers whether there was room, `pack_room` where a message of `size` bytes is
+    // to be written, or null.
+    void pack_begin() noexcept {
+        const scq_held held = here();
+        scq_pack_begin(&held);
+    }
+    SCQ_NODISCARD bool pack(const void *message, std::size_t size) noexcept {
+        const scq_held held = here();
+        return scq_pack(&held, message, size) != 0;
+    }
+    SCQ_NODISCARD unsigned char *pack_room(std::size_t size) noexcept {
+        const scq_held held = here();
+        return scq_pack_room(&held, size);
+    }
+    Messages messages() const noexcept { return Messages(here()); }
 
     // The buffer's number, below the number of buffers.
     std::uint32_t index() const noexcept { return held_.index; }
 
-    // Sends the buffer on a topic. Where it is sent there is none left here; where it is refused it stays.
+    // Sends the buffer on a topic. Where it is sent there is none left here; where it is refused it
+    // stays. Where there is none the answer is NotHeld, or Closed if that is why.
     SCQ_NODISCARD Sent send(std::uint32_t topic) noexcept {
         std::uint64_t place = 0;
-        const Answer answer = static_cast<Answer>(scq_send(port_, held_.index, topic, &place));
-        if (answer == Answer::Ok) port_ = nullptr;
+        if (shared_.is_none()) return Sent{none(), place};
+        const Answer answer =
+            static_cast<Answer>(scq_send(shared_.port(), held_.index, topic, &place));
+        if (answer == Answer::Ok) let_go();
         return Sent{answer, place};
     }
 
-    // Gives the buffer back. Where that is refused it stays.
+    // Gives the buffer back. Where that is refused it stays. Where there is none the answer is
+    // NotHeld, or Closed if that is why.
     Answer give_back() noexcept {
-        const Answer answer = static_cast<Answer>(scq_give_back(port_, held_.index));
-        if (answer == Answer::Ok) port_ = nullptr;
+        if (shared_.is_none()) return none();
+        const Answer answer = static_cast<Answer>(scq_give_back(shared_.port(), held_.index));
+        if (answer == Answer::Ok) let_go();
         return answer;
     }
 
 protected:
-    Held(scq_port *port, Answer answer, const scq_held &held) noexcept
-        : port_(answer == Answer::Ok ? port : nullptr), held_(held), answer_(answer) {}
-    Held(Held &&other) noexcept : port_(other.port_), held_(other.held_), answer_(other.answer_) { other.port_ = nullptr; }
+    Held(const Shared &shared, Answer answer, const scq_held &held) noexcept
+        : shared_(answer == Answer::Ok ? shared : Shared()), held_(held), answer_(answer) {}
+    Held(Held &&other) noexcept
+        : shared_(std::move(other.shared_)), held_(other.held_), answer_(other.answer_) {
+        other.let_go();
+    }
     Held &operator=(Held &&other) noexcept {
         if (this != &other) {
             end_here();
-            port_ = other.port_;
+            shared_ = std::move(other.shared_);
             held_ = other.held_;
             answer_ = other.answer_;
-            other.port_ = nullptr;
+            other.let_go();
         }
         return *this;
     }
     ~Held() { end_here(); }
 
-    scq_port *port_;
+private:
+    // The buffer, or one without bytes.
+    scq_held here() const noexcept {
+        scq_held held = held_;
+        if (!*this) held.len = 0;
+        return held;
+    }
+
+    Answer none() const noexcept {
+        return answer_ == Answer::Closed ? Answer::Closed : Answer::NotHeld;
+    }
+
+    void let_go() noexcept {
+        shared_ = Shared();
+        held_.at = nullptr;
+        if (answer_ == Answer::Ok) answer_ = Answer::NotHeld;
+    }
+
+    // (What is refused here stays with the port.)
+    void end_here() noexcept {
+        if (!shared_.is_none()) scq_give_back(shared_.port(), held_.index);
+    }
+
+    Shared shared_;
+
+protected:
     scq_held held_;
 
 private:
-    void end_here() noexcept {
-        if (port_ != nullptr) scq_give_back(port_, held_.index);
-    }
-
     Answer answer_;
 };
 
@@ -158,7 +311,8 @@ private:
     using Held::Held;
 };
 
-// A buffer that was taken off a topic, with the bytes that were sent. It may be changed and sent on.
+// A buffer that was taken off a topic, with the bytes that were sent. It may be changed and sent
+// on.
 class Taken : public Held {
 public:
     Taken(Taken &&) noexcept = default;
@@ -172,39 +326,45 @@ private:
     using Held::Held;
 };
 
-// What a thread makes its calls with. Where it ends, it is closed: what it holds is given back, and the last port frees the queue.
+// What a thread makes its calls with. Where it ends, it is closed: what it holds is given back, and
+// the last port frees the queue.
 class Port {
 public:
     // A port that is closed.
     Port() noexcept = default;
     Port(const Port &) = delete;
     Port &operator=(const Port &) = delete;
-    Port(Port &&other) noexcept : port_(other.port_) { other.port_ = SCQ_NONE; }
+    Port(Port &&other) noexcept = default;
     Port &operator=(Port &&other) noexcept {
         if (this != &other) {
-            scq_close(&port_);
-            port_ = other.port_;
-            other.port_ = SCQ_NONE;
+            close();
+            shared_ = std::move(other.shared_);
         }
         return *this;
     }
-    ~Port() { scq_close(&port_); }
+    ~Port() { close(); }
 
     // Whether the port is open.
-    explicit operator bool() const noexcept { return port_.at != nullptr; }
+    explicit operator bool() const noexcept { return shared_.is_open(); }
 
-    // Lends a buffer that nobody holds: there is none where the answer is Full, Spent, NoRoom or Closed.
+    // Lends a buffer that nobody holds: there is none where the answer is Full, Spent, NoRoom or
+    // Closed.
     SCQ_NODISCARD Lent lend() noexcept {
         scq_held held = {nullptr, 0, 0, 0};
-        const Answer answer = static_cast<Answer>(scq_lend(&port_, &held));
-        return Lent(&port_, answer, held);
+        Answer answer = Answer::Closed;
+        if (!shared_.is_none()) answer = static_cast<Answer>(scq_lend(shared_.port(), &held));
+        return Lent(shared_, answer, held);
     }
 
-    // Takes a buffer off a topic: there is none where the answer is Empty, Spent, NoTopic, NoRoom or Closed.
+    // Takes a buffer off a topic: there is none where the answer is Empty, Spent, NoTopic, NoRoom
+    // or Closed.
     SCQ_NODISCARD Taken take(std::uint32_t topic) noexcept {
         scq_held held = {nullptr, 0, 0, 0};
-        const Answer answer = static_cast<Answer>(scq_take(&port_, topic, &held));
-        return Taken(&port_, answer, held);
+        Answer answer = Answer::Closed;
+        if (!shared_.is_none()) {
+            answer = static_cast<Answer>(scq_take(shared_.port(), topic, &held));
+        }
+        return Taken(shared_, answer, held);
     }
 
     // Sends no more: Ok or Closed. It still lends, takes and gives back.
@@ -215,13 +375,23 @@ public:
     SCQ_NODISCARD Answer retired() noexcept { return static_cast<Answer>(scq_retired(&port_)); }
 
     // Writes how many sends, takes and Full answers the port had: Ok or Closed.
-    Answer counts(scq_counts &out) noexcept { return static_cast<Answer>(scq_counts_of(&port_, &out)); }
+    Answer counts(scq_counts &out) noexcept {
+        if (shared_.is_none()) return Answer::Closed;
+        return static_cast<Answer>(scq_counts_of(shared_.port(), &out));
+    }
 
-    // Ok, or Spent where the port has drawn a ticket at or past the limit, which is written; or Closed.
-    Answer spent(std::uint64_t &ticket) noexcept { return static_cast<Answer>(scq_spent(&port_, &ticket)); }
+    // Ok, or Spent where the port has drawn a ticket at or past the limit, which is written; or
+    // Closed.
+    Answer spent(std::uint64_t &ticket) noexcept {
+        if (shared_.is_none()) return Answer::Closed;
+        return static_cast<Answer>(scq_spent(shared_.port(), &ticket));
+    }
 
     // Closes the port before its end: Ok or Closed.
-    Answer close() noexcept { return static_cast<Answer>(scq_close(&port_)); }
+    Answer close() noexcept {
+        if (shared_.is_none()) return Answer::Closed;
+        return static_cast<Answer>(scq_close(shared_.port()));
+    }
 
     // The same, and whether it was the queue's last port; where it was, what each port did is written, in the order in which they were
     // opened: of the first `count`. Where the answer is Closed nothing is written.
@@ -238,26 +408,355 @@ public:
 private:
     friend struct Queue;
 
-    scq_port port_ = SCQ_NONE;
+    Shared shared_;
 };
+
+// The most ports of a queue.
+constexpr std::size_t MaxPorts = 4096;
 
 // Makes queues, as their ports.
 struct Queue {
-    // Makes a queue, and opens these ports, which are closed before. They are an array, or what has `data` and `size` as std::vector has.
+    // Makes a queue, and opens these ports, which are closed before. They are an array, or what has
+    // `data` and `size` as std::vector has.
     SCQ_NODISCARD static Answer open(const Setup &setup, Port *ports, std::size_t count) noexcept {
-        static_assert(std::is_standard_layout<Port>::value && sizeof(Port) == sizeof(scq_port), "a port is its handle");
-        Port none;
-        scq_port *first = reinterpret_cast<scq_port *>(count != 0 ? ports : &none);
-        return static_cast<Answer>(scq_open(setup.order, setup.topics, setup.size, setup.hold, setup.limit, first, count));
+        if (count < 1 || count > MaxPorts) return Answer::BadPorts;
+        bool is_open = false;
+        for (std::size_t i = 0; i < count; i++) is_open = is_open || ports[i];
+        scq_port *const handles = new (std::nothrow) scq_port[count]();
+        bool room = handles != nullptr;
+        for (std::size_t i = 0; room && !is_open && i < count; i++) {
+            ports[i].shared_ = Shared::make();
+            room = !ports[i].shared_.is_none();
+        }
+        Answer answer = Answer::NoMemory;
+        if (room) {
+            answer = static_cast<Answer>(scq_open(setup.order, setup.topics, setup.size, setup.hold,
+                setup.limit, handles, count));
+        }
+        // (That a port is open is answered last, as in C.)
+        for (std::size_t i = 0; answer == Answer::Ok && i < count; i++) {
+            if (is_open) scq_close(&handles[i]);
+            else *ports[i].shared_.port() = handles[i];
+        }
+        if (answer == Answer::Ok && is_open) answer = Answer::IsOpen;
+        delete[] handles;
+        return answer;
     }
 
-    template <std::size_t count> SCQ_NODISCARD static Answer open(const Setup &setup, Port (&ports)[count]) noexcept {
+    template <std::size_t count>
+    SCQ_NODISCARD static Answer open(const Setup &setup, Port (&ports)[count]) noexcept {
         return open(setup, ports, count);
     }
 
-    template <class Ports> SCQ_NODISCARD static Answer open(const Setup &setup, Ports &ports) noexcept {
+    template <class Ports>
+    SCQ_NODISCARD static Answer open(const Setup &setup, Ports &ports) noexcept {
         return open(setup, ports.data(), ports.size());
     }
+};
+
+// A bounded queue of values of any type that can be moved, first in first out, for threads that
+// come and go. Each thread has a Handle; where that ends it goes back to a stock, from which the
+// next thread's comes.
+//
+//     scq::Ring<std::unique_ptr<Job>> ring;
+//     if (ring.open(6, 4) != scq::Answer::Ok) return 1; // 2^6 values, 4 handles
+//     auto handle = ring.handle();
+//     while (handle.push(std::move(job)) == scq::Answer::Full) std::this_thread::yield();
+//     if (handle.pop(job) == scq::Answer::Ok) job->run();
+//
+// A value lies in an array, at the number of a buffer; push and pop take no lock and no memory, and
+// hand on what the value's own constructors and assignments throw. Each value is destroyed once:
+// what still stands in the ring, where the Ring and its handles have all ended.
+template <class T> class Ring {
+    static_assert(std::is_object<T>::value && !std::is_const<T>::value, "a ring is of values");
+    static_assert(std::is_nothrow_destructible<T>::value, "the end of a value doesn't throw");
+
+    // Where a value lies, and whether one does. Both belong to who holds the buffer of this number.
+    struct Slot {
+        alignas(T) unsigned char bytes[sizeof(T)];
+        bool live;
+
+        T *value() noexcept { return reinterpret_cast<T *>(bytes); }
+        void end() noexcept {
+            if (!live) return;
+            live = false;
+            value()->~T();
+        }
+    };
+
+    // What the Ring and its handles share; the last of them ends it.
+    struct Core {
+        std::atomic<std::size_t> owners{1};
+        std::size_t capacity = 0;
+        void *block = nullptr; // of which the slots are
+        Slot *slots = nullptr;
+        std::mutex lock; // over the stock
+        scq_port *stock = nullptr;
+        std::size_t in_stock = 0;
+
+        Core() noexcept = default;
+        Core(const Core &) = delete;
+        Core &operator=(const Core &) = delete;
+        ~Core() {
+            for (std::size_t i = 0; i < in_stock; i++) scq_close(&stock[i]);
+            for (std::size_t i = 0; slots != nullptr && i < capacity; i++) slots[i].end();
+            delete[] stock;
+            std::free(block);
+        }
+
+        Answer open(std::uint32_t order, std::size_t handles, std::uint64_t limit) noexcept {
+            if (order < 1 || order > SCQ_MAX_ORDER) return Answer::BadOrder;
+            if (handles < 1 || handles > MaxPorts) return Answer::BadPorts;
+            const std::size_t all = std::size_t{1} << order, aligned = alignof(Slot);
+            if (sizeof(Slot) > (SIZE_MAX - aligned) / all) return Answer::NoMemory;
+            block = std::calloc(1, sizeof(Slot) * all + aligned - 1);
+            stock = new (std::nothrow) scq_port[handles]();
+            if (block == nullptr || stock == nullptr) return Answer::NoMemory;
+            const std::uintptr_t past = reinterpret_cast<std::uintptr_t>(block) % aligned;
+            unsigned char *const base =
+                static_cast<unsigned char *>(block) + (aligned - past) % aligned;
+            const scq_memory memory = {base, sizeof(Slot), sizeof(Slot), nullptr};
+            const Answer answer = static_cast<Answer>(scq_open_over(
+                order, 1, static_cast<std::uint32_t>(all), limit, &memory, stock, handles));
+            if (answer != Answer::Ok) return answer;
+            slots = reinterpret_cast<Slot *>(base);
+            capacity = all;
+            in_stock = handles;
+            return answer;
+        }
+    };
+
+    // A share in a core.
+    class Share {
+    public:
+        Share() noexcept = default;
+        explicit Share(Core *core) noexcept : core_(core) {}
+        Share(const Share &other) noexcept : core_(other.core_) {
+            if (core_ != nullptr) core_->owners.fetch_add(1, std::memory_order_relaxed);
+        }
+        Share(Share &&other) noexcept : core_(other.core_) { other.core_ = nullptr; }
+        Share &operator=(Share other) noexcept {
+            std::swap(core_, other.core_);
+            return *this;
+        }
+        ~Share() {
+            if (core_ == nullptr) return;
+            scq_tell_before(core_);
+            if (core_->owners.fetch_sub(1, std::memory_order_acq_rel) != 1) return;
+            scq_tell_after(core_);
+            delete core_;
+        }
+        Core *get() const noexcept { return core_; }
+
+    private:
+        Core *core_ = nullptr;
+    };
+
+public:
+    // A thread's end of the ring, or none. One thread at a time uses it. Where it ends it goes back
+    // to the stock.
+    class Handle {
+        // A slot that the port holds; where it ends, so does the value in it, and the buffer is
+        // given back.
+        class Room {
+        public:
+            Room(scq_port &port, Slot *slots) noexcept : port_(port), slots_(slots) {}
+            Room(const Room &) = delete;
+            Room &operator=(const Room &) = delete;
+            ~Room() {
+                if (!is_held_) return;
+                slot().end();
+                scq_give_back(&port_, held_.index);
+            }
+
+            Answer lend() noexcept { return got(scq_lend(&port_, &held_)); }
+            Answer take() noexcept { return got(scq_take(&port_, 0, &held_)); }
+
+            template <class... Args> void make(Args &&...args) {
+                ::new (static_cast<void *>(slot().bytes)) T(std::forward<Args>(args)...);
+                slot().live = true;
+            }
+
+            Answer send() noexcept {
+                std::uint64_t place;
+                const Answer answer =
+                    static_cast<Answer>(scq_send(&port_, held_.index, 0, &place));
+                if (answer == Answer::Ok) is_held_ = false;
+                return answer;
+            }
+
+            T &value() noexcept { return *slot().value(); }
+
+        private:
+            Slot &slot() noexcept { return slots_[held_.index]; }
+            Answer got(std::uint32_t answer) noexcept {
+                is_held_ = answer == SCQ_OK;
+                return static_cast<Answer>(answer);
+            }
+
+            scq_port &port_;
+            Slot *slots_;
+            scq_held held_ = {nullptr, 0, 0, 0};
+            bool is_held_ = false;
+        };
+
+    public:
+        // No handle: each call is answered Closed.
+        Handle() noexcept = default;
+        Handle(const Handle &) = delete;
+        Handle &operator=(const Handle &) = delete;
+        Handle(Handle &&other) noexcept : share_(std::move(other.share_)), port_(other.port_) {
+            other.port_ = SCQ_NONE;
+        }
+        Handle &operator=(Handle &&other) noexcept {
+            if (this != &other) {
+                return_to_stock();
+                share_ = std::move(other.share_);
+                port_ = other.port_;
+                other.port_ = SCQ_NONE;
+            }
+            return *this;
+        }
+        ~Handle() { return_to_stock(); }
+
+        // Whether there is one.
+        explicit operator bool() const noexcept { return share_.get() != nullptr; }
+
+        // Puts the value at the end: Ok; Full; Spent where tickets have run out at the limit;
+        // Closed. Where it isn't Ok the value is there as it was. (Where it is Spent, it may have
+        // been moved and moved back.)
+        SCQ_NODISCARD Answer push(T &&value) noexcept(
+            std::is_nothrow_move_constructible<T>::value && is_nothrow_restored) {
+            static_assert(std::is_move_assignable<T>::value ||
+                    std::is_nothrow_move_constructible<T>::value,
+                "a value that is refused can be moved back");
+            Room room(port_, slots());
+            Answer answer = room.lend();
+            if (answer != Answer::Ok) return answer;
+            room.make(std::move(value));
+            answer = room.send();
+            if (answer != Answer::Ok) restore(value, room.value(), std::is_move_assignable<T>());
+            return answer;
+        }
+
+        SCQ_NODISCARD Answer push(const T &value) noexcept(
+            std::is_nothrow_copy_constructible<T>::value) {
+            return emplace(value);
+        }
+
+        // The same for a value that is made of these where it lies. Where there is no room none is
+        // made.
+        template <class... Args>
+        SCQ_NODISCARD Answer emplace(Args &&...args) noexcept(
+            std::is_nothrow_constructible<T, Args &&...>::value) {
+            Room room(port_, slots());
+            const Answer answer = room.lend();
+            if (answer != Answer::Ok) return answer;
+            room.make(std::forward<Args>(args)...);
+            return room.send();
+        }
+
+        // Takes the first value off, and hands it to `use`: Ok; Empty; Spent; Closed. The value
+        // ends with the call, also where `use` throws.
+        template <class Use> SCQ_NODISCARD Answer consume_one(Use &&use) {
+            Room room(port_, slots());
+            const Answer answer = room.take();
+            if (answer == Answer::Ok) use(std::move(room.value()));
+            return answer;
+        }
+
+        // The same, moved to `to`. Where the assignment throws the value is lost.
+        SCQ_NODISCARD Answer pop(T &to) noexcept(std::is_nothrow_move_assignable<T>::value) {
+            Room room(port_, slots());
+            const Answer answer = room.take();
+            if (answer == Answer::Ok) to = std::move(room.value());
+            return answer;
+        }
+
+#if __cplusplus >= 201703L
+        // The same: none where it is Empty, Spent or Closed.
+        SCQ_NODISCARD std::optional<T> pop() noexcept(
+            std::is_nothrow_move_constructible<T>::value) {
+            Room room(port_, slots());
+            if (room.take() != Answer::Ok) return std::nullopt;
+            return std::optional<T>(std::move(room.value()));
+        }
+#endif
+
+        // How many values there is room for.
+        std::size_t capacity() const noexcept { return *this ? share_.get()->capacity : 0; }
+
+    private:
+        friend class Ring;
+
+        static constexpr bool is_nothrow_restored = std::is_move_assignable<T>::value
+            ? std::is_nothrow_move_assignable<T>::value
+            : std::is_nothrow_move_constructible<T>::value;
+
+        explicit Handle(const Share &share) noexcept {
+            Core &core = *share.get();
+            const std::lock_guard<std::mutex> hold(core.lock);
+            if (core.in_stock == 0) return;
+            share_ = share;
+            port_ = core.stock[--core.in_stock];
+            core.stock[core.in_stock] = SCQ_NONE;
+        }
+
+        void return_to_stock() noexcept {
+            if (!*this) return;
+            Core &core = *share_.get();
+            const std::lock_guard<std::mutex> hold(core.lock);
+            core.stock[core.in_stock++] = port_;
+            port_ = SCQ_NONE;
+        }
+
+        static void restore(T &value, T &from, std::true_type) noexcept(is_nothrow_restored) {
+            value = std::move(from);
+        }
+        static void restore(T &value, T &from, std::false_type) noexcept {
+            value.~T();
+            ::new (static_cast<void *>(&value)) T(std::move(from));
+        }
+
+        Slot *slots() const noexcept { return *this ? share_.get()->slots : nullptr; }
+
+        Share share_;
+        scq_port port_ = SCQ_NONE;
+    };
+
+    // No ring: it has no handles.
+    Ring() noexcept = default;
+    Ring(const Ring &) = delete;
+    Ring &operator=(const Ring &) = delete;
+    Ring(Ring &&) noexcept = default;
+    Ring &operator=(Ring &&) noexcept = default;
+
+    // Makes a ring with room for 2^order values and so many handles: Ok; BadOrder, BadPorts or
+    // BadLimit where one is out of range; NoMemory; IsOpen where it was made before.
+    SCQ_NODISCARD Answer open(std::uint32_t order, std::size_t handles,
+        std::uint64_t limit = SCQ_MAX_LIMIT) noexcept {
+        if (share_.get() != nullptr) return Answer::IsOpen;
+        Core *const core = new (std::nothrow) Core;
+        if (core == nullptr) return Answer::NoMemory;
+        Share made(core);
+        const Answer answer = core->open(order, handles, limit);
+        if (answer == Answer::Ok) share_ = std::move(made);
+        return answer;
+    }
+
+    // A handle out of the stock, or none where all are in use. Any thread may ask for one. This and
+    // a handle's end take a lock.
+    SCQ_NODISCARD Handle handle() const noexcept {
+        return share_.get() != nullptr ? Handle(share_) : Handle();
+    }
+
+    // How many values there is room for.
+    std::size_t capacity() const noexcept {
+        return share_.get() != nullptr ? share_.get()->capacity : 0;
+    }
+
+private:
+    Share share_;
 };
 
 } // namespace scq

@@ -1,13 +1,22 @@
-//! Says where the library lies. It is looked for in the folder of the environment's `SCQ_LIB_DIR`; else in the one that `pkg-config` names for
-//! a version that this crate can use; else in this crate, which is packed with an archive for each target that it has one for.
+//! Says where the library lies. It is looked for in the folder of the environment's `SCQ_LIB_DIR`;
+//! else in the one that `pkg-config` names for a version that this crate can use; else in this
+//! crate, which is packed with an archive for each target that it has one for.
 //!
-//! The archive `libscq.a` is linked. With `SCQ_LINK=shared` it is the shared object instead, which is not packed.
+//! The archive `libscq.a` is linked. With `SCQ_LINK=shared` it is the shared object instead, which
+//! is not packed.
 use std::env;
 use std::path::{Path, PathBuf};
 use std::process::{exit, Command};
 
 fn main() {
-    for name in ["SCQ_LIB_DIR", "SCQ_LINK", "PKG_CONFIG", "PKG_CONFIG_PATH", "PKG_CONFIG_LIBDIR", "PKG_CONFIG_SYSROOT_DIR"] {
+    for name in [
+        "SCQ_LIB_DIR",
+        "SCQ_LINK",
+        "PKG_CONFIG",
+        "PKG_CONFIG_PATH",
+        "PKG_CONFIG_LIBDIR",
+        "PKG_CONFIG_SYSROOT_DIR",
+    ] {
         println!("cargo:rerun-if-env-changed={name}");
     }
     let shared = match env::var("SCQ_LINK").as_deref() {
@@ -22,7 +31,14 @@ fn main() {
     };
     let library = folder.join(file);
     if !library.exists() {
-        refuse(&format!("{} isn't there; SCQ_LIB_DIR may say in which folder it lies", library.display()));
+        refuse(&format!(
+            "{} isn't there; SCQ_LIB_DIR may say in which folder it lies",
+            library.display()
+        ));
+    }
+    // What ThreadSanitizer has to be told.
+    if env::var("CARGO_CFG_SANITIZE").map_or(false, |names| names.contains("thread")) {
+        println!("cargo:rustc-cfg=scq_tsan");
     }
     println!("cargo:rerun-if-changed={}", library.display());
     println!("cargo:rustc-link-search=native={}", folder.display());
@@ -40,8 +56,8 @@ fn of_cargo(name: &str) -> String {
     env::var(name).unwrap_or_else(|_| refuse(&format!("cargo doesn't say {name}")))
 }
 
-/// The folder that `pkg-config` names, where this is built for the machine that it is built on, and a library is installed that is of this
-/// crate's first number and not older.
+/// The folder that `pkg-config` names, where this is built for the machine that it is built on, and
+/// a library is installed that is of this crate's first number and not older.
 fn installed() -> Option<PathBuf> {
     if of_cargo("HOST") != of_cargo("TARGET") {
         return None;

@@ -1,5 +1,5 @@
-/* Four threads on one queue of eight buffers: two send the numbers from 1 to 1,000,000 between them, two take half of them each, and what they
- * took is summed.
+/* Four threads on one queue of eight buffers: two send the numbers from 1 to 1,000,000 between
+ * them, two take half of them each, and what they took is summed.
  *
  *     cc -pthread -I.. four_threads.c libscq.a -o four_threads
  */
@@ -12,9 +12,12 @@
 #include <stdlib.h>
 #include <string.h>
 
+#ifndef LAST
 #define LAST 1000000
+#endif
 
-/* What a thread is handed: a port of its own. A sender sends the numbers from `first` on, every second one; a taker leaves their sum. */
+/* What a thread is handed: a port of its own. A sender sends the numbers from `first` on, every
+ * second one; a taker leaves their sum. */
 struct job {
     scq_port port;
     uint64_t first, sum;

@@ -11,7 +11,10 @@
 #include <thread>
 #include <utility>
 
-static const std::uint64_t last = 1000000;
+#ifndef LAST
+#define LAST 1000000
+#endif
+static const std::uint64_t last = LAST;
 
 static void stop_at(const char *call, scq::Answer answer) {
     std::fprintf(stderr, "%s: %s\n", call, scq::text(answer));

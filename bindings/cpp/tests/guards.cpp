@@ -1,4 +1,5 @@
-// What the owners of scq.hpp do: each answer as a value, buffers that are given back where they end, ports and buffers that are moved.
+// What the owners of scq.hpp do: each answer as a value, buffers that are given back where they end,
+// ports and buffers that are moved, and calls that come too late, which are answered.
 #include "scq.hpp"
 
 #include "check.h"
@@ -7,6 +8,7 @@
 #include <array>
 #include <cstdio>
 #include <cstring>
+#include <string>
 #include <thread>
 #include <type_traits>
 #include <utility>
@@ -81,6 +83,8 @@ static void answers() {
     std::vector<Port> none;
     CHECK(Queue::open(small(), none) == Answer::BadPorts);
     CHECK(Queue::open(small(), &port, 1) == Answer::Ok && Queue::open(small(), &port, 1) == Answer::IsOpen);
+    setup.hold = 3;
+    CHECK(Queue::open(setup, &port, 1) == Answer::BadHold && port);
     CHECK(port.take(2).answer() == Answer::NoTopic);
     const Lent one = port.lend(), two = port.lend();
     CHECK(one && two && one.index() != two.index() && port.lend().answer() == Answer::NoRoom && port.take(0).answer() == Answer::NoRoom);
@@ -137,6 +141,141 @@ static void a_closed_port_has_given_back() {
     CHECK(one && two);
 }
 
+static void a_second_send_is_answered() {
+    Port ports[2];
+    CHECK(Queue::open(small(), ports) == Answer::Ok);
+    Lent lent = ports[0].lend();
+    CHECK(lent.send(0) && !lent && lent.data() == nullptr && lent.size() == 0);
+    CHECK(lent.begin() == lent.end() && lent.answer() == Answer::NotHeld);
+    CHECK(lent.send(0).answer == Answer::NotHeld && lent.give_back() == Answer::NotHeld);
+    // The port holds a buffer of the same number again: it isn't this one's.
+    Taken taken = ports[0].take(0);
+    CHECK(taken && taken.index() == lent.index() && lent.send(0).answer == Answer::NotHeld);
+    CHECK(lent.give_back() == Answer::NotHeld && taken && taken.data() != nullptr);
+    CHECK(taken.give_back() == Answer::Ok && taken.data() == nullptr);
+    CHECK(taken.give_back() == Answer::NotHeld && taken.send(0).answer == Answer::NotHeld);
+}
+
+static void a_guard_that_was_moved_from_is_answered() {
+    Port ports[1];
+    CHECK(Queue::open(small(), ports) == Answer::Ok);
+    Lent one = ports[0].lend();
+    Lent other = std::move(one);
+    CHECK(!one && one.data() == nullptr && one.size() == 0 && one.answer() == Answer::NotHeld);
+    CHECK(one.send(0).answer == Answer::NotHeld && one.give_back() == Answer::NotHeld && other);
+    one = std::move(other);
+    CHECK(one && !other && other.give_back() == Answer::NotHeld && one.send(0));
+}
+
+static void a_guard_that_was_refused_is_answered() {
+    Port port, closed;
+    Setup setup = small();
+    setup.hold = 1;
+    CHECK(Queue::open(setup, &port, 1) == Answer::Ok);
+    Taken none = port.take(0);
+    CHECK(none.answer() == Answer::Empty && none.data() == nullptr && none.begin() == none.end());
+    CHECK(none.send(0).answer == Answer::NotHeld && none.give_back() == Answer::NotHeld);
+    CHECK(none.answer() == Answer::Empty);
+    const Lent lent = port.lend();
+    Lent more = port.lend();
+    CHECK(lent && more.answer() == Answer::NoRoom && more.send(0).answer == Answer::NotHeld);
+    CHECK(lent.data() != nullptr);
+    Lent late = closed.lend();
+    CHECK(late.answer() == Answer::Closed && late.send(0).answer == Answer::Closed);
+    CHECK(late.give_back() == Answer::Closed);
+}
+
+static void ports_move_under_their_guards() {
+    std::vector<Port> ports(1);
+    CHECK(Queue::open(small(), ports) == Answer::Ok);
+    Lent lent = ports[0].lend();
+    std::memcpy(lent.data(), "message", 8);
+    for (int i = 0; i < 100; i++) ports.emplace_back(); // it grows, and its ports move
+    CHECK(lent && std::memcmp(lent.data(), "message", 8) == 0 && lent.send(1));
+    Taken taken = ports[0].take(1);
+    CHECK(taken);
+    Port elsewhere = std::move(ports[0]);
+    ports.clear();
+    CHECK(taken && std::memcmp(taken.data(), "message", 8) == 0);
+    CHECK(taken.give_back() == Answer::Ok && elsewhere.lend());
+}
+
+static void guards_outlive_their_port() {
+    std::vector<Lent> kept;
+    std::vector<Port> ports(2);
+    CHECK(Queue::open(small(), ports) == Answer::Ok);
+    kept.push_back(ports[0].lend());
+    kept.push_back(ports[1].lend());
+    CHECK(kept[0] && kept[1]);
+    ports.clear(); // the queue is gone
+    for (Lent &lent : kept) {
+        CHECK(!lent && lent.data() == nullptr && lent.size() == 0);
+        CHECK(lent.send(0).answer == Answer::Closed && lent.give_back() == Answer::Closed);
+    }
+    CHECK(Queue::open(small(), ports) == Answer::BadPorts);
+    ports.resize(1);
+    CHECK(Queue::open(small(), ports) == Answer::Ok && !kept[0]);
+    kept[0] = ports[0].lend();
+    CHECK(kept[0] && ports[0].close() == Answer::Ok && !kept[0]);
+    CHECK(Queue::open(small(), ports) == Answer::Ok && !kept[0] && ports[0].lend());
+    CHECK(kept[0].give_back() == Answer::Closed);
+}
+
+// A port and its buffer in one value, whatever the order in which they end.
+struct Stage {
+    std::vector<Lent> batch;
+    Port port;
+};
+
+static void a_port_and_its_buffers_live_in_one_value() {
+    Port ports[2];
+    CHECK(Queue::open(small(), ports) == Answer::Ok);
+    {
+        Stage stage{{}, std::move(ports[0])};
+        stage.batch.push_back(stage.port.lend());
+        Stage moved = std::move(stage);
+        moved.batch.push_back(moved.port.lend());
+        CHECK(moved.batch[0] && moved.batch[1] && ports[1].lend().answer() == Answer::Full);
+    }
+    const Lent one = ports[1].lend(), two = ports[1].lend();
+    CHECK(one && two);
+}
+
+static void bytes_are_a_span() {
+#ifdef __cpp_lib_span
+    Port port;
+    CHECK(Queue::open(small(), &port, 1) == Answer::Ok);
+    Lent lent = port.lend();
+    const std::span<unsigned char> bytes = lent.bytes();
+    CHECK(bytes.data() == lent.data() && bytes.size() == 8);
+    CHECK(lent.send(0) && lent.bytes().empty());
+    const Taken taken = port.take(0);
+    static_assert(std::is_same<decltype(taken.bytes()), std::span<const unsigned char>>::value,
+        "bytes that can't be written");
+    CHECK(taken.bytes().size() == 8);
+#endif
+}
+
+static void messages_are_packed() {
+    Port port;
+    Setup setup = small();
+    setup.size = 32;
+    CHECK(Queue::open(setup, &port, 1) == Answer::Ok);
+    Lent lent = port.lend();
+    lent.pack_begin();
+    CHECK(lent.pack("first", 5) && lent.pack("second", 6) && !lent.pack("third", 10));
+    CHECK(lent.pack_room(1) != nullptr && lent.send(0));
+    CHECK(!lent.pack("x", 1) && lent.pack_room(0) == nullptr);
+    const Taken taken = port.take(0);
+    std::vector<std::string> all;
+    for (const scq::Message message : taken.messages()) {
+        all.emplace_back(message.begin(), message.end());
+    }
+    CHECK(all.size() == 3 && all[0] == "first" && all[1] == "second" && all[2].size() == 1);
+    lent.pack_begin();
+    for (const scq::Message message : lent.messages()) CHECK(message.size() > SIZE_MAX);
+}
+
 static void tickets_run_out() {
     Setup setup = small();
     setup.limit = 16;
@@ -180,6 +319,14 @@ int main() {
     buffers_that_end_are_given_back();
     what_is_moved_stays_one();
     a_closed_port_has_given_back();
+    a_second_send_is_answered();
+    a_guard_that_was_moved_from_is_answered();
+    a_guard_that_was_refused_is_answered();
+    ports_move_under_their_guards();
+    guards_outlive_their_port();
+    a_port_and_its_buffers_live_in_one_value();
+    bytes_are_a_span();
+    messages_are_packed();
     tickets_run_out();
     std::puts("owners end what they have");
     return 0;

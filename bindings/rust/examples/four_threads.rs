@@ -1,5 +1,5 @@
-//! Four threads on one queue of eight buffers: two send the numbers from 1 to 1,000,000 between them, two take half of them each, and what
-//! they took is summed.
+//! Four threads on one queue of eight buffers: two send the numbers from 1 to 1,000,000 between
+//! them, two take half of them each, and what they took is summed.
 //!
 //!     cargo run --release --example four_threads
 use scq::{LendError, Port, Queue, Setup, TakeError};

@@ -1,4 +1,5 @@
 //! Why a call did nothing.
+use crate::held::{Lent, OwnedLent, OwnedTaken, Taken};
 use std::error::Error;
 use std::fmt;
 
@@ -35,7 +36,9 @@ impl fmt::Display for OpenError {
             OpenError::Ports => f.write_str("the ports aren't from 1 to 4096"),
             OpenError::Limit => f.write_str("the limit isn't from 8 times the buffers to 2^60"),
             OpenError::Size => f.write_str("a buffer has no bytes"),
-            OpenError::Hold => f.write_str("what a port may hold isn't from 1 to the number of buffers"),
+            OpenError::Hold => {
+                f.write_str("what a port may hold isn't from 1 to the number of buffers")
+            }
             OpenError::Version { found } => write!(f, "libscq.a is of version {found}"),
         }
     }
@@ -48,7 +51,8 @@ impl Error for OpenError {}
 pub enum LendError {
     /// No buffer was free.
     Full {
-        /// The head of the stock of free buffers: each one that was given back at a place below it has been lent, or is being lent.
+        /// The head of the stock of free buffers: each one that was given back at a place below it
+        /// has been lent, or is being lent.
         head: u64,
     },
     /// The port holds as many buffers as it may.
@@ -77,7 +81,8 @@ impl Error for LendError {}
 pub enum TakeError {
     /// The topic had nothing.
     Empty {
-        /// The topic's head: each buffer that was sent at a place below it has been taken, or is being taken.
+        /// The topic's head: each buffer that was sent at a place below it has been taken, or is
+        /// being taken.
         head: u64,
     },
     /// The port holds as many buffers as it may.
@@ -145,14 +150,61 @@ impl fmt::Display for Spent {
 
 impl Error for Spent {}
 
-/// A buffer was refused, and comes back as it was: a [`Lent`](crate::Lent) or a [`Taken`](crate::Taken), and why.
+/// A buffer was refused, and comes back as it was: a [`Lent`](crate::Lent) or a
+/// [`Taken`](crate::Taken), or one that owns its port, and why.
 ///
-/// As it borrows the port it can't be handed on as a `Box<dyn Error>`; [`why`](Refused::why) can.
+/// `?` gives the buffer back, as dropping it does, and hands on why it was refused: into that error
+/// itself, and into a `Box<dyn Error>`. With another error use `map_err(|refused| refused.why)`.
+///
+/// ```
+/// # use scq::{Port, SendRefusal};
+/// fn hello(port: &Port, topic: u32) -> Result<u64, Box<dyn std::error::Error>> {
+///     let mut lent = port.lend()?;
+///     lent[..5].copy_from_slice(b"hello");
+///     Ok(lent.send(topic)?)
+/// }
+/// # let port = scq::Queue::new(scq::Setup::default(), 1)?.into_ports().remove(0);
+/// assert!(hello(&port, 0).is_ok());
+/// assert!(hello(&port, 1).unwrap_err().is::<SendRefusal>());
+///
+/// // Or the buffer is kept.
+/// let lent = port.lend()?.send(1).unwrap_err().into_lent();
+/// lent.send(0)?;
+/// # Ok::<(), Box<dyn std::error::Error>>(())
+/// ```
 pub struct Refused<G, E> {
     /// The buffer.
     pub held: G,
     /// Why it was refused.
     pub why: E,
+}
+
+impl<'p, E> Refused<Lent<'p>, E> {
+    /// The buffer that was lent.
+    pub fn into_lent(self) -> Lent<'p> {
+        self.held
+    }
+}
+
+impl<'p, E> Refused<Taken<'p>, E> {
+    /// The buffer that was taken.
+    pub fn into_taken(self) -> Taken<'p> {
+        self.held
+    }
+}
+
+impl<E> Refused<OwnedLent, E> {
+    /// The buffer that was lent.
+    pub fn into_lent(self) -> OwnedLent {
+        self.held
+    }
+}
+
+impl<E> Refused<OwnedTaken, E> {
+    /// The buffer that was taken.
+    pub fn into_taken(self) -> OwnedTaken {
+        self.held
+    }
 }
 
 impl<G, E: fmt::Debug> fmt::Debug for Refused<G, E> {
@@ -167,7 +219,22 @@ impl<G, E: fmt::Display> fmt::Display for Refused<G, E> {
     }
 }
 
-impl<G, E: Error + 'static> Error for Refused<G, E> {}
+// It isn't an `Error` itself: then std's own conversion into a box would stand in place of these,
+// and ask for a buffer that borrows nothing.
+
+/// For `?`, which gives the buffer back.
+impl<G, E: Error + 'static> From<Refused<G, E>> for Box<dyn Error> {
+    fn from(refused: Refused<G, E>) -> Box<dyn Error> {
+        Box::new(refused.why)
+    }
+}
+
+/// For `?`, which gives the buffer back.
+impl<G, E: Error + Send + Sync + 'static> From<Refused<G, E>> for Box<dyn Error + Send + Sync> {
+    fn from(refused: Refused<G, E>) -> Box<dyn Error + Send + Sync> {
+        Box::new(refused.why)
+    }
+}
 
 /// For `?`, which gives the buffer back.
 impl<G> From<Refused<G, SendRefusal>> for SendRefusal {

@@ -1,9 +1,12 @@
-//! Fixed buffers that threads pass to one another, without locks: the proved queue `scq`, from Rust.
+//! Fixed buffers that threads pass to one another, without locks: the proved queue `scq`, from
+//! Rust.
 //!
-//! Use it where `crossbeam::queue::ArrayQueue` nearly fits, but messages should be written and read where they lie, and an answer "empty" or
-//! "full" has to be relied on. A queue has 2 to 4,096 buffers, up to 17 topics, and a [`Port`] for each thread. A thread is [lent](Port::lend)
-//! a buffer, writes it in place and [sends](Lent::send) it on a topic; or it [takes](Port::take) one from a topic and reads it. A
-//! [`Lent`] or [`Taken`] that is dropped is given back.
+//! Use it where `crossbeam::queue::ArrayQueue` nearly fits, but messages should be written and read
+//! where they lie, and an answer "empty" or "full" has to be relied on. A queue has 2 to 4,096
+//! buffers, up to 17 topics, and a [`Port`] for each thread. A thread is [lent](Port::lend) a
+//! buffer, writes it in place and [sends](Lent::send) it on a topic; or it [takes](Port::take) one
+//! from a topic and reads it. A [`Lent`] or [`Taken`] that is dropped is given back. A [`Ring`] has
+//! values of any type in place of bytes, with `push` and `pop` as `ArrayQueue` has them.
 //!
 //! ```
 //! use scq::{Queue, Setup, TakeError};
@@ -32,28 +35,37 @@
 //!
 //! # What is promised
 //!
-//! The queue, its ports and the library's calls are written in Rattle, which is Rust with contracts, and each function is proved to meet its
-//! contract, however the threads meet; `docs/QUEUE.md` and `docs/PROMISES.md` of the repository have the clauses. This crate is a thin layer of
-//! plain Rust over those calls, tested and not proved. The library passes the numbers of buffers from port to port and follows no pointer to their
-//! bytes, which are this crate's: it finds those of a number.
+//! The queue, its ports and the library's calls are written in Rattle, which is Rust with
+//! contracts, and each function is proved to meet its contract, however the threads meet;
+//! `docs/QUEUE.md` and `docs/PROMISES.md` of the repository have the clauses. This crate is a thin
+//! layer of plain Rust over those calls, tested and not proved. The library passes the numbers of
+//! buffers from port to port and follows no pointer to their bytes, which are this crate's: it
+//! finds those of a number.
 //!
-//! - A take gives a buffer that was sent on this topic, with the bytes and the place of that send; none is taken twice.
+//! - A take gives a buffer that was sent on this topic, with the bytes and the place of that send;
+//!   none is taken twice.
 //! - No buffer overtakes one whose send had ended before its own send began.
-//! - [`TakeError::Empty`] and [`LendError::Full`] come only where they are right at a moment inside the call.
-//! - No call takes a lock or waits for another thread's, and only [`Queue::new`] takes memory: for the buffers one block of zeros, of which no
-//!   byte is touched before it is used.
-//! - The calls are lock-free, with a bound: for n buffers, k ports and b = 6 (2n - 1 + max(n, k) + n + k), among any k b + 1 atomic steps
-//!   one ends a call, whichever threads make them. What delays a call is what others finish on its topic, a send by at most b steps and a
-//!   take by 6; a thread that stopped delays none.
-//! - A buffer stays where it is, and is in one pair of hands at a time: this the borrow checker sees to.
-//! - A buffer whose guard was forgotten (`std::mem::forget`) is given back when its port is dropped.
+//! - [`TakeError::Empty`] and [`LendError::Full`] come only where they are right at a moment inside
+//!   the call.
+//! - No call takes a lock or waits for another thread's, and only [`Queue::new`] and [`Ring::new`]
+//!   take memory: for the buffers one block of zeros, of which no byte is touched before it is
+//!   used.
+//! - The calls are lock-free, with a bound: for n buffers, k ports and b = 6 (2n - 1 + max(n, k) +
+//!   n + k), among any k b + 1 atomic steps one ends a call, whichever threads make them. What
+//!   delays a call is what others finish on its topic, a send by at most b steps and a take by 6; a
+//!   thread that stopped delays none.
+//! - A buffer stays where it is, and is in one pair of hands at a time: this the borrow checker
+//!   sees to.
+//! - A buffer whose guard was forgotten (`std::mem::forget`) is given back when its port is
+//!   dropped.
 //!
 //! # What isn't
 //!
-//! - That a thread gets to run, that all threads get their share, or how long a call takes in time. A take that finds nothing doesn't wait:
-//!   ask again, do something else, or wait by a [`Bell`].
-//! - Tickets run out at the [limit](Setup::limit) of the setup: a call that needs one past it is refused, and so is each later lend,
-//!   take, send and give-back of that port. What a port holds by then it keeps: those buffers are freed with the queue.
+//! - That a thread gets to run, that all threads get their share, or how long a call takes in time.
+//!   A take that finds nothing doesn't wait: ask again, do something else, or wait by a [`Bell`].
+//! - Tickets run out at the [limit](Setup::limit) of the setup: a call that needs one past it is
+//!   refused, and so is each later lend, take, send and give-back of that port. What a port holds
+//!   by then it keeps: those buffers are freed with the queue.
 //! - A thread that stops in the middle of a call, or keeps a buffer, keeps it from the others.
 #![deny(missing_docs)]
 #![deny(unsafe_op_in_unsafe_fn)]
@@ -63,15 +75,20 @@ mod error;
 mod held;
 mod listener;
 mod memory;
+mod pack;
 mod port;
 mod queue;
+mod ring;
 mod rung;
 mod sys;
+mod told;
 
 pub use bell::{Bell, Lending, Taking, TakingAny, WaitError};
 pub use error::{LendError, OpenError, Refused, SendRefusal, Spent, TakeError};
-pub use held::{Lent, Taken};
+pub use held::{Lent, OwnedLent, OwnedTaken, Taken};
 pub use listener::Listener;
+pub use pack::{messages, Messages, Packer};
 pub use port::{Counts, Port};
 pub use queue::{Queue, Setup};
+pub use ring::{Handle, Ring};
 pub use rung::{Guard, Rung};

@@ -1,14 +1,15 @@
-//! Where the bytes of a queue's buffers lie. They are this crate's: the library has their numbers alone.
+//! Where the bytes of a queue's buffers lie. They are this crate's: the library has their numbers
+//! alone.
 use crate::error::OpenError;
+use crate::queue::Setup;
 use crate::sys;
 use std::alloc::{alloc_zeroed, dealloc, Layout};
 use std::mem;
-use std::sync::atomic::{fence, AtomicUsize, Ordering};
+use std::sync::atomic::{AtomicUsize, Ordering};
 
-/// A line of the processor's cache: each buffer begins at one of its own, so that threads that write neighbouring buffers don't write in one.
+/// A line of the processor's cache: each buffer begins at one of its own, so that threads that
+/// write neighbouring buffers don't write in one.
 const LINE: usize = 64;
-/// The largest order.
-const MAX_ORDER: u32 = 12;
 
 /// What stands before the buffers: how many ports are open, and how the whole was taken.
 struct Front {
@@ -16,9 +17,10 @@ struct Front {
     layout: Layout,
 }
 
-/// Takes memory for 2^`order` buffers of `size` zero bytes and so many ports. No byte of a buffer is touched before it is used.
+/// Takes memory for 2^`order` buffers of `size` zero bytes and so many ports. No byte of a buffer
+/// is touched before it is used.
 pub(crate) fn take(order: u32, size: u32, ports: usize) -> Result<sys::scq_memory, OpenError> {
-    if !(1..=MAX_ORDER).contains(&order) {
+    if !(1..=Setup::MAX_ORDER).contains(&order) {
         return Err(OpenError::Order);
     }
     if size == 0 {
@@ -28,15 +30,20 @@ pub(crate) fn take(order: u32, size: u32, ports: usize) -> Result<sys::scq_memor
     let len = size as usize;
     let stride = Layout::from_size_align(len, LINE).map_err(no_memory)?.pad_to_align().size();
     let before = mem::size_of::<Front>() + LINE - 1;
-    let bytes = stride.checked_mul(1 << order).and_then(|all| all.checked_add(before)).ok_or(OpenError::NoMemory)?;
-    // The buffers are begun at a line by hand: where a larger alignment is asked for, all bytes are written to be zero.
+    let bytes = stride
+        .checked_mul(1 << order)
+        .and_then(|all| all.checked_add(before))
+        .ok_or(OpenError::NoMemory)?;
+    // The buffers are begun at a line by hand: where a larger alignment is asked for, all bytes are
+    // written to be zero.
     let layout = Layout::from_size_align(bytes, mem::align_of::<Front>()).map_err(no_memory)?;
     // SAFETY: they are more than no bytes.
     let block = unsafe { alloc_zeroed(layout) };
     if block.is_null() {
         return Err(OpenError::NoMemory);
     }
-    // SAFETY: the front has room and is aligned, and with what lies before the first line there are bytes enough for the buffers.
+    // SAFETY: the front has room and is aligned, and with what lies before the first line there are
+    // bytes enough for the buffers.
     let base = unsafe {
         block.cast::<Front>().write(Front { ports: AtomicUsize::new(ports), layout });
         let behind = block.add(mem::size_of::<Front>());
@@ -62,12 +69,12 @@ pub(crate) unsafe fn free(memory: sys::scq_memory) {
 ///
 /// # Safety
 ///
-/// It was taken by `take`, for as many ports as call this once each, and the port uses nothing of it from now on.
+/// It was taken by `take`, for as many ports as call this once each, and the port uses nothing of
+/// it from now on.
 pub(crate) unsafe fn leave(memory: sys::scq_memory) {
     // SAFETY: the front is there until the last port leaves.
-    let before = unsafe { (*memory.block.cast::<Front>()).ports.fetch_sub(1, Ordering::Release) };
+    let before = unsafe { (*memory.block.cast::<Front>()).ports.fetch_sub(1, Ordering::AcqRel) };
     if before == 1 {
-        fence(Ordering::Acquire);
         // SAFETY: this is the last port.
         unsafe { free(memory) };
     }

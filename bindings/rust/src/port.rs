@@ -1,10 +1,12 @@
 //! Ports: what a thread makes its calls with.
-use crate::error::{LendError, TakeError};
-use crate::held::{Held, Lent, Taken};
-use crate::{memory, sys};
+use crate::error::{LendError, SendRefusal, Spent, TakeError};
+use crate::held::{Held, Lent, OwnedLent, OwnedTaken, Taken};
+use crate::{memory, sys, told};
 use std::cell::UnsafeCell;
 use std::fmt;
+use std::ops::Deref;
 use std::ptr::NonNull;
+use std::sync::Arc;
 
 /// What a port did so far.
 #[derive(Clone, Copy, Debug, Default, PartialEq, Eq, Hash)]
@@ -20,8 +22,8 @@ pub struct Counts {
 
 /// What a thread makes its calls with. It may go to another thread, but two threads can't share it.
 ///
-/// Dropped, it gives back the buffers that it still holds. The last port of a queue that is dropped frees the queue, with what stands on
-/// its topics.
+/// Dropped, it gives back the buffers that it still holds. The last port of a queue that is dropped
+/// frees the queue, with what stands on its topics.
 ///
 /// A port can't be shared:
 ///
@@ -45,7 +47,8 @@ pub struct Port {
     handle: UnsafeCell<sys::scq_port>,
 }
 
-// SAFETY: the library's handle may go from thread to thread, which is proved of it; and a port is moved only where nothing borrows it.
+// SAFETY: the library's handle may go from thread to thread, which is proved of it; and a port is
+// moved only where nothing borrows it.
 unsafe impl Send for Port {}
 
 impl Port {
@@ -54,33 +57,30 @@ impl Port {
         Port { handle: UnsafeCell::new(sys::scq_port::NONE) }
     }
 
-    /// The handle. A port isn't `Sync`, and no call comes back into this crate, so one call at a time is made with it.
-    pub(crate) fn handle(&self) -> *mut sys::scq_port {
+    /// The handle. A port isn't `Sync`, and no call comes back into this crate, so one call at a
+    /// time is made with it.
+    fn handle(&self) -> *mut sys::scq_port {
         self.handle.get()
     }
 
-    /// A buffer that the port was given, by what the call wrote: it lies where its index says.
+    /// Where the buffers of the port's queue lie.
     #[inline]
-    fn held(&self, out: &sys::scq_held) -> Held<'_> {
+    fn memory(&self) -> sys::scq_memory {
         // SAFETY: no call is made with the handle meanwhile.
-        let memory = unsafe { (*self.handle()).memory };
-        // SAFETY: there are more buffers than the index says, and none lies at null.
-        let at = unsafe { NonNull::new_unchecked(memory.base.add(out.index as usize * memory.stride)) };
-        Held::new(self, out.index, at, memory.len)
+        unsafe { (*self.handle()).memory }
     }
 
-    /// Is lent a buffer that nobody holds, with whatever bytes stand in it.
-    ///
-    /// # Errors
-    ///
-    /// [`LendError::Full`] where no buffer is free, which is right: there was a moment in the call at which each buffer that had been given
-    /// back was lent again, or was being lent.
+    /// Is lent the number of a buffer that nobody holds.
     #[inline]
-    pub fn lend(&self) -> Result<Lent<'_>, LendError> {
+    pub(crate) fn lend_index(&self) -> Result<sys::scq_held, LendError> {
         let mut out = sys::scq_held::NONE;
         // SAFETY: one call at a time is made with the handle, and `out` is apart from it.
         match unsafe { sys::scq_lend_index(self.handle(), &mut out) } {
-            sys::OK => Ok(Lent::new(self.held(&out))),
+            sys::OK => {
+                // (What a port lets go of that is dropped was released there.)
+                told::acquire(self.memory().base);
+                Ok(out)
+            }
             sys::FULL => Err(LendError::Full { head: out.place }),
             sys::NO_ROOM => Err(LendError::NoRoom),
             sys::SPENT => Err(LendError::Spent { ticket: out.place }),
@@ -88,24 +88,123 @@ impl Port {
         }
     }
 
-    /// Takes a buffer off a topic.
-    ///
-    /// # Errors
-    ///
-    /// [`TakeError::Empty`] where the topic has nothing, which is right: there was a moment in the call at which each buffer whose send had
-    /// ended was taken, or was being taken.
+    /// Takes the number of a buffer off a topic, with the place at which it was sent.
     #[inline]
-    pub fn take(&self, topic: u32) -> Result<Taken<'_>, TakeError> {
+    pub(crate) fn take_index(&self, topic: u32) -> Result<sys::scq_held, TakeError> {
         let mut out = sys::scq_held::NONE;
         // SAFETY: one call at a time is made with the handle, and `out` is apart from it.
         match unsafe { sys::scq_take_index(self.handle(), topic, &mut out) } {
-            sys::OK => Ok(Taken::new(self.held(&out), out.place)),
+            sys::OK => Ok(out),
             sys::EMPTY => Err(TakeError::Empty { head: out.place }),
             sys::NO_ROOM => Err(TakeError::NoRoom),
             sys::NO_TOPIC => Err(TakeError::NoTopic),
             sys::SPENT => Err(TakeError::Spent { ticket: out.place }),
             answer => unreachable!("scq_take_index answered {}", answer),
         }
+    }
+
+    /// Sends the buffer of a number that the port holds.
+    #[inline]
+    pub(crate) fn send_index(&self, index: u32, topic: u32) -> Result<u64, SendRefusal> {
+        let mut place = 0;
+        // SAFETY: one call at a time is made with the handle, and `place` is apart from it.
+        match unsafe { sys::scq_send(self.handle(), index, topic, &mut place) } {
+            sys::OK => Ok(place),
+            sys::NO_TOPIC => Err(SendRefusal::NoTopic),
+            sys::RETIRED => Err(SendRefusal::Retired),
+            sys::SPENT => Err(SendRefusal::Spent { ticket: place }),
+            answer => unreachable!("scq_send answered {}", answer),
+        }
+    }
+
+    /// Gives the buffer of a number that the port holds back.
+    #[inline]
+    pub(crate) fn give_back_index(&self, index: u32) -> Result<(), Spent> {
+        // SAFETY: one call at a time is made with the handle.
+        match unsafe { sys::scq_give_back(self.handle(), index) } {
+            sys::OK => Ok(()),
+            sys::SPENT => Err(Spent { ticket: self.spent().unwrap_or_default() }),
+            answer => unreachable!("scq_give_back answered {}", answer),
+        }
+    }
+
+    /// The buffer of a number that this port was given, and who keeps the port there meanwhile.
+    #[inline]
+    fn held<P: Deref<Target = Port>>(port: P, index: u32) -> Held<P> {
+        let memory = port.memory();
+        // SAFETY: there are more buffers than the index says, and none lies at null.
+        let at = unsafe { NonNull::new_unchecked(memory.base.add(index as usize * memory.stride)) };
+        told::acquire(at.as_ptr());
+        Held::new(port, index, at, memory.len)
+    }
+
+    /// Is lent a buffer that nobody holds, with whatever bytes stand in it.
+    ///
+    /// # Errors
+    ///
+    /// [`LendError::Full`] where no buffer is free, which is right: there was a moment in the call
+    /// at which each buffer that had been given back was lent again, or was being lent.
+    #[inline]
+    pub fn lend(&self) -> Result<Lent<'_>, LendError> {
+        self.lend_index().map(|out| Lent::new(Port::held(self, out.index)))
+    }
+
+    /// Takes a buffer off a topic.
+    ///
+    /// # Errors
+    ///
+    /// [`TakeError::Empty`] where the topic has nothing, which is right: there was a moment in the
+    /// call at which each buffer whose send had ended was taken, or was being taken.
+    #[inline]
+    pub fn take(&self, topic: u32) -> Result<Taken<'_>, TakeError> {
+        self.take_index(topic).map(|out| Taken::new(Port::held(self, out.index), out.place))
+    }
+
+    /// The same port for [`lend_owned`](Port::lend_owned) and [`take_owned`](Port::take_owned),
+    /// whose buffers keep it open as long as they live: so a port and its buffers may be in one
+    /// struct. As two threads can't share a port, all of them stay in one thread.
+    ///
+    /// ```
+    /// use scq::{OwnedLent, Port, Queue, Setup};
+    /// use std::sync::Arc;
+    ///
+    /// struct Batch {
+    ///     port: Arc<Port>,
+    ///     lent: Vec<OwnedLent>,
+    /// }
+    ///
+    /// let port = Queue::new(Setup::default(), 1)?.into_ports().remove(0);
+    /// let mut batch = Batch { port: port.into_shared(), lent: Vec::new() };
+    /// batch.lent.push(batch.port.lend_owned()?);
+    /// batch.lent.push(batch.port.lend_owned()?);
+    /// for lent in batch.lent.drain(..) {
+    ///     lent.send(0)?;
+    /// }
+    /// assert!(batch.port.take(0).is_ok());
+    /// # Ok::<(), Box<dyn std::error::Error>>(())
+    /// ```
+    #[allow(clippy::arc_with_non_send_sync, unknown_lints)]
+    pub fn into_shared(self) -> Arc<Port> {
+        Arc::new(self)
+    }
+
+    /// As [`lend`](Port::lend), with a buffer that keeps the port open.
+    ///
+    /// # Errors
+    ///
+    /// As [`lend`](Port::lend).
+    pub fn lend_owned(self: &Arc<Port>) -> Result<OwnedLent, LendError> {
+        self.lend_index().map(|out| OwnedLent::new(Port::held(Arc::clone(self), out.index)))
+    }
+
+    /// As [`take`](Port::take), with a buffer that keeps the port open.
+    ///
+    /// # Errors
+    ///
+    /// As [`take`](Port::take).
+    pub fn take_owned(self: &Arc<Port>, topic: u32) -> Result<OwnedTaken, TakeError> {
+        let out = self.take_index(topic)?;
+        Ok(OwnedTaken::new(Port::held(Arc::clone(self), out.index), out.place))
     }
 
     /// Retires the port: it sends no more, on any topic. It still lends, takes and gives back. A port that is dropped retires too.
@@ -139,7 +238,8 @@ impl Port {
         }
     }
 
-    /// The ticket at or past the limit that the port has drawn, where it has: each later lend, take, send and give-back is refused.
+    /// The ticket at or past the limit that the port has drawn, where it has: each later lend,
+    /// take, send and give-back is refused.
     pub fn spent(&self) -> Option<u64> {
         let mut ticket = 0;
         // SAFETY: one call at a time is made with the handle, and `ticket` is apart from it.
@@ -159,13 +259,20 @@ impl Port {
     }
 
     fn close(&mut self, counts: &mut [Counts]) -> bool {
+        let memory = self.handle.get_mut().memory;
+        if !memory.base.is_null() {
+            // It may hold buffers, which it gives back.
+            told::release(memory.base);
+        }
         let mut ended = sys::scq_ended { last: 0 };
-        // SAFETY: nothing borrows the port, and `ended` and `counts` are apart from it; a `Counts` lies as an `scq_counts`. Where the port
-        // isn't open, as in a queue that wasn't made, the call answers so.
-        let answer = unsafe { sys::scq_end(self.handle(), &mut ended, counts.as_mut_ptr().cast(), counts.len()) };
-        if answer == sys::OK {
+        let (at, room) = (counts.as_mut_ptr().cast(), counts.len());
+        // SAFETY: nothing borrows the port, and `ended` and `counts` are apart from it; a `Counts`
+        // lies as an `scq_counts`. Where the port isn't open, as in a queue that wasn't made, the
+        // call answers so.
+        let answer = unsafe { sys::scq_end(self.handle(), &mut ended, at, room) };
+        if answer == sys::OK && !memory.block.is_null() {
             // SAFETY: the port was opened over this memory, and its buffers are in nobody's hands.
-            unsafe { memory::leave(self.handle.get_mut().memory) };
+            unsafe { memory::leave(memory) };
         }
         ended.last == 1
     }

@@ -17,17 +17,21 @@ pub struct Setup {
     pub order: u32,
     /// How many topics there are, each a queue of its own over the same buffers: from 1 to 17.
     pub topics: u32,
-    /// How many bytes each buffer has: from 1. A buffer begins at a multiple of 64, so as many as the next one are taken for it.
+    /// How many bytes each buffer has: from 1. A buffer begins at a multiple of 64, so as many as
+    /// the next one are taken for it.
     pub size: u32,
     /// How many buffers a port may hold at a time: from 1 to 2^`order`.
     pub hold: u32,
-    /// Each topic, and the stock of free buffers, counts its puts and its gets by tickets up to this number: from 8 * 2^`order` to 2^60.
+    /// Each topic, and the stock of free buffers, counts its puts and its gets by tickets up to
+    /// this number: from 8 * 2^`order` to 2^60.
     pub limit: u64,
 }
 
 impl Setup {
     /// The largest limit. A billion tickets a second come to it after 36 years.
     pub const MAX_LIMIT: u64 = 1 << 60;
+    /// The largest order.
+    pub const MAX_ORDER: u32 = 12;
     /// The most ports of a queue.
     pub const MAX_PORTS: usize = 4096;
 }
@@ -48,7 +52,8 @@ pub struct Queue {
 }
 
 impl Queue {
-    /// Makes a queue with so many ports, from 1 to 4096, whatever the number of buffers. The buffers begin as zeros.
+    /// Makes a queue with so many ports, from 1 to 4096, whatever the number of buffers. The
+    /// buffers begin as zeros.
     ///
     /// After this, no call of a port takes memory.
     ///
@@ -64,28 +69,14 @@ impl Queue {
         if !(1..=Setup::MAX_PORTS).contains(&ports) {
             return Err(OpenError::Ports);
         }
-        let mut all = Vec::new();
-        all.try_reserve_exact(ports).map_err(|_| OpenError::NoMemory)?;
-        all.resize_with(ports, Port::none);
-        let Setup { order, topics, size, hold, limit } = setup;
-        let memory = memory::take(order, size, ports)?;
-        // SAFETY: a `Port` is an `scq_port` by its layout, all begin as SCQ_NONE, and there are so many of them.
-        let answer = unsafe { sys::scq_open_over(order, topics, hold, limit, &memory, all.as_mut_ptr().cast(), all.len()) };
-        if answer != sys::OK {
+        let memory = memory::take(setup.order, setup.size, ports)?;
+        // SAFETY: it was taken for so many buffers of this size.
+        let opened = unsafe { open_over(setup, ports, &memory) };
+        if opened.is_err() {
             // SAFETY: no port was opened over it.
             unsafe { memory::free(memory) };
         }
-        match answer {
-            sys::OK => Ok(Queue { ports: all }),
-            sys::NO_MEMORY => Err(OpenError::NoMemory),
-            sys::BAD_ORDER => Err(OpenError::Order),
-            sys::BAD_TOPICS => Err(OpenError::Topics),
-            sys::BAD_PORTS => Err(OpenError::Ports),
-            sys::BAD_LIMIT => Err(OpenError::Limit),
-            sys::BAD_SIZE => Err(OpenError::Size),
-            sys::BAD_HOLD => Err(OpenError::Hold),
-            answer => unreachable!("scq_open_over answered {}", answer),
-        }
+        opened.map(|ports| Queue { ports })
     }
 
     /// The ports.
@@ -100,5 +91,39 @@ impl IntoIterator for Queue {
 
     fn into_iter(self) -> vec::IntoIter<Port> {
         self.ports.into_iter()
+    }
+}
+
+/// Opens so many ports over memory that is there.
+///
+/// # Safety
+///
+/// There the setup's buffers lie apart, each of `len` bytes, as long as a port is open; `block` is
+/// null, or was taken for so many ports.
+pub(crate) unsafe fn open_over(
+    setup: Setup,
+    ports: usize,
+    memory: &sys::scq_memory,
+) -> Result<Vec<Port>, OpenError> {
+    if !(1..=Setup::MAX_PORTS).contains(&ports) {
+        return Err(OpenError::Ports);
+    }
+    let mut all = Vec::new();
+    all.try_reserve_exact(ports).map_err(|_| OpenError::NoMemory)?;
+    all.resize_with(ports, Port::none);
+    let Setup { order, topics, hold, limit, .. } = setup;
+    let first = all.as_mut_ptr().cast();
+    // SAFETY: a `Port` is an `scq_port` by its layout, all begin as SCQ_NONE, and there are so many
+    // of them.
+    match unsafe { sys::scq_open_over(order, topics, hold, limit, memory, first, all.len()) } {
+        sys::OK => Ok(all),
+        sys::NO_MEMORY => Err(OpenError::NoMemory),
+        sys::BAD_ORDER => Err(OpenError::Order),
+        sys::BAD_TOPICS => Err(OpenError::Topics),
+        sys::BAD_PORTS => Err(OpenError::Ports),
+        sys::BAD_LIMIT => Err(OpenError::Limit),
+        sys::BAD_SIZE => Err(OpenError::Size),
+        sys::BAD_HOLD => Err(OpenError::Hold),
+        answer => unreachable!("scq_open_over answered {}", answer),
     }
 }

@@ -41,7 +41,12 @@ pub struct scq_ended {
 impl scq_port {
     pub const NONE: scq_port = scq_port {
         at: std::ptr::null_mut(),
-        memory: scq_memory { base: std::ptr::null_mut(), stride: 0, len: 0, block: std::ptr::null_mut() },
+        memory: scq_memory {
+            base: std::ptr::null_mut(),
+            stride: 0,
+            len: 0,
+            block: std::ptr::null_mut(),
+        },
     };
 }
 
@@ -50,7 +55,15 @@ impl scq_held {
 }
 
 extern "C" {
-    pub fn scq_open_over(order: u32, topics: u32, hold: u32, limit: u64, memory: *const scq_memory, ports: *mut scq_port, n: usize) -> u32;
+    pub fn scq_open_over(
+        order: u32,
+        topics: u32,
+        hold: u32,
+        limit: u64,
+        memory: *const scq_memory,
+        ports: *mut scq_port,
+        n: usize,
+    ) -> u32;
     pub fn scq_lend_index(port: *mut scq_port, out: *mut scq_held) -> u32;
     pub fn scq_take_index(port: *mut scq_port, topic: u32, out: *mut scq_held) -> u32;
     pub fn scq_send(port: *mut scq_port, index: u32, topic: u32, place: *mut u64) -> u32;

@@ -1,6 +1,8 @@
 //! Each call, and each answer that it has.
-use scq::{Counts, LendError, OpenError, Port, Queue, SendRefusal, Setup, TakeError};
+use scq::{Counts, LendError, OpenError, OwnedLent, OwnedTaken, Port, Queue, SendRefusal, Setup};
+use scq::{Spent, TakeError};
 use std::error::Error;
+use std::sync::Arc;
 
 const SMALL: Setup = Setup { order: 1, topics: 2, size: 8, hold: 2, limit: Setup::MAX_LIMIT };
 
@@ -96,7 +98,8 @@ fn buffers_lie_apart_and_at_lines() {
 
 #[test]
 fn more_bytes_than_there_are_is_refused() {
-    let refused = Queue::new(Setup { order: 12, size: u32::MAX, hold: 1, ..SMALL }, 1).expect_err("it is refused");
+    let refused = Queue::new(Setup { order: 12, size: u32::MAX, hold: 1, ..SMALL }, 1)
+        .expect_err("it is refused");
     assert_eq!(refused, OpenError::NoMemory);
 }
 
@@ -138,15 +141,84 @@ fn a_topic_past_the_last_is_refused_and_the_buffer_comes_back() {
 
 #[test]
 fn a_refusal_can_be_handed_on() {
-    fn sent(port: &Port, topic: u32) -> Result<u64, Box<dyn Error>> {
-        Ok(port.lend()?.send(topic).map_err(SendRefusal::from)?)
+    fn boxed(port: &Port, topic: u32) -> Result<u64, Box<dyn Error>> {
+        Ok(port.lend()?.send(topic)?)
+    }
+    fn shared(port: &Port, topic: u32) -> Result<u64, Box<dyn Error + Send + Sync>> {
+        Ok(port.lend()?.send(topic)?)
+    }
+    fn plain(port: &Port, topic: u32) -> Result<u64, SendRefusal> {
+        Ok(port.lend().expect("a buffer is free").send(topic)?)
     }
     let ports = ports(SMALL, 1);
     for _ in 0..10 {
-        let error = sent(&ports[0], 2).unwrap_err();
+        // Each gives the buffer back, or the next would find none.
+        let error = boxed(&ports[0], 2).unwrap_err();
         assert_eq!(error.downcast_ref(), Some(&SendRefusal::NoTopic));
+        assert!(shared(&ports[0], 2).unwrap_err().is::<SendRefusal>());
+        assert_eq!(plain(&ports[0], 2), Err(SendRefusal::NoTopic));
     }
-    assert!(sent(&ports[0], 1).is_ok());
+    assert!(boxed(&ports[0], 1).is_ok());
+    let taken = ports[0].take(1).unwrap();
+    let taken = taken.send(2).unwrap_err().into_taken();
+    assert!(taken.give_back().is_ok());
+    let lent = ports[0].lend().unwrap().send(2).unwrap_err().into_lent();
+    assert!(lent.send(0).is_ok());
+}
+
+/// A port with its buffers in one value.
+struct Batch {
+    port: Arc<Port>,
+    lent: Vec<OwnedLent>,
+    taken: Option<OwnedTaken>,
+}
+
+#[test]
+fn a_buffer_may_keep_its_port() {
+    let mut ports = ports(SMALL, 2);
+    let second = ports.pop().unwrap();
+    let port = ports.pop().unwrap().into_shared();
+    let mut batch = Batch { port, lent: Vec::new(), taken: None };
+    for number in 0..2 {
+        let mut lent = batch.port.lend_owned().unwrap();
+        lent.fill(number);
+        batch.lent.push(lent);
+    }
+    assert_eq!(batch.port.lend_owned().unwrap_err(), LendError::NoRoom);
+    assert!(matches!(second.lend(), Err(LendError::Full { .. })));
+    let refused = batch.lent.pop().unwrap().send(2).unwrap_err();
+    assert_eq!(refused.why, SendRefusal::NoTopic);
+    let place = refused.into_lent().send(1).unwrap();
+    batch.taken = batch.port.take_owned(1).ok();
+    let Batch { port, lent, taken } = batch;
+    drop(port);
+    // The buffers keep it.
+    let mut taken = taken.unwrap();
+    assert_eq!((&taken[..], taken.place(), &lent[0][..]), (&[1; 8][..], place, &[0; 8][..]));
+    taken.fill(9);
+    let why: Box<dyn Error> = taken.send(7).unwrap_err().into();
+    assert!(why.is::<SendRefusal>());
+    assert!(second.lend().is_ok());
+    drop(lent);
+    assert!(second.lend().unwrap().give_back().is_ok());
+}
+
+#[test]
+fn a_port_closes_with_the_last_that_keeps_it() {
+    let mut ports = ports(SMALL, 2);
+    let first = ports.remove(0).into_shared();
+    std::mem::forget(first.lend().unwrap());
+    let lent = first.lend_owned().unwrap();
+    assert_eq!(Arc::strong_count(&first), 2);
+    lent.send(0).unwrap();
+    assert_eq!(Arc::strong_count(&first), 1);
+    first.take_owned(0).unwrap().give_back().unwrap();
+    let lent = first.lend_owned().unwrap();
+    drop(first);
+    assert!(matches!(ports[0].lend(), Err(LendError::Full { .. })));
+    drop(lent);
+    let both = (ports[0].lend(), ports[0].lend());
+    assert!(both.0.is_ok() && both.1.is_ok());
 }
 
 #[test]
@@ -216,8 +288,13 @@ fn errors_are_errors() {
         text(LendError::Full { head: 1 }),
         text(TakeError::Empty { head: 1 }),
         text(SendRefusal::NoTopic),
+        text(Spent { ticket: 16 }),
     ] {
-        assert!(text.starts_with(|first: char| first.is_lowercase()) && !text.ends_with('.'), "{}", text);
+        assert!(
+            text.starts_with(|first: char| first.is_lowercase()) && !text.ends_with('.'),
+            "{}",
+            text
+        );
     }
 }
 

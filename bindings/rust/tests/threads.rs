@@ -36,7 +36,11 @@ fn work(port: &Port, thread: u64, seen: &[AtomicU64], taken: &AtomicUsize) {
         }
         match port.take(0) {
             Ok(bytes) => {
-                assert_eq!(seen[read(&bytes) as usize].fetch_add(1, Ordering::SeqCst), 0, "a message came twice");
+                assert_eq!(
+                    seen[read(&bytes) as usize].fetch_add(1, Ordering::SeqCst),
+                    0,
+                    "a message came twice"
+                );
                 taken.fetch_add(1, Ordering::SeqCst);
             }
             Err(TakeError::Empty { .. }) => thread::yield_now(),

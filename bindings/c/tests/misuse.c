@@ -1,0 +1,429 @@
+/* Calls that a user makes wrongly, or that meet what is merely unlucky: of each the answer is
+ * clear, or the rule at the head of scq.h that makes it the caller's. Those that are answered are
+ * made here, one after the other; a line says what became of each.
+ *
+ *     misuse [CASE]
+ */
+#define _GNU_SOURCE
+#include "scq.h"
+
+#include "check.h"
+
+#include <pthread.h>
+#include <signal.h>
+#include <stdio.h>
+#include <stdlib.h>
+#include <string.h>
+#include <sys/time.h>
+#include <sys/wait.h>
+#include <time.h>
+#include <unistd.h>
+
+static scq_port p[4];
+static scq_held h, g;
+static uint64_t place;
+
+static void open_n(uint32_t order, uint32_t topics, uint32_t size, uint32_t hold, size_t n) {
+    CHECK(scq_open(order, topics, size, hold, SCQ_MAX_LIMIT, p, n) == SCQ_OK);
+}
+
+static void open_plain(void) { open_n(2, 2, 64, 2, 2); }
+
+static void lend_one(void) { CHECK(scq_lend(&p[0], &h) == SCQ_OK); }
+
+static void send_one(void) { CHECK(scq_send(&p[0], h.index, 0, &place) == SCQ_OK); }
+
+/* Whether the queue still works; then it is closed. */
+static void close_both(void) {
+    CHECK(scq_lend(&p[0], &h) == SCQ_OK && scq_send(&p[0], h.index, 0, &place) == SCQ_OK);
+    CHECK(scq_take(&p[1], 0, &g) == SCQ_OK && scq_give_back(&p[1], g.index) == SCQ_OK);
+    CHECK(scq_close(&p[0]) == SCQ_OK && scq_close(&p[1]) == SCQ_OK);
+}
+
+/* -- ports
+ * ------------------------------------------------------------------------------------------ */
+
+static void zero_port_lend(void) {
+    CHECK(scq_lend(&p[0], &h) == SCQ_CLOSED && h.at == NULL && h.len == 0);
+}
+
+static void open_twice(void) {
+    open_plain();
+    CHECK(scq_open(2, 1, 64, 1, SCQ_MAX_LIMIT, p, 2) == SCQ_IS_OPEN);
+    close_both();
+}
+
+static void close_twice(void) {
+    open_plain();
+    CHECK(scq_close(&p[0]) == SCQ_OK && scq_close(&p[0]) == SCQ_CLOSED);
+    CHECK(scq_close(&p[1]) == SCQ_OK);
+}
+
+static void call_after_close(void) {
+    scq_counts counts;
+    open_plain();
+    CHECK(scq_close(&p[0]) == SCQ_OK);
+    CHECK(scq_lend(&p[0], &h) == SCQ_CLOSED && scq_take(&p[0], 0, &h) == SCQ_CLOSED);
+    CHECK(scq_send(&p[0], 0, 0, &place) == SCQ_CLOSED && scq_give_back(&p[0], 0) == SCQ_CLOSED);
+    CHECK(scq_counts_of(&p[0], &counts) == SCQ_CLOSED && scq_spent(&p[0], &place) == SCQ_CLOSED);
+    CHECK(scq_close(&p[1]) == SCQ_OK);
+}
+
+static void moved_port(void) {
+    open_plain();
+    scq_port q = p[0];
+    p[0] = SCQ_NONE;
+    CHECK(scq_lend(&q, &h) == SCQ_OK && scq_lend(&p[0], &h) == SCQ_CLOSED);
+    CHECK(scq_close(&q) == SCQ_OK && scq_close(&p[1]) == SCQ_OK);
+}
+
+static void closed_with_messages(void) {
+    scq_ended ended;
+    open_plain();
+    lend_one(), send_one();
+    CHECK(scq_end(&p[1], &ended) == SCQ_OK && ended.last == 0);
+    scq_free(&p[1]);
+    /* The message goes with the queue. */
+    CHECK(scq_end(&p[0], &ended) == SCQ_OK && ended.last == 1);
+    scq_free(&p[0]);
+}
+
+/* -- indices
+ * ---------------------------------------------------------------------------------------- */
+
+static void send_not_held(void) {
+    open_plain();
+    CHECK(scq_send(&p[0], 1, 0, &place) == SCQ_NOT_HELD);
+    close_both();
+}
+
+static void send_bad_index(void) {
+    open_plain();
+    CHECK(scq_send(&p[0], UINT32_MAX, 0, &place) == SCQ_NOT_HELD);
+    CHECK(scq_send(&p[0], 4, 0, &place) == SCQ_NOT_HELD);
+    CHECK(scq_give_back(&p[0], 4096) == SCQ_NOT_HELD);
+    close_both();
+}
+
+static void send_twice(void) {
+    open_plain();
+    lend_one(), send_one();
+    CHECK(scq_send(&p[0], h.index, 0, &place) == SCQ_NOT_HELD);
+    CHECK(scq_take(&p[1], 0, &g) == SCQ_OK && scq_give_back(&p[1], g.index) == SCQ_OK);
+    close_both();
+}
+
+static void send_by_other_port(void) {
+    open_plain();
+    lend_one();
+    CHECK(scq_send(&p[1], h.index, 0, &place) == SCQ_NOT_HELD);
+    CHECK(scq_give_back(&p[0], h.index) == SCQ_OK);
+    close_both();
+}
+
+static void send_to_other_queue(void) {
+    open_plain();
+    lend_one();
+    strcpy((char *)h.at, "of queue A");
+    CHECK(scq_open(2, 1, 64, 2, SCQ_MAX_LIMIT, &p[2], 2) == SCQ_OK);
+    CHECK(scq_send(&p[2], h.index, 0, &place) == SCQ_NOT_HELD);
+    /* Where that port holds one of this number, its own goes. */
+    CHECK(scq_lend(&p[2], &g) == SCQ_OK && g.index == h.index);
+    strcpy((char *)g.at, "of queue B");
+    CHECK(scq_send(&p[2], h.index, 0, &place) == SCQ_OK);
+    CHECK(scq_take(&p[3], 0, &g) == SCQ_OK && strcmp((char *)g.at, "of queue B") == 0);
+    CHECK(strcmp((char *)h.at, "of queue A") == 0);
+    CHECK(scq_close(&p[2]) == SCQ_OK && scq_close(&p[3]) == SCQ_OK);
+    close_both();
+}
+
+static void give_back_twice(void) {
+    open_plain();
+    lend_one();
+    CHECK(scq_give_back(&p[0], h.index) == SCQ_OK);
+    CHECK(scq_give_back(&p[0], h.index) == SCQ_NOT_HELD);
+    close_both();
+}
+
+static void give_back_after_send(void) {
+    open_plain();
+    lend_one(), send_one();
+    CHECK(scq_give_back(&p[0], h.index) == SCQ_NOT_HELD);
+    CHECK(scq_take(&p[1], 0, &g) == SCQ_OK && scq_give_back(&p[1], g.index) == SCQ_OK);
+    close_both();
+}
+
+/* An index is kept, and the port holds the same buffer again: it names that. */
+static void stale_index_recycled(void) {
+    scq_held now;
+    open_n(1, 1, 64, 2, 2);
+    lend_one(), send_one();
+    CHECK(scq_take(&p[1], 0, &g) == SCQ_OK && scq_give_back(&p[1], g.index) == SCQ_OK);
+    do CHECK(scq_lend(&p[0], &now) == SCQ_OK);
+    while (now.index != h.index);
+    CHECK(scq_give_back(&p[0], h.index) == SCQ_OK);
+    CHECK(scq_send(&p[0], now.index, 0, &place) == SCQ_NOT_HELD);
+    close_both();
+}
+
+/* -- bytes
+ * ------------------------------------------------------------------------------------------ */
+
+static void lend_unchecked_full(void) {
+    open_n(1, 1, 64, 2, 2);
+    for (int i = 0; i < 2; i++) {
+        lend_one();
+        snprintf((char *)h.at, h.len, "message %d", i);
+        send_one();
+    }
+    /* Who doesn't look at the answer has no buffer to overwrite. */
+    CHECK(scq_lend(&p[0], &h) == SCQ_FULL && h.at == NULL && h.len == 0);
+    for (int i = 0; i < 2; i++) {
+        char text[32];
+        snprintf(text, sizeof text, "message %d", i);
+        CHECK(scq_take(&p[1], 0, &g) == SCQ_OK && strcmp((char *)g.at, text) == 0);
+        CHECK(scq_give_back(&p[1], g.index) == SCQ_OK);
+    }
+    CHECK(scq_take(&p[1], 0, &g) == SCQ_EMPTY && g.at == NULL && g.len == 0);
+    close_both();
+}
+
+static void aligned_cast(void) {
+    open_n(8, 1, 100, 64, 2);
+    for (int i = 0; i < 64; i++) {
+        lend_one();
+        CHECK((uintptr_t)h.at % SCQ_CACHE_LINE == 0);
+    }
+    CHECK(scq_close(&p[0]) == SCQ_OK && scq_close(&p[1]) == SCQ_OK);
+}
+
+/* -- numbers
+ * ---------------------------------------------------------------------------------------- */
+
+static void topic_past(void) {
+    open_plain();
+    CHECK(scq_take(&p[0], 2, &h) == SCQ_NO_TOPIC);
+    lend_one();
+    CHECK(scq_send(&p[0], h.index, 2, &place) == SCQ_NO_TOPIC);
+    CHECK(scq_send(&p[0], h.index, UINT32_MAX, &place) == SCQ_NO_TOPIC);
+    CHECK(scq_send(&p[0], h.index, 1, &place) == SCQ_OK);
+    close_both();
+}
+
+static void bad_numbers(void) {
+    CHECK(scq_open(0, 1, 64, 1, SCQ_MAX_LIMIT, p, 1) == SCQ_BAD_ORDER);
+    CHECK(scq_open(13, 1, 64, 1, SCQ_MAX_LIMIT, p, 1) == SCQ_BAD_ORDER);
+    CHECK(scq_open(64, 1, 64, 1, SCQ_MAX_LIMIT, p, 1) == SCQ_BAD_ORDER);
+    CHECK(scq_open(2, 0, 64, 1, SCQ_MAX_LIMIT, p, 1) == SCQ_BAD_TOPICS);
+    CHECK(scq_open(2, 18, 64, 1, SCQ_MAX_LIMIT, p, 1) == SCQ_BAD_TOPICS);
+    CHECK(scq_open(2, 1, 0, 1, SCQ_MAX_LIMIT, p, 1) == SCQ_BAD_SIZE);
+    CHECK(scq_open(2, 1, 64, 0, SCQ_MAX_LIMIT, p, 1) == SCQ_BAD_HOLD);
+    CHECK(scq_open(2, 1, 64, 5, SCQ_MAX_LIMIT, p, 1) == SCQ_BAD_HOLD);
+    CHECK(scq_open(2, 1, 64, 1, 31, p, 1) == SCQ_BAD_LIMIT);
+    CHECK(scq_open(2, 1, 64, 1, 0, p, 1) == SCQ_BAD_LIMIT);
+    CHECK(scq_open(2, 1, 64, 1, SCQ_MAX_LIMIT + 1, p, 1) == SCQ_BAD_LIMIT);
+    CHECK(scq_open(2, 1, 64, 1, SCQ_MAX_LIMIT, p, 0) == SCQ_BAD_PORTS);
+    CHECK(scq_open(2, 1, 64, 1, SCQ_MAX_LIMIT, p, 4097) == SCQ_BAD_PORTS);
+    CHECK(p[0].at == NULL);
+}
+
+/* No handle is read where there are too many: the array has one. */
+static void ports_past_array_4097(void) {
+    scq_port *const one = calloc(1, sizeof *one);
+    CHECK(one != NULL && scq_open(2, 1, 64, 1, SCQ_MAX_LIMIT, one, (size_t)-1) == SCQ_BAD_PORTS);
+    CHECK(scq_open(2, 1, 64, 1, SCQ_MAX_LIMIT, one, 4097) == SCQ_BAD_PORTS);
+    free(one);
+}
+
+static void huge_size(void) {
+    CHECK(scq_open(12, 1, UINT32_MAX, 1, SCQ_MAX_LIMIT, p, 1) == SCQ_NO_MEMORY && p[0].at == NULL);
+}
+
+static void no_room(void) {
+    open_plain();
+    lend_one(), lend_one();
+    CHECK(scq_lend(&p[0], &g) == SCQ_NO_ROOM && scq_take(&p[0], 0, &g) == SCQ_NO_ROOM);
+    CHECK(scq_give_back(&p[0], h.index) == SCQ_OK);
+    close_both();
+}
+
+static void spent(void) {
+    uint32_t answer = SCQ_OK;
+    uint64_t ticket;
+    CHECK(scq_open(1, 1, 8, 2, 16, p, 1) == SCQ_OK);
+    while (answer == SCQ_OK) {
+        answer = scq_lend(&p[0], &h);
+        if (answer == SCQ_OK) answer = scq_give_back(&p[0], h.index);
+    }
+    CHECK(answer == SCQ_SPENT && scq_spent(&p[0], &ticket) == SCQ_SPENT && ticket >= 16);
+    CHECK(scq_lend(&p[0], &g) == SCQ_SPENT && g.place == ticket && g.at == NULL);
+    CHECK(scq_take(&p[0], 0, &g) == SCQ_SPENT && g.place == ticket);
+    CHECK(scq_close(&p[0]) == SCQ_OK);
+}
+
+/* -- threads, processes and signals
+ * ----------------------------------------------------------------- */
+
+static void *hold_and_end(void *port) {
+    scq_held held;
+    CHECK(scq_lend(port, &held) == SCQ_OK);
+    return NULL;
+}
+
+/* What a thread held that has ended is given back when its port is closed, by any thread. */
+static void thread_exits_holding(void) {
+    pthread_t thread;
+    open_n(1, 1, 64, 2, 2);
+    CHECK(pthread_create(&thread, NULL, hold_and_end, &p[0]) == 0);
+    CHECK(pthread_join(thread, NULL) == 0);
+    CHECK(scq_lend(&p[1], &g) == SCQ_OK && scq_lend(&p[1], &h) == SCQ_FULL);
+    CHECK(scq_close(&p[0]) == SCQ_OK && scq_lend(&p[1], &g) == SCQ_OK);
+    CHECK(scq_close(&p[1]) == SCQ_OK);
+}
+
+/* A process may end at any time, whatever its ports hold. */
+static void exit_without_close(void) {
+    int status;
+    fflush(stdout);
+    const pid_t child = fork();
+    if (child == 0) {
+        open_plain();
+        lend_one();
+        raise(SIGKILL);
+    }
+    CHECK(child > 0 && waitpid(child, &status, 0) == child);
+    CHECK(WIFSIGNALED(status) && WTERMSIG(status) == SIGKILL);
+}
+
+static volatile sig_atomic_t ticks, wrong_ticks;
+
+static void tick(int signal) {
+    scq_held held;
+    uint64_t at;
+    (void)signal;
+    ticks++;
+    if (scq_lend(&p[1], &held) != SCQ_OK || scq_send(&p[1], held.index, 1, &at) != SCQ_OK) {
+        wrong_ticks++;
+    }
+}
+
+/* A signal handler has a port of its own. */
+static void signal_other_port(void) {
+    const struct itimerval every = {{0, 200}, {0, 200}}, off = {{0, 0}, {0, 0}};
+    struct sigaction action;
+    struct timespec from, now;
+    memset(&action, 0, sizeof action);
+    action.sa_handler = tick;
+    action.sa_flags = SA_RESTART;
+    CHECK(sigaction(SIGALRM, &action, NULL) == 0);
+    open_n(6, 2, 64, 4, 2);
+    CHECK(setitimer(ITIMER_REAL, &every, NULL) == 0);
+    CHECK(clock_gettime(CLOCK_MONOTONIC, &from) == 0);
+    do {
+        lend_one(), send_one();
+        CHECK(scq_take(&p[0], 0, &g) == SCQ_OK && scq_give_back(&p[0], g.index) == SCQ_OK);
+        while (scq_take(&p[0], 1, &g) == SCQ_OK) CHECK(scq_give_back(&p[0], g.index) == SCQ_OK);
+        CHECK(clock_gettime(CLOCK_MONOTONIC, &now) == 0);
+    } while ((now.tv_sec - from.tv_sec) * 1000 + (now.tv_nsec - from.tv_nsec) / 1000000 < 100);
+    CHECK(setitimer(ITIMER_REAL, &off, NULL) == 0);
+    CHECK(ticks > 0 && wrong_ticks == 0);
+    close_both();
+}
+
+static void header_of_other_version(void) { CHECK(scq_version() == SCQ_VERSION); }
+
+/* -- the table
+ * -------------------------------------------------------------------------------------- */
+
+/* What is done where it isn't answered here. */
+enum { ANSWERED = 0, COMPILER = 100 };
+
+#define A(name) {#name, ANSWERED, name}
+#define RULE(number, name) {#name, number, NULL}
+
+static const struct {
+    const char *name;
+    unsigned rule; /* of those at the head of scq.h */
+    void (*run)(void);
+} cases[] = {
+    RULE(2, lend_null_port),
+    RULE(2, lend_null_out),
+    RULE(2, take_null_out),
+    RULE(2, send_null_place),
+    RULE(2, send_null_place_caught),
+    RULE(2, open_null_ports),
+    RULE(2, open_null_zero),
+    RULE(2, close_null),
+    RULE(1, uninit_open),
+    RULE(1, uninit_lend),
+    A(zero_port_lend),
+    A(open_twice),
+    RULE(2, open_more_than_array),
+    A(close_twice),
+    A(call_after_close),
+    RULE(1, copy_both_used),
+    RULE(1, copy_closed_twice),
+    RULE(1, copy_used_after_close),
+    RULE(1, copy_used_after_all_closed),
+    A(send_not_held),
+    A(send_bad_index),
+    A(send_twice),
+    A(send_by_other_port),
+    A(send_to_other_queue),
+    A(give_back_twice),
+    A(give_back_after_send),
+    A(stale_index_recycled),
+    RULE(5, write_after_send),
+    A(lend_unchecked_full),
+    RULE(5, write_past_end),
+    RULE(5, write_far_past_end),
+    RULE(5, write_before),
+    RULE(5, read_after_close),
+    A(aligned_cast),
+    A(topic_past),
+    A(bad_numbers),
+    A(ports_past_array_4097),
+    A(huge_size),
+    A(no_room),
+    A(spent),
+    RULE(3, two_threads_one_port),
+    A(thread_exits_holding),
+    RULE(3, async_cancel),
+    RULE(1, forget_one_close),
+    A(exit_without_close),
+    RULE(6, fork_child_uses),
+    RULE(3, signal_same_port),
+    A(signal_other_port),
+    RULE(5, place_in_buffer),
+    RULE(2, place_is_port),
+    RULE(2, out_is_port),
+    RULE(2, out_unaligned),
+    RULE(2, out_read_only),
+    A(moved_port),
+    A(closed_with_messages),
+    A(header_of_other_version),
+    /* bench/bindings compiles it. */
+    RULE(COMPILER, ignored_answers),
+};
+
+int main(int count, char **words) {
+    const size_t all = sizeof cases / sizeof *cases;
+    size_t answered = 0, callers = 0, warned = 0;
+    for (size_t i = 0; i < all; i++) {
+        if (count > 1 && strcmp(words[1], cases[i].name) != 0) continue;
+        if (cases[i].rule == ANSWERED) {
+            cases[i].run();
+            answered++;
+            printf("%s: answered\n", cases[i].name);
+        } else if (cases[i].rule == COMPILER) {
+            warned++;
+            printf("%s: the compiler warns\n", cases[i].name);
+        } else {
+            callers++;
+            printf("%s: rule %u\n", cases[i].name, cases[i].rule);
+        }
+    }
+    printf("%zu misuses: %zu answered, %zu named as the caller's, %zu that the compiler sees\n",
+        answered + callers + warned, answered, callers, warned);
+    return 0;
+}
