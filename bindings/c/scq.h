@@ -2,7 +2,8 @@
  *
  * A queue has 2^order buffers of the same size and up to 17 topics, each a first-in-first-out queue of its own over these buffers. A thread
  * makes its calls with a port of its own: it is lent a buffer, writes it where it lies and sends it on a topic; or it takes one from a topic,
- * reads it and gives it back. No call takes a lock or waits for another thread's, and only scq_open and scq_open_over take memory. What the
+ * reads it and gives it back. No call takes a lock or waits for another thread's; lends, takes, sends and give-backs are lock-free,
+ * with a bound (docs/QUEUE.md). Only scq_open and scq_open_over take memory. What the
  * library does is proved: docs/QUEUE.md says what that means, and docs/PROMISES.md has the promise of each call.
  *
  * The library passes numbers of buffers from port to port. The bytes are the caller's: it is given no pointer that it follows to them, and
@@ -109,7 +110,7 @@ typedef struct scq_counts {
 
 /* What became of a queue when a port was closed. */
 typedef struct scq_ended {
-    uint32_t last; /* 1 where this was its last port, and the queue closed with it; else 0 */
+    uint32_t last; /* 1 where the queue closed with this port, as its last; else 0 */
 } scq_ended;
 
 /* The answers. The last is this file's own, and no version of the library answers it. */
@@ -399,10 +400,11 @@ uint32_t scq_give_back(scq_port *port, uint32_t index);
 uint32_t scq_retire(scq_port *port);
 
 /* Whether all ports of the queue have retired, this one among them. Then a topic that is found empty afterwards has ended: ask first, and
- * then take. Once a port is answered that all have, it always is.
+ * then take. Once a port is answered that all have, it always is. That this
+ * is right is proved; that it comes once all have is tested.
  *
  * Tested: that the port is open.
- * Answers: SCQ_RETIRED where all have; SCQ_OK where some hadn't at a moment of the call; SCQ_CLOSED. */
+ * Answers: SCQ_RETIRED where all have; SCQ_OK where some hadn't, as far as the call read; SCQ_CLOSED. */
 SCQ_ANSWERED uint32_t scq_retired(scq_port *port);
 
 /* Writes to `out` how many sends, takes and SCQ_FULL answers the port had.
@@ -418,11 +420,15 @@ uint32_t scq_counts_of(scq_port *port, scq_counts *out);
  * Answers: SCQ_SPENT, and *ticket is the ticket; SCQ_OK where it keeps none; SCQ_CLOSED. */
 uint32_t scq_spent(scq_port *port, uint64_t *ticket);
 
-/* Closes the port, and tells whether it was the queue's last. It retires, and gives back what it holds; where its tickets have run out, those buffers stay
- * with the queue, which lends them to nobody. The last port of a queue frees what the library took, with what stands on the topics, and it is told
- * so. Then all calls that were made with all ports of the queue stand in one run of the proved machine, with their answers: each buffer that was
- * taken was sent on that topic at that place, no place of a topic was sent at or taken at twice, what was sent less what was taken is what was left,
- * and each topic's calls stand in one order in which every answer is a plain queue's. Where it was the last, there stands in `counts` what each
+/* Closes the port, and tells whether it was the queue's last. It retires, and gives back what it holds;
+ * where its tickets have run out, what can't be given back stays with the queue, which lends it to
+ * nobody. The last port of a queue frees what the library took, with what stands on the topics, and it
+ * is told so: that it is told, and that all is freed, is tested; what it is told is proved. Then all
+ * calls that were made with all ports of the queue, but those that a test or a kept ticket refused,
+ * stand in one run of the proved machine, with their answers: each buffer that was taken was sent on
+ * that topic at that place, no place of a topic was sent at or taken at twice, what was sent less what
+ * was taken is what was left, and the calls of each topic, and those of the free buffers, but for those
+ * answered SCQ_SPENT, stand in one order in which every answer is a plain queue's. Where it was the last, there stands in `counts` what each
  * port of the queue did, in the order in which they were opened: of the first `n` of them. port->memory is left as it was.
  *
  * Tested: that the port is open.

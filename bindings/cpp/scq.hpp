@@ -370,7 +370,7 @@ public:
     // Sends no more: Ok or Closed. It still lends, takes and gives back.
     Answer retire() noexcept { return static_cast<Answer>(scq_retire(&port_)); }
 
-    // Retired where all ports of the queue have, or Ok where some hadn't; or Closed. Ask first, and then take: a topic that is found empty then
+    // Retired where all ports of the queue have, or Ok where some hadn't, as far as the call read; or Closed. Ask first, and then take: a topic that is found empty then
     // has ended.
     SCQ_NODISCARD Answer retired() noexcept { return static_cast<Answer>(scq_retired(&port_)); }
 

@@ -252,7 +252,8 @@ impl Port {
 }
 
 impl Port {
-    /// Closes the port, as dropping it does, and says whether it was the queue's last. Where it was, there stands in `counts` what each port
+    /// Closes the port, as dropping it does, and says whether it was the queue's last (that a last one
+    /// hears so is tested). Where it says so, there stands in `counts` what each port
     /// of the queue did, in the order in which they were opened, as far as there is room.
     pub fn end(mut self, counts: &mut [Counts]) -> bool {
         self.close(counts)

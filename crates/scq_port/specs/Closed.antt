@@ -1,4 +1,5 @@
--- What the last port of a queue that closes is told: all that the queue's close says, of the passes
+-- What the last port of a queue that closes is told: what the queue's close says, but of held values
+-- and of what each pass saw: of the passes
 -- of all ports as each of them closed.
 use Rattle.std.specs.Prelude.{◌≡◌, ℕ, List}
 use Rattle.scq_word.specs.Sizes.{n_of}
