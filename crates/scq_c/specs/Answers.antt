@@ -59,7 +59,7 @@ pub record OfGiveBack (index code : ℕ) (old new : PortStanding) : Type 0 where
   pub not_held : code ≡ 5 → HoldsNoSuch index old new
   pub known : (code ≡ 0) ⊎ (code ≡ 3) ⊎ (code ≡ 5)
 
--- of a question whether all ports have retired: 16 they have, 0 some have not
+-- of a question whether all ports have retired: 16 they have, 0 the number read was above 0
 pub record OfRetired (code : ℕ) (old new : PortStanding) : Type 0 where
   pub found : ℕ
   pub asked : HasAsked found old new
@@ -109,7 +109,7 @@ pub record OfOpen (order topics hold limit : ℕ) (memory : Memory) (code : ℕ)
   pub is_open : code ≡ 15 → All IsClosed before → ⊥
   pub known : (code ≡ 0) ⊎ ((8 ≤ code) × (code ≤ 15))
 
--- the last port of a queue closed, with this pass: all passes of the queue are these, what the
+-- the last port of a queue closed, with this pass: there are passes, which are all of the queue, what the
 -- queue's close says holds of them, and their counts were written out
 pub record AllHaveEnded (x : PortStanding) (its : PassStanding PortBuffer)
     (before after : List Tally) : Type 0 where
@@ -127,3 +127,4 @@ pub record OfEnd (x : PortStanding) (e : End) (before after : List Tally) : Type
   pub ended : HasEnded (retired_port x) its
   pub last : e.last ≡ 1 → AllHaveEnded x its before after
   pub other : (e.last ≡ 1 → ⊥) → after ≡ before
+  pub known : (e.last ≡ 0) ⊎ (e.last ≡ 1)

@@ -1,4 +1,4 @@
-use Rattle.std.proofs.Common.{◌≡◌, List, map, ap, sym, subst, ◌∙◌, arith}
+use Rattle.std.proofs.Common.{◌≡◌, List, map, ap, inl, inr, sym, subst, ◌∙◌, arith}
 use Rattle.scq_queue.specs.declared.counts.Counts.{Counts}
 use Rattle.scq_port.specs.Ports.{bytes_of}
 use Rattle.scq_c.specs.declared.exports.End.{End}
@@ -28,6 +28,7 @@ returns c =
                       (subst (λ (l : List Tally). AreWritten w.as_slice.result.now c.args.counts.now l) (sym w.counts-is) w.write_out.ensures);
                 };
             other = λ isnt. absurd (isnt (ap (λ (e : End). e.last) w.out-is));
+            known = inr (ap (λ (e : End). e.last) w.out-is);
           }
       | in-None w ↦
           record {
@@ -35,5 +36,6 @@ returns c =
             ended = c.close-ended.ensures.ended;
             last = λ one. absurd (let zeroth : c.match-closed.out.last ≡ 0 = ap (λ (e : End). e.last) w.out-is in omega (arith, one, zeroth));
             other = λ isnt. w.counts-is;
+            known = inl (ap (λ (e : End). e.last) w.out-is);
           }
     ]
