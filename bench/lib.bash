@@ -287,7 +287,7 @@ cargo_of_debian() {
 # Has what is said from here on written to a result too, below the date, the machine and versions.
 result() {
     [ -n "$results" ] || return 0
-    read -r busy stolen all own < <(ticks)
+    read -r was_busy was_stolen was_all was_own < <(ticks)
     exec {screen}>&1 > >(tee "$scratch/said" >&"$screen")
     tee=$!
     at_end=write_result
@@ -326,9 +326,10 @@ ticks() {
 write_result() {
     local now_busy now_stolen now_all now_own spent
     read -r now_busy now_stolen now_all now_own < <(ticks)
-    spent=$((now_all - all > 0 ? now_all - all : 1))
+    spent=$((now_all - was_all > 0 ? now_all - was_all : 1))
     echo "load at the end: $(cut -d ' ' -f 1-3 /proc/loadavg); of the processors' time meanwhile others had" \
-        "$((100 * (now_busy - busy - now_own + own) / spent)) %, and $((100 * (now_stolen - stolen) / spent)) % was stolen"
+        "$((100 * (now_busy - was_busy - now_own + was_own) / spent)) %, and" \
+        "$((100 * (now_stolen - was_stolen) / spent)) % was stolen"
     exec >&"$screen"
     wait "$tee"
     mkdir -p "$results" && cp "$scratch/said" "$results/$script.txt"
