@@ -103,7 +103,7 @@ fits-or-large left (g ∷ gs) (x ∷ xs) read one some visible more large fits =
       at : (o : Option (List ℕ)) → IsSome o
           → IfSome o (λ content. All (λ source. Some (length content) ≡ option_map (λ rest. read + length rest) (left source)) (x ∷ xs))
           → IfSome o (λ content. length content ≤ most_text) → ⊥
-      at None there large fits = there
+      at None there large fits = cc
       at (Some content) there large fits = past (left x) (length content) (large 0 x (omega arith)) fits
 
 -- a run over one whole file, in whose way nothing stood, ends by its text or for want of memory
