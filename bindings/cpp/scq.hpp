@@ -373,11 +373,17 @@ public:
     }
 
     // Sends no more: Ok or Closed. It still lends, takes and gives back.
-    Answer retire() noexcept { return static_cast<Answer>(scq_retire(&port_)); }
+    Answer retire() noexcept {
+        if (shared_.is_none()) return Answer::Closed;
+        return static_cast<Answer>(scq_retire(shared_.port()));
+    }
 
-    // Retired where all ports of the queue have, or Ok where some hadn't, as far as the call read; or Closed. Ask first, and then take: a topic that is found empty then
-    // has ended.
-    SCQ_NODISCARD Answer retired() noexcept { return static_cast<Answer>(scq_retired(&port_)); }
+    // Retired where all ports of the queue have, or Ok where some hadn't, as far as the call read; or
+    // Closed. Ask first, and then take: a topic that is found empty then has ended.
+    SCQ_NODISCARD Answer retired() noexcept {
+        if (shared_.is_none()) return Answer::Closed;
+        return static_cast<Answer>(scq_retired(shared_.port()));
+    }
 
     // Writes how many sends, takes and Full answers the port had: Ok or Closed.
     Answer counts(scq_counts &out) noexcept {
@@ -398,14 +404,16 @@ public:
         return static_cast<Answer>(scq_close(shared_.port()));
     }
 
-    // The same, and whether it was the queue's last port; where it was, what each port did is written, in the order in which they were
-    // opened: of the first `count`. Where the answer is Closed nothing is written.
+    // The same, and whether it was the queue's last port; where it was, what each port did is
+    // written, in the order in which they were opened: of the first `count`. Where the answer is
+    // Closed nothing is written.
     Answer close(bool &last, scq_counts *counts, std::size_t count) noexcept {
+        if (shared_.is_none()) return Answer::Closed;
         scq_ended ended;
-        const Answer answer = static_cast<Answer>(scq_end(&port_, &ended, counts, count));
+        const Answer answer = static_cast<Answer>(scq_end(shared_.port(), &ended, counts, count));
         if (answer == Answer::Ok) {
             last = ended.last == 1;
-            scq_free(&port_);
+            scq_free(shared_.port());
         }
         return answer;
     }
