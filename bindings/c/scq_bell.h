@@ -352,15 +352,6 @@ static inline uint32_t scq_bell_give_back(scq_bell *bell, scq_port *port, uint32
     return answer;
 }
 
-/* Closes a port as scq_close, with its tests and answers, and wakes all who wait for a buffer, as there
- * may be several that it held. */
-static inline uint32_t scq_bell_close(scq_bell *bell, scq_port *port) {
-    const uint32_t answer = scq_close(port);
-    if (__atomic_load_n(&bell->waiting[SCQ_FREE], __ATOMIC_SEQ_CST) != 0)
-        scq_bell_wake(bell, SCQ_LINE(SCQ_FREE), INT_MAX);
-    return answer;
-}
-
 /* Says that nothing is sent on these topics any more, behind the last send on each; or with SCQ_FREE
  * that who waits for a buffer is to give up. Who waits for nothing but such lines is woken, and takes
  * what is left before he is answered SCQ_ENDED. It can't be taken back. */
@@ -369,15 +360,22 @@ static inline void scq_bell_finish(scq_bell *bell, uint32_t lines) {
     scq_bell_wake(bell, lines, INT_MAX);
 }
 
-/* As scq.h declares them, where its library has them. */
-uint32_t scq_retire(scq_port *port);
-uint32_t scq_retired(scq_port *port);
-
 /* Retires a port as scq_retire, with its tests and answers; where all ports of the queue have retired
  * then, all topics end, as by scq_bell_finish. A port that only takes retires before it waits. */
 static inline uint32_t scq_bell_retire(scq_bell *bell, scq_port *port) {
     const uint32_t answer = scq_retire(port);
     if (answer == SCQ_OK && scq_retired(port) != SCQ_OK) scq_bell_finish(bell, SCQ_LINE(SCQ_FREE) - 1);
+    return answer;
+}
+
+/* Closes a port as scq_close, with its tests and answers: it retires, as by scq_bell_retire, and all who
+ * wait for a buffer are woken, as there may be several that it held. */
+static inline uint32_t scq_bell_close(scq_bell *bell, scq_port *port) {
+    uint32_t answer = scq_bell_retire(bell, port);
+    if (answer != SCQ_OK) return answer;
+    answer = scq_close(port);
+    if (__atomic_load_n(&bell->waiting[SCQ_FREE], __ATOMIC_SEQ_CST) != 0)
+        scq_bell_wake(bell, SCQ_LINE(SCQ_FREE), INT_MAX);
     return answer;
 }
 

@@ -139,8 +139,8 @@ public:
     // buffer is to give up. Who waits is woken, and takes what is left before his wait ends.
     void finish(std::uint32_t lines) noexcept { scq_bell_finish(&bell_, lines); }
 
-    // Retires a port, where the library has that; and ends all topics where all ports have retired.
-    template <class Retiring> Answer retire(Retiring &port) noexcept {
+    // Retires a port, and ends all topics where all ports have retired.
+    Answer retire(Port &port) noexcept {
         const Answer answer = port.retire();
         if (answer == Answer::Ok && port.retired() != Answer::Ok) finish(line(SCQ_FREE) - 1);
         return answer;
@@ -149,8 +149,9 @@ public:
     // Rings for a topic or for SCQ_FREE, behind what was sent or given back without the bell.
     void ring(std::uint32_t topic) noexcept { scq_bell_ring(&bell_, topic); }
 
-    // Closes a port, and wakes all that wait for a buffer, as it may have held several.
+    // Closes a port: it retires, and all that wait for a buffer are woken, as it may have held several.
     Answer close(Port &port) noexcept {
+        retire(port);
         const Answer answer = port.close();
         scq_bell_wake(&bell_, SCQ_LINE(SCQ_FREE), INT_MAX);
         return answer;

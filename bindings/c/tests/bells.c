@@ -197,10 +197,8 @@ static void *sends(void *handed_over) {
         const uint32_t topic = (uint32_t)(next(&state) % topics);
         CHECK(scq_bell_send(&bell, port, held.index, topic, &place) == SCQ_OK);
     }
-#ifdef RETIRES
-    CHECK(scq_bell_retire(&bell, port) == SCQ_OK && scq_bell_close(&bell, port) == SCQ_OK);
-#else
     CHECK(scq_bell_close(&bell, port) == SCQ_OK);
+#ifndef RETIRES
     if (__atomic_sub_fetch(&senders_left, 1, __ATOMIC_SEQ_CST) == 0)
         scq_bell_finish(&bell, SCQ_LINE(topics) - 1);
 #endif

@@ -185,6 +185,15 @@ impl Bell {
         self.finish_lines(1 << FREE);
     }
 
+    /// Retires a port, as [`Port::retire`]; where all ports of the queue have retired by then, all
+    /// topics are finished. A port that only takes retires before it waits.
+    pub fn retire(&self, port: &Port) {
+        port.retire();
+        if port.all_retired() {
+            self.finish_lines((1 << FREE) - 1);
+        }
+    }
+
     /// Rings for a topic, behind a send on it that was made without the bell.
     ///
     /// # Panics

@@ -286,3 +286,32 @@ fn what_is_left_is_passed_on() {
         assert_eq!(waits_for_one.join().unwrap(), Ok(()));
     });
 }
+
+/// The last port that retires ends all topics.
+#[test]
+fn retirement_ends_waits() {
+    let bell = Bell::new();
+    let mut ports = ports(Setup { topics: 2, ..Setup::default() }, 3);
+    let (third, second, first) = (ports.remove(0), ports.remove(0), ports.remove(0));
+    thread::scope(|scope| {
+        let bell = &bell;
+        let takers: Vec<_> = [second, third]
+            .into_iter()
+            .map(|port| {
+                scope.spawn(move || {
+                    bell.retire(&port);
+                    let mut times = 0;
+                    while bell.take_any(&port, &[0, 1]).is_ok() {
+                        times += 1;
+                    }
+                    times
+                })
+            })
+            .collect();
+        for number in 0..1000 {
+            bell.lend(&first).unwrap().send(number % 2).unwrap();
+        }
+        bell.retire(&first);
+        assert_eq!(takers.into_iter().map(|taker| taker.join().unwrap()).sum::<usize>(), 1000);
+    });
+}
