@@ -1,7 +1,7 @@
 //! Buffers that ring where they go.
 use crate::bell::{Bell, FREE};
 use crate::error::{Refused, SendRefusal, Spent};
-use crate::held::{Lent, Taken};
+use crate::held::{Lent, OwnedLent, OwnedTaken, Taken};
 use std::fmt;
 use std::ops::{Deref, DerefMut};
 
@@ -27,7 +27,7 @@ macro_rules! guards {
     )*};
 }
 
-guards!(Lent<'_>, Taken<'_>);
+guards!(Lent<'_>, Taken<'_>, OwnedLent, OwnedTaken);
 
 /// A [`Lent`] or a [`Taken`] that rings: where it is sent for the topic, and where it is given back or
 /// dropped for a buffer.
