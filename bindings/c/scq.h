@@ -16,7 +16,7 @@
  *    no call is made with it meanwhile and the old place is set to SCQ_NONE or not used again. scq_close makes it SCQ_NONE; one that isn't
  *    closed keeps its queue, and what it holds, until the process ends.
  * 2. Every pointer that is handed in is non-null, aligned, and points to memory of its type that may be written; what two pointers of one call
- *    point to lies apart. `n` ports begin at `ports`; also where n is 0, `ports` is not null.
+ *    point to lies apart. `n` ports begin at `ports`, and `n` counts at `counts`; also where n is 0, neither is null.
  * 3. One call at a time is made with a port, by whichever thread has it, also where a signal handler makes one. Calls with different ports may
  *    meet in any way. A call that has begun is let end: no thread is cancelled asynchronously in it, and no signal handler jumps out of it.
  *    (Where two threads call with one port, one of them is often told that the port is closed.)
@@ -27,8 +27,8 @@
  * 6. After fork the child makes no call with the parent's ports, and doesn't touch their buffers.
  *
  * Everything else is tested by the calls, and answered. Of each call there stands below what is tested and what is answered; where several
- * answers would be right, one of them comes. Where it isn't SCQ_OK no buffer has changed hands, and nothing is written through the pointers but
- * what is said there.
+ * answers would be right, one of them comes. Where it isn't SCQ_OK no buffer has changed hands (with SCQ_DAMAGED the port keeps the one that
+ * came), and nothing is written through the pointers but what is said there.
  */
 #ifndef SCQ_H
 #define SCQ_H
@@ -129,7 +129,9 @@ enum {
     SCQ_BAD_LIMIT = 12,  /* the limit isn't from 8 * 2^order to SCQ_MAX_LIMIT */
     SCQ_BAD_SIZE = 13,   /* a buffer has no bytes, or more than lie between it and the next */
     SCQ_BAD_HOLD = 14,   /* what a port may hold isn't from 1 to 2^order */
-    SCQ_IS_OPEN = 15     /* one of the ports is open */
+    SCQ_IS_OPEN = 15,    /* one of the ports is open */
+    SCQ_DAMAGED = 16,    /* the library's memory was written by somebody else */
+    SCQ_RETIRED = 17     /* the port has retired, or all ports have */
 };
 
 /* The largest limit. A billion tickets a second come to it after 36 years. */
@@ -164,6 +166,8 @@ static inline const char *scq_text(uint32_t answer) {
     case SCQ_BAD_SIZE: return "a buffer has no bytes, or more than lie between it and the next";
     case SCQ_BAD_HOLD: return "what a port may hold isn't from 1 to 2^order";
     case SCQ_IS_OPEN: return "one of the ports is open";
+    case SCQ_DAMAGED: return "the library's memory was written by somebody else";
+    case SCQ_RETIRED: return "retired";
     default: return "no answer of this library";
     }
 }
@@ -261,10 +265,13 @@ SCQ_ANSWERED uint32_t scq_lend_index(scq_port *port, scq_held *out);
 SCQ_ANSWERED uint32_t scq_take_index(scq_port *port, uint32_t topic, scq_held *out);
 SCQ_ANSWERED uint32_t scq_send(scq_port *port, uint32_t index, uint32_t topic, uint64_t *place);
 uint32_t scq_give_back(scq_port *port, uint32_t index);
-uint32_t scq_end(scq_port *port, scq_ended *out);
+uint32_t scq_end(scq_port *port, scq_ended *out, scq_counts *counts, size_t n);
+uint32_t scq_retire(scq_port *port);
+SCQ_ANSWERED uint32_t scq_retired(scq_port *port);
 
 /* A buffer is named to the tools by an address of its own, base + index: there is a byte at it, and an
- * index that is no buffer's makes no wild one. What a port holds that is closed is named by the base. */
+ * index that is no buffer's makes no wild one. What a port holds that is closed is named by the base, and what a port did that
+ * has retired. */
 
 static inline void scq_tell_got(const scq_port *port, uint32_t answer, uint32_t index) {
     if (answer != SCQ_OK) return;
@@ -307,10 +314,24 @@ static inline uint32_t scq_give_back_told(scq_port *port, uint32_t index) {
     return answer;
 }
 
-static inline uint32_t scq_end_told(scq_port *port, scq_ended *out) {
+static inline uint32_t scq_end_told(scq_port *port, scq_ended *out, scq_counts *counts, size_t n) {
     uint32_t answer;
     scq_tell_lets_go(port, 0);
-    SCQ_ASIDE(answer = scq_end(port, out));
+    SCQ_ASIDE(answer = scq_end(port, out, counts, n));
+    return answer;
+}
+
+static inline uint32_t scq_retire_told(scq_port *port) {
+    uint32_t answer;
+    scq_tell_lets_go(port, 0);
+    SCQ_ASIDE(answer = scq_retire(port));
+    return answer;
+}
+
+static inline SCQ_ANSWERED uint32_t scq_retired_told(scq_port *port) {
+    uint32_t answer;
+    SCQ_ASIDE(answer = scq_retired(port));
+    if (answer == SCQ_RETIRED) scq_tell_after(port->memory.base);
     return answer;
 }
 
@@ -319,6 +340,8 @@ static inline uint32_t scq_end_told(scq_port *port, scq_ended *out) {
 #define scq_send scq_send_told
 #define scq_give_back scq_give_back_told
 #define scq_end scq_end_told
+#define scq_retire scq_retire_told
+#define scq_retired scq_retired_told
 #undef SCQ_ASIDE
 #endif
 #undef SCQ_TSAN
@@ -342,8 +365,8 @@ static inline void scq_locate(const scq_port *port, uint32_t answer, scq_held *o
  *
  * Tested: that the port is open, and holds fewer buffers than it may.
  * Answers: SCQ_OK; SCQ_CLOSED; SCQ_NO_ROOM; SCQ_FULL where no buffer was free, and out->place is the head of the stock: each buffer that was
- * given back at a place below it has been lent, or is being lent; SCQ_SPENT, and out->place is the ticket. Where it isn't SCQ_OK, out->at is
- * null and out->len 0. */
+ * given back at a place below it has been lent, or is being lent; SCQ_SPENT, and out->place is the ticket; SCQ_DAMAGED where what came isn't
+ * the buffer of its index, and the port keeps it. Where it isn't SCQ_OK, out->at is null and out->len 0. */
 static inline SCQ_ANSWERED uint32_t scq_lend(scq_port *port, scq_held *out) {
     const uint32_t answer = scq_lend_index(port, out);
     scq_locate(port, answer, out);
@@ -354,8 +377,8 @@ static inline SCQ_ANSWERED uint32_t scq_lend(scq_port *port, scq_held *out) {
  *
  * Tested: that the port is open, the topic, and that the port holds fewer buffers than it may.
  * Answers: SCQ_OK; SCQ_CLOSED; SCQ_NO_TOPIC; SCQ_NO_ROOM; SCQ_EMPTY where nothing was on the topic, and out->place is its head: each buffer that
- * was sent at a place below it has been taken, or is being taken; SCQ_SPENT, and out->place is the ticket. Where it isn't SCQ_OK, out->at is
- * null and out->len 0. */
+ * was sent at a place below it has been taken, or is being taken; SCQ_SPENT, and out->place is the ticket; SCQ_DAMAGED as with scq_lend. Where it
+ * isn't SCQ_OK, out->at is null and out->len 0. */
 static inline SCQ_ANSWERED uint32_t scq_take(scq_port *port, uint32_t topic, scq_held *out) {
     const uint32_t answer = scq_take_index(port, topic, out);
     scq_locate(port, answer, out);
@@ -365,8 +388,9 @@ static inline SCQ_ANSWERED uint32_t scq_take(scq_port *port, uint32_t topic, scq
 /* Sends the buffer of this index on a topic, and writes to `place` at which place. Places rise in the order of sends that follow one another;
  * no two buffers of a topic have the same.
  *
- * Tested: that the port is open, the topic, and that the port holds a buffer of this index.
- * Answers: SCQ_OK, and the port doesn't hold the buffer; SCQ_CLOSED; SCQ_NO_TOPIC; SCQ_NOT_HELD; SCQ_SPENT, and *place is the ticket. */
+ * Tested: that the port is open, the topic, that the port hasn't retired, and that it holds a buffer of this index.
+ * Answers: SCQ_OK, and the port doesn't hold the buffer; SCQ_CLOSED; SCQ_NO_TOPIC; SCQ_RETIRED; SCQ_NOT_HELD; SCQ_SPENT, and *place is the
+ * ticket. */
 SCQ_ANSWERED uint32_t scq_send(scq_port *port, uint32_t index, uint32_t topic, uint64_t *place);
 
 /* Gives the buffer of this index back, so that it can be lent again. It need not have been sent.
@@ -374,6 +398,19 @@ SCQ_ANSWERED uint32_t scq_send(scq_port *port, uint32_t index, uint32_t topic, u
  * Tested: that the port is open, and holds a buffer of this index.
  * Answers: SCQ_OK, and the port doesn't hold the buffer; SCQ_CLOSED; SCQ_NOT_HELD; SCQ_SPENT, and scq_spent tells the ticket. */
 uint32_t scq_give_back(scq_port *port, uint32_t index);
+
+/* Retires the port: it sends no more, on any topic. It still lends, takes and gives back. A close retires too.
+ *
+ * Tested: that the port is open.
+ * Answers: SCQ_OK, also where it had retired; SCQ_CLOSED. */
+uint32_t scq_retire(scq_port *port);
+
+/* Whether all ports of the queue have retired, this one among them. Then a topic that is found empty afterwards has ended: ask first, and
+ * then take. Once a port is answered that all have, it always is.
+ *
+ * Tested: that the port is open.
+ * Answers: SCQ_RETIRED where all have; SCQ_OK where some hadn't at a moment of the call; SCQ_CLOSED. */
+SCQ_ANSWERED uint32_t scq_retired(scq_port *port);
 
 /* Writes to `out` how many sends, takes and SCQ_FULL answers the port had.
  *
@@ -388,15 +425,16 @@ uint32_t scq_counts_of(scq_port *port, scq_counts *out);
  * Answers: SCQ_SPENT, and *ticket is the ticket; SCQ_OK where it keeps none; SCQ_CLOSED. */
 uint32_t scq_spent(scq_port *port, uint64_t *ticket);
 
-/* Closes the port, and tells whether it was the queue's last. It gives back what it holds; where its tickets have run out, those buffers stay
+/* Closes the port, and tells whether it was the queue's last. It retires, and gives back what it holds; where its tickets have run out, those buffers stay
  * with the queue, which lends them to nobody. The last port of a queue frees what the library took, with what stands on the topics, and it is told
  * so. Then all calls that were made with all ports of the queue stand in one run of the proved machine, with their answers: each buffer that was
  * taken was sent on that topic at that place, no place of a topic was sent at or taken at twice, what was sent less what was taken is what was left,
- * and each topic's calls stand in one order in which every answer is a plain queue's. port->memory is left as it was.
+ * and each topic's calls stand in one order in which every answer is a plain queue's. Where it was the last, there stands in `counts` what each
+ * port of the queue did, in the order in which they were opened: of the first `n` of them. port->memory is left as it was.
  *
  * Tested: that the port is open.
  * Answers: SCQ_OK; SCQ_CLOSED. */
-uint32_t scq_end(scq_port *port, scq_ended *out);
+uint32_t scq_end(scq_port *port, scq_ended *out, scq_counts *counts, size_t n);
 
 /* What is left to be done with a port that scq_end closed: sets it to SCQ_NONE, and frees what scq_open took, where it was the queue's last. */
 static inline void scq_free(scq_port *port) {
@@ -414,7 +452,8 @@ static inline void scq_free(scq_port *port) {
  * Answers: SCQ_OK; SCQ_CLOSED. */
 static inline uint32_t scq_close(scq_port *port) {
     scq_ended ended;
-    const uint32_t answer = scq_end(port, &ended);
+    scq_counts none;
+    const uint32_t answer = scq_end(port, &ended, &none, 0);
     if (answer == SCQ_OK) scq_free(port);
     return answer;
 }

@@ -66,7 +66,9 @@ enum class Answer : std::uint32_t {
     BadLimit = SCQ_BAD_LIMIT,
     BadSize = SCQ_BAD_SIZE,
     BadHold = SCQ_BAD_HOLD,
-    IsOpen = SCQ_IS_OPEN
+    IsOpen = SCQ_IS_OPEN,
+    Damaged = SCQ_DAMAGED,
+    Retired = SCQ_RETIRED
 };
 
 // The text of an answer.
@@ -365,6 +367,19 @@ public:
         return Taken(shared_, answer, held);
     }
 
+    // Sends no more: Ok or Closed. It still lends, takes and gives back.
+    Answer retire() noexcept {
+        if (shared_.is_none()) return Answer::Closed;
+        return static_cast<Answer>(scq_retire(shared_.port()));
+    }
+
+    // Retired where all ports of the queue have, or Ok where some hadn't; or Closed. Ask first, and
+    // then take: a topic that is found empty then has ended.
+    SCQ_NODISCARD Answer retired() noexcept {
+        if (shared_.is_none()) return Answer::Closed;
+        return static_cast<Answer>(scq_retired(shared_.port()));
+    }
+
     // Writes how many sends, takes and Full answers the port had: Ok or Closed.
     Answer counts(scq_counts &out) noexcept {
         if (shared_.is_none()) return Answer::Closed;
@@ -382,6 +397,20 @@ public:
     Answer close() noexcept {
         if (shared_.is_none()) return Answer::Closed;
         return static_cast<Answer>(scq_close(shared_.port()));
+    }
+
+    // The same, and whether it was the queue's last port; where it was, what each port did is
+    // written, in the order in which they were opened: of the first `count`. Where the answer is
+    // Closed nothing is written.
+    Answer close(bool &last, scq_counts *counts, std::size_t count) noexcept {
+        if (shared_.is_none()) return Answer::Closed;
+        scq_ended ended;
+        const Answer answer = static_cast<Answer>(scq_end(shared_.port(), &ended, counts, count));
+        if (answer == Answer::Ok) {
+            last = ended.last == 1;
+            scq_free(shared_.port());
+        }
+        return answer;
     }
 
 private:

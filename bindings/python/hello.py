@@ -33,6 +33,12 @@ class Held(ctypes.Structure):
     _fields_ = [("at", ctypes.c_void_p), ("len", ctypes.c_size_t), ("place", ctypes.c_uint64), ("index", ctypes.c_uint32)]
 
 
+class Counts(ctypes.Structure):
+    """What a port did."""
+
+    _fields_ = [("sent", ctypes.c_uint64), ("taken", ctypes.c_uint64), ("full", ctypes.c_uint64)]
+
+
 CALLS = {
     "scq_version": [],
     "scq_open_over": [ctypes.c_uint32] * 3 + [ctypes.c_uint64, ctypes.POINTER(Memory), ctypes.POINTER(Port), ctypes.c_size_t],
@@ -40,7 +46,7 @@ CALLS = {
     "scq_take_index": [ctypes.POINTER(Port), ctypes.c_uint32, ctypes.POINTER(Held)],
     "scq_send": [ctypes.POINTER(Port), ctypes.c_uint32, ctypes.c_uint32, ctypes.POINTER(ctypes.c_uint64)],
     "scq_give_back": [ctypes.POINTER(Port), ctypes.c_uint32],
-    "scq_end": [ctypes.POINTER(Port), ctypes.POINTER(ctypes.c_uint32)],
+    "scq_end": [ctypes.POINTER(Port), ctypes.POINTER(ctypes.c_uint32), ctypes.POINTER(Counts), ctypes.c_size_t],
 }
 
 
@@ -75,8 +81,10 @@ def main():
     done(scq.scq_take_index(taker, 0, ctypes.byref(held)))
     print(ctypes.string_at(memory.base + held.index * SIZE).decode())
     done(scq.scq_give_back(taker, held.index))
-    done(scq.scq_end(sender, ctypes.byref(last)))
-    done(scq.scq_end(taker, ctypes.byref(last)))
+    counts = (Counts * 2)()
+    done(scq.scq_end(sender, ctypes.byref(last), counts, len(counts)))
+    done(scq.scq_end(taker, ctypes.byref(last), counts, len(counts)))
+    print(f"{counts[0].sent} sent, {counts[1].taken} taken")
 
 
 main()

@@ -28,6 +28,7 @@ static void must(const char *call, uint32_t answer) {
 static void *work(void *port) {
     scq_held held;
     scq_ended ended;
+    scq_counts none;
     uint64_t place;
     while (atomic_load(&stop) == 0) {
         /* It holds up to HOLD, and sends one of two. */
@@ -40,7 +41,7 @@ static void *work(void *port) {
             sched_yield();
         }
     }
-    must("end", scq_end(port, &ended));
+    must("end", scq_end(port, &ended, &none, 0));
     if (ended.last) atomic_fetch_add(&last_ones, 1);
     scq_free(port);
     return NULL;

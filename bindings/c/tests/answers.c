@@ -5,13 +5,13 @@
 
 #include <string.h>
 
-enum call { OPEN, LEND, TAKE, SEND, GIVE_BACK, COUNTS_OF, SPENT, CLOSE, CALLS };
+enum call { OPEN, LEND, TAKE, SEND, GIVE_BACK, RETIRE, RETIRED, COUNTS_OF, SPENT, CLOSE, CALLS };
 
 /* For each call a bit for each answer that it had. */
 static uint32_t had[CALLS];
 
 static uint32_t noted(enum call call, uint32_t answer) {
-    CHECK(answer <= SCQ_IS_OPEN);
+    CHECK(answer <= SCQ_RETIRED);
     had[call] |= UINT32_C(1) << answer;
     return answer;
 }
@@ -21,6 +21,8 @@ static uint32_t noted(enum call call, uint32_t answer) {
 #define take(port, topic, out) noted(TAKE, scq_take(port, topic, out))
 #define send(port, index, topic, place) noted(SEND, scq_send(port, index, topic, place))
 #define give_back(port, index) noted(GIVE_BACK, scq_give_back(port, index))
+#define retire(port) noted(RETIRE, scq_retire(port))
+#define retired(port) noted(RETIRED, scq_retired(port))
 #define counts_of(port, out) noted(COUNTS_OF, scq_counts_of(port, out))
 #define spent(port, ticket) noted(SPENT, scq_spent(port, ticket))
 #define close_(port) noted(CLOSE, scq_close(port))
@@ -207,13 +209,32 @@ static void queues(void) {
     CHECK(lend(&two[1], &held) == SCQ_OK && close_(&two[1]) == SCQ_OK && close_(&two[0]) == SCQ_OK);
 }
 
+/* Ports that retire, one after the other, the last by its close: none sends then, and all else goes on. */
+static void retiring(void) {
+    scq_port ports[3] = {SCQ_NONE, SCQ_NONE, SCQ_NONE};
+    scq_held first, second, taken;
+    uint64_t place = 0, number = 77;
+    CHECK(open_(1, 1, 8, 2, most, ports, 3) == SCQ_OK && retired(&ports[0]) == SCQ_OK);
+    CHECK(lend(&ports[0], &first) == SCQ_OK && lend(&ports[0], &second) == SCQ_OK && send(&ports[0], first.index, 0, &place) == SCQ_OK);
+    CHECK(retire(&ports[0]) == SCQ_OK && retire(&ports[0]) == SCQ_OK && retired(&ports[0]) == SCQ_OK);
+    CHECK(send(&ports[0], second.index, 0, &number) == SCQ_RETIRED && send(&ports[0], second.index, 1, &number) == SCQ_NO_TOPIC && number == 77);
+    CHECK(give_back(&ports[0], second.index) == SCQ_OK && lend(&ports[0], &second) == SCQ_OK && give_back(&ports[0], second.index) == SCQ_OK);
+    CHECK(retire(&ports[1]) == SCQ_OK && retired(&ports[1]) == SCQ_OK && close_(&ports[2]) == SCQ_OK);
+    CHECK(retire(&ports[2]) == SCQ_CLOSED && retired(&ports[2]) == SCQ_CLOSED);
+    CHECK(retired(&ports[1]) == SCQ_RETIRED && retired(&ports[0]) == SCQ_RETIRED && retired(&ports[1]) == SCQ_RETIRED);
+    CHECK(take(&ports[1], 0, &taken) == SCQ_OK && taken.place == place && take(&ports[1], 0, &taken) == SCQ_EMPTY);
+    CHECK(close_(&ports[0]) == SCQ_OK && retired(&ports[1]) == SCQ_RETIRED && close_(&ports[1]) == SCQ_OK);
+}
+
 int main(void) {
     static const uint32_t all[CALLS] = {
         [OPEN] = 1u << SCQ_OK | 1u << SCQ_BAD_ORDER | 1u << SCQ_BAD_TOPICS | 1u << SCQ_BAD_PORTS | 1u << SCQ_BAD_LIMIT | 1u << SCQ_BAD_SIZE
                  | 1u << SCQ_BAD_HOLD | 1u << SCQ_IS_OPEN,
         [LEND] = 1u << SCQ_OK | 1u << SCQ_FULL | 1u << SCQ_SPENT | 1u << SCQ_CLOSED | 1u << SCQ_NO_ROOM,
         [TAKE] = 1u << SCQ_OK | 1u << SCQ_EMPTY | 1u << SCQ_SPENT | 1u << SCQ_CLOSED | 1u << SCQ_NO_TOPIC | 1u << SCQ_NO_ROOM,
-        [SEND] = 1u << SCQ_OK | 1u << SCQ_SPENT | 1u << SCQ_CLOSED | 1u << SCQ_NO_TOPIC | 1u << SCQ_NOT_HELD,
+        [SEND] = 1u << SCQ_OK | 1u << SCQ_SPENT | 1u << SCQ_CLOSED | 1u << SCQ_NO_TOPIC | 1u << SCQ_NOT_HELD | 1u << SCQ_RETIRED,
+        [RETIRE] = 1u << SCQ_OK | 1u << SCQ_CLOSED,
+        [RETIRED] = 1u << SCQ_OK | 1u << SCQ_RETIRED | 1u << SCQ_CLOSED,
         [GIVE_BACK] = 1u << SCQ_OK | 1u << SCQ_SPENT | 1u << SCQ_CLOSED | 1u << SCQ_NOT_HELD,
         [COUNTS_OF] = 1u << SCQ_OK | 1u << SCQ_CLOSED,
         [SPENT] = 1u << SCQ_OK | 1u << SCQ_SPENT | 1u << SCQ_CLOSED,
@@ -222,12 +243,13 @@ int main(void) {
     scq_port ports[2] = {SCQ_NONE, SCQ_NONE};
     int count = 0;
     CHECK(scq_version() == SCQ_VERSION);
-    for (uint32_t answer = 0; answer <= SCQ_IS_OPEN; answer++) CHECK(strcmp(scq_text(answer), scq_text(SCQ_IS_OPEN + 1)) != 0);
+    for (uint32_t answer = 0; answer <= SCQ_RETIRED; answer++) CHECK(strcmp(scq_text(answer), scq_text(SCQ_RETIRED + 1)) != 0);
     openings();
     CHECK(open_(1, 2, 8, 2, most, ports, 2) == SCQ_OK);
     round_of(&ports[0], &ports[1]);
     CHECK(close_(&ports[0]) == SCQ_OK && close_(&ports[1]) == SCQ_OK);
     several();
+    retiring();
     tickets();
     queues();
     for (int call = 0; call < CALLS; call++) {

@@ -6,6 +6,7 @@
 
 #include <pthread.h>
 #include <stdatomic.h>
+#include <string.h>
 
 enum { THREADS = 8, ROUNDS = 200, ORDER = 5, BUFFERS = 1 << ORDER };
 
@@ -44,6 +45,7 @@ struct job {
     scq_port port;
     int told;
     scq_ended ended;
+    scq_counts own, all[THREADS + 1];
 };
 
 /* Passes buffers on and keeps some, until it closes. Where tickets run out it goes on, and is refused. */
@@ -56,7 +58,9 @@ static void *work(void *handed) {
         if (scq_take(&job->port, 0, &held) == SCQ_OK && n % 5 != 0) scq_give_back(&job->port, held.index);
     }
     if (job->told) {
-        CHECK(scq_end(&job->port, &job->ended) == SCQ_OK && job->port.at == NULL && scq_end(&job->port, &job->ended) == SCQ_CLOSED);
+        CHECK(scq_counts_of(&job->port, &job->own) == SCQ_OK);
+        CHECK(scq_end(&job->port, &job->ended, job->all, THREADS + 1) == SCQ_OK && job->port.at == NULL);
+        CHECK(scq_end(&job->port, &job->ended, job->all, THREADS + 1) == SCQ_CLOSED);
         scq_free(&job->port);
     } else {
         CHECK(scq_close(&job->port) == SCQ_OK);
@@ -78,11 +82,18 @@ static void queue_of(int told, uint64_t limit) {
         jobs[i].port = ports[i];
         jobs[i].told = told;
         jobs[i].ended.last = 9;
+        memset(jobs[i].all, 0xff, sizeof jobs[i].all);
         CHECK(pthread_create(&threads[i], NULL, work, &jobs[i]) == 0);
     }
     for (int i = 0; i < THREADS; i++) CHECK(pthread_join(threads[i], NULL) == 0);
     for (int i = 0; told && i < THREADS; i++) {
-        CHECK(jobs[i].ended.last <= 1);
+        const scq_counts *const all = jobs[i].all;
+        CHECK(jobs[i].ended.last <= 1 && all[THREADS].sent == UINT64_MAX);
+        for (int k = 0; k < THREADS; k++) {
+            const scq_counts *const own = &jobs[k].own;
+            if (jobs[i].ended.last) CHECK(all[k].sent == own->sent && all[k].taken == own->taken && all[k].full == own->full);
+            else CHECK(all[k].sent == UINT64_MAX && all[k].taken == UINT64_MAX && all[k].full == UINT64_MAX);
+        }
         last += jobs[i].ended.last;
     }
     CHECK((!told || last == 1) && atomic_load(&blocks) == 0);

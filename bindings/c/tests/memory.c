@@ -55,6 +55,7 @@ static void own_memory(void) {
     scq_port ports[2] = {SCQ_NONE, SCQ_NONE};
     scq_held held[BUFFERS], taken;
     scq_ended ended = {7};
+    scq_counts counts[2] = {{0, 0, 0}, {0, 0, 0}};
     uint64_t place;
     for (size_t at = 0; at < sizeof bytes; at++) bytes[at] = as_they_were[at] = (unsigned char)(at * 7 + 1);
     CHECK(scq_open_over(ORDER, 2, BUFFERS, SCQ_MAX_LIMIT, &memory, ports, 2) == SCQ_OK);
@@ -64,9 +65,9 @@ static void own_memory(void) {
     for (uint32_t i = 0; i < BUFFERS; i += 4) CHECK(scq_take(&ports[1], 1, &taken) == SCQ_OK && scq_send(&ports[1], taken.index, 0, &place) == SCQ_OK);
     for (uint32_t i = 1; i < BUFFERS; i += 4) CHECK(scq_give_back(&ports[0], held[i].index) == SCQ_OK);
     CHECK(memcmp(bytes, as_they_were, sizeof bytes) == 0);
-    CHECK(scq_end(&ports[0], &ended) == SCQ_OK && ended.last == 0);
-    CHECK(scq_end(&ports[1], &ended) == SCQ_OK && ended.last == 1);
-    CHECK(scq_end(&ports[1], &ended) == SCQ_CLOSED && ended.last == 1);
+    CHECK(scq_end(&ports[0], &ended, counts, 2) == SCQ_OK && ended.last == 0 && counts[0].sent == 0);
+    CHECK(scq_end(&ports[1], &ended, counts, 1) == SCQ_OK && ended.last == 1 && counts[0].sent == BUFFERS / 2 && counts[1].sent == 0);
+    CHECK(scq_end(&ports[1], &ended, counts, 2) == SCQ_CLOSED && ended.last == 1 && counts[0].sent == BUFFERS / 2);
     CHECK(memcmp(bytes, as_they_were, sizeof bytes) == 0);
 
     ports[0] = ports[1] = SCQ_NONE;

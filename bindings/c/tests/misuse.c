@@ -79,12 +79,13 @@ static void moved_port(void) {
 
 static void closed_with_messages(void) {
     scq_ended ended;
+    scq_counts none;
     open_plain();
     lend_one(), send_one();
-    CHECK(scq_end(&p[1], &ended) == SCQ_OK && ended.last == 0);
+    CHECK(scq_end(&p[1], &ended, &none, 0) == SCQ_OK && ended.last == 0);
     scq_free(&p[1]);
     /* The message goes with the queue. */
-    CHECK(scq_end(&p[0], &ended) == SCQ_OK && ended.last == 1);
+    CHECK(scq_end(&p[0], &ended, &none, 0) == SCQ_OK && ended.last == 1);
     scq_free(&p[0]);
 }
 

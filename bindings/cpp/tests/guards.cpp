@@ -293,8 +293,26 @@ static void tickets_run_out() {
     CHECK(none.answer() == Answer::Spent && none.number() == ticket);
 }
 
+// Ports that retire, and the last one's end, which tells what all did.
+static void a_stream_ends() {
+    Port ports[2];
+    scq_counts counts[2] = {{9, 9, 9}, {9, 9, 9}};
+    bool last = true;
+    CHECK(Queue::open(small(), ports) == Answer::Ok && ports[1].retire() == Answer::Ok && ports[0].retired() == Answer::Ok);
+    CHECK(ports[0].lend().send(0).answer == Answer::Ok && ports[0].retire() == Answer::Ok && ports[0].retired() == Answer::Retired);
+    {
+        Taken taken = ports[1].take(0);
+        CHECK(taken && taken.send(1).answer == Answer::Retired && taken && ports[1].retired() == Answer::Retired);
+    }
+    CHECK(ports[1].take(0).answer() == Answer::Empty);
+    CHECK(ports[1].close(last, counts, 2) == Answer::Ok && !last && counts[0].sent == 9 && !ports[1]);
+    CHECK(ports[0].close(last, counts, 2) == Answer::Ok && last && counts[0].sent == 1 && counts[0].taken == 0);
+    CHECK(counts[1].sent == 0 && counts[1].taken == 1 && ports[0].close(last, counts, 2) == Answer::Closed);
+}
+
 int main() {
     round_of();
+    a_stream_ends();
     answers();
     buffers_that_end_are_given_back();
     what_is_moved_stays_one();

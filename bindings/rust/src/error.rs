@@ -114,6 +114,8 @@ impl Error for TakeError {}
 pub enum SendRefusal {
     /// There are not so many topics.
     NoTopic,
+    /// The port has retired.
+    Retired,
     /// Tickets have run out at the limit.
     Spent {
         /// The ticket at or past the limit, which the port keeps.
@@ -125,6 +127,7 @@ impl fmt::Display for SendRefusal {
     fn fmt(&self, f: &mut fmt::Formatter<'_>) -> fmt::Result {
         f.write_str(match self {
             SendRefusal::NoTopic => NO_TOPIC,
+            SendRefusal::Retired => "the port has retired",
             SendRefusal::Spent { .. } => SPENT,
         })
     }

@@ -9,7 +9,8 @@ use std::ptr::NonNull;
 use std::sync::Arc;
 
 /// What a port did so far.
-#[derive(Clone, Copy, Debug, PartialEq, Eq, Hash)]
+#[derive(Clone, Copy, Debug, Default, PartialEq, Eq, Hash)]
+#[repr(C)]
 pub struct Counts {
     /// How many buffers it sent.
     pub sent: u64,
@@ -110,6 +111,7 @@ impl Port {
         match unsafe { sys::scq_send(self.handle(), index, topic, &mut place) } {
             sys::OK => Ok(place),
             sys::NO_TOPIC => Err(SendRefusal::NoTopic),
+            sys::RETIRED => Err(SendRefusal::Retired),
             sys::SPENT => Err(SendRefusal::Spent { ticket: place }),
             answer => unreachable!("scq_send answered {}", answer),
         }
@@ -205,6 +207,32 @@ impl Port {
         Ok(OwnedTaken::new(Port::held(Arc::clone(self), out.index), out.place))
     }
 
+    /// Retires the port: it sends no more, on any topic. It still lends, takes and gives back. A
+    /// port that is dropped retires too.
+    pub fn retire(&self) {
+        told::release(self.memory().base);
+        // SAFETY: one call at a time is made with the handle.
+        match unsafe { sys::scq_retire(self.handle()) } {
+            sys::OK => (),
+            answer => unreachable!("scq_retire answered {}", answer),
+        }
+    }
+
+    /// Whether all ports of the queue have retired, this one among them. Ask first, and then take:
+    /// a topic that is found empty then has ended. Once the answer is true, it always is.
+    #[must_use]
+    pub fn all_retired(&self) -> bool {
+        // SAFETY: one call at a time is made with the handle.
+        match unsafe { sys::scq_retired(self.handle()) } {
+            sys::RETIRED => {
+                told::acquire(self.memory().base);
+                true
+            }
+            sys::OK => false,
+            answer => unreachable!("scq_retired answered {}", answer),
+        }
+    }
+
     /// How many sends, takes and [`LendError::Full`] the port had.
     pub fn counts(&self) -> Counts {
         let mut out = sys::scq_counts { sent: 0, taken: 0, full: 0 };
@@ -228,6 +256,35 @@ impl Port {
     }
 }
 
+impl Port {
+    /// Closes the port, as dropping it does, and says whether it was the queue's last. Where it
+    /// was, there stands in `counts` what each port of the queue did, in the order in which they
+    /// were opened, as far as there is room.
+    pub fn end(mut self, counts: &mut [Counts]) -> bool {
+        self.close(counts)
+    }
+
+    fn close(&mut self, counts: &mut [Counts]) -> bool {
+        let memory = self.handle.get_mut().memory;
+        if !memory.base.is_null() {
+            // It may hold buffers, which it gives back.
+            told::release(memory.base);
+        }
+        let mut ended = sys::scq_ended { last: 0 };
+        // SAFETY: nothing borrows the port, and `ended` and `counts` are apart from it; a `Counts`
+        // lies as an `scq_counts`. Where the port isn't open, as in a queue that wasn't made, the
+        // call answers so.
+        let answer = unsafe {
+            sys::scq_end(self.handle(), &mut ended, counts.as_mut_ptr().cast(), counts.len())
+        };
+        if answer == sys::OK && !memory.block.is_null() {
+            // SAFETY: the port was opened over this memory, and its buffers are in nobody's hands.
+            unsafe { memory::leave(memory) };
+        }
+        ended.last == 1
+    }
+}
+
 impl fmt::Debug for Port {
     fn fmt(&self, f: &mut fmt::Formatter<'_>) -> fmt::Result {
         f.debug_struct("Port").finish_non_exhaustive()
@@ -236,18 +293,6 @@ impl fmt::Debug for Port {
 
 impl Drop for Port {
     fn drop(&mut self) {
-        let memory = self.handle.get_mut().memory;
-        if !memory.base.is_null() {
-            // It may hold buffers, which it gives back.
-            told::release(memory.base);
-        }
-        let mut ended = sys::scq_ended { last: 0 };
-        // SAFETY: nothing borrows the port. Where it isn't open, as in a queue that wasn't made,
-        // the call answers so.
-        let answer = unsafe { sys::scq_end(self.handle(), &mut ended) };
-        if answer == sys::OK && !memory.block.is_null() {
-            // SAFETY: the port was opened over this memory, and its buffers are in nobody's hands.
-            unsafe { memory::leave(memory) };
-        }
+        self.close(&mut []);
     }
 }

@@ -68,9 +68,16 @@ extern "C" {
     pub fn scq_take_index(port: *mut scq_port, topic: u32, out: *mut scq_held) -> u32;
     pub fn scq_send(port: *mut scq_port, index: u32, topic: u32, place: *mut u64) -> u32;
     pub fn scq_give_back(port: *mut scq_port, index: u32) -> u32;
+    pub fn scq_retire(port: *mut scq_port) -> u32;
+    pub fn scq_retired(port: *mut scq_port) -> u32;
     pub fn scq_counts_of(port: *mut scq_port, out: *mut scq_counts) -> u32;
     pub fn scq_spent(port: *mut scq_port, ticket: *mut u64) -> u32;
-    pub fn scq_end(port: *mut scq_port, out: *mut scq_ended) -> u32;
+    pub fn scq_end(
+        port: *mut scq_port,
+        out: *mut scq_ended,
+        counts: *mut scq_counts,
+        n: usize,
+    ) -> u32;
     pub fn scq_version() -> u32;
 }
 
@@ -93,3 +100,5 @@ pub const BAD_LIMIT: u32 = 12;
 pub const BAD_SIZE: u32 = 13;
 pub const BAD_HOLD: u32 = 14;
 pub const IS_OPEN: u32 = 15;
+pub const DAMAGED: u32 = 16;
+pub const RETIRED: u32 = 17;

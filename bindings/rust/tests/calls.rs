@@ -40,6 +40,30 @@ fn what_was_taken_is_sent_on() {
 }
 
 #[test]
+fn a_stream_ends_and_the_last_port_has_all_counts() {
+    let mut ports = ports(SMALL, 2);
+    let (taker, sender) = (ports.remove(1), ports.remove(0));
+    let mut counts = [Counts { sent: 9, taken: 9, full: 9 }; 3];
+    taker.retire();
+    assert!(!taker.all_retired());
+    sender.lend().unwrap().send(0).unwrap();
+    sender.retire();
+    assert!(matches!(
+        sender.lend().unwrap().send(0).map_err(|refused| refused.why),
+        Err(SendRefusal::Retired)
+    ));
+    assert!(taker.all_retired());
+    taker.take(0).unwrap().give_back().unwrap();
+    assert!(matches!(taker.take(0), Err(TakeError::Empty { .. })));
+    assert!(!sender.end(&mut counts));
+    assert_eq!(counts[0].sent, 9);
+    assert!(taker.end(&mut counts));
+    assert_eq!(counts[0], Counts { sent: 1, taken: 0, full: 0 });
+    assert_eq!(counts[1], Counts { sent: 0, taken: 1, full: 0 });
+    assert_eq!(counts[2].sent, 9);
+}
+
+#[test]
 fn a_setup_out_of_range_is_refused() {
     let refused = |setup, ports| Queue::new(setup, ports).expect_err("it is refused");
     for order in [0, 13, u32::MAX] {

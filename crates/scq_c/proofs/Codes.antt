@@ -1,7 +1,7 @@
 -- What each call answers, one lemma for each of its numbers.
-use Rattle.std.proofs.Common.{◌≡◌, ℕ, suc, ◌+◌, refl, inl, inr, arith}
+use Rattle.std.proofs.Common.{ℕ, suc, refl, inl, inr, arith}
 use Rattle.scq_port.specs.Ports.{PortStanding}
-use Rattle.scq_port.specs.Calls.{IsLent, IsTaken, IsSent, IsGivenBack, WasFull, WasEmpty, IsSpentGet, IsSpentPut, HasNoRoom, HasNoTopic, HoldsNoSuch}
+use Rattle.scq_port.specs.Calls.{IsLent, IsLentDamaged, IsTaken, IsTakenDamaged, IsSent, IsGivenBack, WasFull, WasEmpty, IsSpentGet, IsSpentPut, HasNoRoom, HasNoTopic, HoldsNoSuch, HasRetired}
 use Rattle.scq_c.specs.declared.exports.Held.{Held}
 use Rattle.scq_c.specs.Answers.{OfLend, OfTake, OfSend, OfGiveBack, shown_at, with_place}
 
@@ -12,6 +12,7 @@ lend_lent index before old new is =
       full = λ e. absurd (omega (arith, e));
       spent = λ e. absurd (omega (arith, e));
       no_room = λ e. absurd (omega (arith, e));
+      damaged = λ e. absurd (omega (arith, e));
       known = inl refl;
     }
 
@@ -22,6 +23,7 @@ lend_full head before old new is =
       full = λ e. (head, refl, is);
       spent = λ e. absurd (omega (arith, e));
       no_room = λ e. absurd (omega (arith, e));
+      damaged = λ e. absurd (omega (arith, e));
       known = inr (inl refl);
     }
 
@@ -32,6 +34,7 @@ lend_spent ticket before old new is =
       full = λ e. absurd (omega (arith, e));
       spent = λ e. (ticket, refl, is);
       no_room = λ e. absurd (omega (arith, e));
+      damaged = λ e. absurd (omega (arith, e));
       known = inr (inr (inl refl));
     }
 
@@ -42,7 +45,19 @@ lend_no_room before old new is =
       full = λ e. absurd (omega (arith, e));
       spent = λ e. absurd (omega (arith, e));
       no_room = λ e. (refl, is);
-      known = inr (inr (inr refl));
+      damaged = λ e. absurd (omega (arith, e));
+      known = inr (inr (inr (inl refl)));
+    }
+
+pub lend_damaged : (before : Held) (old new : PortStanding) → IsLentDamaged old new → OfLend 16 before before old new
+lend_damaged before old new is =
+    record {
+      lent = λ e. absurd (omega (arith, e));
+      full = λ e. absurd (omega (arith, e));
+      spent = λ e. absurd (omega (arith, e));
+      no_room = λ e. absurd (omega (arith, e));
+      damaged = λ e. (refl, is);
+      known = inr (inr (inr (inr refl)));
     }
 
 pub take_taken : (topic place index : ℕ) (before : Held) (old new : PortStanding) → IsTaken topic place index old new
@@ -54,6 +69,7 @@ take_taken topic place index before old new is =
       spent = λ e. absurd (omega (arith, e));
       no_topic = λ e. absurd (omega (arith, e));
       no_room = λ e. absurd (omega (arith, e));
+      damaged = λ e. absurd (omega (arith, e));
       known = inl refl;
     }
 
@@ -65,6 +81,7 @@ take_empty topic head before old new is =
       spent = λ e. absurd (omega (arith, e));
       no_topic = λ e. absurd (omega (arith, e));
       no_room = λ e. absurd (omega (arith, e));
+      damaged = λ e. absurd (omega (arith, e));
       known = inr (inl refl);
     }
 
@@ -76,6 +93,7 @@ take_spent topic ticket before old new is =
       spent = λ e. (ticket, refl, is);
       no_topic = λ e. absurd (omega (arith, e));
       no_room = λ e. absurd (omega (arith, e));
+      damaged = λ e. absurd (omega (arith, e));
       known = inr (inr (inl refl));
     }
 
@@ -87,6 +105,7 @@ take_no_topic topic before old new is =
       spent = λ e. absurd (omega (arith, e));
       no_topic = λ e. (refl, is);
       no_room = λ e. absurd (omega (arith, e));
+      damaged = λ e. absurd (omega (arith, e));
       known = inr (inr (inr (inl refl)));
     }
 
@@ -98,7 +117,20 @@ take_no_room topic before old new is =
       spent = λ e. absurd (omega (arith, e));
       no_topic = λ e. absurd (omega (arith, e));
       no_room = λ e. (refl, is);
-      known = inr (inr (inr (inr refl)));
+      damaged = λ e. absurd (omega (arith, e));
+      known = inr (inr (inr (inr (inl refl))));
+    }
+
+pub take_damaged : (topic : ℕ) (before : Held) (old new : PortStanding) → IsTakenDamaged topic old new → OfTake topic 16 before before old new
+take_damaged topic before old new is =
+    record {
+      taken = λ e. absurd (omega (arith, e));
+      empty = λ e. absurd (omega (arith, e));
+      spent = λ e. absurd (omega (arith, e));
+      no_topic = λ e. absurd (omega (arith, e));
+      no_room = λ e. absurd (omega (arith, e));
+      damaged = λ e. (refl, is);
+      known = inr (inr (inr (inr (inr refl))));
     }
 
 pub send_sent : (place : ℕ) (index topic before : ℕ) (old new : PortStanding) → IsSent index topic place old new → OfSend index topic 0 before place old new
@@ -108,6 +140,7 @@ send_sent place index topic before old new is =
       spent = λ e. absurd (omega (arith, e));
       not_held = λ e. absurd (omega (arith, e));
       no_topic = λ e. absurd (omega (arith, e));
+      retired = λ e. absurd (omega (arith, e));
       known = inl refl;
     }
 
@@ -118,6 +151,7 @@ send_spent ticket index topic before old new is =
       spent = λ e. is;
       not_held = λ e. absurd (omega (arith, e));
       no_topic = λ e. absurd (omega (arith, e));
+      retired = λ e. absurd (omega (arith, e));
       known = inr (inl refl);
     }
 
@@ -128,6 +162,7 @@ send_not_held index topic before old new is =
       spent = λ e. absurd (omega (arith, e));
       not_held = λ e. (refl, is);
       no_topic = λ e. absurd (omega (arith, e));
+      retired = λ e. absurd (omega (arith, e));
       known = inr (inr (inl refl));
     }
 
@@ -138,7 +173,19 @@ send_no_topic index topic before old new is =
       spent = λ e. absurd (omega (arith, e));
       not_held = λ e. absurd (omega (arith, e));
       no_topic = λ e. (refl, is);
-      known = inr (inr (inr refl));
+      retired = λ e. absurd (omega (arith, e));
+      known = inr (inr (inr (inl refl)));
+    }
+
+pub send_retired : (index topic before : ℕ) (old new : PortStanding) → HasRetired old new → OfSend index topic 17 before before old new
+send_retired index topic before old new is =
+    record {
+      sent = λ e. absurd (omega (arith, e));
+      spent = λ e. absurd (omega (arith, e));
+      not_held = λ e. absurd (omega (arith, e));
+      no_topic = λ e. absurd (omega (arith, e));
+      retired = λ e. (refl, is);
+      known = inr (inr (inr (inr refl)));
     }
 
 pub give_given : (index : ℕ) (old new : PortStanding) → IsGivenBack index old new → OfGiveBack index 0 old new

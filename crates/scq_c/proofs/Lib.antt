@@ -3,3 +3,4 @@ pub mod Codes
 pub mod Somes
 pub mod Handed
 pub mod Openings
+pub mod Written

@@ -1,5 +1,5 @@
 -- What an open answers, one lemma for each of its numbers.
-use Rattle.std.proofs.Common.{◌≡◌, ℕ, ◌+◌, ◌*◌, ◌^◌, ◌<◌, ◌≤◌, ◌⊎◌, List, length, refl, inl, inr, arith}
+use Rattle.std.proofs.Common.{◌≡◌, ℕ, ◌*◌, ◌^◌, ◌<◌, ◌⊎◌, List, length, refl, inl, inr, arith}
 use Rattle.std.specs.Prelude.{All}
 use Rattle.scq_word.specs.Sizes.{n_of}
 use Rattle.scq_word.specs.Ranges.{IsOutside}

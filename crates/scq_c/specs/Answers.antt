@@ -6,12 +6,14 @@ use Rattle.scq_word.specs.Sizes.{n_of}
 use Rattle.scq_word.specs.Ranges.{IsOutside}
 use Rattle.scq_queue.specs.Lists.{counts_of}
 use Rattle.scq_port.specs.Ports.{PortStanding}
-use Rattle.scq_port.specs.Calls.{IsLent, IsTaken, IsSent, IsGivenBack, WasFull, WasEmpty, IsSpentGet, IsSpentPut, HasNoRoom, HasNoTopic, HoldsNoSuch, AreOpened, HasEnded}
-use Rattle.scq_queue.specs.Passes.{PassStanding}
+use Rattle.scq_port.specs.Calls.{IsLent, IsLentDamaged, IsTaken, IsTakenDamaged, IsSent, IsGivenBack, WasFull, WasEmpty, IsSpentGet, IsSpentPut, HasNoRoom, HasNoTopic, HoldsNoSuch, HasRetired, HasAsked, retired_port, AreOpened, HasEnded}
+use Rattle.scq_queue.specs.Passes.{PassStanding, lists_of}
 use Rattle.scq_port.specs.declared.port_buffer.PortBuffer.{PortBuffer}
 use Rattle.scq_port.specs.Closed.{HasClosed}
 use Rattle.scq_c.specs.declared.exports.End.{End}
 use Rattle.scq_c.specs.declared.exports.Held.{Held}
+use Rattle.scq_c.specs.declared.tally.Tally.{Tally}
+use Rattle.scq_c.specs.Tallies.{AreWritten}
 use Rattle.scq_c.specs.declared.c_port.CPort.{CPort}
 use Rattle.scq_c.specs.declared.c_port.Memory.{Memory}
 
@@ -23,30 +25,33 @@ shown_at place index h = record h { place = place; index = index }
 abbrev pub with_place : ℕ → Held → Held
 with_place n h = record h { place = n }
 
--- of a lend: 0 lent, 2 full, 3 spent, 7 no room
+-- of a lend: 0 lent, 2 full, 3 spent, 7 no room, 16 damaged
 pub record OfLend (code : ℕ) (before after : Held) (old new : PortStanding) : Type 0 where
   pub lent : code ≡ 0 → (index : ℕ) × (after ≡ shown_at 0 index before) × IsLent index old new
   pub full : code ≡ 2 → (head : ℕ) × (after ≡ with_place head before) × WasFull head old new
   pub spent : code ≡ 3 → (ticket : ℕ) × (after ≡ with_place ticket before) × IsSpentGet 0 ticket old new
   pub no_room : code ≡ 7 → (after ≡ before) × HasNoRoom old new
-  pub known : (code ≡ 0) ⊎ (code ≡ 2) ⊎ (code ≡ 3) ⊎ (code ≡ 7)
+  pub damaged : code ≡ 16 → (after ≡ before) × IsLentDamaged old new
+  pub known : (code ≡ 0) ⊎ (code ≡ 2) ⊎ (code ≡ 3) ⊎ (code ≡ 7) ⊎ (code ≡ 16)
 
--- of a take: 0 taken, 1 empty, 3 spent, 6 no topic, 7 no room
+-- of a take: 0 taken, 1 empty, 3 spent, 6 no topic, 7 no room, 16 damaged
 pub record OfTake (topic code : ℕ) (before after : Held) (old new : PortStanding) : Type 0 where
   pub taken : code ≡ 0 → (place : ℕ) × (index : ℕ) × (after ≡ shown_at place index before) × IsTaken topic place index old new
   pub empty : code ≡ 1 → (head : ℕ) × (after ≡ with_place head before) × WasEmpty topic head old new
   pub spent : code ≡ 3 → (ticket : ℕ) × (after ≡ with_place ticket before) × IsSpentGet (suc topic) ticket old new
   pub no_topic : code ≡ 6 → (after ≡ before) × HasNoTopic topic old new
   pub no_room : code ≡ 7 → (after ≡ before) × HasNoRoom old new
-  pub known : (code ≡ 0) ⊎ (code ≡ 1) ⊎ (code ≡ 3) ⊎ (code ≡ 6) ⊎ (code ≡ 7)
+  pub damaged : code ≡ 16 → (after ≡ before) × IsTakenDamaged topic old new
+  pub known : (code ≡ 0) ⊎ (code ≡ 1) ⊎ (code ≡ 3) ⊎ (code ≡ 6) ⊎ (code ≡ 7) ⊎ (code ≡ 16)
 
--- of a send: 0 sent, 3 spent, 5 not held, 6 no topic
+-- of a send: 0 sent, 3 spent, 5 not held, 6 no topic, 17 the port has retired
 pub record OfSend (index topic code before after : ℕ) (old new : PortStanding) : Type 0 where
   pub sent : code ≡ 0 → IsSent index topic after old new
   pub spent : code ≡ 3 → IsSpentPut (suc topic) after old new
   pub not_held : code ≡ 5 → (after ≡ before) × HoldsNoSuch index old new
   pub no_topic : code ≡ 6 → (after ≡ before) × HasNoTopic topic old new
-  pub known : (code ≡ 0) ⊎ (code ≡ 3) ⊎ (code ≡ 5) ⊎ (code ≡ 6)
+  pub retired : code ≡ 17 → (after ≡ before) × HasRetired old new
+  pub known : (code ≡ 0) ⊎ (code ≡ 3) ⊎ (code ≡ 5) ⊎ (code ≡ 6) ⊎ (code ≡ 17)
 
 -- of a give-back: 0 given back, 3 spent, 5 not held
 pub record OfGiveBack (index code : ℕ) (old new : PortStanding) : Type 0 where
@@ -54,6 +59,14 @@ pub record OfGiveBack (index code : ℕ) (old new : PortStanding) : Type 0 where
   pub spent : code ≡ 3 → (ticket : ℕ) × IsSpentPut 0 ticket old new
   pub not_held : code ≡ 5 → HoldsNoSuch index old new
   pub known : (code ≡ 0) ⊎ (code ≡ 3) ⊎ (code ≡ 5)
+
+-- of a question whether all ports have retired: 17 they have, 0 some have not
+pub record OfRetired (code : ℕ) (old new : PortStanding) : Type 0 where
+  pub found : ℕ
+  pub asked : HasAsked found old new
+  pub all : code ≡ 17 → found ≡ 0
+  pub some : code ≡ 0 → 0 < found
+  pub known : (code ≡ 0) ⊎ (code ≡ 17)
 
 -- the ports that C has, and where each was told that the buffers' bytes are
 abbrev pub ports_of : List CPort → List (Option PortStanding)
@@ -97,15 +110,21 @@ pub record OfOpen (order topics hold limit : ℕ) (memory : Memory) (code : ℕ)
   pub is_open : code ≡ 15 → All IsClosed before → ⊥
   pub known : (code ≡ 0) ⊎ ((8 ≤ code) × (code ≤ 15))
 
--- the last port of a queue closed, with this pass: all passes of the queue are these, and what the queue's close says holds of them
-pub record AllHaveEnded (x : PortStanding) (its : PassStanding PortBuffer) : Type 0 where
+-- the last port of a queue closed, with this pass: all passes of the queue are these, what the
+-- queue's close says holds of them, and their counts were written out
+pub record AllHaveEnded (x : PortStanding) (its : PassStanding PortBuffer)
+    (before after : List Tally) : Type 0 where
   pub passes : List (PassStanding PortBuffer)
   pub left : List ℕ
   pub bytes : List (List ℕ)
   pub closed : HasClosed x.pass.queue its passes left bytes
+  pub counts : AreWritten (map (λ (p : PassStanding PortBuffer). counts_of (lists_of p)) passes)
+      before after
 
--- of a port's end: what it held was given back, and where 1 is written out the queue closed with it
-pub record OfEnd (x : PortStanding) (e : End) : Type 0 where
+-- of a port's end: it retired, what it held was given back, and where 1 is written out the queue
+-- closed with it; else no count is written
+pub record OfEnd (x : PortStanding) (e : End) (before after : List Tally) : Type 0 where
   pub its : PassStanding PortBuffer
-  pub ended : HasEnded x its
-  pub last : e.last ≡ 1 → AllHaveEnded x its
+  pub ended : HasEnded (retired_port x) its
+  pub last : e.last ≡ 1 → AllHaveEnded x its before after
+  pub other : (e.last ≡ 1 → ⊥) → after ≡ before

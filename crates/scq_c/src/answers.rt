@@ -31,3 +31,7 @@ pub(crate) const BAD_SIZE: u32 = 13;
 pub(crate) const BAD_HOLD: u32 = 14;
 
 pub(crate) const IS_OPEN: u32 = 15;
+
+pub(crate) const DAMAGED: u32 = 16;
+
+pub(crate) const RETIRED: u32 = 17;

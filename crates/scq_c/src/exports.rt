@@ -3,12 +3,16 @@ ghost use Rattle.std.specs.Prelude.{◌≡◌, ℕ, Some, None};
 ghost use Rattle.scq_queue.specs.Lists.{counts_of};
 ghost use Rattle.scq_queue.specs.Passes.{lists_of};
 ghost use Rattle.scq_port.specs.Ports.{PortStanding};
-ghost use Rattle.scq_c.specs.Answers.{OfLend, OfTake, OfSend, OfGiveBack, OfOpen, OfEnd, shown_at};
+ghost use Rattle.scq_port.specs.Calls.{retired_port};
+ghost use Rattle.scq_c.specs.Answers.{OfLend, OfTake, OfSend, OfGiveBack, OfOpen, OfEnd, OfRetired, shown_at};
 
-use crate::answers::{CLOSED, EMPTY, FULL, NO_ROOM, NO_TOPIC, NOT_HELD, OK, SPENT};
+use crate::answers::{
+    CLOSED, DAMAGED, EMPTY, FULL, NO_ROOM, NO_TOPIC, NOT_HELD, OK, RETIRED, SPENT,
+};
 use crate::c_port::{CPort, Memory};
 use crate::handle::{Handle, put, taken};
 use crate::opening::open;
+use crate::tally::{Tally, write_out};
 use scq_port::{GiveBackRefusal, LendRefusal, Port, SendRefusal, TakeRefusal};
 use std::alloc::Global;
 
@@ -21,15 +25,6 @@ pub struct Held {
     pub len: usize,
     pub place: u64,
     pub index: u32,
-}
-
-/// How many sends, takes and Full replies a port had.
-#[repr(C)]
-#[derive(Drop)]
-pub struct Tally {
-    pub sent: u64,
-    pub taken: u64,
-    pub full: u64,
 }
 
 /// What a port's end tells: 1 where the queue closed with it, as the last of its ports, and else 0.
@@ -91,6 +86,7 @@ fn lend_into(port: &mut Port, out: &mut Held) -> u32
             out.place = ticket;
             SPENT
         }
+        Err(LendRefusal::Damaged) => DAMAGED,
     }
 }
 
@@ -129,6 +125,7 @@ fn take_into(port: &mut Port, topic: u32, out: &mut Held) -> u32
             out.place = ticket;
             SPENT
         }
+        Err(TakeRefusal::Damaged) => DAMAGED,
     }
 }
 
@@ -163,6 +160,7 @@ fn send_into(port: &mut Port, index: u32, topic: u32, place: &mut u64) -> u32
             OK
         }
         Err(SendRefusal::NoTopic) => NO_TOPIC,
+        Err(SendRefusal::Retired) => RETIRED,
         Err(SendRefusal::NotHeld) => NOT_HELD,
         Err(SendRefusal::Spent { ticket }) => {
             *place = ticket;
@@ -219,6 +217,44 @@ pub extern "C" fn scq_give_back(alloc: Global, handle: &mut Handle, index: u32) 
     answer
 }
 
+/// Retires a port: it sends no more.
+#[unsafe(no_mangle)]
+pub extern "C" fn scq_retire(alloc: Global, handle: &mut Handle) -> u32
+    ensures closed { handle.old.port ≡ None → (result ≡ 4) × (handle.new.port ≡ None) }
+    ensures retired { (x : PortStanding) → handle.old.port ≡ Some x
+        → (result ≡ 0) × (handle.new.port ≡ Some (retired_port x)) }
+{
+    let Some(mut port) = taken(handle, alloc) else {
+        return CLOSED;
+    };
+    port.retire();
+    put(handle, port);
+    OK
+}
+
+/// Asks whether all ports have retired.
+#[inline(always)]
+fn asked(port: &mut Port) -> u32
+    ensures { OfRetired result port.old port.new }
+{
+    if port.all_retired() { RETIRED } else { OK }
+}
+
+/// Whether all ports of a queue have retired.
+#[unsafe(no_mangle)]
+pub extern "C" fn scq_retired(alloc: Global, handle: &mut Handle) -> u32
+    ensures closed { handle.old.port ≡ None → (result ≡ 4) × (handle.new.port ≡ None) }
+    ensures answered { (x : PortStanding) → handle.old.port ≡ Some x
+        → (y : PortStanding) × (handle.new.port ≡ Some y) × OfRetired result x y }
+{
+    let Some(mut port) = taken(handle, alloc) else {
+        return CLOSED;
+    };
+    let answer = asked(&mut port);
+    put(handle, port);
+    answer
+}
+
 /// How many sends, takes and Full replies a port had.
 #[unsafe(no_mangle)]
 pub extern "C" fn scq_counts_of(alloc: Global, handle: &mut Handle, out: &mut Tally) -> u32
@@ -263,13 +299,15 @@ pub extern "C" fn scq_spent(alloc: Global, handle: &mut Handle, ticket: &mut u64
     }
 }
 
-/// Closes a port, and tells whether the queue closed with it.
-fn end_of(port: Port, out: &mut End)
-    ensures { OfEnd port out.new }
+/// Closes a port, and tells whether the queue closed with it; where it did, with the counts of all
+/// ports.
+fn end_of(port: Port, out: &mut End, counts: &mut [Tally])
+    ensures { OfEnd port out.new counts.old counts.new }
 {
     let (_ended, closed) = port.close();
     *out = match closed {
         Some(closed) => {
+            write_out(closed.counts.as_slice(), counts);
             drop(closed);
             End { last: 1 }
         }
@@ -277,16 +315,25 @@ fn end_of(port: Port, out: &mut End)
     };
 }
 
-/// Closes a port: what it holds is given back, as `Port::close` says, and the last port of a queue frees it, which is told.
+/// Closes a port: what it holds is given back, as `Port::close` says, and the last port of a queue
+/// frees it, which is told, with the counts of all ports in the order of their numbers, as many as
+/// fit.
 #[unsafe(no_mangle)]
-pub extern "C" fn scq_end(alloc: Global, handle: &mut Handle, out: &mut End) -> u32
+pub extern "C" fn scq_end(
+    alloc: Global,
+    handle: &mut Handle,
+    out: &mut End,
+    counts: &mut [Tally],
+) -> u32
     ensures closed { handle.new.port ≡ None }
-    ensures was_closed { handle.old.port ≡ None → (result ≡ 4) × (out.new ≡ out.old) }
-    ensures was_open { (x : PortStanding) → handle.old.port ≡ Some x → (result ≡ 0) × OfEnd x out.new }
+    ensures was_closed { handle.old.port ≡ None
+        → (result ≡ 4) × (out.new ≡ out.old) × (counts.new ≡ counts.old) }
+    ensures was_open { (x : PortStanding) → handle.old.port ≡ Some x
+        → (result ≡ 0) × OfEnd x out.new counts.old counts.new }
 {
     match taken(handle, alloc) {
         Some(port) => {
-            end_of(Box::into_inner(port), out);
+            end_of(Box::into_inner(port), out, counts);
             OK
         }
         None => CLOSED,

@@ -9,3 +9,4 @@ mod exports;
 mod handle;
 mod loose;
 mod opening;
+mod tally;

@@ -1,11 +1,11 @@
 -- What a port keeps, through each call.
-use Rattle.std.proofs.Common.{◌≡◌, ◌≢◌, ℕ, zero, suc, ◌+◌, ◌-◌, ◌<◌, ◌≤◌, List, [], ◌∷◌, ◌++◌, length, refl, sym, ◌∙◌, ap, subst, inl, inr, arith, eq-eqb, ne_eqb, length-set, length-append}
+use Rattle.std.proofs.Common.{◌≡◌, ◌≢◌, ℕ, zero, suc, ◌+◌, ◌-◌, ◌<◌, List, [], ◌∷◌, ◌++◌, length, refl, sym, ◌∙◌, ap, subst, inl, inr, arith, length-set, length-append}
 use Rattle.std.specs.Prelude.{Option, Some, None, slice_get, slice_set, replicate}
 use Rattle.std.specs.List.{Contains}
 use Rattle.std.proofs.lemmas.Bool.{cases_eq}
 use Rattle.scq_law.specs.Hands.{times}
 use Rattle.scq_word.specs.Sizes.{n_of}
-use Rattle.scq_queue.specs.Passes.{PassStanding, HeldStanding, IsHeldBy, without, after_put, after_get, having_seen}
+use Rattle.scq_queue.specs.Passes.{PassStanding, IsHeldBy, without, after_put, after_get, having_seen}
 use Rattle.scq_queue.proofs.HeldOnce.{IsAlike}
 use Rattle.scq_port.specs.declared.port_buffer.PortBuffer.{PortBuffer}
 use Rattle.scq_port.specs.Ports.{PortQueue, Value}
@@ -63,12 +63,11 @@ abbrev no_value : Option Value
 no_value = None
 
 -- a pass of a new queue holds nothing
-pub keeps_new : (queue : PortQueue) (p : PassStanding PortBuffer) (hold : ℕ) → p.queue ≡ queue → p.retired ≡ None → p.held ≡ []
+pub keeps_new : (queue : PortQueue) (p : PassStanding PortBuffer) (hold : ℕ) → p.queue ≡ queue → p.held ≡ []
     → Keeps queue p (replicate (n_of queue.setup.order) None) 0 hold
-keeps_new queue p hold own awake none =
+keeps_new queue p hold own none =
     record {
       own = own;
-      awake = awake;
       places = filled (n_of queue.setup.order);
       here = λ i h is. absurd (none_there (n_of queue.setup.order) i h is);
       free = λ i is. ap (times i) none;
@@ -93,7 +92,6 @@ pub keeps_more : (queue : PortQueue) (old new : PassStanding PortBuffer) (slots 
 keeps_more queue old new slots used hold h ring place w before is held came low room =
     record {
       own = own;
-      awake = ap (λ (p : PassStanding PortBuffer). p.retired) is ∙ before.awake;
       places = length-set slots h.index (Some h) ∙ before.places;
       here = here;
       free = λ j at. rest j (apart j None at (λ (e : Some (Some h) ≡ Some None). cc)) (before.free j (other_place j (apart j None at (λ (e : Some (Some h) ≡ Some None). cc)) ∙ at));
@@ -156,7 +154,6 @@ keeps_less queue old new slots used hold i h ring place w before was is = (
   some,
   record {
     own = ap (λ (p : PassStanding PortBuffer). p.queue) is ∙ before.own;
-    awake = ap (λ (p : PassStanding PortBuffer). p.retired) is ∙ before.awake;
     places = length-set slots i None ∙ before.places;
     here =
         λ j v at.
@@ -213,7 +210,6 @@ pub keeps_alike : (queue : PortQueue) (old new : PassStanding PortBuffer) (slots
 keeps_alike queue old new slots used hold before is =
     record {
       own = is.queue ∙ before.own;
-      awake = is.retired ∙ before.awake;
       places = before.places;
       here =
           λ i h at.

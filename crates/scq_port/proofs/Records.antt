@@ -1,13 +1,14 @@
 -- What calls make of a port, put together of what the queue says of them.
 use Rattle.std.proofs.Common.{◌≡◌, ℕ, ◌+◌, ◌<◌, ◌≤◌, List, length, refl, sym, ◌∙◌, ap, subst}
-use Rattle.std.specs.Prelude.{Option, Some, None, Result, Err, slice_get, slice_set}
+use Rattle.std.specs.Prelude.{◌==◌, Bool, true, false, is_none, Option, Some, None, Result, Err, slice_get, slice_set}
+use Rattle.std.proofs.lemmas.Bool.{eqb-true}
 use Rattle.scq_word.specs.Sizes.{n_of}
 use Rattle.scq_band.specs.Buffers.{opening_of}
-use Rattle.scq_band.specs.RunSeen.{IsCallInRun, WasEmptyInRun}
-use Rattle.scq_queue.specs.Passes.{PassStanding, lists_of, having_seen, caller_of}
+use Rattle.scq_band.specs.RunSeen.{IsCallInRun, WasEmptyInRun, IsReadingInRun, AllWereSeenRetired}
+use Rattle.scq_queue.specs.Passes.{PassStanding, lists_of, having_seen, caller_of, after_look}
 use Rattle.scq_port.specs.declared.port_buffer.PortBuffer.{PortBuffer}
 use Rattle.scq_port.specs.Ports.{PortStanding, PortQueue, Value, bytes_of}
-use Rattle.scq_port.specs.Calls.{Came, IsSpent, IsInRun}
+use Rattle.scq_port.specs.Calls.{Came, IsSpent, HasRetired, HasAsked}
 use Rattle.scq_band.specs.declared.calls.Spent.{Spent}
 use Rattle.scq_port.specs.Kept.{Keeps}
 use Rattle.scq_port.proofs.Lists.{set_back}
@@ -89,3 +90,28 @@ failed R v s = Err (v, s)
 
 pub kept_ticket : {R : Type 0} (v h : Value) (s : Spent) (t : ℕ) → failed R v s ≡ failed R h (record { ticket = t }) → t ≡ s.ticket
 kept_ticket v h s t is = let both : (v, s) ≡ (h, record { ticket = t }) = cc in sym (ap (λ (p : Value × Spent). p.1.ticket) both)
+
+-- a port that asked whether all had retired
+pub asked_of : (queue : PortQueue) (old new : PortStanding) (answer : Bool) (found : ℕ) → old.pass.queue ≡ queue
+    → new.pass ≡ having_seen new.pass.seen (after_look found old.pass) → new.slots ≡ old.slots → new.hold ≡ old.hold
+    → IsReadingInRun queue.setup (opening_of bytes_of queue.given) old.pass.retired (caller_of old.pass) (caller_of new.pass) found
+    → (AllWereSeenRetired queue.setup old.pass.seen → answer ≡ true) → answer ≡ (found == 0) → HasAsked found old new
+asked_of queue old new answer found own looked slots hold run told is =
+    record {
+      looked = same_port (record old { pass = having_seen new.pass.seen (after_look found old.pass) }) new looked slots hold;
+      in_run =
+          subst (λ (q : PortQueue).
+          IsReadingInRun q.setup (opening_of bytes_of q.given) old.pass.retired (caller_of old.pass) (caller_of new.pass) found) (sym own) run;
+      told =
+          λ all.
+          eqb-true found 0
+          (sym is ∙ told (subst (λ (q : PortQueue). AllWereSeenRetired q.setup old.pass.seen) own all));
+    }
+
+-- a port whose pass isn't awake has retired
+pub retired_of : (x : PortStanding) (awake : Bool) → awake ≡ is_none x.pass.retired → awake ≡ false → HasRetired x x
+retired_of x awake is isnt = by x.pass.retired refl
+  where
+    by : (o : Option ℕ) → x.pass.retired ≡ o → HasRetired x x
+    by None e = let all : true ≡ false = sym (ap (λ (p : Option ℕ). is_none p) e) ∙ sym is ∙ isnt in absurd (cc)
+    by (Some calls) e = record { same = refl; calls = calls; retired = e }

@@ -1,5 +1,5 @@
 -- A port may go to another thread: so may its pass and its values, and the queue may go and be shared; and buffers may go and be shared.
-use denote.Builtin.{u8, u32, u64, usize, bool}
+use denote.Builtin.{u32, u64, usize, bool}
 use denote.RattleType.{RattleType}
 use denote.Param.Send.{IsSend, IsSync, sendable, view_send, view_sync}
 use denote.Param.SendFields.{declared_send, declared_sync}
@@ -233,5 +233,5 @@ port_sent =
     view_send port_inside.the_row _ _ _ _
     (declared_send port_inside.the_type (
       crossing.Arc-send owner.the_row owner_sent owner_sync,
-      (pass_sent buffer.the_row buffers.ghosts buffer_sent, (hand_sent, (u32_sent, (u32_sent, tt)))),
+      (pass_sent buffer.the_row buffers.ghosts buffer_sent, (hand_sent, (u32_sent, (u32_sent, (bool_sent, tt))))),
     ))

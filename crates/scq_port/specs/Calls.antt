@@ -1,14 +1,14 @@
 -- What each call makes of a port. What it makes of the port's pass is said in the words of the queue, for topic t and index i.
-use Rattle.std.specs.Prelude.{◌≡◌, ℕ, suc, ◌+◌, ◌<◌, ◌≤◌, List, [], ◌∷◌, ◌++◌, length, reverse, filter_map, Option, Some, None, slice_get, slice_set, replicate, map}
+use Rattle.std.specs.Prelude.{◌≡◌, ℕ, suc, ◌+◌, ◌<◌, ◌≤◌, List, [], ◌∷◌, ◌++◌, length, reverse, filter_map, Option, Some, None, slice_set, replicate, map}
 use Rattle.std.specs.List.{Contains}
 use Rattle.scq_word.specs.declared.setup.Setup.{Setup}
 use Rattle.scq_word.specs.Sizes.{n_of}
 use Rattle.scq_band.specs.Buffers.{opening_of}
-use Rattle.scq_band.specs.RunSeen.{IsCallInRun, WasEmptyInRun}
-use Rattle.scq_queue.specs.Lists.{Lists, with_send, with_take, with_full}
-use Rattle.scq_queue.specs.Passes.{PassStanding, lists_of, known_on, WasLent, HasGot, WasGivenBack, FoundNothing, FoundFull, having_seen, caller_of, after_put, after_spent_put, after_spent_get, first_pass, first_passes}
+use Rattle.scq_band.specs.RunSeen.{IsCallInRun, WasEmptyInRun, IsReadingInRun, AllWereSeenRetired, with_retiree}
+use Rattle.scq_queue.specs.Lists.{with_send, with_take, with_full}
+use Rattle.scq_queue.specs.Passes.{PassStanding, lists_of, known_on, WasLent, HasGot, WasGivenBack, FoundNothing, FoundFull, having_seen, caller_of, after_put, after_spent_put, after_spent_get, after_look, first_passes}
 use Rattle.scq_port.specs.declared.port_buffer.PortBuffer.{PortBuffer}
-use Rattle.scq_port.specs.Numbers.{numbers_below}
+use Rattle.scq_port.specs.Numbers.{number_bytes, numbers_below}
 use Rattle.scq_port.specs.Ports.{PortStanding, PortQueue, Value, HasValue, bytes_of}
 
 -- the port holds the values that it held
@@ -33,20 +33,33 @@ pub record Went (old new : PortStanding) (h : Value) : Type 0 where
 abbrev pub IsInRun : PortStanding → PortStanding → Type 0
 IsInRun old new = IsCallInRun old.pass.queue.setup (opening_of bytes_of old.pass.queue.given) (caller_of old.pass) (caller_of new.pass)
 
--- the value of an index was lent
-pub record IsLent (index : ℕ) (old new : PortStanding) : Type 0 where
-  pub value : Value
-  pub is : value.index ≡ index
+-- the value contains the number of its index
+abbrev pub HasItsNumber : Value → Type 0
+HasItsNumber h = bytes_of h.buffer ≡ number_bytes h.index
+
+-- a value was lent
+pub record HasLent (value : Value) (old new : PortStanding) : Type 0 where
   pub lent : WasLent bytes_of old.pass new.pass value
   pub came : Came old new value
   pub lists : lists_of new.pass ≡ lists_of old.pass
   pub unspent : old.pass.spent ≡ None
   pub run : IsInRun old new
 
--- the value of an index was taken from a topic, at a place
-pub record IsTaken (topic place index : ℕ) (old new : PortStanding) : Type 0 where
+-- the value of an index was lent, and contains this index as its number
+pub record IsLent (index : ℕ) (old new : PortStanding) : Type 0 where
   pub value : Value
   pub is : value.index ≡ index
+  pub number : HasItsNumber value
+  pub lent : HasLent value old new
+
+-- a value was lent that doesn't contain the number of its index
+pub record IsLentDamaged (old new : PortStanding) : Type 0 where
+  pub value : Value
+  pub number : HasItsNumber value → ⊥
+  pub lent : HasLent value old new
+
+-- a value was taken from a topic, at a place
+pub record HasTaken (topic place : ℕ) (value : Value) (old new : PortStanding) : Type 0 where
   pub there : topic + 1 < old.pass.queue.setup.rings
   pub got : HasGot bytes_of (suc topic) place old.pass new.pass value
   pub low : place < old.pass.queue.setup.limit
@@ -56,11 +69,26 @@ pub record IsTaken (topic place index : ℕ) (old new : PortStanding) : Type 0 w
   pub unspent : old.pass.spent ≡ None
   pub run : IsInRun old new
 
+-- the value of an index was taken from a topic, at a place, and contains this index as its number
+pub record IsTaken (topic place index : ℕ) (old new : PortStanding) : Type 0 where
+  pub value : Value
+  pub is : value.index ≡ index
+  pub number : HasItsNumber value
+  pub taken : HasTaken topic place value old new
+
+-- a value was taken that doesn't contain the number of its index
+pub record IsTakenDamaged (topic : ℕ) (old new : PortStanding) : Type 0 where
+  pub value : Value
+  pub place : ℕ
+  pub number : HasItsNumber value → ⊥
+  pub taken : HasTaken topic place value old new
+
 -- the value of an index was sent on a topic, at a place
 pub record IsSent (index topic place : ℕ) (old new : PortStanding) : Type 0 where
   pub value : Value
   pub is : value.index ≡ index
   pub there : topic + 1 < old.pass.queue.setup.rings
+  pub awake : old.pass.retired ≡ None
   pub sent : new.pass ≡ having_seen new.pass.seen (after_put (suc topic) index place (bytes_of value.buffer) old.pass)
   pub low : place < old.pass.queue.setup.limit
   pub above : (known_on topic old.pass).seen < place
@@ -123,6 +151,31 @@ pub record HasNoTopic (topic : ℕ) (old new : PortStanding) : Type 0 where
 pub record HoldsNoSuch (index : ℕ) (old new : PortStanding) : Type 0 where
   pub same : new ≡ old
   pub none : Contains old.pass.held index → ⊥
+
+-- the port has retired
+pub record HasRetired (old new : PortStanding) : Type 0 where
+  pub same : new ≡ old
+  pub calls : ℕ
+  pub retired : old.pass.retired ≡ Some calls
+
+-- a pass that has retired, now where it hadn't before; and its port
+abbrev pub retired_as : Option ℕ → PassStanding PortBuffer → PassStanding PortBuffer
+retired_as None p =
+    record p { retired = Some (length p.calls); seen = with_retiree (p.number, length p.calls) p.seen }
+retired_as (Some calls) p = p
+
+abbrev pub retired_pass : PassStanding PortBuffer → PassStanding PortBuffer
+retired_pass p = retired_as p.retired p
+
+abbrev pub retired_port : PortStanding → PortStanding
+retired_port x = record x { pass = retired_pass x.pass }
+
+-- the port asked whether all had retired, when so many had not; none, where it had seen each retired
+pub record HasAsked (found : ℕ) (old new : PortStanding) : Type 0 where
+  pub looked : new ≡ record old { pass = having_seen new.pass.seen (after_look found old.pass) }
+  pub in_run : IsReadingInRun old.pass.queue.setup (opening_of bytes_of old.pass.queue.given) old.pass.retired
+      (caller_of old.pass) (caller_of new.pass) found
+  pub told : AllWereSeenRetired old.pass.queue.setup old.pass.seen → found ≡ 0
 
 -- the values that stand in these places, from the last on
 abbrev pub values_of : List (Option Value) → List Value

@@ -8,6 +8,7 @@ use Rattle.scq_queue.specs.Closing.{EachTakeIsASend, NoPlaceIsSentTwice, NoPlace
 use Rattle.scq_queue.specs.Closing.{IsBalance, EachSendPassedIsTaken, IsAllThere}
 use Rattle.scq_queue.specs.Closing.{AllFullsStand, EachKeptIsPastTheBound}
 use Rattle.scq_queue.specs.Closing.{NoneIsKeptWithinTheLimit, records_of, all_held, callers_of}
+use Rattle.scq_queue.specs.Closing.{AllRetiredWhereTold, EachSeenRetiredHas}
 use Rattle.scq_port.specs.declared.port_buffer.PortBuffer.{PortBuffer}
 use Rattle.scq_port.specs.Ports.{PortQueue, Value, bytes_of}
 use Rattle.scq_port.specs.Ends.{AreAll}
@@ -33,3 +34,5 @@ pub record HasClosed (queue : PortQueue) (last : PassStanding PortBuffer)
   pub fulls : AllFullsStand passes
   pub kept : EachKeptIsPastTheBound queue.setup passes
   pub limits : NoneIsKeptWithinTheLimit queue.setup passes
+  pub gate : AllRetiredWhereTold passes
+  pub retirees : EachSeenRetiredHas passes

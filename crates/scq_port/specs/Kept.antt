@@ -1,5 +1,5 @@
 -- For private calls: what a port keeps.
-use Rattle.std.specs.Prelude.{◌≡◌, ℕ, ◌+◌, ◌<◌, ◌≤◌, List, [], length, map, Option, Some, None, slice_get}
+use Rattle.std.specs.Prelude.{◌≡◌, ℕ, ◌+◌, ◌<◌, ◌≤◌, Bool, is_none, List, [], length, map, Option, Some, None, slice_get}
 use Rattle.scq_law.specs.Hands.{times}
 use Rattle.scq_word.specs.Sizes.{n_of}
 use Rattle.scq_queue.specs.Passes.{PassStanding}
@@ -18,10 +18,10 @@ pub record StandsAt (queue : PortQueue) (p : PassStanding PortBuffer) (i : ℕ) 
   pub index : h.index ≡ i
   pub holds : times i p.held ≡ 1
 
--- a pass of the queue, awake, with all the values that it holds, each at its index; how many they are, and how many there may be
+-- a pass of the queue, with all the values that it holds, each at its index; how many they are, and
+-- how many there may be
 pub record Keeps (queue : PortQueue) (p : PassStanding PortBuffer) (slots : List (Option Value)) (count hold : ℕ) : Type 0 where
   pub own : p.queue ≡ queue
-  pub awake : p.retired ≡ None
   pub places : length slots ≡ n_of queue.setup.order
   pub here : (i : ℕ) (h : Value) → slice_get slots i ≡ Some (Some h) → StandsAt queue p i h
   pub free : (i : ℕ) → slice_get slots i ≡ Some None → times i p.held ≡ 0
@@ -32,13 +32,15 @@ pub record Keeps (queue : PortQueue) (p : PassStanding PortBuffer) (slots : List
 abbrev pub KeepsHand : PortQueue → PassStanding PortBuffer → Hand → Type 0
 KeepsHand queue p hand = Keeps queue p hand.slots.items hand.used hand.hold
 
--- a port's pass and values, how many topics its queue has, and the number of its pass
+-- a port's pass and values, how many topics its queue has, the number of its pass, and whether that
+-- hasn't retired
 pub record IsPort (queue : PortQueue) (p : PassStanding PortBuffer) (hand : Hand)
-    (many number : ℕ) : Type 0 where
+    (many number : ℕ) (awake : Bool) : Type 0 where
   pub keeps : KeepsHand queue p hand
   pub topics : many + 1 ≡ queue.setup.rings
   pub number_is : p.number ≡ number
   pub low : number < queue.setup.seats
+  pub awake_is : awake ≡ is_none p.retired
 
 -- what contracts see of a port with this pass and these values
 abbrev pub seen_as : PassStanding PortBuffer → Hand → PortStanding

@@ -1,6 +1,6 @@
 //! The calls of a pass together with the values that it holds.
 ghost use Rattle.std.specs.Prelude.{◌≡◌, ℕ, suc, ◌+◌, ◌<◌, ◌≤◌, [], length, Some, None, Err, IfOk, ◌≢◌};
-ghost use Rattle.scq_port.specs.Calls.{IsLent, IsTaken, IsSent, IsGivenBack, WasFull, WasEmpty, IsSpentGet, IsSpentPut, HoldsNoSuch};
+ghost use Rattle.scq_port.specs.Calls.{IsLent, IsLentDamaged, IsTaken, IsTakenDamaged, IsSent, IsGivenBack, WasFull, WasEmpty, IsSpentGet, IsSpentPut, HoldsNoSuch};
 ghost use Rattle.scq_port.specs.Kept.{KeepsHand, seen_as};
 
 use crate::hand::Hand;
@@ -19,16 +19,25 @@ pub(crate) fn lend(
     requires room { hand.old.used < hand.old.hold }
     ensures kept { KeepsHand queue.now pass.new hand.new }
     ensures number { pass.new.number ≡ pass.old.number }
+    ensures retired { pass.new.retired ≡ pass.old.retired }
     ensures lent { IfOk result (λ index. IsLent index (seen_as pass.old hand.old) (seen_as pass.new hand.new)) }
     ensures no_room { result ≢ Err LendRefusal.NoRoom }
     ensures full { (head : ℕ) → result ≡ Err (LendRefusal.Full head) → WasFull head (seen_as pass.old hand.old) (seen_as pass.new hand.new) }
     ensures spent { (ticket : ℕ) → result ≡ Err (LendRefusal.Spent ticket)
         → IsSpentGet 0 ticket (seen_as pass.old hand.old) (seen_as pass.new hand.new) }
+    ensures damaged { result ≡ Err LendRefusal.Damaged
+        → IsLentDamaged (seen_as pass.old hand.old) (seen_as pass.new hand.new) }
 {
     match queue.lend(pass) {
         Ok(held) => {
+            let sound = held.buffer().has_number(held.index());
             hand.used += 1;
-            Ok(hand.put_in(held))
+            let index = hand.put_in(held);
+            if sound {
+                Ok(index)
+            } else {
+                Err(LendRefusal::Damaged)
+            }
         }
         Err(scq_queue::LendRefusal::Full { head }) => Err(LendRefusal::Full { head }),
         Err(scq_queue::LendRefusal::Spent { ticket }) => Err(LendRefusal::Spent { ticket }),
@@ -48,17 +57,26 @@ pub(crate) fn take(
     requires room { hand.old.used < hand.old.hold }
     ensures kept { KeepsHand queue.now pass.new hand.new }
     ensures number { pass.new.number ≡ pass.old.number }
+    ensures retired { pass.new.retired ≡ pass.old.retired }
     ensures taken { IfOk result (λ r. IsTaken topic r.0 r.1 (seen_as pass.old hand.old) (seen_as pass.new hand.new)) }
     ensures tested { (result ≢ Err TakeRefusal.NoTopic) × (result ≢ Err TakeRefusal.NoRoom) }
     ensures empty { (head : ℕ) → result ≡ Err (TakeRefusal.Empty head)
         → WasEmpty topic head (seen_as pass.old hand.old) (seen_as pass.new hand.new) }
     ensures spent { (ticket : ℕ) → result ≡ Err (TakeRefusal.Spent ticket)
         → IsSpentGet (suc topic) ticket (seen_as pass.old hand.old) (seen_as pass.new hand.new) }
+    ensures damaged { result ≡ Err TakeRefusal.Damaged
+        → IsTakenDamaged topic (seen_as pass.old hand.old) (seen_as pass.new hand.new) }
 {
     match queue.take(pass, topic) {
         Ok((place, held)) => {
+            let sound = held.buffer().has_number(held.index());
             hand.used += 1;
-            Ok((place, hand.put_in(held)))
+            let index = hand.put_in(held);
+            if sound {
+                Ok((place, index))
+            } else {
+                Err(TakeRefusal::Damaged)
+            }
         }
         Err(scq_queue::TakeRefusal::Empty { head }) => Err(TakeRefusal::Empty { head }),
         Err(scq_queue::TakeRefusal::Spent { ticket }) => Err(TakeRefusal::Spent { ticket }),
@@ -76,10 +94,12 @@ pub(crate) fn send(
 ) -> Result<u64, SendRefusal>
     requires kept { KeepsHand queue.now pass.old hand.old }
     requires topic { topic + 1 < queue.now.setup.rings }
+    requires awake { pass.old.retired ≡ None }
     ensures kept { KeepsHand queue.now pass.new hand.new }
     ensures number { pass.new.number ≡ pass.old.number }
+    ensures retired { pass.new.retired ≡ pass.old.retired }
     ensures sent { IfOk result (λ place. IsSent index topic place (seen_as pass.old hand.old) (seen_as pass.new hand.new)) }
-    ensures topic { result ≢ Err SendRefusal.NoTopic }
+    ensures tested { (result ≢ Err SendRefusal.NoTopic) × (result ≢ Err SendRefusal.Retired) }
     ensures not_held { result ≡ Err SendRefusal.NotHeld → HoldsNoSuch index (seen_as pass.old hand.old) (seen_as pass.new hand.new) }
     ensures spent { (ticket : ℕ) → result ≡ Err (SendRefusal.Spent ticket)
         → IsSpentPut (suc topic) ticket (seen_as pass.old hand.old) (seen_as pass.new hand.new) }
@@ -112,6 +132,7 @@ pub(crate) fn give_back(
     requires kept { KeepsHand queue.now pass.old hand.old }
     ensures kept { KeepsHand queue.now pass.new hand.new }
     ensures number { pass.new.number ≡ pass.old.number }
+    ensures retired { pass.new.retired ≡ pass.old.retired }
     ensures given { IfOk result (λ _. IsGivenBack index (seen_as pass.old hand.old) (seen_as pass.new hand.new)) }
     ensures not_held { result ≡ Err GiveBackRefusal.NotHeld → HoldsNoSuch index (seen_as pass.old hand.old) (seen_as pass.new hand.new) }
     ensures spent { (ticket : ℕ) → result ≡ Err (GiveBackRefusal.Spent ticket)

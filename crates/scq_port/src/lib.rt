@@ -20,6 +20,7 @@ mod owner;
 mod port;
 mod port_buffer;
 mod refusals;
+mod retiring;
 
 pub use crossing::port_crosses;
 pub use opening::open;

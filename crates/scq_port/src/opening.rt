@@ -69,6 +69,7 @@ fn port_of(
         hand,
         topics: setup.rings() - 1,
         number,
+        awake: true,
     })
 }
 

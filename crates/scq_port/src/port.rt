@@ -1,9 +1,9 @@
 //! A port.
-ghost use Rattle.std.specs.Prelude.{◌≡◌, ℕ, suc, ◌+◌, ◌<◌, ◌≤◌, length, map, Some, None, Err, IfOk, IfErr, IfSome};
+ghost use Rattle.std.specs.Prelude.{◌≡◌, ◌==◌, ℕ, suc, ◌+◌, ◌<◌, ◌≤◌, is_none, length, map, Some, None, Err, IfOk, IfErr, IfSome};
 ghost use Rattle.std.specs.Arc.{arc_value};
 ghost use Rattle.scq_queue.specs.Lists.{counts_of};
 ghost use Rattle.scq_queue.specs.Passes.{lists_of};
-ghost use Rattle.scq_port.specs.Calls.{IsLent, IsTaken, IsSent, IsGivenBack, WasFull, WasEmpty, IsSpentGet, IsSpentPut, HasNoRoom, HasNoTopic, HoldsNoSuch, HasEnded};
+ghost use Rattle.scq_port.specs.Calls.{HasRetired, HasAsked, retired_pass, retired_port, IsLent, IsLentDamaged, IsTaken, IsTakenDamaged, IsSent, IsGivenBack, WasFull, WasEmpty, IsSpentGet, IsSpentPut, HasNoRoom, HasNoTopic, HoldsNoSuch, HasEnded};
 ghost use Rattle.scq_port.specs.Kept.{KeepsHand, seen_as};
 ghost use Rattle.scq_port.specs.Ports.{bytes_of};
 ghost use Rattle.scq_port.specs.Closed.{HasClosed};
@@ -14,6 +14,7 @@ use crate::letting_go::let_go;
 use crate::owner::Owner;
 use crate::port_buffer::PortBuffer;
 use crate::refusals::{GiveBackRefusal, LendRefusal, SendRefusal, TakeRefusal};
+use crate::retiring::retire;
 use scq_queue::{Closed, Counts, Pass};
 use std::alloc::Global;
 use std::marker::Model;
@@ -28,6 +29,7 @@ pub struct Port {
     pub(crate) hand: Hand,
     pub(crate) topics: u32,
     pub(crate) number: u32,
+    pub(crate) awake: bool,
 }
 
 impl Model for Port {
@@ -40,19 +42,22 @@ impl Model for Port {
 
     ghost view = { λ p. seen_as p.pass p.hand };
 
-    ghost invariant = { λ p. IsPort (arc_value p.owner).queue p.pass p.hand p.topics p.number };
+    ghost invariant = { λ p. IsPort (arc_value p.owner).queue p.pass p.hand p.topics p.number p.awake };
 }
 
 impl Port {
     /// Lends a buffer that nobody holds: answers its index.
     ///
     /// NoRoom where the port holds as many values as it may. Full and Spent as with `scq_queue`.
+    /// Damaged where the value that came doesn't contain the number of its index; the port holds it
+    /// then. No call here writes a number, so it is for memory that somebody else wrote.
     #[inline(always)]
     pub fn lend(&mut self) -> Result<u32, LendRefusal>
         ensures lent { IfOk result (λ index. IsLent index self.old self.new) }
         ensures no_room { result ≡ Err LendRefusal.NoRoom → HasNoRoom self.old self.new }
         ensures full { (head : ℕ) → result ≡ Err (LendRefusal.Full head) → WasFull head self.old self.new }
         ensures spent { (ticket : ℕ) → result ≡ Err (LendRefusal.Spent ticket) → IsSpentGet 0 ticket self.old self.new }
+        ensures damaged { result ≡ Err LendRefusal.Damaged → IsLentDamaged self.old self.new }
     {
         if self.hand.used >= self.hand.hold {
             return Err(LendRefusal::NoRoom);
@@ -62,7 +67,8 @@ impl Port {
 
     /// Takes a value from a topic: answers its place and its index.
     ///
-    /// NoTopic where there are not so many topics, NoRoom as with `lend`. Empty and Spent as with `scq_queue`.
+    /// NoTopic where there are not so many topics, NoRoom and Damaged as with `lend`. Empty and Spent
+    /// as with `scq_queue`.
     #[inline(always)]
     pub fn take(&mut self, topic: u32) -> Result<(u64, u32), TakeRefusal>
         ensures taken { IfOk result (λ r. IsTaken topic r.0 r.1 self.old self.new) }
@@ -70,6 +76,7 @@ impl Port {
         ensures no_room { result ≡ Err TakeRefusal.NoRoom → HasNoRoom self.old self.new }
         ensures empty { (head : ℕ) → result ≡ Err (TakeRefusal.Empty head) → WasEmpty topic head self.old self.new }
         ensures spent { (ticket : ℕ) → result ≡ Err (TakeRefusal.Spent ticket) → IsSpentGet (suc topic) ticket self.old self.new }
+        ensures damaged { result ≡ Err TakeRefusal.Damaged → IsTakenDamaged topic self.old self.new }
     {
         if topic >= self.topics {
             return Err(TakeRefusal::NoTopic);
@@ -82,17 +89,22 @@ impl Port {
 
     /// Sends the value of an index on a topic: answers its place.
     ///
-    /// NoTopic where there are not so many topics, NotHeld where the port holds no value of this index. Spent as with `scq_queue`; then
-    /// the port still holds the value.
+    /// NoTopic where there are not so many topics, Retired where the port has retired, NotHeld where
+    /// it holds no value of this index. Spent as with `scq_queue`; then the port still holds the
+    /// value.
     #[inline(always)]
     pub fn send(&mut self, index: u32, topic: u32) -> Result<u64, SendRefusal>
         ensures sent { IfOk result (λ place. IsSent index topic place self.old self.new) }
         ensures no_topic { result ≡ Err SendRefusal.NoTopic → HasNoTopic topic self.old self.new }
+        ensures retired { result ≡ Err SendRefusal.Retired → HasRetired self.old self.new }
         ensures not_held { result ≡ Err SendRefusal.NotHeld → HoldsNoSuch index self.old self.new }
         ensures spent { (ticket : ℕ) → result ≡ Err (SendRefusal.Spent ticket) → IsSpentPut (suc topic) ticket self.old self.new }
     {
         if topic >= self.topics {
             return Err(SendRefusal::NoTopic);
+        }
+        if !self.awake {
+            return Err(SendRefusal::Retired);
         }
         holding::send(
             &self.owner.queue,
@@ -115,6 +127,21 @@ impl Port {
         holding::give_back(&self.owner.queue, &mut self.pass, index, &mut self.hand)
     }
 
+    /// Retires the port: it sends no more. It still lends, takes and gives back.
+    pub fn retire(&mut self)
+        ensures { self.new ≡ retired_port self.old }
+    {
+        retire(&self.owner.queue, &mut self.pass, self.awake);
+        self.awake = false;
+    }
+
+    /// Whether all ports of its queue had retired, at this call's one step.
+    pub fn all_retired(&mut self) -> bool
+        ensures { (found : ℕ) × HasAsked found self.old self.new × (result ≡ (found == 0)) }
+    {
+        self.owner.queue.closed(&mut self.pass)
+    }
+
     /// How many sends, takes and Full replies it had.
     pub fn counts(&self) -> Counts
         ensures { result ≡ counts_of (lists_of self.now.pass) }
@@ -129,14 +156,14 @@ impl Port {
         self.pass.spent()
     }
 
-    /// Closes the port, as dropping it does: gives back what it holds, and answers for contracts
-    /// alone what its pass was then. The last port of a queue that closes closes the queue, and is
+    /// Closes the port, as dropping it does: retires it, gives back what it holds, and answers for
+    /// contracts alone what its pass was then. The last port of a queue that closes closes the queue, and is
     /// told of all passes together.
     ///
     /// Where the pass keeps a spent ticket, or draws one, what can't be given back goes with it,
     /// and back to the queue where that closes.
     pub fn close(self) -> (Snapshot<Pass<PortBuffer>>, Option<Closed<PortBuffer>>)
-        ensures ended { HasEnded self result.0.value }
+        ensures ended { HasEnded (retired_port self) result.0.value }
         ensures closed { IfSome result.1 (λ closed.
             HasClosed self.pass.queue result.0.value closed.passes.value.items
             closed.left.items (map bytes_of closed.buffers.items)) }
@@ -149,29 +176,33 @@ impl Port {
             hand,
             topics: _,
             number,
+            awake,
         } = self;
-        end(owner, pass, hand, number)
+        end(owner, pass, hand, number, awake)
     }
 }
 
-/// Gives back what a port holds, leaves its pass with the others, and lets go of its share of the
+/// Retires a port, gives back what it holds, leaves its pass with the others, and lets go of its share of the
 /// queue; who gets the queue back closes it.
 fn end(
     owner: Arc<Owner, Global>,
-    pass: Pass<PortBuffer>,
+    mut pass: Pass<PortBuffer>,
     hand: Hand,
     number: u32,
+    awake: bool,
 ) -> (Snapshot<Pass<PortBuffer>>, Option<Closed<PortBuffer>>)
     requires kept { KeepsHand (arc_value owner).queue pass hand }
     requires number { pass.number ≡ number }
     requires low { number < (arc_value owner).queue.setup.seats }
-    ensures ended { HasEnded (seen_as pass hand) result.0.value }
+    requires awake { awake ≡ is_none pass.retired }
+    ensures ended { HasEnded (seen_as (retired_pass pass) hand) result.0.value }
     ensures closed { IfSome result.1 (λ closed.
         HasClosed (arc_value owner).queue result.0.value closed.passes.value.items
         closed.left.items (map bytes_of closed.buffers.items)) }
     ensures counts { IfSome result.1 (λ closed.
         closed.counts.items ≡ map (λ p. counts_of (lists_of p)) closed.passes.value.items) }
 {
+    retire(&owner.queue, &mut pass, awake);
     let (ended, leaving) = let_go(owner.alloc, &owner.queue, pass, hand);
     let last = Snapshot::of(&leaving);
     let Some(token) = owner.ends.leave(number, leaving) else {
@@ -192,7 +223,8 @@ impl Drop for Port {
             hand,
             topics: _,
             number,
+            awake,
         } = self;
-        let _ended = end(owner, pass, hand, number);
+        let _ended = end(owner, pass, hand, number, awake);
     }
 }

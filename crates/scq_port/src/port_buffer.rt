@@ -1,5 +1,5 @@
 //! The buffers of ports: numbers. The bytes that are sent lie with the caller, who finds those of a number; nothing here knows where.
-ghost use Rattle.std.specs.Prelude.{◌≡◌, length};
+ghost use Rattle.std.specs.Prelude.{◌≡◌, length, true, false};
 ghost use Rattle.std.specs.List.{refill, length_refill};
 ghost use Rattle.std.proofs.Common.{sym, refl, ◌∙◌};
 ghost use Rattle.scq_word.specs.Written.{rewritten};
@@ -9,7 +9,8 @@ use crate::cells::Cells;
 use scq_word::Buffer;
 
 /// The number of a buffer, from 0, as four bytes, the lowest first. They are what the buffer contains, so that what the queue promises of
-/// bytes it promises of numbers: a take is a send of the same one. No call of a port writes them.
+/// bytes it promises of numbers: a take is a send of the same one. No call of a port writes them, and
+/// each value that a port is lent or takes is tested to contain the number of its index.
 #[derive(Drop)]
 pub struct PortBuffer {
     number: Cells<u8, 4>,
@@ -26,6 +27,24 @@ impl PortBuffer {
             },
         }
     }
+
+    /// Whether it contains this number.
+    #[inline(always)]
+    pub(crate) fn has_number(&self, number: u32) -> bool
+        ensures has { result ≡ true → self.now.number.xs ≡ number_bytes number }
+        ensures hasnt { result ≡ false → self.now.number.xs ≡ number_bytes number → ⊥ }
+    {
+        are_bytes_of(self.number.xs, number)
+    }
+}
+
+/// Whether these are the bytes of this number.
+#[inline(always)]
+fn are_bytes_of(bytes: [u8; 4], number: u32) -> bool
+    ensures are { result ≡ true → bytes ≡ number_bytes number }
+    ensures arent { result ≡ false → bytes ≡ number_bytes number → ⊥ }
+{
+    u32::from_le_bytes(bytes) == number
 }
 
 impl Buffer for PortBuffer {

@@ -1,6 +1,9 @@
-use Rattle.std.proofs.Common.{◌≡◌, ℕ, map, ap, sym, ◌∙◌, arith}
+use Rattle.std.proofs.Common.{◌≡◌, List, map, ap, sym, subst, ◌∙◌, arith}
+use Rattle.scq_queue.specs.declared.counts.Counts.{Counts}
 use Rattle.scq_port.specs.Ports.{bytes_of}
 use Rattle.scq_c.specs.declared.exports.End.{End}
+use Rattle.scq_c.specs.declared.tally.Tally.{Tally}
+use Rattle.scq_c.specs.Tallies.{AreWritten}
 use Rattle.scq_c.proofs.Somes.{if_some_at}
 use Rattle.scq_c.proofs.exports.end_of.Goals as goal
 use Rattle.scq_c.proofs.exports.end_of.Goals.{in-Some, in-None}
@@ -19,12 +22,18 @@ returns c =
                   left = w.in-Some.closed.left.items;
                   bytes = map bytes_of w.in-Some.closed.buffers.items;
                   closed = if_some_at _ c.close-ended.result.1 w.in-Some.closed c.close-ended.ensures.closed w.in-Some.is;
+                  counts =
+                      let told = if_some_at _ c.close-ended.result.1 w.in-Some.closed c.close-ended.ensures.counts w.in-Some.is in
+                      subst (λ (l : List Counts). AreWritten l c.args.counts.now c.match-closed.counts) (w.as_slice.ensures.value ∙ told)
+                      (subst (λ (l : List Tally). AreWritten w.as_slice.result.now c.args.counts.now l) (sym w.counts-is) w.write_out.ensures);
                 };
+            other = λ isnt. absurd (isnt (ap (λ (e : End). e.last) w.out-is));
           }
       | in-None w ↦
           record {
             its = c.close-ended.result.0.value;
             ended = c.close-ended.ensures.ended;
             last = λ one. absurd (let zeroth : c.match-closed.out.last ≡ 0 = ap (λ (e : End). e.last) w.out-is in omega (arith, one, zeroth));
+            other = λ isnt. w.counts-is;
           }
     ]

@@ -1,9 +1,7 @@
-use Rattle.std.proofs.Common.{◌≡◌, ℕ, sym, ap, subst}
+use Rattle.std.proofs.Common.{◌≡◌, ap}
 use Rattle.std.specs.Prelude.{Err}
 use Rattle.scq_port.specs.declared.refusals.GiveBackRefusal.{GiveBackRefusal}
 use Rattle.scq_port.specs.declared.refusals.GiveBackRefusal.TheVariants.{NotHeld, Spent}
-use Rattle.scq_c.specs.declared.exports.Held.{Held}
-use Rattle.scq_c.specs.Answers.{OfGiveBack}
 use Rattle.scq_c.proofs.Codes.{give_given, give_spent, give_not_held}
 use Rattle.scq_c.proofs.exports.give_back_into.Goals as goal
 

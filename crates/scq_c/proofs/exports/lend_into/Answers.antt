@@ -1,10 +1,10 @@
-use Rattle.std.proofs.Common.{◌≡◌, ℕ, sym, ap, subst}
+use Rattle.std.proofs.Common.{◌≡◌, sym, ap, subst}
 use Rattle.std.specs.Prelude.{Err}
 use Rattle.scq_port.specs.declared.refusals.LendRefusal.{LendRefusal}
-use Rattle.scq_port.specs.declared.refusals.LendRefusal.TheVariants.{NoRoom, Full, Spent}
+use Rattle.scq_port.specs.declared.refusals.LendRefusal.TheVariants.{NoRoom, Full, Spent, Damaged}
 use Rattle.scq_c.specs.declared.exports.Held.{Held}
 use Rattle.scq_c.specs.Answers.{OfLend}
-use Rattle.scq_c.proofs.Codes.{lend_lent, lend_full, lend_spent, lend_no_room}
+use Rattle.scq_c.proofs.Codes.{lend_lent, lend_full, lend_spent, lend_no_room, lend_damaged}
 use Rattle.scq_c.proofs.exports.lend_into.Goals as goal
 
 pub returns-in-Ok : goal.returns-in-Ok
@@ -26,3 +26,8 @@ pub returns-in-Err-Spent : goal.returns-in-Err-Spent
 returns-in-Err-Spent c =
     let is : c.in-Err-Spent.field-0 ≡ Spent c.in-Err-Spent.ticket = cc in
     lend_spent c.in-Err-Spent.ticket c.args.out.now c.args.port.now c.lend.new.self (c.in-Err-Spent.ensures.spent c.in-Err-Spent.ticket (ap (λ (r : LendRefusal). Err r) is))
+
+pub returns-in-Err-Damaged : goal.returns-in-Err-Damaged
+returns-in-Err-Damaged c =
+    let is : c.in-Err-Damaged.field-0 ≡ Damaged = cc in
+    lend_damaged c.args.out.now c.args.port.now c.lend.new.self (c.in-Err-Damaged.ensures.damaged (ap (λ (r : LendRefusal). Err r) is))

@@ -1,10 +1,10 @@
-use Rattle.std.proofs.Common.{◌≡◌, ℕ, sym, ap, subst}
+use Rattle.std.proofs.Common.{◌≡◌, sym, ap, subst}
 use Rattle.std.specs.Prelude.{Err}
 use Rattle.scq_port.specs.declared.refusals.TakeRefusal.{TakeRefusal}
-use Rattle.scq_port.specs.declared.refusals.TakeRefusal.TheVariants.{NoTopic, NoRoom, Empty, Spent}
+use Rattle.scq_port.specs.declared.refusals.TakeRefusal.TheVariants.{NoTopic, NoRoom, Empty, Spent, Damaged}
 use Rattle.scq_c.specs.declared.exports.Held.{Held}
 use Rattle.scq_c.specs.Answers.{OfTake}
-use Rattle.scq_c.proofs.Codes.{take_taken, take_empty, take_spent, take_no_topic, take_no_room}
+use Rattle.scq_c.proofs.Codes.{take_taken, take_empty, take_spent, take_no_topic, take_no_room, take_damaged}
 use Rattle.scq_c.proofs.exports.take_into.Goals as goal
 
 pub returns-in-Ok : goal.returns-in-Ok
@@ -31,3 +31,8 @@ pub returns-in-Err-Spent : goal.returns-in-Err-Spent
 returns-in-Err-Spent c =
     let is : c.in-Err-Spent.field-0 ≡ Spent c.in-Err-Spent.ticket = cc in
     take_spent c.args.topic c.in-Err-Spent.ticket c.args.out.now c.args.port.now c.take.new.self (c.in-Err-Spent.ensures.spent c.in-Err-Spent.ticket (ap (λ (r : TakeRefusal). Err r) is))
+
+pub returns-in-Err-Damaged : goal.returns-in-Err-Damaged
+returns-in-Err-Damaged c =
+    let is : c.in-Err-Damaged.field-0 ≡ Damaged = cc in
+    take_damaged c.args.topic c.args.out.now c.args.port.now c.take.new.self (c.in-Err-Damaged.ensures.damaged (ap (λ (r : TakeRefusal). Err r) is))

@@ -1,4 +1,4 @@
-use Rattle.std.proofs.Common.{◌≡◌, ◌+◌, ◌≤◌, ◌++◌, map}
+use Rattle.std.proofs.Common.{◌+◌, ◌≤◌, ◌++◌, map}
 use Rattle.std.specs.Prelude.{vec_len, vec_capacity, reverse}
 use Rattle.scq_port.specs.Calls.{AreOpened}
 use Rattle.scq_c.proofs.opening.boxed.Given as goal

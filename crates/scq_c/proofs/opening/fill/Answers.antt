@@ -1,5 +1,5 @@
-use Rattle.std.proofs.Common.{◌≡◌, ◌<◌, ◌+◌, ◌++◌, List, [], ◌∷◌, length, map, replicate, refl, sym, ◌∙◌, ap, subst, arith, append-nil}
-use Rattle.std.specs.Prelude.{Option, Some, None, slice_get, slice_index_or}
+use Rattle.std.proofs.Common.{◌≡◌, ◌<◌, ◌+◌, ◌++◌, [], ◌∷◌, length, replicate, refl, sym, ◌∙◌, ap, append-nil}
+use Rattle.std.specs.Prelude.{Option, Some, None, slice_index_or}
 use Rattle.scq_port.specs.Ports.{PortStanding}
 use Rattle.scq_c.specs.declared.c_port.CPort.{CPort}
 use Rattle.scq_c.specs.Answers.{ports_of}

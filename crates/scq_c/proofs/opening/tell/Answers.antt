@@ -1,8 +1,7 @@
-use Rattle.std.proofs.Common.{◌≡◌, ◌<◌, ◌≤◌, ◌+◌, List, length, refl, sym, ◌∙◌, ap, arith, length-set}
-use Rattle.std.specs.Prelude.{Some, All, slice_get, slice_index_or}
-use Rattle.scq_c.specs.declared.c_port.CPort.{CPort}
+use Rattle.std.proofs.Common.{◌∙◌, ap, arith, length-set}
+use Rattle.std.specs.Prelude.{slice_index_or}
 use Rattle.scq_c.specs.declared.handle.Handle.{Handle}
-use Rattle.scq_c.proofs.Handed.{ToldBelow, ports_same, found_at, told_next, all_told}
+use Rattle.scq_c.proofs.Handed.{ports_same, found_at, told_next, all_told}
 use Rattle.scq_c.proofs.opening.tell.Goals as goal
 
 pub loop-k-preserved : goal.loop-k-preserved

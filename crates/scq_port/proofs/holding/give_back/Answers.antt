@@ -123,3 +123,11 @@ pub returns-in-Err-clause-number : goal.returns-in-Err-clause-number
 returns-in-Err-clause-number c =
     (put_refused 0 c.in-Err.spent.ticket c.args.pass.now c.give_back.new.pass (λ none. (c.in-Err.ensures.spent none).0)
     (λ ticket some. (c.in-Err.ensures.kept ticket some).1)).number
+
+pub returns-in-Ok-clause-retired : goal.returns-in-Ok-clause-retired
+returns-in-Ok-clause-retired c = ap (λ (p : PassStanding PortBuffer). p.retired) c.in-Ok.ensures.given.pass
+
+pub returns-in-Err-clause-retired : goal.returns-in-Err-clause-retired
+returns-in-Err-clause-retired c =
+    (put_refused 0 c.in-Err.spent.ticket c.args.pass.now c.give_back.new.pass (λ none. (c.in-Err.ensures.spent none).0)
+    (λ ticket some. (c.in-Err.ensures.kept ticket some).1)).retired

@@ -61,6 +61,7 @@ returns-in-Ok-clause-sent c =
       value = h;
       is = stands.index;
       there = there_of c.args.queue.now c.args.pass.now c.args.topic own c.requires.topic;
+      awake = c.requires.awake;
       sent =
           c.in-Ok.ensures.sent
           ∙ ap (λ (i : ℕ). having_seen c.send.new.pass.seen (after_put (suc c.args.topic) i c.in-Ok.place (bytes_of h.buffer) c.args.pass.now)) stands.index;
@@ -125,3 +126,11 @@ pub returns-in-Err-clause-number : goal.returns-in-Err-clause-number
 returns-in-Err-clause-number c =
     (put_refused (suc c.args.topic) c.in-Err.spent.ticket c.args.pass.now c.send.new.pass (λ none. (c.in-Err.ensures.spent none).0)
     (λ ticket some. (c.in-Err.ensures.kept ticket some).1)).number
+
+pub returns-in-Ok-clause-retired : goal.returns-in-Ok-clause-retired
+returns-in-Ok-clause-retired c = ap (λ (p : PassStanding PortBuffer). p.retired) c.in-Ok.ensures.sent
+
+pub returns-in-Err-clause-retired : goal.returns-in-Err-clause-retired
+returns-in-Err-clause-retired c =
+    (put_refused (suc c.args.topic) c.in-Err.spent.ticket c.args.pass.now c.send.new.pass (λ none. (c.in-Err.ensures.spent none).0)
+    (λ ticket some. (c.in-Err.ensures.kept ticket some).1)).retired

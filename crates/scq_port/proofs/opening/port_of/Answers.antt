@@ -1,4 +1,5 @@
-use Rattle.std.proofs.Common.{rules, ◌≡◌}
+use Rattle.std.proofs.Common.{rules, ◌≡◌, ℕ, sym, ap}
+use Rattle.std.specs.Prelude.{Option, is_none}
 use Rattle.std.specs.Arc.{arc_value}
 use Rattle.scq_word.specs.Sizes.{n_of}
 use Rattle.scq_port.specs.Kept.{Keeps}
@@ -14,8 +15,8 @@ places c = search (rules, c.n.ensures, c.shape.ensures, c.requires.setup) depth 
 keeps : (c : goal.After-rings) → Keeps (arc_value c.args.owner.now).queue c.args.pass c.in_ok-hand.hand.slots.items c.in_ok-hand.hand.used c.in_ok-hand.hand.hold
 keeps c =
     rw (c.in_ok-hand.ensures.0, c.in_ok-hand.ensures.1, c.in_ok-hand.ensures.2, places c)
-    (keeps_new _ c.args.pass c.args.hold c.requires.fresh.own c.requires.fresh.awake c.requires.fresh.none)
+    (keeps_new _ c.args.pass c.args.hold c.requires.fresh.own c.requires.fresh.none)
 
 -- src/opening.rt:62:5
 pub invariant_of-result : goal.invariant_of-result
-invariant_of-result c = record { keeps = rw (same c) (keeps c); topics = rw (same c, c.requires.setup) (search rules); number_is = c.requires.number; low = rw (same c, c.requires.setup) (c.requires.low) }
+invariant_of-result c = record { keeps = rw (same c) (keeps c); topics = rw (same c, c.requires.setup) (search rules); number_is = c.requires.number; low = rw (same c, c.requires.setup) (c.requires.low); awake_is = sym (ap (λ (o : Option ℕ). is_none o) c.requires.fresh.awake) }

@@ -26,4 +26,6 @@ returns-in-Some-clause-closed c =
       fulls = e.fulls;
       kept = e.kept;
       limits = e.limits;
+      gate = e.gate;
+      retirees = e.retirees;
     })

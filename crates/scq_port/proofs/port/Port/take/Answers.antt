@@ -1,9 +1,13 @@
 use Rattle.std.proofs.Common.{subst}
 use Rattle.scq_port.specs.Ports.{PortStanding}
-use Rattle.scq_port.specs.Calls.{WasEmpty}
+use Rattle.scq_port.specs.Calls.{WasEmpty, IsTakenDamaged}
 use Rattle.scq_port.specs.Kept.{seen_as}
 use Rattle.scq_port.proofs.port.Port.take.Goals as goal
 
 pub returns-clause-empty : goal.returns-clause-empty
 returns-clause-empty c head is =
     subst (λ (p : PortStanding). WasEmpty c.args.topic head p (seen_as c.take.new.pass c.take.new.hand)) c.self.view_is (c.take.ensures.empty head is)
+
+pub returns-clause-damaged : goal.returns-clause-damaged
+returns-clause-damaged c is =
+    subst (λ (p : PortStanding). IsTakenDamaged c.args.topic p (seen_as c.take.new.pass c.take.new.hand)) c.self.view_is (c.take.ensures.damaged is)
