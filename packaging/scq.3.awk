@@ -80,13 +80,21 @@ FNR == NR && /^\/\* / {
 }
 FNR == NR && /^enum/ { in_enum = 1; comment = ""; next }
 FNR == NR && /^typedef struct/ { in_type = 1; types = types escaped($0) "\n"; next }
+# A name may be defined in several ways, for several compilers: the page has the first.
 FNR == NR && /^#define SCQ_[A-Z_]+ / {
-    if ($2 !~ /_H$/) synopsis = synopsis escaped($0) "\n"
+    if ($2 !~ /_H$/ && !($2 in defined)) { defined[$2]; line_of[++lines] = $2; text_of[$2] = escaped($0) }
     comment = ""
     next
 }
-# A declaration whose lines end with a semicolon, or of an inline function with its brace.
-FNR == NR && /^(static inline )?[a-z][a-z0-9_ ]*[ *]scq_[a-z0-9_]+\(/ { in_call = 1; declared = ""; declare($0); next }
+# What is for the header alone.
+FNR == NR && /^#undef / { delete text_of[$2]; next }
+# A declaration whose lines end with a semicolon, or of an inline function with its brace. Those that follow one another have one comment.
+FNR == NR && /^(static inline )?(SCQ_ANSWERED )?[a-z][a-z0-9_ ]*[ *]scq_[a-z0-9_]+\(/ {
+    in_call = 1
+    declared = ""
+    declare($0)
+    next
+}
 FNR == NR { if (/^$/) comment = ""; next }
 
 function declare(line) {
@@ -95,15 +103,24 @@ function declare(line) {
     in_call = 0
     sub(/ *[;{].*$/, "", declared)
     sub(/^static inline /, "", declared)
+    sub(/^SCQ_ANSWERED /, "", declared)
     match(declared, /scq_[a-z0-9_]+\(/)
     name = substr(declared, RSTART, RLENGTH - 1)
-    synopsis = synopsis "\\fB" escaped(declared) ";\\fP\n"
-    if (comment != "") calls = calls ".SS " name "\n" page(comment)
-    comment = ""
+    # One that has no comment is for the header alone.
+    if (comment == "") return
+    line_of[++lines] = name
+    text_of[name] = "\\fB" escaped(declared) ";\\fP"
+    calls = calls ".SS " name "\n" page(comment)
+}
+
+# The header's macros and calls, in the order in which they stand there.
+function synopsis(    i, out) {
+    for (i = 1; i <= lines; i++) if (line_of[i] in text_of) out = out text_of[line_of[i]] "\n"
+    return out
 }
 
 /^@HEAD@$/ { printf "%s", page(head); next }
-/^@SYNOPSIS@$/ { printf "%s", synopsis; next }
+/^@SYNOPSIS@$/ { printf "%s", synopsis(); next }
 /^@TYPES@$/ { printf "%s", types; next }
 /^@CALLS@$/ { printf "%s", calls; next }
 /^@ANSWERS@$/ { printf "%s", answers; next }

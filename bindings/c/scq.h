@@ -112,7 +112,7 @@ typedef struct scq_ended {
     uint32_t last; /* 1 where this was its last port, and the queue closed with it; else 0 */
 } scq_ended;
 
-/* The answers. */
+/* The answers. The last is this file's own, and no version of the library answers it. */
 enum {
     SCQ_OK = 0,
     SCQ_EMPTY = 1,       /* nothing was on the topic */
@@ -131,7 +131,8 @@ enum {
     SCQ_BAD_HOLD = 14,   /* what a port may hold isn't from 1 to 2^order */
     SCQ_IS_OPEN = 15,    /* one of the ports is open */
     SCQ_DAMAGED = 16,    /* the library's memory was written by somebody else */
-    SCQ_RETIRED = 17     /* the port has retired, or all ports have */
+    SCQ_RETIRED = 17,    /* the port has retired, or all ports have */
+    SCQ_BAD_VERSION = 31 /* the library is of another version than this header */
 };
 
 /* The largest limit. A billion tickets a second come to it after 36 years. */
@@ -168,11 +169,12 @@ static inline const char *scq_text(uint32_t answer) {
     case SCQ_IS_OPEN: return "one of the ports is open";
     case SCQ_DAMAGED: return "the library's memory was written by somebody else";
     case SCQ_RETIRED: return "retired";
+    case SCQ_BAD_VERSION: return "the library is of another version than the header";
     default: return "no answer of this library";
     }
 }
 
-/* The version of the library: SCQ_VERSION, where this file is of it. */
+/* The version of the library: SCQ_VERSION, where this file is of it. scq_open and scq_open_over compare the two before anything else. */
 uint32_t scq_version(void);
 
 /* Makes a queue of 2^order buffers, with `topics` topics, and opens `n` ports, each of which may hold up to `hold` buffers at a time. Each
@@ -183,22 +185,23 @@ uint32_t scq_version(void);
  * buffer begins with the bytes that stand there. This is for the bytes alone: a queue is of one process.
  *
  * Asks: that each of the n ports is SCQ_NONE or open; that 2^order times `stride` bytes may be written at `base`; that `block` is null.
- * Tested: each of the numbers, `len` and `stride` among them; that no port is open.
- * Answers: SCQ_OK; SCQ_BAD_TOPICS, SCQ_BAD_ORDER, SCQ_BAD_PORTS, SCQ_BAD_LIMIT, SCQ_BAD_SIZE, SCQ_BAD_HOLD; SCQ_IS_OPEN; SCQ_NO_MEMORY where
- * an allocation was refused. Where it isn't SCQ_OK no port is changed, and nothing is left of the queue. */
+ * Tested: that the library is of this file's version; each of the numbers, `len` and `stride` among them; that no port is open.
+ * Answers: SCQ_OK; SCQ_BAD_VERSION, and the library was asked for its version alone; SCQ_BAD_TOPICS,
+ * SCQ_BAD_ORDER, SCQ_BAD_PORTS, SCQ_BAD_LIMIT, SCQ_BAD_SIZE, SCQ_BAD_HOLD; SCQ_IS_OPEN; SCQ_NO_MEMORY where an allocation was refused. Where it isn't SCQ_OK no port is changed, and nothing is left of the queue. */
 SCQ_ANSWERED uint32_t scq_open_over(uint32_t order, uint32_t topics, uint32_t hold, uint64_t limit, const scq_memory *memory, scq_port *ports,
     size_t n);
 
 /* The same, over memory that it takes: the buffers have `size` zero bytes, each at a multiple of SCQ_CACHE_LINE. None of them is touched before
  * it is used. scq_close frees them with the last port, by whichever thread that is closed.
  *
- * Answers besides: SCQ_NO_MEMORY where the buffers are more than a size_t counts. */
+ * Answers: as scq_open_over; SCQ_NO_MEMORY also where the buffers are more than a size_t counts. */
 static inline SCQ_ANSWERED uint32_t scq_open(uint32_t order, uint32_t topics, uint32_t size, uint32_t hold, uint64_t limit, scq_port *ports,
     size_t n) {
     const size_t line = SCQ_CACHE_LINE;
     scq_memory memory = {SCQ_NULL, 0, size, SCQ_NULL};
     size_t buffers;
     uint32_t answer;
+    if (scq_version() != SCQ_VERSION) return SCQ_BAD_VERSION;
     if (order < 1 || order > SCQ_MAX_ORDER) return SCQ_BAD_ORDER;
     if (size < 1) return SCQ_BAD_SIZE;
     buffers = SCQ_TO(size_t, 1) << order;
@@ -213,6 +216,15 @@ static inline SCQ_ANSWERED uint32_t scq_open(uint32_t order, uint32_t topics, ui
     if (answer != SCQ_OK) free(memory.block);
     return answer;
 }
+
+/* What scq_open_over stands for from here on, so that it too compares the versions first. Who finds
+ * the exported call by its name, as by dlsym, compares what scq_version answers himself. */
+static inline SCQ_ANSWERED uint32_t scq_open_over_checked(uint32_t order, uint32_t topics,
+    uint32_t hold, uint64_t limit, const scq_memory *memory, scq_port *ports, size_t n) {
+    if (scq_version() != SCQ_VERSION) return SCQ_BAD_VERSION;
+    return scq_open_over(order, topics, hold, limit, memory, ports, n);
+}
+#define scq_open_over scq_open_over_checked
 
 /* For tools that watch threads, which don't see into the library. ThreadSanitizer, where this file is
  * compiled with it, is told that what a thread did with a buffer before it let go of it comes before
@@ -346,7 +358,8 @@ static inline SCQ_ANSWERED uint32_t scq_retired_told(scq_port *port) {
 #endif
 #undef SCQ_TSAN
 
-/* The calls that the next two functions are made of: they write the buffer's index and place to `out`, and not where it lies. */
+/* The calls that the next two functions are made of, with the same answers: they write the buffer's
+ * index and place to `out`, and not where it lies. */
 SCQ_ANSWERED uint32_t scq_lend_index(scq_port *port, scq_held *out);
 SCQ_ANSWERED uint32_t scq_take_index(scq_port *port, uint32_t topic, scq_held *out);
 

@@ -68,7 +68,8 @@ enum class Answer : std::uint32_t {
     BadHold = SCQ_BAD_HOLD,
     IsOpen = SCQ_IS_OPEN,
     Damaged = SCQ_DAMAGED,
-    Retired = SCQ_RETIRED
+    Retired = SCQ_RETIRED,
+    BadVersion = SCQ_BAD_VERSION
 };
 
 // The text of an answer.

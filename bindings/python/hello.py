@@ -40,7 +40,6 @@ class Counts(ctypes.Structure):
 
 
 CALLS = {
-    "scq_version": [],
     "scq_open_over": [ctypes.c_uint32] * 3 + [ctypes.c_uint64, ctypes.POINTER(Memory), ctypes.POINTER(Port), ctypes.c_size_t],
     "scq_lend_index": [ctypes.POINTER(Port), ctypes.POINTER(Held)],
     "scq_take_index": [ctypes.POINTER(Port), ctypes.c_uint32, ctypes.POINTER(Held)],
@@ -51,14 +50,15 @@ CALLS = {
 
 
 def opened(name):
-    """The shared object, with the type of each call."""
+    """The shared object, with the type of each call. Its version is asked first: another one may have other calls."""
     library = ctypes.CDLL(name)
+    library.scq_version.restype = ctypes.c_uint32
+    if library.scq_version() != VERSION:
+        sys.exit(f"{name} is of version {library.scq_version()}, and this program of {VERSION}")
     for call, arguments in CALLS.items():
         function = getattr(library, call)
         function.argtypes = arguments
         function.restype = ctypes.c_uint32
-    if library.scq_version() != VERSION:
-        sys.exit(f"{name} is of version {library.scq_version()}, and this program of {VERSION}")
     return library
 
 

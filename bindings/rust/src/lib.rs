@@ -62,7 +62,8 @@
 //! # What isn't
 //!
 //! - That a thread gets to run, that all threads get their share, or how long a call takes in time.
-//!   A take that finds nothing doesn't wait: ask again, or do something else.
+//!   A take that finds nothing doesn't wait: ask again, do something else, or wait by a
+//!   [`Bell`].
 //! - Tickets run out at the [limit](Setup::limit) of the setup: a call that needs one past it is
 //!   refused, and so is each later lend, take, send and give-back of that port. What a port holds
 //!   by then it keeps: those buffers are freed with the queue.
@@ -70,6 +71,7 @@
 #![deny(missing_docs)]
 #![deny(unsafe_op_in_unsafe_fn)]
 
+mod bell;
 mod error;
 mod held;
 mod memory;
@@ -80,6 +82,7 @@ mod ring;
 mod sys;
 mod told;
 
+pub use bell::{Bell, Guard, Lending, Listener, Rung, Taking, TakingAny, WaitError};
 pub use error::{LendError, OpenError, Refused, SendRefusal, Spent, TakeError};
 pub use held::{Lent, OwnedLent, OwnedTaken, Taken};
 pub use pack::{messages, Messages, Packer};

@@ -102,3 +102,4 @@ pub const BAD_HOLD: u32 = 14;
 pub const IS_OPEN: u32 = 15;
 pub const DAMAGED: u32 = 16;
 pub const RETIRED: u32 = 17;
+pub const BAD_VERSION: u32 = 31;

@@ -1,0 +1,118 @@
+// waits MESSAGES: waiting in C++. What is got through a bell rings where it is sent, given back, ended
+// and assigned to; a wait ends at its time, and where nothing comes any more; and 4 senders and 6 takers
+// over 2 buffers hand over all messages, each once.
+#include "scq_bell.hpp"
+
+#include "check.h"
+
+#include <atomic>
+#include <cstdio>
+#include <cstdlib>
+#include <cstring>
+#include <thread>
+#include <vector>
+
+using std::chrono::hours;
+using std::chrono::microseconds;
+using std::chrono::milliseconds;
+using std::chrono::steady_clock;
+
+static void answers() {
+    scq::Bell bell;
+    scq::Port ports[3];
+    scq::Setup setup;
+    setup.order = 1;
+    setup.topics = 3;
+    std::uint32_t topic = 77;
+    CHECK(bell && scq::Queue::open(setup, ports) == scq::Answer::Ok);
+    CHECK(bell.take(ports[0], 3).answer() == scq::Answer::NoTopic);
+    CHECK(bell.take(ports[0], SCQ_FREE).answer() == scq::Answer::NoTopic);
+    CHECK(bell.take_any(ports[0], 0, topic).answer() == scq::Answer::NoTopic);
+    CHECK(bell.take_any(ports[0], scq::line(0) | scq::line(SCQ_FREE), topic).answer()
+        == scq::Answer::NoTopic);
+    CHECK(bell.take_for(ports[0], 0, milliseconds(-5)).answer() == scq::Answer::Empty);
+    const steady_clock::time_point from = steady_clock::now();
+    const scq::Rung<scq::Taken> none = bell.take_for(ports[0], 1, milliseconds(20));
+    CHECK(steady_clock::now() - from >= milliseconds(20) && !none && !none.ended());
+    CHECK(none.answer() == scq::Answer::Empty);
+    scq::Rung<scq::Lent> one = bell.lend(ports[0]), other = bell.lend_for(ports[0], hours::max());
+    CHECK(one && other && one.index() != other.index() && one.data() != other.data());
+    CHECK(bell.lend_for(ports[1], milliseconds(1)).answer() == scq::Answer::Full);
+    CHECK(bell.lend(ports[0]).answer() == scq::Answer::NoRoom);
+    std::memcpy(one.data(), "one", 4);
+    CHECK(one.send(3).answer == scq::Answer::NoTopic && one);
+    CHECK(one.send(2) && !one);
+    scq::Rung<scq::Taken> taken = bell.take_any(ports[1], scq::line(0) | scq::line(2), topic);
+    CHECK(taken && topic == 2 && std::strcmp(reinterpret_cast<const char *>(taken.data()), "one") == 0);
+    // Who waits for a buffer is woken by each way in which one comes back.
+    for (int way = 0; way < 5; way++) {
+        std::thread waits([&bell, &ports, way] {
+            const scq::Rung<scq::Lent> lent = bell.lend(ports[2]);
+            CHECK(way < 4 ? !!lent : lent.ended());
+        });
+        std::this_thread::sleep_for(milliseconds(5));
+        if (way == 0) CHECK(other.give_back() == scq::Answer::Ok);
+        if (way == 1) other = bell.lend_for(ports[0], milliseconds(0));
+        if (way == 2) { const scq::Rung<scq::Lent> ends = std::move(other); }
+        if (way == 3) CHECK(bell.close(ports[0]) == scq::Answer::Ok);
+        if (way == 4) bell.finish(scq::line(SCQ_FREE));
+        waits.join();
+        if (way < 3) other = bell.lend(ports[0]);
+        if (way == 3) one = bell.lend(ports[1]);
+    }
+}
+
+static void hand_over(std::uint64_t messages) {
+    constexpr std::uint32_t SENDERS = 4, TAKERS = 6, TOPICS = 3;
+    scq::Bell bell;
+    std::vector<scq::Port> ports(SENDERS + TAKERS);
+    std::vector<std::thread> threads;
+    std::vector<std::atomic<unsigned>> came(messages);
+    std::atomic<std::uint64_t> drawn(0);
+    std::atomic<std::uint32_t> senders(SENDERS);
+    scq::Setup setup;
+    setup.order = 1;
+    setup.topics = TOPICS;
+    setup.hold = 1;
+    for (std::atomic<unsigned> &times : came) times = 0;
+    CHECK(scq::Queue::open(setup, ports) == scq::Answer::Ok);
+    for (std::uint32_t i = 0; i < SENDERS; i++) {
+        threads.emplace_back([&, i] {
+            for (std::uint64_t number; (number = drawn++) < messages;) {
+                scq::Rung<scq::Lent> lent = bell.lend(ports[i]);
+                CHECK(lent);
+                std::memcpy(lent.data(), &number, sizeof number);
+                CHECK(lent.send(static_cast<std::uint32_t>(number % TOPICS)));
+            }
+            if (--senders == 0) bell.finish(scq::line(TOPICS) - 1);
+        });
+    }
+    for (std::uint32_t i = SENDERS; i < SENDERS + TAKERS; i++) {
+        threads.emplace_back([&, i] {
+            for (;;) {
+                std::uint32_t topic = i % TOPICS;
+                const std::uint32_t lines = scq::line(TOPICS) - 1;
+                scq::Rung<scq::Taken> taken = i % 3 == 0 ? bell.take(ports[i], topic)
+                    : i % 3 == 1 ? bell.take_any(ports[i], lines, topic)
+                                 : bell.take_any_for(ports[i], lines, microseconds(50), topic);
+                if (taken.ended()) return;
+                if (!taken) {
+                    CHECK(i % 3 == 2 && taken.answer() == scq::Answer::Empty);
+                    continue;
+                }
+                std::uint64_t number;
+                std::memcpy(&number, taken.data(), sizeof number);
+                CHECK(number % TOPICS == topic && came[number]++ == 0);
+            }
+        });
+    }
+    for (std::thread &thread : threads) thread.join();
+    for (std::atomic<unsigned> &times : came) CHECK(times == 1);
+}
+
+int main(int count, char **words) {
+    const std::uint64_t messages = count > 1 ? std::strtoull(words[1], nullptr, 10) : 10000;
+    answers();
+    hand_over(messages);
+    return std::printf("%llu messages, each once\n", static_cast<unsigned long long>(messages)) < 0;
+}

@@ -1,0 +1,280 @@
+//! Waiting by a bell: threads and tasks.
+use scq::{Bell, Listener, Port, Queue, Rung, Setup, TakeError, WaitError};
+use std::future::Future;
+use std::pin::Pin;
+use std::sync::atomic::{AtomicU32, AtomicUsize, Ordering::SeqCst};
+use std::sync::Arc;
+use std::task::{Context, Poll, Wake, Waker};
+use std::thread;
+use std::time::{Duration, Instant};
+
+/// How many messages are handed over.
+const MESSAGES: usize = 20_000;
+
+fn ports(setup: Setup, count: usize) -> Vec<Port> {
+    Queue::new(setup, count).unwrap().into_ports()
+}
+
+fn soon() -> Duration {
+    Duration::from_millis(5)
+}
+
+#[test]
+fn waits_end() {
+    let bell = Bell::new();
+    let ports = ports(Setup { order: 1, topics: 2, ..Setup::default() }, 2);
+    for topic in [2, 17, 31, 32] {
+        let refused = bell.take(&ports[0], topic).map(drop).unwrap_err();
+        assert_eq!(refused, WaitError::Refused(TakeError::NoTopic));
+    }
+    assert!(matches!(bell.take_any(&ports[0], &[]).unwrap_err(), WaitError::Ended));
+    let from = Instant::now();
+    assert_eq!(bell.take_for(&ports[0], 1, soon()).map(drop).unwrap_err(), WaitError::TimedOut);
+    assert!(from.elapsed() >= soon());
+    let one = bell.lend(&ports[0]).unwrap();
+    let other = Rung::by(&bell, ports[0].lend().unwrap());
+    assert_eq!(bell.lend_for(&ports[1], soon()).map(drop).unwrap_err(), WaitError::TimedOut);
+    let refused = one.send(2).unwrap_err();
+    refused.held.send(1).unwrap();
+    bell.finish(&[1]);
+    assert!(bell.is_finished(&[1]) && !bell.is_finished(&[0, 1]));
+    let (topic, taken) = bell.take_any(&ports[1], &[0, 1]).unwrap();
+    assert_eq!((topic, taken.len()), (1, 64));
+    assert_eq!(bell.take(&ports[0], 1).map(drop).unwrap_err(), WaitError::Ended);
+    drop((taken, other));
+    bell.finish_lending();
+    let all: Vec<_> = (0..2).map(|_| bell.lend(&ports[0]).unwrap()).collect();
+    assert_eq!(bell.lend(&ports[1]).map(drop).unwrap_err(), WaitError::Ended);
+    all.into_iter().for_each(|lent| lent.give_back().unwrap());
+}
+
+#[test]
+fn who_waits_is_woken() {
+    let bell = Bell::new();
+    let mut ports = ports(Setup { order: 1, topics: 2, ..Setup::default() }, 3);
+    let (third, second, first) = (ports.remove(0), ports.remove(0), ports.remove(0));
+    thread::scope(|scope| {
+        let bell = &bell;
+        let waits = scope.spawn(move || {
+            let (topic, taken) = bell.take_any(&third, &[1, 0]).unwrap();
+            assert_eq!(topic, 0);
+            drop(taken);
+            bell.take(&third, 1).map(drop).unwrap_err()
+        });
+        thread::sleep(soon());
+        bell.lend(&first).unwrap().send(0).unwrap();
+        let one = bell.lend(&first).unwrap();
+        let _other = bell.lend(&first).unwrap();
+        let lends = scope.spawn(move || bell.lend(&second).map(drop).unwrap());
+        thread::sleep(soon());
+        drop(one);
+        lends.join().unwrap();
+        bell.finish(&[1]);
+        assert_eq!(waits.join().unwrap(), WaitError::Ended);
+    });
+}
+
+/// Senders and takers over two buffers: each message comes once, whatever the takers wait for.
+#[test]
+fn each_message_once() {
+    const TOPICS: usize = 3;
+    let bell = Bell::new();
+    let ports = ports(Setup { order: 1, topics: TOPICS as u32, ..Setup::default() }, 10);
+    let (drawn, senders) = (AtomicUsize::new(0), AtomicUsize::new(4));
+    let came: Vec<AtomicU32> = (0..MESSAGES).map(|_| AtomicU32::new(0)).collect();
+    thread::scope(|scope| {
+        let (bell, drawn, senders, came) = (&bell, &drawn, &senders, &came);
+        for (at, port) in ports.into_iter().enumerate() {
+            if at < 4 {
+                scope.spawn(move || {
+                    loop {
+                        let number = drawn.fetch_add(1, SeqCst);
+                        if number >= MESSAGES {
+                            break;
+                        }
+                        let mut lent = bell.lend(&port).unwrap();
+                        lent[..8].copy_from_slice(&(number as u64).to_le_bytes());
+                        lent.send((number % TOPICS) as u32).unwrap();
+                    }
+                    if senders.fetch_sub(1, SeqCst) == 1 {
+                        bell.finish(&[0, 1, 2]);
+                    }
+                });
+                continue;
+            }
+            scope.spawn(move || loop {
+                let shortly = Duration::from_micros(50);
+                let taken = match at % 3 {
+                    0 => bell.take(&port, (at % TOPICS) as u32),
+                    1 => bell.take_any(&port, &[2, 0, 1]).map(|(_, taken)| taken),
+                    _ => bell.take_any_for(&port, &[0, 1, 2], shortly).map(|(_, taken)| taken),
+                };
+                match taken {
+                    Ok(taken) => {
+                        let number = u64::from_le_bytes(taken[..8].try_into().unwrap());
+                        assert_eq!(came[number as usize].fetch_add(1, SeqCst), 0);
+                    }
+                    Err(WaitError::TimedOut) if at % 3 == 2 => {}
+                    Err(WaitError::Ended) => break,
+                    Err(why) => panic!("{why}"),
+                }
+            });
+        }
+    });
+    assert!(came.iter().all(|times| times.load(SeqCst) == 1));
+}
+
+/// Tokens go round, so that all but a few threads sleep: where one wake is lost all stop.
+#[test]
+fn a_ring_of_threads() {
+    const THREADS: usize = 12;
+    let bell = Bell::new();
+    let ports = ports(Setup { topics: THREADS as u32, ..Setup::default() }, THREADS);
+    let hands = AtomicUsize::new(0);
+    for topic in [0, 5, 9] {
+        ports[0].lend().unwrap().send(topic).unwrap();
+    }
+    let all: Vec<u32> = (0..THREADS as u32).collect();
+    thread::scope(|scope| {
+        let (bell, hands, all) = (&bell, &hands, &all);
+        for (at, port) in ports.into_iter().enumerate() {
+            scope.spawn(move || {
+                while let Ok(taken) = bell.take(&port, at as u32) {
+                    if hands.fetch_add(1, SeqCst) == MESSAGES {
+                        bell.finish(all);
+                    }
+                    taken.send(((at + 1) % THREADS) as u32).unwrap();
+                }
+            });
+        }
+    });
+    assert!(hands.load(SeqCst) > MESSAGES);
+}
+
+/// Counts how often it is woken, and wakes the thread that runs the tasks.
+struct Count {
+    times: AtomicUsize,
+    thread: thread::Thread,
+}
+
+impl Wake for Count {
+    fn wake(self: Arc<Count>) {
+        self.times.fetch_add(1, SeqCst);
+        self.thread.unpark();
+    }
+}
+
+/// A waker, and what counts its wakes.
+fn counting() -> (Waker, Arc<Count>) {
+    let count = Arc::new(Count { times: AtomicUsize::new(0), thread: thread::current() });
+    (count.clone().into(), count)
+}
+
+fn is_ready(listener: &mut Listener<'_>, waker: &Waker) -> bool {
+    Pin::new(listener).poll(&mut Context::from_waker(waker)) == Poll::Ready(())
+}
+
+#[test]
+fn listeners_are_rung_once_each() {
+    let bell = Bell::new();
+    let (waker, count) = counting();
+    let mut first = bell.listen(&[0]);
+    let mut second = bell.listen(&[0, 1]);
+    assert!(!is_ready(&mut first, &waker) && !is_ready(&mut second, &waker));
+    bell.ring(2);
+    bell.ring_free();
+    assert_eq!(count.times.load(SeqCst), 0);
+    bell.ring(0);
+    assert_eq!(count.times.load(SeqCst), 1);
+    assert!(is_ready(&mut first, &waker) && !is_ready(&mut second, &waker));
+    bell.ring(0);
+    assert!(is_ready(&mut second, &waker));
+    // One that was rung and isn't awaited leaves it to the next.
+    let third = bell.listen(&[3]);
+    let mut fourth = bell.listen(&[3]);
+    bell.ring(3);
+    assert!(!is_ready(&mut fourth, &waker));
+    drop(third);
+    assert!(is_ready(&mut fourth, &waker));
+    // One that waits for several leaves the others to others too.
+    let mut fifth = bell.listen(&[3, 4]);
+    let mut sixth = bell.listen(&[4]);
+    bell.ring(3);
+    assert!(!is_ready(&mut sixth, &waker) && is_ready(&mut fifth, &waker));
+    assert!(is_ready(&mut sixth, &waker));
+    drop(bell.listen_free());
+    bell.ring_free();
+}
+
+/// Runs a task to its end.
+fn run<T>(task: impl Future<Output = T>) -> T {
+    let (waker, _) = counting();
+    let mut task = Box::pin(task);
+    loop {
+        if let Poll::Ready(value) = task.as_mut().poll(&mut Context::from_waker(&waker)) {
+            return value;
+        }
+        thread::park();
+    }
+}
+
+/// Sums what is on the topic, until nothing comes any more.
+async fn sum(bell: &Bell, port: &Port) -> u64 {
+    let mut sum = 0;
+    loop {
+        let listener = bell.listen(&[0]);
+        let is_finished = bell.is_finished(&[0]);
+        while let Ok(taken) = port.take(0) {
+            sum += u64::from(taken[0]);
+            Rung::by(bell, taken).give_back().unwrap();
+        }
+        if is_finished {
+            return sum;
+        }
+        listener.await;
+    }
+}
+
+#[test]
+fn tasks_wait() {
+    let bell = Bell::new();
+    let mut ports = ports(Setup { order: 2, ..Setup::default() }, 3);
+    let first = ports.remove(0);
+    let sums = thread::scope(|scope| {
+        let bell = &bell;
+        let tasks: Vec<_> =
+            ports.into_iter().map(|port| scope.spawn(move || run(sum(bell, &port)))).collect();
+        for number in 0..MESSAGES {
+            let mut lent = bell.lend(&first).unwrap();
+            lent[0] = number as u8;
+            lent.send(0).unwrap();
+        }
+        bell.finish(&[0]);
+        tasks.into_iter().map(|task| task.join().unwrap()).sum::<u64>()
+    });
+    assert_eq!(sums, (0..MESSAGES).map(|number| number as u8 as u64).sum());
+}
+
+/// One that waits for two topics is rung for the second and takes from the first: what is on the second
+/// is left to the next sleeper.
+#[test]
+fn what_is_left_is_passed_on() {
+    let bell = Bell::new();
+    let mut ports = ports(Setup { topics: 2, ..Setup::default() }, 3);
+    let (third, second, first) = (ports.remove(0), ports.remove(0), ports.remove(0));
+    thread::scope(|scope| {
+        let bell = &bell;
+        let waits_for_both =
+            scope.spawn(move || bell.take_any(&third, &[0, 1]).map(|(topic, _)| topic));
+        thread::sleep(soon());
+        let long = Duration::from_secs(10);
+        let waits_for_one = scope.spawn(move || bell.take_for(&second, 1, long).map(drop));
+        thread::sleep(soon());
+        for topic in [0, 1] {
+            first.lend().unwrap().send(topic).unwrap();
+        }
+        bell.ring(1);
+        assert_eq!(waits_for_both.join().unwrap(), Ok(0));
+        assert_eq!(waits_for_one.join().unwrap(), Ok(()));
+    });
+}
