@@ -429,12 +429,11 @@ struct Queue {
     // `data` and `size` as std::vector has.
     SCQ_NODISCARD static Answer open(const Setup &setup, Port *ports, std::size_t count) noexcept {
         if (count < 1 || count > MaxPorts) return Answer::BadPorts;
-        for (std::size_t i = 0; i < count; i++) {
-            if (ports[i]) return Answer::IsOpen;
-        }
+        bool is_open = false;
+        for (std::size_t i = 0; i < count; i++) is_open = is_open || ports[i];
         scq_port *const handles = new (std::nothrow) scq_port[count]();
         bool room = handles != nullptr;
-        for (std::size_t i = 0; room && i < count; i++) {
+        for (std::size_t i = 0; room && !is_open && i < count; i++) {
             ports[i].shared_ = Shared::make();
             room = !ports[i].shared_.is_none();
         }
@@ -443,9 +442,12 @@ struct Queue {
             answer = static_cast<Answer>(scq_open(setup.order, setup.topics, setup.size, setup.hold,
                 setup.limit, handles, count));
         }
+        // (That a port is open is answered last, as in C.)
         for (std::size_t i = 0; answer == Answer::Ok && i < count; i++) {
-            *ports[i].shared_.port() = handles[i];
+            if (is_open) scq_close(&handles[i]);
+            else *ports[i].shared_.port() = handles[i];
         }
+        if (answer == Answer::Ok && is_open) answer = Answer::IsOpen;
         delete[] handles;
         return answer;
     }

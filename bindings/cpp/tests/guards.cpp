@@ -83,6 +83,8 @@ static void answers() {
     std::vector<Port> none;
     CHECK(Queue::open(small(), none) == Answer::BadPorts);
     CHECK(Queue::open(small(), &port, 1) == Answer::Ok && Queue::open(small(), &port, 1) == Answer::IsOpen);
+    setup.hold = 3;
+    CHECK(Queue::open(setup, &port, 1) == Answer::BadHold && port);
     CHECK(port.take(2).answer() == Answer::NoTopic);
     const Lent one = port.lend(), two = port.lend();
     CHECK(one && two && one.index() != two.index() && port.lend().answer() == Answer::NoRoom && port.take(0).answer() == Answer::NoRoom);
