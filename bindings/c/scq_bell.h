@@ -48,6 +48,18 @@ extern long syscall(long number, ...); /* which unistd.h hides from strict C */
 #include <time.h>
 #endif
 
+/* Helgrind and DRD, which SCQ_VALGRIND speaks to, take a call that sleeps for one that writes. */
+#ifdef SCQ_VALGRIND
+#include <valgrind/helgrind.h> /* before the other, which leaves out what it finds here */
+#include <valgrind/drd.h>
+#define SCQ_ATOMICS_IN(block)                                                                      \
+    VALGRIND_HG_DISABLE_CHECKING(block, sizeof *(block));                                          \
+    VALGRIND_DO_CLIENT_REQUEST_STMT(VG_USERREQ__DRD_START_SUPPRESSION, block, sizeof *(block), 0,  \
+        0, 0)
+#else
+#define SCQ_ATOMICS_IN(block) (void)(block)
+#endif
+
 #ifdef __cplusplus
 extern "C" {
 #endif
@@ -111,6 +123,7 @@ typedef struct scq_bell {
  * Answers: SCQ_OK; SCQ_NO_MEMORY where the system has no room for it, which Linux always has. */
 static inline SCQ_ANSWERED uint32_t scq_bell_init(scq_bell *bell) {
     uint32_t line;
+    SCQ_ATOMICS_IN(bell);
     bell->turn = 0;
     bell->ended = 0;
     for (line = 0; line < SCQ_LINES; line++) bell->waiting[line] = 0;
@@ -373,6 +386,7 @@ static inline uint32_t scq_bell_retire(scq_bell *bell, scq_port *port) {
 /* Adds a watch to a bell, which stays where it is as long as the bell is used. `ring` and `with` are set
  * before; it isn't armed. */
 static inline void scq_bell_watch(scq_bell *bell, scq_watch *watch) {
+    SCQ_ATOMICS_IN(watch);
     watch->lines = 0;
     watch->next = __atomic_load_n(&bell->watches, __ATOMIC_SEQ_CST);
     while (!__atomic_compare_exchange_n(&bell->watches, &watch->next, watch, 0, __ATOMIC_SEQ_CST,
@@ -387,6 +401,7 @@ static inline void scq_bell_arm(scq_bell *bell, scq_watch *watch, uint32_t lines
     __atomic_store_n(&watch->lines, lines, __ATOMIC_SEQ_CST);
 }
 
+#undef SCQ_ATOMICS_IN
 #undef SCQ_ANSWERED
 #undef SCQ_TO
 #undef SCQ_NULL

@@ -1,9 +1,10 @@
 /* A pipeline of four threads that waits: one reads lines, two turn them into capitals where they lie,
  * one writes them. Nobody asks again and again: who has nothing to do sleeps until the bell is rung.
  *
- *     ./pipeline <file
+ *     ./pipeline [FILE]
  *
- * Lines are written as they come out of the two. A line of more than SIZE - 1 bytes is cut. */
+ * Without a file it has two lines of its own. Lines are written as they come out of the two threads; one
+ * of more than SIZE - 1 bytes goes as several. */
 #include "scq_bell.h"
 
 #include <ctype.h>
@@ -17,6 +18,7 @@ enum { RAW, DONE, TOPICS, WORKERS = 2, PORTS = WORKERS + 2, ORDER = 6, SIZE = 25
 static scq_bell bell;
 static scq_port ports[PORTS];
 static uint32_t working = WORKERS;
+static FILE *lines;
 
 static void must(uint32_t answer) {
     if (answer == SCQ_OK) return;
@@ -30,7 +32,7 @@ static void *read_lines(void *port) {
     uint64_t place;
     for (;;) {
         must(scq_bell_lend(&bell, port, SCQ_FOREVER, &held));
-        if (fgets((char *)held.at, SIZE, stdin) == NULL) break;
+        if (fgets((char *)held.at, SIZE, lines) == NULL) break;
         must(scq_bell_send(&bell, port, held.index, RAW, &place));
     }
     must(scq_bell_give_back(&bell, port, held.index));
@@ -64,9 +66,15 @@ static void *write_lines(void *port) {
     return NULL;
 }
 
-int main(void) {
+int main(int count, char **words) {
     void *(*const runs[PORTS])(void *) = {read_lines, work, work, write_lines};
     pthread_t threads[PORTS];
+    lines = count > 1 ? fopen(words[1], "r") : tmpfile();
+    if (lines == NULL) return perror("pipeline"), 1;
+    if (count < 2) {
+        fputs("a line\nand another\n", lines);
+        rewind(lines);
+    }
     must(scq_bell_init(&bell));
     must(scq_open(ORDER, TOPICS, SIZE, 1, SCQ_MAX_LIMIT, ports, PORTS));
     for (int i = 0; i < PORTS; i++)
@@ -74,5 +82,6 @@ int main(void) {
     for (int i = 0; i < PORTS; i++) pthread_join(threads[i], NULL);
     for (int i = 0; i < PORTS; i++) scq_bell_close(&bell, &ports[i]);
     scq_bell_free(&bell);
+    fclose(lines);
     return ferror(stdout) != 0;
 }

@@ -19,10 +19,30 @@ static void pause_here(void);
 #define __atomic_exchange_n(...) (pause_here(), __atomic_exchange_n(__VA_ARGS__))
 #define __atomic_store_n(...) (pause_here(), __atomic_store_n(__VA_ARGS__))
 #define __atomic_or_fetch(...) (pause_here(), __atomic_or_fetch(__VA_ARGS__))
-#define scq_take(...) (pause_here(), scq_take(__VA_ARGS__))
-#define scq_lend(...) (pause_here(), scq_lend(__VA_ARGS__))
-#define scq_send(...) (pause_here(), scq_send(__VA_ARGS__))
-#define scq_give_back(...) (pause_here(), scq_give_back(__VA_ARGS__))
+static inline uint32_t paused_lend(scq_port *port, scq_held *out) {
+    pause_here();
+    return scq_lend(port, out);
+}
+static inline uint32_t paused_take(scq_port *port, uint32_t topic, scq_held *out) {
+    pause_here();
+    return scq_take(port, topic, out);
+}
+static inline uint32_t paused_send(scq_port *port, uint32_t index, uint32_t topic, uint64_t *place) {
+    pause_here();
+    return scq_send(port, index, topic, place);
+}
+static inline uint32_t paused_give_back(scq_port *port, uint32_t index) {
+    pause_here();
+    return scq_give_back(port, index);
+}
+#undef scq_lend
+#undef scq_take
+#undef scq_send
+#undef scq_give_back
+#define scq_lend paused_lend
+#define scq_take paused_take
+#define scq_send paused_send
+#define scq_give_back paused_give_back
 #undef SYS_futex
 #define SYS_futex (pause_here(), __NR_futex)
 #endif

@@ -10,22 +10,20 @@
 //! change. K takes one sleeper for each change, and he who was taken off looks before he sleeps again or
 //! goes; where he goes without, his lines are rung again. So as long as something is there for a line
 //! and one sleeps for it, another is on his way to look.
-use crate::error::{LendError, Refused, SendRefusal, Spent, TakeError};
+use crate::error::{LendError, TakeError};
 use crate::held::{Lent, Taken};
+use crate::listener::Listener;
 use crate::port::Port;
+use crate::rung::Rung;
 use std::error::Error;
 use std::fmt;
-use std::future::Future;
-use std::ops::{Deref, DerefMut};
-use std::pin::Pin;
-use std::sync::atomic::{AtomicBool, AtomicU32, Ordering::SeqCst};
-use std::sync::{Arc, Mutex, MutexGuard};
-use std::task::{Context, Poll, Wake, Waker};
-use std::thread::{self, Thread};
+use std::sync::atomic::{AtomicU32, Ordering::SeqCst};
+use std::sync::{Mutex, MutexGuard};
+use std::task::Waker;
 use std::time::{Duration, Instant};
 
 /// The stock of free buffers, as a line beside those of the topics.
-const FREE: u32 = 17;
+pub(crate) const FREE: u32 = 17;
 /// How many lines there are.
 const LINES: usize = 18;
 
@@ -88,15 +86,15 @@ pub struct Bell {
 }
 
 /// Who sleeps, who came first standing first; and how many did so far.
-struct Sleepers {
-    list: Vec<Sleeper>,
+pub(crate) struct Sleepers {
+    pub(crate) list: Vec<Sleeper>,
     count: u64,
 }
 
-struct Sleeper {
-    number: u64,
+pub(crate) struct Sleeper {
+    pub(crate) number: u64,
     lines: u32,
-    waker: Option<Waker>,
+    pub(crate) waker: Option<Waker>,
 }
 
 impl Bell {
@@ -276,7 +274,7 @@ impl Bell {
             let was_rung = listener.sleep(until);
             let (found, left) = look();
             if was_rung {
-                each(left).for_each(|line| self.ring_line(line));
+                self.pass(left);
             }
             if !was_rung || !matches!(found, Err(WaitError::TimedOut)) {
                 return found;
@@ -291,10 +289,20 @@ impl Bell {
     }
 
     #[inline]
-    fn ring_line(&self, line: u32) {
-        if self.waiting[line as usize].load(SeqCst) != 0 {
+    pub(crate) fn is_awaited(&self, line: u32) -> bool {
+        self.waiting[line as usize].load(SeqCst) != 0
+    }
+
+    #[inline]
+    pub(crate) fn ring_line(&self, line: u32) {
+        if self.is_awaited(line) {
             self.wake_one(1 << line, u64::MAX);
         }
+    }
+
+    /// Rings each of these lines: who was woken and doesn't look at them leaves that to another.
+    pub(crate) fn pass(&self, lines: u32) {
+        each(lines).for_each(|line| self.ring_line(line));
     }
 
     /// Takes the first one that sleeps for one of these lines off the list and wakes him, of those with
@@ -325,10 +333,10 @@ impl Bell {
         each(lines).for_each(|line| {
             self.waiting[line as usize].fetch_add(1, SeqCst);
         });
-        Listener { bell: self, number, lines, is_on_list: true }
+        Listener::new(self, number, lines)
     }
 
-    fn remove(&self, sleepers: &mut Sleepers, at: usize) -> Sleeper {
+    pub(crate) fn remove(&self, sleepers: &mut Sleepers, at: usize) -> Sleeper {
         let sleeper = sleepers.list.remove(at);
         each(sleeper.lines).for_each(|line| {
             self.waiting[line as usize].fetch_sub(1, SeqCst);
@@ -337,7 +345,7 @@ impl Bell {
     }
 
     /// The list. Nothing that is done with it panics half way.
-    fn lock(&self) -> MutexGuard<'_, Sleepers> {
+    pub(crate) fn lock(&self) -> MutexGuard<'_, Sleepers> {
         self.sleepers.lock().unwrap_or_else(|poisoned| poisoned.into_inner())
     }
 }
@@ -383,227 +391,3 @@ impl<E: fmt::Display> fmt::Display for WaitError<E> {
 }
 
 impl<E: Error> Error for WaitError<E> {}
-
-/// A place on the list of those who sleep by a bell: a future, which is ready when it is rung for one of
-/// its topics. It holds no port, so a task of any thread may await it.
-///
-/// Whoever asked for it looks once more, and awaits it where that finds nothing; when it is ready he looks
-/// again. Dropped before it is ready, it leaves a ring that came for it to the next sleeper.
-///
-/// ```
-/// # use scq::{Bell, Port, TakeError};
-/// async fn take_byte(bell: &Bell, port: Port) -> Result<u8, TakeError> {
-///     loop {
-///         let listener = bell.listen(&[0]);
-///         match port.take(0) {
-///             Ok(taken) => break Ok(taken[0]),
-///             Err(TakeError::Empty { .. }) => {}
-///             Err(why) => break Err(why),
-///         }
-///         listener.await;
-///     }
-/// }
-/// # fn is_send<T: Send>(_: T) {}
-/// # let port = scq::Queue::new(scq::Setup::default(), 1).unwrap().into_ports().remove(0);
-/// # is_send(take_byte(&Bell::new(), port));
-/// ```
-#[must_use = "who listens looks once more, and then waits"]
-pub struct Listener<'b> {
-    bell: &'b Bell,
-    number: u64,
-    lines: u32,
-    /// Whether it may be on the list yet: it isn't once it was seen that it was rung.
-    is_on_list: bool,
-}
-
-impl Listener<'_> {
-    /// Leaves the list, with what stands there; or there is nothing, where it was rung.
-    fn leave(&mut self) -> Option<Sleeper> {
-        self.is_on_list = false;
-        let mut sleepers = self.bell.lock();
-        let at = sleepers.list.iter().position(|sleeper| sleeper.number == self.number);
-        at.map(|at| self.bell.remove(&mut sleepers, at))
-    }
-
-    /// Says who is to be woken. Answers whether it was rung already.
-    fn is_rung(&mut self, waker: Waker) -> bool {
-        let mut sleepers = self.bell.lock();
-        // (A waker is dropped outside of the lock, as it may be the last of its task.)
-        let last = match sleepers.list.iter_mut().find(|sleeper| sleeper.number == self.number) {
-            Some(sleeper) => sleeper.waker.replace(waker),
-            None => {
-                self.is_on_list = false;
-                Some(waker)
-            }
-        };
-        drop(sleepers);
-        drop(last);
-        !self.is_on_list
-    }
-
-    /// Sleeps until it is rung or the moment comes. Answers whether it was rung.
-    fn sleep(mut self, until: Option<Instant>) -> bool {
-        let signal =
-            Arc::new(Signal { thread: thread::current(), is_rung: AtomicBool::new(false) });
-        if self.is_rung(signal.clone().into()) {
-            return true;
-        }
-        while !signal.is_rung.load(SeqCst) {
-            match until.map(|until| until.saturating_duration_since(Instant::now())) {
-                None => thread::park(),
-                Some(Duration::ZERO) => return self.leave().is_none(),
-                Some(left) => thread::park_timeout(left),
-            }
-        }
-        self.is_on_list = false;
-        true
-    }
-}
-
-impl Future for Listener<'_> {
-    type Output = ();
-
-    fn poll(mut self: Pin<&mut Self>, context: &mut Context<'_>) -> Poll<()> {
-        if !self.is_on_list || self.is_rung(context.waker().clone()) {
-            // Of several topics he may leave one out that was rung.
-            let lines = if self.lines.count_ones() > 1 { self.lines } else { 0 };
-            each(lines).for_each(|line| self.bell.ring_line(line));
-            return Poll::Ready(());
-        }
-        Poll::Pending
-    }
-}
-
-impl Drop for Listener<'_> {
-    fn drop(&mut self) {
-        if self.is_on_list && self.leave().is_none() {
-            each(self.lines).for_each(|line| self.bell.ring_line(line));
-        }
-    }
-}
-
-impl fmt::Debug for Listener<'_> {
-    fn fmt(&self, f: &mut fmt::Formatter<'_>) -> fmt::Result {
-        f.debug_struct("Listener").finish_non_exhaustive()
-    }
-}
-
-/// What wakes a thread that parks.
-struct Signal {
-    thread: Thread,
-    is_rung: AtomicBool,
-}
-
-impl Wake for Signal {
-    fn wake(self: Arc<Signal>) {
-        self.is_rung.store(true, SeqCst);
-        self.thread.unpark();
-    }
-}
-
-/// What [`Lent`] and [`Taken`] can both.
-pub trait Guard: Sized {
-    #[doc(hidden)]
-    fn send_on(self, topic: u32) -> Result<u64, Refused<Self, SendRefusal>>;
-    #[doc(hidden)]
-    fn give_it_back(self) -> Result<(), Refused<Self, Spent>>;
-}
-
-macro_rules! guards {
-    ($($guard:ty),*) => {$(
-        impl Guard for $guard {
-            fn send_on(self, topic: u32) -> Result<u64, Refused<Self, SendRefusal>> {
-                self.send(topic)
-            }
-
-            fn give_it_back(self) -> Result<(), Refused<Self, Spent>> {
-                self.give_back()
-            }
-        }
-    )*};
-}
-
-guards!(Lent<'_>, Taken<'_>);
-
-/// A [`Lent`] or a [`Taken`] that rings: where it is sent for the topic, and where it is given back or
-/// dropped for a buffer.
-#[must_use = "a buffer that is dropped is given back"]
-pub struct Rung<'b, G: Guard> {
-    bell: &'b Bell,
-    /// There is one until this ends.
-    guard: Option<G>,
-}
-
-impl<'b, G: Guard> Rung<'b, G> {
-    fn new(bell: &'b Bell, guard: G) -> Rung<'b, G> {
-        Rung { bell, guard: Some(guard) }
-    }
-
-    /// Rings by this bell for a buffer that was got without it.
-    pub fn by(bell: &'b Bell, guard: G) -> Rung<'b, G> {
-        Rung::new(bell, guard)
-    }
-
-    fn end<V, E>(
-        mut self,
-        act: impl FnOnce(G) -> Result<V, Refused<G, E>>,
-        line: u32,
-    ) -> Result<V, Refused<Rung<'b, G>, E>> {
-        let bell = self.bell;
-        match self.guard.take().map(act) {
-            Some(Ok(value)) => {
-                bell.ring_line(line);
-                Ok(value)
-            }
-            Some(Err(Refused { held, why })) => Err(Refused { held: Rung::new(bell, held), why }),
-            None => unreachable!("there is a guard"),
-        }
-    }
-
-    /// Sends the buffer on a topic, and wakes one that waits for it.
-    ///
-    /// # Errors
-    ///
-    /// As [`Lent::send`].
-    pub fn send(self, topic: u32) -> Result<u64, Refused<Rung<'b, G>, SendRefusal>> {
-        self.end(|guard| guard.send_on(topic), topic)
-    }
-
-    /// Gives the buffer back, and wakes one that waits for a buffer.
-    ///
-    /// # Errors
-    ///
-    /// As [`Lent::give_back`].
-    pub fn give_back(self) -> Result<(), Refused<Rung<'b, G>, Spent>> {
-        self.end(G::give_it_back, FREE)
-    }
-}
-
-impl<G: Guard> Deref for Rung<'_, G> {
-    type Target = G;
-
-    fn deref(&self) -> &G {
-        self.guard.as_ref().expect("there is a guard")
-    }
-}
-
-impl<G: Guard> DerefMut for Rung<'_, G> {
-    fn deref_mut(&mut self) -> &mut G {
-        self.guard.as_mut().expect("there is a guard")
-    }
-}
-
-impl<G: Guard + fmt::Debug> fmt::Debug for Rung<'_, G> {
-    fn fmt(&self, f: &mut fmt::Formatter<'_>) -> fmt::Result {
-        self.guard.fmt(f)
-    }
-}
-
-impl<G: Guard> Drop for Rung<'_, G> {
-    fn drop(&mut self) {
-        let given_back = self.guard.take().map(|guard| guard.give_it_back().is_ok());
-        if given_back == Some(true) {
-            self.bell.ring_free();
-        }
-    }
-}

@@ -74,18 +74,22 @@
 mod bell;
 mod error;
 mod held;
+mod listener;
 mod memory;
 mod pack;
 mod port;
 mod queue;
 mod ring;
+mod rung;
 mod sys;
 mod told;
 
-pub use bell::{Bell, Guard, Lending, Listener, Rung, Taking, TakingAny, WaitError};
+pub use bell::{Bell, Lending, Taking, TakingAny, WaitError};
 pub use error::{LendError, OpenError, Refused, SendRefusal, Spent, TakeError};
 pub use held::{Lent, OwnedLent, OwnedTaken, Taken};
+pub use listener::Listener;
 pub use pack::{messages, Messages, Packer};
 pub use port::{Counts, Port};
 pub use queue::{Queue, Setup};
 pub use ring::{Handle, Ring};
+pub use rung::{Guard, Rung};

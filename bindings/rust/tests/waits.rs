@@ -125,30 +125,39 @@ fn each_message_once() {
 }
 
 /// Tokens go round, so that all but a few threads sleep: where one wake is lost all stop.
-#[test]
-fn a_ring_of_threads() {
-    const THREADS: usize = 12;
+fn go_round(threads: usize, tokens: usize) {
     let bell = Bell::new();
-    let ports = ports(Setup { topics: THREADS as u32, ..Setup::default() }, THREADS);
+    let ports = ports(Setup { topics: threads as u32, ..Setup::default() }, threads);
     let hands = AtomicUsize::new(0);
-    for topic in [0, 5, 9] {
-        ports[0].lend().unwrap().send(topic).unwrap();
+    for token in 0..tokens {
+        ports[0].lend().unwrap().send((token % threads) as u32).unwrap();
     }
-    let all: Vec<u32> = (0..THREADS as u32).collect();
+    let all: Vec<u32> = (0..threads as u32).collect();
     thread::scope(|scope| {
         let (bell, hands, all) = (&bell, &hands, &all);
         for (at, port) in ports.into_iter().enumerate() {
             scope.spawn(move || {
                 while let Ok(taken) = bell.take(&port, at as u32) {
-                    if hands.fetch_add(1, SeqCst) == MESSAGES {
+                    if hands.fetch_add(1, SeqCst) >= MESSAGES {
                         bell.finish(all);
+                        break;
                     }
-                    taken.send(((at + 1) % THREADS) as u32).unwrap();
+                    taken.send(((at + 1) % threads) as u32).unwrap();
                 }
             });
         }
     });
     assert!(hands.load(SeqCst) > MESSAGES);
+}
+
+#[test]
+fn two_threads() {
+    go_round(2, 1);
+}
+
+#[test]
+fn a_ring_of_threads() {
+    go_round(12, 3);
 }
 
 /// Counts how often it is woken, and wakes the thread that runs the tasks.
@@ -267,8 +276,7 @@ fn what_is_left_is_passed_on() {
         let waits_for_both =
             scope.spawn(move || bell.take_any(&third, &[0, 1]).map(|(topic, _)| topic));
         thread::sleep(soon());
-        let long = Duration::from_secs(10);
-        let waits_for_one = scope.spawn(move || bell.take_for(&second, 1, long).map(drop));
+        let waits_for_one = scope.spawn(move || bell.take(&second, 1).map(drop));
         thread::sleep(soon());
         for topic in [0, 1] {
             first.lend().unwrap().send(topic).unwrap();
