@@ -96,6 +96,9 @@ struct Sent {
     explicit operator bool() const noexcept { return answer == Answer::Ok; }
 };
 
+// For this file alone.
+namespace detail {
+
 // The library's handle of a port, which stays where it is while the port and the guards of its
 // buffers are moved, and lasts as long as one of them. Between two of them lies a line of the
 // cache, since threads write their own all the time.
@@ -134,6 +137,8 @@ private:
 
     Cell *cell_ = nullptr;
 };
+
+} // namespace detail
 
 // A message that was packed with others: bytes in the buffer that it came with.
 class Message {
@@ -251,8 +256,8 @@ public:
     }
 
 protected:
-    Held(const Shared &shared, Answer answer, const scq_held &held) noexcept
-        : shared_(answer == Answer::Ok ? shared : Shared()), held_(held), answer_(answer) {}
+    Held(const detail::Shared &shared, Answer answer, const scq_held &held) noexcept
+        : shared_(answer == Answer::Ok ? shared : detail::Shared()), held_(held), answer_(answer) {}
     Held(Held &&other) noexcept
         : shared_(std::move(other.shared_)), held_(other.held_), answer_(other.answer_) {
         other.let_go();
@@ -282,7 +287,7 @@ private:
     }
 
     void let_go() noexcept {
-        shared_ = Shared();
+        shared_ = detail::Shared();
         held_.at = nullptr;
         if (answer_ == Answer::Ok) answer_ = Answer::NotHeld;
     }
@@ -292,7 +297,7 @@ private:
         if (!shared_.is_none()) scq_give_back(shared_.port(), held_.index);
     }
 
-    Shared shared_;
+    detail::Shared shared_;
 
 protected:
     scq_held held_;
@@ -417,7 +422,7 @@ public:
 private:
     friend struct Queue;
 
-    Shared shared_;
+    detail::Shared shared_;
 };
 
 // The most ports of a queue.
@@ -434,7 +439,7 @@ struct Queue {
         scq_port *const handles = new (std::nothrow) scq_port[count]();
         bool room = handles != nullptr;
         for (std::size_t i = 0; room && !is_open && i < count; i++) {
-            ports[i].shared_ = Shared::make();
+            ports[i].shared_ = detail::Shared::make();
             room = !ports[i].shared_.is_none();
         }
         Answer answer = Answer::NoMemory;
