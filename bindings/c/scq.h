@@ -277,9 +277,12 @@ SCQ_ANSWERED uint32_t scq_take_index(scq_port *port, uint32_t topic, scq_held *o
 SCQ_ANSWERED uint32_t scq_send(scq_port *port, uint32_t index, uint32_t topic, uint64_t *place);
 uint32_t scq_give_back(scq_port *port, uint32_t index);
 uint32_t scq_end(scq_port *port, scq_ended *out, scq_counts *counts, size_t n);
+uint32_t scq_retire(scq_port *port);
+SCQ_ANSWERED uint32_t scq_retired(scq_port *port);
 
 /* A buffer is named to the tools by an address of its own, base + index: there is a byte at it, and an
- * index that is no buffer's makes no wild one. What a port holds that is closed is named by the base. */
+ * index that is no buffer's makes no wild one. What a port holds that is closed is named by the base, and what a port did that
+ * has retired. */
 
 static inline void scq_tell_got(const scq_port *port, uint32_t answer, uint32_t index) {
     if (answer != SCQ_OK) return;
@@ -322,11 +325,24 @@ static inline uint32_t scq_give_back_told(scq_port *port, uint32_t index) {
     return answer;
 }
 
-static inline uint32_t scq_end_told(scq_port *port, scq_ended *out, scq_counts *counts,
-    size_t n) {
+static inline uint32_t scq_end_told(scq_port *port, scq_ended *out, scq_counts *counts, size_t n) {
     uint32_t answer;
     scq_tell_lets_go(port, 0);
     SCQ_ASIDE(answer = scq_end(port, out, counts, n));
+    return answer;
+}
+
+static inline uint32_t scq_retire_told(scq_port *port) {
+    uint32_t answer;
+    scq_tell_lets_go(port, 0);
+    SCQ_ASIDE(answer = scq_retire(port));
+    return answer;
+}
+
+static inline SCQ_ANSWERED uint32_t scq_retired_told(scq_port *port) {
+    uint32_t answer;
+    SCQ_ASIDE(answer = scq_retired(port));
+    if (answer == SCQ_RETIRED) scq_tell_after(port->memory.base);
     return answer;
 }
 
@@ -335,6 +351,8 @@ static inline uint32_t scq_end_told(scq_port *port, scq_ended *out, scq_counts *
 #define scq_send scq_send_told
 #define scq_give_back scq_give_back_told
 #define scq_end scq_end_told
+#define scq_retire scq_retire_told
+#define scq_retired scq_retired_told
 #undef SCQ_ASIDE
 #endif
 #undef SCQ_TSAN

@@ -25,6 +25,12 @@
 #include <cstdint>
 #include <utility>
 
+#if __cplusplus >= 201703L
+#define SCQ_BELL_NODISCARD [[nodiscard]]
+#else
+#define SCQ_BELL_NODISCARD
+#endif
+
 namespace scq {
 
 // A topic as a set, which is joined with others by `|`.
@@ -135,6 +141,30 @@ public:
         return take_any_until(port, lines, nanoseconds(most), topic);
     }
 
+    // Puts a value at the end of a Ring, by a handle of it, and waits up to so many nanoseconds until
+    // there is room: as the handle's `push`, Full where that is over, or SCQ_FREE has ended. The bell
+    // is of this ring alone, and whoever pushes or pops does so by it, where somebody waits.
+    template <class Handle, class T>
+    SCQ_BELL_NODISCARD Answer push(Handle &handle, T &&value, std::uint64_t most = SCQ_FOREVER) {
+        // (Also where the value's constructor throws, which leaves the room to another.)
+        const RingsAtEnd throws(&bell_, SCQ_FREE);
+        const Answer answer = wait_for(SCQ_FREE, most,
+            [&]() { return handle.push(std::forward<T>(value)); });
+        throws.is_off = true;
+        if (answer == Answer::Ok) scq_bell_ring(&bell_, 0);
+        return answer;
+    }
+
+    // Takes the first value off a Ring, moved to `to`, and waits until there is one: as the handle's
+    // `pop`, Empty where the time is over, or line 0 has ended.
+    template <class Handle, class T>
+    SCQ_BELL_NODISCARD Answer pop(Handle &handle, T &to, std::uint64_t most = SCQ_FOREVER) {
+        const RingsAtEnd throws(&bell_, SCQ_FREE);
+        const Answer answer = wait_for(0, most, [&]() { return handle.pop(to); });
+        throws.is_off = answer != Answer::Ok;
+        return answer;
+    }
+
     // Says that nothing is sent on these topics any more; or with SCQ_FREE, that who waits for a
     // buffer is to give up. Who waits is woken, and takes what is left before his wait ends.
     void finish(std::uint32_t lines) noexcept { scq_bell_finish(&bell_, lines); }
@@ -171,6 +201,48 @@ private:
 
     static bool finds_nothing(Answer answer) noexcept {
         return answer == Answer::Empty || answer == Answer::Full;
+    }
+
+    // Rings for a line where it ends.
+    struct RingsAtEnd {
+        RingsAtEnd(scq_bell *of, std::uint32_t line_of) noexcept : bell(of), topic(line_of) {}
+        RingsAtEnd(const RingsAtEnd &) = delete;
+        RingsAtEnd &operator=(const RingsAtEnd &) = delete;
+        ~RingsAtEnd() {
+            if (!is_off) scq_bell_ring(bell, topic);
+        }
+
+        scq_bell *bell;
+        std::uint32_t topic;
+        mutable bool is_off = false;
+    };
+
+    // Counts this thread among those that wait for a line, also where `ask` throws.
+    struct Waiting {
+        Waiting(scq_bell *of, std::uint32_t set) noexcept : bell(of), lines(set) {
+            scq_bell_enter(bell, lines);
+        }
+        Waiting(const Waiting &) = delete;
+        Waiting &operator=(const Waiting &) = delete;
+        ~Waiting() { scq_bell_leave(bell, lines); }
+
+        scq_bell *bell;
+        std::uint32_t lines;
+    };
+
+    // Asks until the answer is neither Empty nor Full, the line has ended, or the time is over.
+    template <class Ask> Answer wait_for(std::uint32_t topic, std::uint64_t most, Ask ask) {
+        Answer answer = ask();
+        if (!finds_nothing(answer) || most == 0) return answer;
+        const std::uint64_t until = scq_bell_until(most);
+        const Waiting waiting(&bell_, SCQ_LINE(topic));
+        for (bool in_time = true;;) {
+            const std::uint32_t turn = scq_bell_turn(&bell_);
+            const bool has_ended = (scq_bell_ended(&bell_) & SCQ_LINE(topic)) != 0;
+            answer = ask();
+            if (!finds_nothing(answer) || has_ended || !in_time) return answer;
+            in_time = scq_bell_sleep(&bell_, turn, SCQ_LINE(topic), until) != 0;
+        }
     }
 
     // What scq_bell_take_any does: `ask` asks for one line, and is asked for none but these.
@@ -233,4 +305,5 @@ private:
 
 } // namespace scq
 
+#undef SCQ_BELL_NODISCARD
 #endif

@@ -1,6 +1,7 @@
-/* The end of a stream of one stage, by retiring: who sends no more retires, and goes on giving back
- * what it holds; a port that only takes retires at the outset. Who takes asks first whether all have
- * retired, and then the topic: where all had, and then nothing is on the topic, nothing comes any more.
+/* The end of a stream by retiring: a port that sends no more retires, and a port that only takes
+ * does so at once. Who takes asks first whether all have, and then the topic: where all had, and
+ * then nothing is on the topic, nothing comes any more. This is of the whole queue, for all of its
+ * topics; a stage that sends on what it took has a counter (stages.c).
  *
  *     cc -pthread -I.. retiring.c libscq.a -o retiring
  */
@@ -18,11 +19,10 @@ enum { SENDERS = 3, TAKERS = 2, THREADS = SENDERS + TAKERS };
 #define LAST 100000
 #endif
 
-typedef struct {
+struct job {
     scq_port port;
-    pthread_t thread;
     uint64_t sum;
-} worker;
+};
 
 static void must(const char *call, uint32_t answer) {
     if (answer == SCQ_OK) return;
@@ -30,59 +30,60 @@ static void must(const char *call, uint32_t answer) {
     exit(1);
 }
 
-static void *send_all(void *it) {
-    scq_port *const port = &((worker *)it)->port;
+static void *send_all(void *handed) {
+    struct job *const job = handed;
     scq_held held;
     uint64_t place;
+    uint32_t answer;
     for (uint64_t number = 1; number <= LAST; number++) {
-        uint32_t answer;
-        while ((answer = scq_lend(port, &held)) == SCQ_FULL) sched_yield();
+        while ((answer = scq_lend(&job->port, &held)) == SCQ_FULL) sched_yield();
         must("lend", answer);
         memcpy(held.at, &number, sizeof number);
-        must("send", scq_send(port, held.index, 0, &place));
+        must("send", scq_send(&job->port, held.index, 0, &place));
     }
-    must("retire", scq_retire(port));
-    scq_close(port);
+    scq_close(&job->port); /* a close retires too */
     return NULL;
 }
 
-static void *take_all(void *it) {
-    worker *const me = it;
+static void *take_all(void *handed) {
+    struct job *const job = handed;
     scq_held held;
     uint64_t number;
-    must("retire", scq_retire(&me->port));
+    must("retire", scq_retire(&job->port));
     for (;;) {
-        const int is_over = scq_retired(&me->port) == SCQ_RETIRED;
-        const uint32_t answer = scq_take(&me->port, 0, &held);
-        if (answer == SCQ_EMPTY && is_over) break;
+        const int is_over = scq_retired(&job->port) == SCQ_RETIRED;
+        const uint32_t answer = scq_take(&job->port, 0, &held);
         if (answer == SCQ_EMPTY) {
+            if (is_over) break;
             sched_yield();
             continue;
         }
         must("take", answer);
         memcpy(&number, held.at, sizeof number);
-        me->sum += number;
-        must("give_back", scq_give_back(&me->port, held.index));
+        job->sum += number;
+        must("give_back", scq_give_back(&job->port, held.index));
     }
-    scq_close(&me->port);
+    scq_close(&job->port);
     return NULL;
 }
 
 int main(void) {
-    worker workers[THREADS] = {{.port = SCQ_NONE}};
     scq_port ports[THREADS] = {{0}};
+    struct job jobs[THREADS];
+    pthread_t threads[THREADS];
     uint64_t sum = 0;
-    must("open", scq_open(5, 1, sizeof(uint64_t), 1, SCQ_MAX_LIMIT, ports, THREADS));
+    must("open", scq_open(4, 1, sizeof(uint64_t), 1, SCQ_MAX_LIMIT, ports, THREADS));
     for (int i = 0; i < THREADS; i++) {
-        workers[i].port = ports[i];
-        ports[i] = SCQ_NONE;
-        if (pthread_create(&workers[i].thread, NULL, i < SENDERS ? send_all : take_all, &workers[i])) exit(1);
+        void *(*const begin)(void *) = i < SENDERS ? send_all : take_all;
+        /* The port is moved into the job: `ports` is not used again. */
+        jobs[i].port = ports[i];
+        jobs[i].sum = 0;
+        if (pthread_create(&threads[i], NULL, begin, &jobs[i]) != 0) return 1;
     }
     for (int i = 0; i < THREADS; i++) {
-        pthread_join(workers[i].thread, NULL);
-        sum += workers[i].sum;
+        pthread_join(threads[i], NULL);
+        sum += jobs[i].sum;
     }
-    if (sum != SENDERS * (uint64_t)LAST * (LAST + 1) / 2) exit(1);
-    printf("the numbers from 1 to %d, %d times, are %" PRIu64 " together\n", LAST, SENDERS, sum);
-    return 0;
+    printf("all %d senders have retired, and the sum is %" PRIu64 "\n", SENDERS, sum);
+    return sum != SENDERS * (uint64_t)LAST * (LAST + 1) / 2;
 }

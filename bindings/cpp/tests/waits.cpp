@@ -9,6 +9,7 @@
 #include <cstdio>
 #include <cstdlib>
 #include <cstring>
+#include <stdexcept>
 #include <thread>
 #include <vector>
 
@@ -110,9 +111,69 @@ static void hand_over(std::uint64_t messages) {
     for (std::atomic<unsigned> &times : came) CHECK(times == 1);
 }
 
+// Values of a ring go between threads that wait; some throw where they are moved out.
+struct Number {
+    std::uint64_t number = 0;
+    bool throws = false;
+
+    Number() = default;
+    explicit Number(std::uint64_t of) : number(of), throws(of % 1000 == 7) {}
+    Number(const Number &) = default;
+    Number &operator=(const Number &other) {
+        if (other.throws) throw std::runtime_error("assigned");
+        number = other.number;
+        return *this;
+    }
+};
+
+static void ring_of_values(std::uint64_t messages) {
+    scq::Bell bell;
+    scq::Ring<Number> ring;
+    CHECK(ring.open(1, 5) == scq::Answer::Ok);
+    std::atomic<std::uint64_t> popped(0), threw(0), pushing(2);
+    std::vector<std::thread> threads;
+    for (std::uint64_t i = 0; i < 2; i++) {
+        threads.emplace_back([&, i] {
+            auto handle = ring.handle();
+            for (std::uint64_t n = i; n < messages; n += 2) {
+                CHECK(bell.push(handle, Number(n)) == scq::Answer::Ok);
+            }
+            if (--pushing == 0) bell.finish(scq::line(0));
+        });
+    }
+    for (int i = 0; i < 3; i++) {
+        threads.emplace_back([&] {
+            auto handle = ring.handle();
+            Number number;
+            for (scq::Answer answer = scq::Answer::Ok; answer == scq::Answer::Ok;) {
+                try {
+                    answer = bell.pop(handle, number);
+                    CHECK(answer == scq::Answer::Ok || answer == scq::Answer::Empty);
+                    if (answer == scq::Answer::Ok) popped++;
+                } catch (const std::runtime_error &) {
+                    threw++;
+                }
+            }
+        });
+    }
+    for (std::thread &thread : threads) thread.join();
+    CHECK(popped + threw == messages && threw == (messages + 992) / 1000);
+    auto handle = ring.handle();
+    Number number(1);
+    CHECK(bell.push(handle, number) == scq::Answer::Ok);
+    CHECK(bell.push(handle, number, 0) == scq::Answer::Ok);
+    CHECK(bell.push(handle, number, 1000000) == scq::Answer::Full);
+    bell.finish(scq::line(SCQ_FREE));
+    CHECK(bell.push(handle, number) == scq::Answer::Full);
+    CHECK(bell.pop(handle, number, 1000) == scq::Answer::Ok);
+    CHECK(bell.pop(handle, number) == scq::Answer::Ok);
+    CHECK(bell.pop(handle, number) == scq::Answer::Empty);
+}
+
 int main(int count, char **words) {
     const std::uint64_t messages = count > 1 ? std::strtoull(words[1], nullptr, 10) : 10000;
     answers();
     hand_over(messages);
+    ring_of_values(messages);
     return std::printf("%llu messages, each once\n", static_cast<unsigned long long>(messages)) < 0;
 }

@@ -256,7 +256,7 @@ impl Bell {
 
     /// Looks, and sleeps between the looks until one finds something or the moment comes. A look answers
     /// which lines it has left out, and says that the time is over where it found nothing.
-    fn wait<V, E>(
+    pub(crate) fn wait<V, E>(
         &self,
         lines: u32,
         until: Option<Instant>,

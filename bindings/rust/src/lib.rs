@@ -83,6 +83,7 @@ mod pack;
 mod port;
 mod queue;
 mod ring;
+mod ring_wait;
 mod rung;
 mod sys;
 mod told;

@@ -207,8 +207,10 @@ impl Port {
         Ok(OwnedTaken::new(Port::held(Arc::clone(self), out.index), out.place))
     }
 
-    /// Retires the port: it sends no more, on any topic. It still lends, takes and gives back. A port that is dropped retires too.
+    /// Retires the port: it sends no more, on any topic. It still lends, takes and gives back. A
+    /// port that is dropped retires too.
     pub fn retire(&self) {
+        told::release(self.memory().base);
         // SAFETY: one call at a time is made with the handle.
         match unsafe { sys::scq_retire(self.handle()) } {
             sys::OK => (),
@@ -216,13 +218,16 @@ impl Port {
         }
     }
 
-    /// Whether all ports of the queue have retired, this one among them. Ask first, and then take: a topic that is found empty then has
-    /// ended. Once the answer is true, it always is.
+    /// Whether all ports of the queue have retired, this one among them. Ask first, and then take:
+    /// a topic that is found empty then has ended. Once the answer is true, it always is.
     #[must_use]
     pub fn all_retired(&self) -> bool {
         // SAFETY: one call at a time is made with the handle.
         match unsafe { sys::scq_retired(self.handle()) } {
-            sys::RETIRED => true,
+            sys::RETIRED => {
+                told::acquire(self.memory().base);
+                true
+            }
             sys::OK => false,
             answer => unreachable!("scq_retired answered {}", answer),
         }
@@ -253,8 +258,8 @@ impl Port {
 
 impl Port {
     /// Closes the port, as dropping it does, and says whether it was the queue's last (that a last one
-    /// hears so is tested). Where it says so, there stands in `counts` what each port
-    /// of the queue did, in the order in which they were opened, as far as there is room.
+    /// hears so is tested). Where it says so, there stands in `counts` what each port of the queue did,
+    /// in the order in which they were opened, as far as there is room.
     pub fn end(mut self, counts: &mut [Counts]) -> bool {
         self.close(counts)
     }
@@ -266,11 +271,12 @@ impl Port {
             told::release(memory.base);
         }
         let mut ended = sys::scq_ended { last: 0 };
-        let (at, room) = (counts.as_mut_ptr().cast(), counts.len());
         // SAFETY: nothing borrows the port, and `ended` and `counts` are apart from it; a `Counts`
         // lies as an `scq_counts`. Where the port isn't open, as in a queue that wasn't made, the
         // call answers so.
-        let answer = unsafe { sys::scq_end(self.handle(), &mut ended, at, room) };
+        let answer = unsafe {
+            sys::scq_end(self.handle(), &mut ended, counts.as_mut_ptr().cast(), counts.len())
+        };
         if answer == sys::OK && !memory.block.is_null() {
             // SAFETY: the port was opened over this memory, and its buffers are in nobody's hands.
             unsafe { memory::leave(memory) };

@@ -72,7 +72,12 @@ extern "C" {
     pub fn scq_retired(port: *mut scq_port) -> u32;
     pub fn scq_counts_of(port: *mut scq_port, out: *mut scq_counts) -> u32;
     pub fn scq_spent(port: *mut scq_port, ticket: *mut u64) -> u32;
-    pub fn scq_end(port: *mut scq_port, out: *mut scq_ended, counts: *mut scq_counts, n: usize) -> u32;
+    pub fn scq_end(
+        port: *mut scq_port,
+        out: *mut scq_ended,
+        counts: *mut scq_counts,
+        n: usize,
+    ) -> u32;
     pub fn scq_version() -> u32;
 }
 

@@ -48,7 +48,10 @@ fn a_stream_ends_and_the_last_port_has_all_counts() {
     assert!(!taker.all_retired());
     sender.lend().unwrap().send(0).unwrap();
     sender.retire();
-    assert!(matches!(sender.lend().unwrap().send(0).map_err(|refused| refused.why), Err(SendRefusal::Retired)));
+    assert!(matches!(
+        sender.lend().unwrap().send(0).map_err(|refused| refused.why),
+        Err(SendRefusal::Retired)
+    ));
     assert!(taker.all_retired());
     taker.take(0).unwrap().give_back().unwrap();
     assert!(matches!(taker.take(0), Err(TakeError::Empty { .. })));

@@ -1,5 +1,5 @@
 //! Waiting by a bell: threads and tasks.
-use scq::{Bell, Listener, Port, Queue, Rung, Setup, TakeError, WaitError};
+use scq::{Bell, Listener, Port, Queue, Ring, Rung, Setup, TakeError, WaitError};
 use std::future::Future;
 use std::pin::Pin;
 use std::sync::atomic::{AtomicU32, AtomicUsize, Ordering::SeqCst};
@@ -285,6 +285,58 @@ fn what_is_left_is_passed_on() {
         assert_eq!(waits_for_both.join().unwrap(), Ok(0));
         assert_eq!(waits_for_one.join().unwrap(), Ok(()));
     });
+}
+
+/// Values of a ring go between threads that wait, and come to an end; those that aren't popped are
+/// dropped.
+#[test]
+fn threads_wait_for_a_ring() {
+    let (bell, ring) = (Bell::new(), Ring::new(1, 5).unwrap());
+    let pushing = AtomicUsize::new(2);
+    let sum: u64 = thread::scope(|scope| {
+        for first in 0..2u64 {
+            let (bell, ring, pushing) = (&bell, &ring, &pushing);
+            scope.spawn(move || {
+                let handle = ring.handle().unwrap();
+                for number in (first..20_000).step_by(2) {
+                    bell.push(&handle, Box::new(number)).unwrap();
+                }
+                if pushing.fetch_sub(1, SeqCst) == 1 {
+                    bell.finish(&[0]);
+                }
+            });
+        }
+        let poppers: Vec<_> = (0..3)
+            .map(|_| {
+                scope.spawn(|| {
+                    let handle = ring.handle().unwrap();
+                    std::iter::from_fn(|| bell.pop(&handle)).map(|number| *number).sum::<u64>()
+                })
+            })
+            .collect();
+        poppers.into_iter().map(|popper| popper.join().unwrap()).sum()
+    });
+    assert_eq!(sum, 20_000 * 19_999 / 2);
+    let handle = ring.handle().unwrap();
+    assert_eq!(bell.pop(&handle), None);
+    assert!(bell.push(&handle, Box::new(1)).is_ok() && bell.push(&handle, Box::new(2)).is_ok());
+    let most = Duration::from_millis(20);
+    assert_eq!(bell.push_for(&handle, Box::new(3), most), Err(Box::new(3)));
+    assert_eq!(bell.pop_for(&handle, most), Some(Box::new(1)));
+    bell.finish_lending();
+    assert_eq!(bell.push(&handle, Box::new(3)), Ok(()));
+    assert_eq!(bell.push(&handle, Box::new(4)), Err(Box::new(4)));
+}
+
+/// Where tickets have run out nobody waits for ever.
+#[test]
+fn a_ring_whose_tickets_have_run_out_ends_a_wait() {
+    let (bell, ring) = (Bell::new(), Ring::with_limit(1, 1, 16).unwrap());
+    let handle = ring.handle().unwrap();
+    while !handle.is_spent() {
+        let _ = bell.push(&handle, 1).map(|()| bell.pop(&handle));
+    }
+    assert_eq!((bell.push(&handle, 2), bell.pop(&handle)), (Err(2), None));
 }
 
 /// The last port that retires ends all topics.
