@@ -139,11 +139,11 @@ int Run::latency(size_t threads, bool pauses) const {
     const auto until_over = [&](auto call) {
         while (!call()) {
             if (is_over) return false;
-            _mm_pause();
+            __builtin_ia32_pause();
         }
         return true;
     };
-    const uint64_t first = __rdtsc();
+    const uint64_t first = __builtin_ia32_rdtsc();
     const auto begun = Clock::now();
     for (auto &its : times) its.reserve(many);
     in_threads(
@@ -152,22 +152,23 @@ int Run::latency(size_t threads, bool pauses) const {
             Seen &mine = seen[number];
             uint64_t value, last = 0;
             while (mine.puts < many && !is_over) {
-                for (uint64_t until = __rdtsc() + 10 * last; pauses && __rdtsc() < until;)
-                    _mm_pause();
-                const uint64_t start = __rdtsc();
+                for (uint64_t until = __builtin_ia32_rdtsc() + 10 * last;
+                     pauses && __builtin_ia32_rdtsc() < until;)
+                    __builtin_ia32_pause();
+                const uint64_t start = __builtin_ia32_rdtsc();
                 if (!until_over([&] { return port.put(mine.puts); })) break;
                 mine.put_sum += mine.puts++;
                 if (!until_over([&] { return port.get(value); })) break;
                 mine.gets++, mine.got_sum += value;
-                last = std::min(uint64_t(__rdtsc() - start), uint64_t(UINT32_MAX));
+                last = std::min(uint64_t(__builtin_ia32_rdtsc() - start), uint64_t(UINT32_MAX));
                 times[number].push_back(static_cast<uint32_t>(last));
                 last = std::min(last, uint64_t(10000));
             }
             is_over = true;
         },
         ports);
-    const double nanos =
-        static_cast<double>(nanos_since(begun)) / static_cast<double>(__rdtsc() - first);
+    const double nanos = static_cast<double>(nanos_since(begun)) /
+                         static_cast<double>(__builtin_ia32_rdtsc() - first);
     std::vector<uint32_t> all;
     for (const auto &its : times) all.insert(all.end(), its.begin(), its.end());
     std::string figures;

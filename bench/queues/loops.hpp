@@ -1,7 +1,6 @@
 // The loops that are timed. A queue that has its own, in another language, overloads them.
 #pragma once
 #include "queue.hpp"
-#include <immintrin.h>
 
 #define LOOP __attribute__((noinline)) static void
 
@@ -15,7 +14,7 @@ template <class Port> LOOP put_many(Port &port, uint64_t many, Seen &seen) {
         if (port.put(i))
             i++;
         else
-            _mm_pause();
+            __builtin_ia32_pause();
     }
     seen.puts += many;
     seen.put_sum += many * (many - 1) / 2;
@@ -31,7 +30,7 @@ template <class Port> LOOP get_all(Port &port, const std::atomic<int> &putting, 
         else if (is_last)
             break;
         else
-            is_last = putting.load() == 0, _mm_pause();
+            is_last = putting.load() == 0, __builtin_ia32_pause();
     }
     seen.gets += gets;
     seen.got_sum += sum;
