@@ -28,8 +28,8 @@
  * 6. After fork the child makes no call with the parent's ports, and doesn't touch their buffers.
  *
  * Everything else is tested by the calls, and answered. Of each call there stands below what is tested and what is answered; where several
- * answers would be right, one of them comes, and of a take and a send the first in the order given. Where it isn't SCQ_OK no buffer has changed hands, and nothing is written through the pointers but
- * what is said there.
+ * answers would be right, one of them comes; but a take with no room, and a send that is refused for the port's sake, come only where the
+ * topic is there. Where it isn't SCQ_OK no buffer has changed hands, and nothing is written through the pointers but what is said there.
  */
 #ifndef SCQ_H
 #define SCQ_H
