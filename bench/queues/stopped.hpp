@@ -1,17 +1,16 @@
 // Threads of a program that are stopped, each by itself, by ptrace.
 #pragma once
 #include <algorithm>
-#include <cerrno>
 #include <chrono>
 #include <csignal>
 #include <cstdint>
 #include <cstdio>
 #include <cstdlib>
 #include <cstring>
-#include <ctime>
 #include <filesystem>
 #include <fstream>
 #include <string>
+#include <sys/prctl.h>
 #include <sys/ptrace.h>
 #include <sys/uio.h>
 #include <sys/user.h>
@@ -35,9 +34,8 @@ namespace Stopped {
 // The threads of a program but its first, the oldest first.
 inline std::vector<pid_t> others_of(pid_t pid) {
     std::vector<pid_t> ids;
-    std::error_code none;
     for (const auto &it :
-         std::filesystem::directory_iterator("/proc/" + std::to_string(pid) + "/task", none))
+         std::filesystem::directory_iterator("/proc/" + std::to_string(pid) + "/task"))
         ids.push_back(std::stoi(it.path().filename()));
     ids.erase(std::remove(ids.begin(), ids.end(), pid), ids.end());
     std::sort(ids.begin(), ids.end());
@@ -48,7 +46,6 @@ inline std::vector<pid_t> others_of(pid_t pid) {
 inline std::vector<pid_t> others_of(pid_t pid, size_t many) {
     for (int i = 0; i < 2000 && others_of(pid).size() < many; i++) pause_us(1000);
     const std::vector<pid_t> ids = others_of(pid);
-    if (ids.size() < many) kill(pid, SIGKILL);
     must(ids.size() >= many, "threads");
     return ids;
 }
@@ -62,12 +59,17 @@ inline bool is_at_work(pid_t pid, pid_t id) {
     return end != std::string::npos && end + 2 < text.size() && text[end + 2] != 'S';
 }
 
-inline void seize(pid_t id) { must(!ptrace(PTRACE_SEIZE, id, 0, 0), "seize"); }
-inline void interrupt(pid_t id) { must(!ptrace(PTRACE_INTERRUPT, id, 0, 0), "interrupt"); }
-inline void go_on(pid_t id) { must(!ptrace(PTRACE_CONT, id, 0, 0), "cont"); }
+inline void tell(__ptrace_request what, pid_t id) { must(!ptrace(what, id, 0, 0), "ptrace"); }
 inline void wait(pid_t id) {
     int status;
     must(waitpid(id, &status, __WALL) == id && WIFSTOPPED(status), "stop");
+}
+
+// Starts a program in a process of its own, which ends with this one: 0 there, here its id.
+inline pid_t started() {
+    const pid_t pid = fork();
+    if (!pid) prctl(PR_SET_PDEATHSIG, SIGKILL);
+    return pid;
 }
 
 // Which atomic instruction this is: a for an add or a subtraction, of which the answer may not be
@@ -79,8 +81,8 @@ inline char kind_of(const unsigned char *code) {
     if (*code++ != 0xf0) return 0;
     if ((*code & 0xf0) == 0x40) code++;
     if (code[0] == 0x0f && code[1] == 0xb1) return 'x';
-    return (code[0] == 0x0f && code[1] == 0xc1) || std::strchr("\xff\x29\x83\x01", code[0]) ? 'a'
-                                                                                            : 'l';
+    if (code[0] == 0x0f) return code[1] == 0xc1 ? 'a' : 'l';
+    return std::strchr("\xff\x29\x83\x01", code[0]) ? 'a' : 'l';
 }
 
 struct Step {
@@ -102,60 +104,50 @@ inline Step step(pid_t pid, pid_t id) {
     return {kind_of(code), from, regs.rip};
 }
 
-} // namespace Stopped
-
-// Holds a thread of a program, and waits until all others are done: see storm.cpp.
-inline int held(pid_t pid, bool goes, char kind, uint64_t number, size_t threads) {
-    const auto ended = [pid](const char *why) {
-        std::printf("%s\n", why);
-        kill(pid, SIGKILL);
-        return 1;
-    };
-    const std::vector<pid_t> ids = Stopped::others_of(pid, threads);
+// Holds a thread of a program in the middle of a call, right behind the atomic instruction of this
+// number and kind that it comes to, until all others are done, of whom there have to be so many. A
+// compare_exchange may be a fetch_or, which is compiled as one; a load has no instruction of its
+// own. Then the program is killed, or the thread goes on, and the program runs to its end, whose
+// status this is.
+inline int hold(pid_t pid, bool goes, char kind, uint64_t number, size_t threads) {
+    const std::vector<pid_t> ids = others_of(pid, threads);
     pause_us(5000 + 1000 * long(number));
     // The newest have most of their calls before them.
     const pid_t id = ids[ids.size() - 1 - (number - 1) % ids.size()];
-    Stopped::seize(id);
-    Stopped::interrupt(id);
-    Stopped::wait(id);
+    tell(PTRACE_SEIZE, id);
+    tell(PTRACE_INTERRUPT, id);
+    wait(id);
     uint64_t at = 0, found = 0;
     for (long steps = 0; steps < 2000000 && found < number; steps++) {
-        const Stopped::Step it = Stopped::step(pid, id);
+        const Step it = step(pid, id);
         // Where the libraries lie, it is none of the calls'.
         if (it.kind == kind && it.from < 0x700000000000) found++, at = it.from;
     }
-    if (found < number) return ended("no such instruction was met");
+    must(found == number, "no such instruction was met");
     const auto start = std::chrono::steady_clock::now();
     std::chrono::duration<double> took{0};
     // No call sleeps: who sleeps is done, and waits for the end of another.
     const auto works = [&](pid_t it) {
-        if (it == id || !Stopped::is_at_work(pid, it)) return false;
+        if (it == id || !is_at_work(pid, it)) return false;
         pause_us(50000);
-        return Stopped::is_at_work(pid, it);
+        return is_at_work(pid, it);
     };
     for (bool all_done = false; !all_done && took.count() < 120;) {
         pause_us(20000);
-        const std::vector<pid_t> now = Stopped::others_of(pid);
+        const std::vector<pid_t> now = others_of(pid);
         all_done = std::none_of(now.begin(), now.end(), works);
         took = std::chrono::steady_clock::now() - start;
     }
-    const char *name = kind == 'a'   ? "a fetch_add or fetch_sub"
-                       : kind == 's' ? "a store"
-                                     : "a compare_exchange";
-    std::printf("held behind %s at ..%03llx: ", name, static_cast<unsigned long long>(at & 0xfff));
-    if (took.count() >= 120) return ended("others did not come to their end");
-    std::printf("the others came to their end in %.1f s; %s\n", took.count(),
-                goes ? "let go" : "killed");
+    must(took.count() < 120, "others did not come to their end");
+    std::printf("held behind %c at ..%03zx: the others came to their end in %.1f s; %s\n", kind,
+                at & 0xfff, took.count(), goes ? "let go" : "killed");
     std::fflush(stdout);
+    if (!goes) return 0;
     int status = 0;
-    if (!goes) {
-        kill(pid, SIGKILL);
-        waitpid(id, &status, __WALL);
-        waitpid(pid, &status, __WALL);
-        return 0;
-    }
-    ptrace(PTRACE_DETACH, id, 0, 0);
+    tell(PTRACE_DETACH, id);
     while (waitpid(pid, &status, __WALL) == pid && !WIFEXITED(status) && !WIFSIGNALED(status))
         ;
     return WIFEXITED(status) ? WEXITSTATUS(status) : 1;
 }
+
+} // namespace Stopped

@@ -1,30 +1,15 @@
-// Threads on a queue with two topics, over libscq.a. Each lends a buffer, writes a message, sends
-// it, takes one, checks it and gives its buffer back.
+// Threads on a queue with two topics, over libscq.a, as bench/storm says.
 //
-//     storm run ORDER THREADS MANY
-//     storm kill|go KIND NUMBER ORDER THREADS MANY
-//     storm count ORDER THREADS ROUNDS SEED
-//
-// run    each thread sends MANY messages. Then one takes what is left, and the ports are closed.
-// Prints what
-//        was sent and taken, what the ports counted, and how often Full and Empty came
-// kill   the same, but one thread is held in the middle of a call, by ptrace: right behind the
-// atomic
-//        instruction of this NUMBER and KIND that it comes to, a for fetch_add and fetch_sub, x for
-//        compare_exchange (as which a fetch_or is compiled too), s for a store. A load has none of
-//        its own. Once all others are done the program is killed
-// go     the same, but then the thread is let go, and the program runs to its end
-// count  the threads make calls without an end. All are stopped at once, wherever they are, and one
-// after the
-//        other goes on alone by single steps, to its call's end, through a few more and into the
-//        next; then all run on for a while, ROUNDS times. Prints the most locked instructions that
-//        a call had, and the bounds on its steps. Ends with 1 where there were more
+//     storm run ORDER THREADS MANY               each thread sends MANY messages
+//     storm kill|go ORDER THREADS MANY KIND NUMBER
+//                                                the same, with a thread held (stopped.hpp)
+//     storm count ORDER THREADS ROUNDS SEED      counts locked instructions
 #include "scq.h"
 #include "stopped.hpp"
 #include <array>
 #include <bitset>
 #include <cstring>
-#include <string>
+#include <set>
 #include <thread>
 
 using Message = std::array<uint64_t, 4>;
@@ -43,18 +28,22 @@ static Message message(uint64_t name) {
 // messages that came again, and `Late` those that came after a later one of the same sender and
 // topic.
 enum Count { Sent, SentSum, Taken, TakenSum, Full, Empty, Torn, Twice, Late, COUNTS };
+using Counts = std::array<uint64_t, COUNTS>;
+
+constexpr uint64_t ENDLESS = uint64_t(1) << 50;
 
 // A thread, what it sent and took, a bit for each number of each sender that it took, and for each
 // sender and topic one more than the number that it took last. It has no atomics of its own.
 struct alignas(128) Thread {
     scq_port *port;
     uint64_t sender, many;
-    std::array<uint64_t, COUNTS> count{};
+    Counts count{};
     std::vector<uint64_t> seen, next;
 
-    Thread(scq_port *port, uint64_t sender, uint64_t senders, uint64_t many, bool marks)
-        : port(port), sender(sender), many(many), seen(marks ? (many / 64 + 1) * senders : 0),
+    Thread(scq_port *port, uint64_t sender, uint64_t senders, uint64_t many)
+        : port(port), sender(sender), many(many), seen(many == ENDLESS ? 0 : stride() * senders),
           next(2 * senders) {}
+    uint64_t stride() const { return many / 64 + 1; }
 
     void send(uint32_t topic) {
         scq_held held;
@@ -95,7 +84,7 @@ struct alignas(128) Thread {
         count[Late] += number < after;
         after = number + 1;
         if (seen.empty()) return;
-        uint64_t &word = seen[(many / 64 + 1) * from + number / 64];
+        uint64_t &word = seen[stride() * from + number / 64];
         count[Twice] += word >> number % 64 & 1;
         word |= uint64_t(1) << number % 64;
     }
@@ -121,69 +110,50 @@ struct alignas(128) Thread {
     }
 };
 
-static std::vector<scq_port> opened(uint32_t order, size_t threads) {
+// Ends with 1 where a message isn't there once and whole, or a count differs.
+static int run(uint32_t order, size_t threads, uint64_t many) {
+    const uint64_t n = uint64_t(1) << order, every = threads * many;
     std::vector<scq_port> ports(threads, scq_port SCQ_NONE);
     must(scq_open(order, 2, 32, 1, SCQ_MAX_LIMIT, ports.data(), threads) == SCQ_OK, "open");
-    return ports;
-}
-
-static void work_all(std::vector<Thread> &all) {
+    std::vector<Thread> all;
     std::vector<std::thread> running;
+    for (scq_port &port : ports) all.emplace_back(&port, all.size(), threads, many);
     for (Thread &one : all) running.emplace_back([&one] { one.work(); });
     for (std::thread &one : running) one.join();
-}
-
-static std::vector<Thread> threads_of(std::vector<scq_port> &ports, uint64_t many, bool marks) {
-    std::vector<Thread> all;
-    for (scq_port &port : ports) all.emplace_back(&port, all.size(), ports.size(), many, marks);
-    return all;
-}
-
-// How many buffers are free: each is lent and given back in turn.
-static size_t free_of(scq_port *port, uint32_t order) {
-    scq_held held;
-    std::vector<bool> is_free(size_t(1) << order);
-    for (size_t i = 0; i < is_free.size() && scq_lend(port, &held) == SCQ_OK; i++) {
-        is_free[held.index] = true;
-        must(scq_give_back(port, held.index) == SCQ_OK, "give back");
-    }
-    return static_cast<size_t>(std::count(is_free.begin(), is_free.end(), true));
-}
-
-static int run(uint32_t order, size_t threads, uint64_t many) {
-    std::vector<scq_port> ports = opened(order, threads);
-    std::vector<Thread> all = threads_of(ports, many, true);
-    work_all(all);
     Thread &last = all.back();
-    for (const uint32_t topic : {0, 1})
-        while (last.take(topic))
-            ;
+    for (uint32_t topic = 0; topic < 2;) topic += !last.take(topic);
     for (size_t i = 0; i + 1 < threads; i++) last.add(all[i]);
-    const auto &count = last.count;
-    size_t different = 0;
+    uint64_t different = 0;
     for (const uint64_t word : last.seen) different += std::bitset<64>(word).count();
-    const size_t left = free_of(last.port, order);
+    scq_held held;
+    std::set<uint32_t> free;
+    for (size_t i = 0; i < n && scq_lend(last.port, &held) == SCQ_OK; i++) {
+        free.insert(held.index);
+        must(scq_give_back(last.port, held.index) == SCQ_OK, "give back");
+    }
     scq_ended ended = {0};
     std::vector<scq_counts> counts(threads);
     for (size_t i = 0; i + 1 < threads; i++) must(scq_close(&ports[i]) == SCQ_OK, "close");
     must(scq_end(last.port, &ended, counts.data(), threads) == SCQ_OK && ended.last, "end");
     scq_free(last.port);
     scq_counts sum = {0, 0, 0};
-    for (const scq_counts &its : counts)
-        sum.sent += its.sent, sum.taken += its.taken, sum.full += its.full;
-    std::printf("order %u: %zu ports, sent %zu, taken %zu, sums equal %d, different %zu, torn %zu, "
-                "twice %zu, "
-                "late %zu, free %zu\n",
-                order, threads, count[Sent], count[Taken], count[SentSum] == count[TakenSum],
-                different, count[Torn], count[Twice], count[Late], left);
-    std::printf("counts of the ports: sent %zu, taken %zu, Full as often as seen %d\n", sum.sent,
-                sum.taken, sum.full == count[Full]);
-    std::printf("met: full %zu, empty %zu\n", count[Full], count[Empty]);
-    return 0;
+    for (const auto &it : counts) sum.sent += it.sent, sum.taken += it.taken, sum.full += it.full;
+    const auto &count = last.count;
+    const Counts wanted = {every, count[SentSum], every, count[SentSum], sum.full, count[Empty]};
+    std::printf("order %u, %zu threads: %zu messages sent, %zu taken, %zu of them different; full "
+                "%zu, empty %zu; torn %zu, twice %zu, late %zu; %zu buffers free; the ports' "
+                "counts are %zu, %zu and %zu\n",
+                order, threads, count[Sent], count[Taken], different, count[Full], count[Empty],
+                count[Torn], count[Twice], count[Late], free.size(), sum.sent, sum.taken, sum.full);
+    return count != wanted || different != every || free.size() != n || sum.sent != every ||
+           sum.taken != every;
 }
 
-// Counts in a program of these threads.
-static int counted(pid_t pid, uint32_t order, size_t threads, uint32_t rounds, uint32_t seed) {
+// Of a program whose threads make calls without an end: all are stopped at once, wherever they are,
+// and one after the other goes on alone, to its call's end, through a few more and into the next;
+// then all run on for a while. Ends with 1 where a call had more locked instructions than it may
+// make steps.
+static int counted(pid_t pid, uint32_t order, size_t threads, uint64_t rounds, uint32_t seed) {
     const uintptr_t begins[] = {uintptr_t(scq_lend_index), uintptr_t(scq_send),
                                 uintptr_t(scq_take_index), uintptr_t(scq_give_back)};
     const auto drawn = [&seed](uint64_t below) {
@@ -192,10 +162,10 @@ static int counted(pid_t pid, uint32_t order, size_t threads, uint32_t rounds, u
     };
     uint64_t calls = 0, most = 0, locked = 0;
     std::vector<pid_t> ids = Stopped::others_of(pid, threads);
-    for (const pid_t id : ids) Stopped::seize(id);
-    for (uint32_t round = 0; round < rounds; round++) {
+    for (const pid_t id : ids) Stopped::tell(PTRACE_SEIZE, id);
+    for (uint64_t round = 0; round < rounds; round++) {
         pause_us(drawn(2000));
-        for (const pid_t id : ids) Stopped::interrupt(id);
+        for (const pid_t id : ids) Stopped::tell(PTRACE_INTERRUPT, id);
         for (const pid_t id : ids) Stopped::wait(id);
         for (size_t i = 0; i < ids.size(); i++) {
             const pid_t id = ids[drawn(ids.size())];
@@ -205,43 +175,29 @@ static int counted(pid_t pid, uint32_t order, size_t threads, uint32_t rounds, u
                 here += it.kind != 0;
                 if (std::count(std::begin(begins), std::end(begins), it.to) == 0) continue;
                 most = std::max(most, here);
-                locked += here;
-                here = 0;
-                calls++, more--;
+                locked += here, here = 0, calls++, more--;
             }
             for (uint32_t more = drawn(120); more > 0; more--) Stopped::step(pid, id);
         }
-        for (const pid_t id : ids) Stopped::go_on(id);
+        for (const pid_t id : ids) Stopped::tell(PTRACE_CONT, id);
     }
-    kill(pid, SIGKILL);
     const uint64_t n = uint64_t(1) << order, k = threads, reset = 2 * n - 1 + std::max(n, k);
     const uint64_t b = 6 * (reset + n + k), alone = 10 * n + 3 * k + 3;
     std::printf("order %u, %zu threads: %zu calls alone, all others stopped: at most %zu locked "
-                "instructions a call, "
-                "%.1f on average; b is %zu, alone %zu\n",
+                "instructions a call, %.1f on average; b is %zu, alone %zu\n",
                 order, threads, calls, most, double(locked) / double(calls), b, alone);
     return most > std::min(b, alone);
 }
 
 int main(int words, char **word) {
     const auto number = [&](int at) {
-        return at < words ? std::strtoull(word[at], nullptr, 10) : 0;
+        return std::strtoull(at < words ? word[at] : "0", nullptr, 10);
     };
     const std::string mode = words > 4 ? word[1] : "";
-    const bool holds = mode == "kill" || mode == "go", counts = mode == "count";
-    const int at = holds ? 4 : 2;
-    const uint32_t order = uint32_t(number(at));
-    const size_t threads = number(at + 1);
-    const uint64_t many = number(at + 2);
-    if (mode == "run") return run(order, threads, many);
-    if (!(holds && words == 7) && !(counts && words == 6)) return 2;
-    const pid_t pid = fork();
-    if (!pid && holds) return run(order, threads, many);
-    if (!pid) {
-        std::vector<scq_port> ports = opened(order, threads);
-        std::vector<Thread> all = threads_of(ports, uint64_t(1) << 50, false);
-        work_all(all);
-    }
-    if (counts) return counted(pid, order, threads, uint32_t(many), uint32_t(number(5)));
-    return held(pid, mode == "go", *word[2], number(3), threads / 2);
+    const uint32_t order = uint32_t(number(2));
+    const size_t threads = number(3);
+    const pid_t pid = mode == "run" ? 0 : Stopped::started();
+    if (!pid) return run(order, threads, mode == "count" ? ENDLESS : number(4));
+    if (mode == "count") return counted(pid, order, threads, number(4), uint32_t(number(5)));
+    return Stopped::hold(pid, mode == "go", *word[5], number(6), threads / 2);
 }
