@@ -185,20 +185,21 @@ preload() {
 # Runs a program with its threads each on a processor of its own, so many and the last ones; where
 # there are more threads than processors, wherever the kernel lays them.
 pinned() {
-    local threads=$1 processors at list='' under=()
+    local threads=$1 cores at list='' under=()
     shift
     [ -z "${PRIORITY-}" ] || under=(chrt -f "$PRIORITY")
-    [ -e pin.so ] || preload pin
-    mapfile -t processors < <(taskset -cp $$ | sed 's/.*: //; s/,/\n/g' |
+    [ -e threads.so ] || preload threads
+    mapfile -t cores < <(taskset -cp $$ | sed 's/.*: //; s/,/\n/g' |
         while IFS=- read -r first last; do seq "$first" "${last:-$first}"; done)
-    at=$((${#processors[@]} - threads))
-    [ "$at" -lt 0 ] || list=${processors[*]:at}
-    "${under[@]}" env LD_PRELOAD="$folder/pin.so" PIN="$list" "$@"
+    at=$((${#cores[@]} - threads))
+    [ "$at" -lt 0 ] || list=${cores[*]:at}
+    "${under[@]}" env LD_PRELOAD="$folder/threads.so" PIN="$list" "$@"
 }
 
 # The crate that a text of bench/proved/ says in its first line how to lay out, with the crates that
 # it stands on, as a repository in this folder. In the text a line `== FILE` begins a file of the
-# crate; where names stand behind it, one for each name, with the name in place of each @.
+# crate; where names stand behind it, one for each name, with the name in place of each @. A line
+# `<< FILE` stands for this file of proved/, and `~~ WORD LINE` says what $WORD is in it.
 laid_out() {
     local text=$bench/proved/$1.txt line below it part
     line=$(sed -n '1s/^crate //p' "$text")
@@ -215,7 +216,7 @@ laid_out() {
     done
     { lines_of "${below[@]}" && echo "$line"; } >crates.txt
     cp "$top/HANDLES" .
-    awk -v into="crates/$crate/" '
+    awk -v into="crates/$crate/" -v folder="$bench/proved/" '
         FNR == 1 && NR == 1 { next }
         /^== / {
             count = NF > 2 ? NF - 2 : 1
@@ -230,7 +231,28 @@ laid_out() {
             }
             next
         }
-        { for (i = 1; i <= count; i++) { line = $0; gsub(/@/, name[i], line); print line >path[i] } }
+        /^~~ / {
+            word = $2
+            sub(/^~~ [^ ]* /, "")
+            gsub(/&/, "\\\\&")
+            stands[word] = stands[word] (word in stands && stands[word] ? "\n" : "") $0
+            next
+        }
+        /^<< / {
+            while ((getline line <(folder $2)) > 0) {
+                for (word in stands) gsub("[$]" word, stands[word], line)
+                put(line)
+            }
+            next
+        }
+        { put($0) }
+        function put(text,    line) {
+            for (i = 1; i <= count; i++) {
+                line = text
+                gsub(/@/, name[i], line)
+                print line >path[i]
+            }
+        }
     ' "$text"
 }
 

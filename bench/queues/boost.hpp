@@ -1,8 +1,6 @@
 // boost::lockfree::queue with as many nodes as there are buffers.
 #include <boost/lockfree/queue.hpp>
 
-constexpr const char *NAME = "boost";
-
 struct Ring {
     boost::lockfree::queue<Buffer *, boost::lockfree::fixed_sized<true>> queue;
 

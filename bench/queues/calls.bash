@@ -5,12 +5,24 @@
 #
 # From the environment: PAIRS, how many pairs of calls one thread makes in a run (4000000; other runs in
 # proportion); LIMIT, in how many seconds a run has to end (50).
+kept_in "$@"
+turns=$(rounds 9)
 pairs=$(many "${PAIRS:-4000000}")
 limit=${LIMIT:-50}
-declare -A title=(
-    [one]='one thread' [pair]='one to one' [two]='two to two' [four]='four threads'
-    [many]='sixteen threads' [empty]='on empty'
-)
+# Of each mode, by how many threads it is run, how many pairs these make together, and its title.
+declare -A threads_of total_of title
+while read -r mode threads total words; do
+    threads_of[$mode]=$threads total_of[$mode]=$((total)) title[$mode]=$words
+done <<<"one 1 pairs one thread
+empty 1 pairs*12 on empty
+pair 2 pairs/4 one to one
+two 4 pairs/4 two to two
+four 4 pairs/4 four threads
+many 16 pairs/4 sixteen threads
+busy 4 pairs/20 four threads
+calm 2 pairs/100 two threads that pause
+order 4 pairs/40
+stop 3 $(many 150)*3 one of two threads stopped 150 times for 50 ms"
 
 # Compiles calls.cpp over this queue, with these flags behind it.
 calls_over() {
@@ -53,29 +65,16 @@ rust_over() {
 # Runs a program once, PROGRAM.MODE.ORDER, and notes what it says under this key: million pairs a second;
 # of the time of a pair the parts in nanoseconds; of stops how many were felt and the longest wait.
 run_once() {
-    local key=$1 program mode order threads=1 total=$pairs figures status=0
+    local key=$1 program mode order figures it status=0
     IFS=. read -r program mode order <<<"$key"
-    case $mode in
-        one) ;;
-        empty) total=$((pairs * 12)) ;;
-        pair) threads=2 total=$((pairs / 4)) ;;
-        two) threads=4 total=$((pairs / 4)) ;;
-        four) threads=4 total=$((pairs / 4)) ;;
-        many) threads=16 total=$((pairs / 4)) ;;
-        busy) threads=4 total=$((pairs / 20)) ;;
-        calm) threads=2 total=$((pairs / 100)) ;;
-        order) threads=4 total=$((pairs / 40)) ;;
-        stop) threads=3 total=$(($(many 150) * 3)) ;;
-    esac
+    local threads=${threads_of[$mode]} total=${total_of[$mode]}
     local each=$((total / threads))
     [ "$mode" != pair ] && [ "$mode" != two ] || each=$((2 * each))
     pinned "$threads" timeout "$limit" "./$program" "$mode" "$order" "$each" >answer || status=$?
     read -ra figures <answer || true
     case $status-$mode in
         0-busy | 0-calm)
-            note "$key.50" "${figures[2]}"
-            note "$key.99" "${figures[3]}"
-            note "$key.999" "${figures[4]}"
+            for it in 50.2 99.3 999.4; do note "$key.${it%.*}" "${figures[${it#*.}]}"; done
             ;;
         0-stop)
             note "$key.held" "${figures[2]}"

@@ -19,10 +19,12 @@
 #include "loops.hpp"
 #include QUEUE
 #include <algorithm>
+#include <cerrno>
 #include <chrono>
 #include <csignal>
 #include <ctime>
 #include <functional>
+#include <map>
 #include <string>
 #include <thread>
 
@@ -96,7 +98,8 @@ bool Run::is_complete(std::vector<std::unique_ptr<Port>> &ports, std::vector<See
         all.got_sum += one.got_sum;
     }
     const bool is_same = all.puts == all.gets && (bare || all.put_sum == all.got_sum);
-    if (!is_same) std::fprintf(stderr, "%s: what was got isn't what was put\n", NAME);
+    if (!is_same)
+        std::fprintf(stderr, "%s: what was got isn't what was put\n", program_invocation_name);
     return is_same;
 }
 
@@ -268,7 +271,8 @@ int Run::in_order() const {
         count += times;
     }
     for (const uint64_t its : puts) sent += its;
-    if (is_late || count != sent) std::fprintf(stderr, "%s: lost, twice or out of order\n", NAME);
+    if (is_late || count != sent)
+        std::fprintf(stderr, "%s: lost, twice or out of order\n", program_invocation_name);
     say(std::to_string(count), 0);
     return is_late || count != sent;
 }
@@ -277,13 +281,12 @@ int main(int argc, char **argv) {
     if (argc != 4) return 2;
     const Run run = {static_cast<uint32_t>(std::atoi(argv[2])), std::strtoull(argv[3], nullptr, 10),
                      argv[1]};
+    const std::map<std::string, std::string> roles = {
+        {"one", "b"},    {"empty", "e"},   {"pair", "pg"},
+        {"two", "pgpg"}, {"four", "bbbb"}, {"many", std::string(16, 'b')}};
+    const auto mine = roles.find(run.mode);
     int status = 2;
-    if (run.mode == "one") status = run.pairs("b");
-    if (run.mode == "empty") status = run.pairs("e");
-    if (run.mode == "pair") status = run.pairs("pg");
-    if (run.mode == "two") status = run.pairs("pgpg");
-    if (run.mode == "four") status = run.pairs("bbbb");
-    if (run.mode == "many") status = run.pairs(std::string(16, 'b'));
+    if (mine != roles.end()) status = run.pairs(mine->second);
     if (run.mode == "busy") status = run.latency(4, false);
     if (run.mode == "calm") status = run.latency(2, true);
     if (run.mode == "stop") status = run.stops();

@@ -7,8 +7,6 @@ bool ring_push(ck_ring *ring, ck_ring_buffer *cells, void *value);
 bool ring_pop(ck_ring *ring, ck_ring_buffer *cells, void *value);
 }
 
-constexpr const char *NAME = "ck_ring";
-
 struct Ring {
     ck_ring *ring;
     ck_ring_buffer *cells;

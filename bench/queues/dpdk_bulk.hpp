@@ -3,8 +3,6 @@
 #include "dpdk_calls.hpp"
 #include <algorithm>
 
-constexpr const char *NAME = "rte_bulk";
-
 struct Queue : Two<Ring> {
     unsigned bulk;
 

@@ -2,8 +2,6 @@
 // first in, first out. It has no bound; that is the number of buffers.
 #include <concurrentqueue/concurrentqueue.h>
 
-constexpr const char *NAME = "moodycamel";
-
 struct Ring {
     moodycamel::ConcurrentQueue<Buffer *> queue;
 

@@ -2,8 +2,6 @@
 #include <deque>
 #include <mutex>
 
-constexpr const char *NAME = "mutex";
-
 struct alignas(128) Ring {
     std::mutex mutex;
     std::deque<Buffer *> deque;

@@ -2,7 +2,6 @@
 // recorders/. The file of a queue is named to the compiler, -DQUEUE='"boost.hpp"', and has
 //
 //     Queue(order, threads)   2^order buffers of 64 bytes for so many threads
-//     NAME                    what the queue is called
 //     Port(queue, number)     what the thread of this number makes its calls with
 //     port.put(value)         a free buffer is got, the value written into its first eight bytes,
 //                             and it is sent; whether one was free

@@ -13,8 +13,6 @@ void rust_both_many(const RustPort *port, uint64_t many, Seen *seen);
 void rust_get_none(const RustPort *port, uint64_t many, Seen *seen);
 }
 
-constexpr const char *NAME = "rust";
-
 struct Queue {
     const RustPort *ports;
 

@@ -1,8 +1,6 @@
 // The queue of this repository, by its calls for C.
 #include "scq_calls.hpp"
 
-constexpr const char *NAME = "scq";
-
 struct Queue : Ports {
     Queue(uint32_t order, size_t threads) : Ports(order, threads, 64, 1) {}
 };

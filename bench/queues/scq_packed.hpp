@@ -2,7 +2,6 @@
 // packs: an order from 6 on gives as many messages as elsewhere.
 #include "scq_calls.hpp"
 
-constexpr const char *NAME = "scq_packed";
 constexpr uint32_t PACK = 32, SIZE = 64;
 
 struct Queue : Ports {

@@ -160,9 +160,3 @@ struct Seat {
     void count(uint64_t &) {}
 #endif
 };
-
-#ifdef SEATED
-constexpr const char *NAME = "seated";
-#else
-constexpr const char *NAME = "plain";
-#endif

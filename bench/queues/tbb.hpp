@@ -1,8 +1,6 @@
 // tbb::concurrent_bounded_queue.
 #include <tbb/concurrent_queue.h>
 
-constexpr const char *NAME = "tbb";
-
 struct Ring {
     tbb::concurrent_bounded_queue<Buffer *> queue;
 

@@ -1,10 +1,14 @@
 // Keeps the threads of a program each to a processor of its own, by the list PIN: the first thread
-// to the first of them, each that is started to the next one. Where PIN is empty nothing is kept.
+// to the first of them, each that is started to the next one; where PIN is empty nothing is kept.
+// Refuses start number N, from 0, where bit N of REFUSE is set, and tells it by a byte on
+// descriptor 9.
 #define _GNU_SOURCE
 #include <dlfcn.h>
+#include <errno.h>
 #include <pthread.h>
 #include <sched.h>
 #include <stdlib.h>
+#include <unistd.h>
 
 static int processors[64], count;
 
@@ -32,6 +36,9 @@ int pthread_create(pthread_t *thread, const pthread_attr_t *how, void *(*call)(v
     int (*start)(pthread_t *, const pthread_attr_t *, void *(*)(void *), void *) =
         dlsym(RTLD_NEXT, "pthread_create");
     const int number = __atomic_add_fetch(&started, 1, __ATOMIC_SEQ_CST);
+    const char *refused = getenv("REFUSE");
+    if (refused && strtoul(refused, NULL, 10) >> (number - 1) & 1 && write(9, "x", 1) == 1)
+        return EAGAIN;
     const int answer = start(thread, how, call, with);
     if (answer == 0) keep(*thread, number);
     return answer;
