@@ -1,4 +1,5 @@
 mod Rows
+pub mod CodingLaws
 pub mod Cuts
 pub mod Cutting
 pub mod Distinct

@@ -8,6 +8,7 @@
 #![tactic(auto)]
 
 mod answered;
+mod coding;
 mod joining;
 mod merging;
 mod messages;
@@ -18,6 +19,7 @@ mod totals;
 mod whole;
 
 pub use answered::{Answered, Way};
+pub use coding::PartView;
 pub use merging::merge;
 pub use pieces::{Text, output_in_pieces};
 pub use text::{output, push_totals};
