@@ -6,3 +6,5 @@ pub mod Sums
 pub mod Pieces
 pub mod Coding
 pub mod PartViews
+pub mod GivenAnswers
+pub mod InBlocks

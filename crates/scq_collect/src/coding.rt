@@ -26,6 +26,7 @@ pub struct PartView<'a> {
 pub fn push_answer(block: &mut Vec<u8>, before: (u32, u32), answer: PartView<'_>)
     requires room { length block.old.items + 63 + length answer.text.now ≤ vec_capacity block.old }
     ensures bytes { block.new.items ≡ block.old.items ++ answer_bytes before (part_of_view answer.entry) }
+    ensures codable { IsCodable (part_of_view answer.entry) }
     ensures capacity { vec_capacity block.old ≤ vec_capacity block.new }
 {
     let alone = is_alone(answer.part, answer.parts);

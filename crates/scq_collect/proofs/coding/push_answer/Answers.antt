@@ -1,5 +1,5 @@
 -- What is pushed in seven steps is the answer's bytes.
-use Rattle.std.proofs.Common.{◌≡◌, ◌∙◌, ap, Bool, List, ℕ, ◌+◌, ◌*◌, ◌++◌, [], cond, length}
+use Rattle.std.proofs.Common.{◌≡◌, ◌∙◌, ap, Bool, List, ℕ, ◌+◌, ◌*◌, ◌++◌, [], cond, length, arith}
 use Rattle.scq_collect.specs.Coding.{answer_bytes, number_bytes, part_bytes, step, topic_code}
 use Rattle.scq_collect.specs.PartViews.{part_of_view}
 use Rattle.scq_collect.proofs.CodingLaws.{pushed}
@@ -30,3 +30,14 @@ returns-clause-bytes c =
     let to_five = pushed items (n1 ++ n2 ++ n3 ++ n4) n5 _ _ to_four c.push_number-4.ensures.bytes in
     let to_six = pushed items (n1 ++ n2 ++ n3 ++ n4 ++ n5) n6 _ _ to_five c.push_number-5.ensures.bytes in
     pushed items (n1 ++ n2 ++ n3 ++ n4 ++ n5 ++ n6) a.text _ _ to_six c.push_bytes.ensures.bytes
+
+pub returns-clause-codable : goal.returns-clause-codable
+returns-clause-codable c = record {
+  file = omega arith;
+  line = omega arith;
+  topic = omega arith;
+  part = omega arith;
+  parts = omega arith;
+  bytes = omega arith;
+  text = omega arith;
+}
