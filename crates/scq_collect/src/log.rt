@@ -24,6 +24,11 @@ impl Model for Log {
     ghost also_owns = { λ _. ftrue };
 }
 
+// It owns nothing.
+unsafe impl Send for Log {}
+
+unsafe impl Sync for Log {}
+
 impl Log {
     ghost use Rattle.scq_collect.specs.GivenAnswers.{answered};
 
