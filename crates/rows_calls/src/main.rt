@@ -32,11 +32,11 @@ fn main(rt: HostRuntime) -> Result<()> {
     }
     // A name is taken as it stands, with the spaces at its ends.
     for name in ["outside.txt", " outside "] {
-        let given = on_disk(&rt, rt.alloc(), name)?;
+        let given = on_disk(&rt, rt.stdin(), rt.alloc(), name)?;
         println!(rt; "file: {given:?}")?;
     }
     for bytes in [4096, 10_000] {
-        let given = whole_on_disk(&rt, rt.alloc(), bytes)?;
+        let given = whole_on_disk(&rt, rt.stdin(), rt.alloc(), bytes)?;
         println!(rt; "file of {bytes} bytes: {given}")?;
     }
     for stream in [

@@ -12,7 +12,7 @@ use sha2::{Digest, Sha256};
 use std::alloc::{AllocError, Global};
 use std::fs::{self, File};
 use std::io::{self, Write};
-use std::rt;
+use std::rt::{self, Stdin};
 
 /// What so many reads of at most so many bytes give, up to the end.
 fn read_of<S: Source>(alloc: Global, source: &mut S, most: usize, reads: u32) -> Result<String> {
@@ -162,6 +162,7 @@ fn pieces_of<S: Source>(alloc: Global, source: &mut S) -> Result<String> {
 /// What the reads of a file of the system give that has the numbers from 0 up, so many, modulo 251.
 pub fn whole_on_disk<R: rt::Files<File = File>>(
     system: &R,
+    stdin: Stdin,
     alloc: Global,
     bytes: u32,
 ) -> Result<String> {
@@ -171,7 +172,7 @@ pub fn whole_on_disk<R: rt::Files<File = File>>(
         content.push((number % 251) as u8)?;
     }
     fs::write(system, name, content.as_slice())?;
-    let said = match DiskFiles::new(system).source(name) {
+    let said = match DiskFiles::new(system, stdin).source(name) {
         Ok(mut source) => pieces_of(alloc, &mut source)?,
         Err(Failed) => String::from_str(alloc, "none")?,
     };
@@ -204,8 +205,13 @@ pub fn on_stream<R: rt::Files<File = File> + AllocGlobal>(
 }
 
 /// What a file of the system of this name gives that has `a b` and an LF, and what comes of its name when it is gone.
-pub fn on_disk<R: rt::Files<File = File>>(system: &R, alloc: Global, name: &str) -> Result<String> {
-    let mut files = DiskFiles::new(system);
+pub fn on_disk<R: rt::Files<File = File>>(
+    system: &R,
+    stdin: Stdin,
+    alloc: Global,
+    name: &str,
+) -> Result<String> {
+    let mut files = DiskFiles::new(system, stdin);
     let mut text = String::new(alloc);
     fs::write(system, name, "a b\n")?;
     open(alloc, &mut text, &mut files, name)?;

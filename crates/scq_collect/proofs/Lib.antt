@@ -1,4 +1,7 @@
 mod Rows
+pub mod BlockLemmas
+pub mod CodingLaws
+pub mod LogWalks
 pub mod Cuts
 pub mod Cutting
 pub mod Distinct

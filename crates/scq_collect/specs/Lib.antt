@@ -4,3 +4,7 @@ pub mod Merging
 pub mod Joined
 pub mod Sums
 pub mod Pieces
+pub mod Coding
+pub mod PartViews
+pub mod GivenAnswers
+pub mod InBlocks

@@ -8,7 +8,11 @@
 #![tactic(auto)]
 
 mod answered;
+mod answers;
+mod blocks;
+mod coding;
 mod joining;
+mod log;
 mod merging;
 mod messages;
 mod ordering;
@@ -18,6 +22,9 @@ mod totals;
 mod whole;
 
 pub use answered::{Answered, Way};
+pub use answers::Answers;
+pub use coding::PartView;
+pub use log::Given;
 pub use merging::merge;
 pub use pieces::{Text, output_in_pieces};
 pub use text::{output, push_totals};

@@ -13,7 +13,7 @@ use std::{env, io};
 
 fn main(rt: HostRuntime) -> ExitCode {
     let alloc = rt.alloc();
-    let mut files = DiskFiles::new(&rt);
+    let mut files = DiskFiles::new(&rt, rt.stdin());
     let mut out = StdSink::new(StdStream::Output(rt.stdout()));
     let mut err = StdSink::new(StdStream::Errors(rt.stderr()));
     let status = match words(&rt, alloc) {

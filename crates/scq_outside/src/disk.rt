@@ -1,34 +1,58 @@
 ghost use Rattle.std.specs.Prelude.{◌≡◌, None};
 
+use crate::uninterrupted::read_uninterrupted;
 use crate::{Failed, Files, Source};
 use std::fs::File;
-use std::io::Read;
-use std::rt;
+use std::io::{self, Read};
+use std::os::fd::AsFd;
+use std::rt::{self, Stdin};
 
 /// Files of the system, opened to be read. What they hold isn't visible.
+///
+/// `/dev/stdin` and `/dev/fd/0` are opened anew as any name is. Where the system refuses that, as for a
+/// socket, or for a file that only another user may open, standard input is read as it stands. The
+/// kit reaches no other descriptor by its number.
 #[derive(Drop)]
 pub struct DiskFiles<R: rt::Files + Drop> {
     system: R,
+    stdin: Stdin,
     faults: u64,
 }
 
 impl<R: rt::Files<File = File> + Drop> DiskFiles<R> {
-    pub fn new(system: R) -> DiskFiles<R>
+    pub fn new(system: R, stdin: Stdin) -> DiskFiles<R>
         ensures { ⟦<DiskFiles<R> as Files>⟧.faults result ≡ 0 }
     {
-        DiskFiles { system, faults: 0 }
+        DiskFiles {
+            system,
+            stdin,
+            faults: 0,
+        }
+    }
+
+    /// The file of this name, or standard input where the name is its and can't be opened anew.
+    fn open(&self, name: &str) -> io::Result<DiskFile> {
+        match File::open(&self.system, name) {
+            Ok(file) => Ok(DiskFile::Opened(file)),
+            Err(_) if matches!(name, "/dev/stdin" | "/dev/fd/0") => {
+                // Where standard input is closed there is nothing to copy.
+                self.stdin.as_fd().try_clone_to_owned()?;
+                Ok(DiskFile::Input(self.stdin))
+            }
+            Err(error) => Err(error),
+        }
     }
 }
 
 impl<R: rt::Files<File = File> + Drop> Files for DiskFiles<R> {
-    type Src = DiskSource<File>;
+    type Src = DiskSource<DiskFile>;
 
     ghost faults = { λ files. files.faults };
 
     ghost table = { λ _. None };
 
-    fn source(&mut self, name: &str) -> Result<DiskSource<File>, Failed> {
-        match File::open(&self.system, name) {
+    fn source(&mut self, name: &str) -> Result<DiskSource<DiskFile>, Failed> {
+        match self.open(name) {
             Ok(file) => Ok(DiskSource {
                 file,
                 faults: 0,
@@ -42,7 +66,25 @@ impl<R: rt::Files<File = File> + Drop> Files for DiskFiles<R> {
     }
 }
 
-/// An open file of the system.
+/// What a name's bytes are read through.
+#[derive(Drop)]
+pub enum DiskFile {
+    /// A descriptor of its own, opened by the name.
+    Opened(File),
+    /// The one that the program was started with.
+    Input(Stdin),
+}
+
+impl Read for DiskFile {
+    fn read(&mut self, into: &mut [u8]) -> io::Result<usize> {
+        match self {
+            DiskFile::Opened(file) => file.read(into),
+            DiskFile::Input(stdin) => stdin.read(into),
+        }
+    }
+}
+
+/// An open file of the system. A read that a signal interrupts is made again.
 #[derive(Drop)]
 pub struct DiskSource<F> {
     file: F,
@@ -58,7 +100,7 @@ impl<F: Read + Send + Drop> Source for DiskSource<F> {
     ghost left = { λ _. None };
 
     fn read(&mut self, into: &mut [u8]) -> Result<usize, Failed> {
-        match self.file.read(into) {
+        match read_uninterrupted(&mut self.file, into) {
             Ok(count) => {
                 if count == 0 {
                     self.ends = self.ends.saturating_add(1);

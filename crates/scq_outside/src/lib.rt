@@ -16,9 +16,10 @@ mod script;
 mod sink;
 mod source;
 mod std_sink;
+mod uninterrupted;
 mod whole;
 
-pub use disk::{DiskFiles, DiskSource};
+pub use disk::{DiskFile, DiskFiles, DiskSource};
 pub use files::Files;
 pub use mem_files::MemFiles;
 pub use mem_sink::MemSink;

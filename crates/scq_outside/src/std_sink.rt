@@ -1,5 +1,6 @@
 ghost use Rattle.std.specs.Prelude.{◌≡◌, None};
 
+use crate::uninterrupted::write_uninterrupted;
 use crate::{Failed, Sink};
 use std::io::{self, Stderr, Stdout, Write};
 
@@ -26,7 +27,8 @@ impl Write for StdStream {
     }
 }
 
-/// A stream of the system without a buffer. What it took isn't visible.
+/// A stream of the system without a buffer. What it took isn't visible. A write that a signal
+/// interrupts took nothing, and is made again.
 #[derive(Drop)]
 pub struct StdSink<W: Write + Drop> {
     stream: W,
@@ -47,7 +49,7 @@ impl<W: Write + Drop> Sink for StdSink<W> {
     ghost written = { λ _. None };
 
     fn write(&mut self, piece: &[u8]) -> Result<usize, Failed> {
-        match self.stream.write(piece) {
+        match write_uninterrupted(&mut self.stream, piece) {
             Ok(count) if count > 0 => Ok(count),
             _ => {
                 self.faults = self.faults.saturating_add(1);

@@ -1,0 +1,71 @@
+//! A worker's answers, in blocks of bytes that never move.
+ghost use Rattle.std.specs.Prelude.{◌≡◌, ◌++◌, ◌∷◌, [], OnOk, OnErr};
+
+use crate::blocks::make_room;
+use crate::coding::{MOST_HEAD, push_answer};
+use crate::log::{Given, Log};
+use scq_word::NoMemory;
+use std::alloc::Global;
+use std::marker::Model;
+
+/// The answers that a worker gave, in their order. Contracts see them as a list, each with the way in which the worker
+/// came to it; of the way nothing is kept when the program runs. An answer takes some bytes beside its text: 5
+/// where its message stands close behind that of the answer before it, and its numbers are small.
+#[derive(Drop)]
+pub struct Answers {
+    alloc: Global,
+    full: Vec<Vec<u8>>,
+    block: Vec<u8>,
+    before: (u32, u32),
+    log: Log,
+}
+
+impl Model for Answers {
+    ghost use Rattle.std.specs.Prelude.{List, map};
+    ghost use Rattle.scq_collect.specs.declared.answered.Answered.{Answered};
+    ghost use Rattle.scq_collect.specs.InBlocks.{AreInBlocks, contents};
+    ghost use Rattle.scq_collect.specs.Joined.{without_way};
+
+    ghost Value = { List Answered };
+
+    ghost view = { λ s. s.log.items };
+
+    ghost invariant = { λ s. AreInBlocks (contents s.full.items) s.block.items s.before (map without_way s.log.items) };
+}
+
+impl Answers {
+    ghost use Rattle.scq_collect.specs.GivenAnswers.{answered};
+
+    /// No answers yet. It takes no memory.
+    pub fn new(alloc: Global) -> Answers
+        ensures { result ≡ [] }
+    {
+        Answers {
+            alloc,
+            full: Vec::new(alloc),
+            block: Vec::new(alloc),
+            before: (0, 0),
+            log: Log::new(),
+        }
+    }
+
+    /// Adds an answer behind the others. Where memory is wanted they stay as they were.
+    pub fn push(&mut self, given: Given<'_>) -> Result<(), NoMemory>
+        ensures pushed { OnOk result (self.new ≡ self.old ++ answered given.entry ∷ []) }
+        ensures kept { OnErr result (self.new ≡ self.old) }
+    {
+        let answer = given.answer;
+        let bytes = answer.text.len().checked_add(MOST_HEAD).ok_or(NoMemory)?;
+        let before = make_room(
+            self.alloc,
+            &mut self.full,
+            &mut self.block,
+            self.before,
+            bytes,
+        )?;
+        push_answer(&mut self.block, before, answer);
+        self.before = (answer.file, answer.line);
+        self.log = self.log.and(&given);
+        Ok(())
+    }
+}
