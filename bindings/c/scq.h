@@ -17,7 +17,8 @@
  *    no call is made with it meanwhile and the old place is set to SCQ_NONE or not used again. scq_close makes it SCQ_NONE; one that isn't
  *    closed keeps its queue, and what it holds, until the process ends.
  * 2. Every pointer that is handed in is non-null, aligned, and points to memory of its type that may be written; what two pointers of one call
- *    point to lies apart. `n` ports begin at `ports`, and `n` counts at `counts`; also where n is 0, neither is null.
+ *    point to lies apart. `n` ports begin at `ports`, `n` counts at `counts`, and `n` slots at `out` or `held` of a call of several; also where
+ *    n is 0, none is null.
  * 3. One call at a time is made with a port, by whichever thread has it, also where a signal handler makes one. Calls with different ports may
  *    meet in any way. A call that has begun is let end: no thread is cancelled asynchronously in it, and no signal handler jumps out of it.
  *    (Where two threads call with one port, one of them is often told that the port is closed.)
@@ -276,9 +277,17 @@ SCQ_ANSWERED uint32_t scq_lend_index(scq_port *port, scq_held *out);
 SCQ_ANSWERED uint32_t scq_take_index(scq_port *port, uint32_t topic, scq_held *out);
 SCQ_ANSWERED uint32_t scq_send(scq_port *port, uint32_t index, uint32_t topic, uint64_t *place);
 uint32_t scq_give_back(scq_port *port, uint32_t index);
+SCQ_ANSWERED uint32_t scq_lend_index_many(scq_port *port, scq_held *out, size_t n, size_t *done);
+SCQ_ANSWERED uint32_t scq_take_index_many(scq_port *port, uint32_t topic, scq_held *out, size_t n,
+    size_t *done);
+SCQ_ANSWERED uint32_t scq_send_many(scq_port *port, scq_held *held, size_t n, uint32_t topic,
+    size_t *done);
+uint32_t scq_give_back_many(scq_port *port, const scq_held *held, size_t n, size_t *done);
 uint32_t scq_end(scq_port *port, scq_ended *out, scq_counts *counts, size_t n);
 uint32_t scq_retire(scq_port *port);
 SCQ_ANSWERED uint32_t scq_retired(scq_port *port);
+uint32_t scq_capacity(scq_port *port, uint32_t *out);
+SCQ_ANSWERED uint32_t scq_count(scq_port *port, uint32_t topic, uint32_t *out);
 
 /* A buffer is named to the tools by an address of its own, base + index: there is a byte at it, and an
  * index that is no buffer's makes no wild one. What a port holds that is closed is named by the base, and what a port did that
@@ -325,6 +334,48 @@ static inline uint32_t scq_give_back_told(scq_port *port, uint32_t index) {
     return answer;
 }
 
+static inline void scq_tell_all_got(const scq_port *port, const scq_held *held, size_t n) {
+    size_t k;
+    for (k = 0; k < n; k++) scq_tell_got(port, SCQ_OK, held[k].index);
+}
+
+static inline void scq_tell_lets_all_go(const scq_port *port, const scq_held *held, size_t n) {
+    size_t k;
+    for (k = 0; k < n; k++) scq_tell_lets_go(port, held[k].index);
+}
+
+static inline SCQ_ANSWERED uint32_t scq_lend_index_many_told(scq_port *port, scq_held *out,
+    size_t n, size_t *done) {
+    uint32_t answer;
+    SCQ_ASIDE(answer = scq_lend_index_many(port, out, n, done));
+    scq_tell_all_got(port, out, *done);
+    return answer;
+}
+
+static inline SCQ_ANSWERED uint32_t scq_take_index_many_told(scq_port *port, uint32_t topic,
+    scq_held *out, size_t n, size_t *done) {
+    uint32_t answer;
+    SCQ_ASIDE(answer = scq_take_index_many(port, topic, out, n, done));
+    scq_tell_all_got(port, out, *done);
+    return answer;
+}
+
+static inline SCQ_ANSWERED uint32_t scq_send_many_told(scq_port *port, scq_held *held, size_t n,
+    uint32_t topic, size_t *done) {
+    uint32_t answer;
+    scq_tell_lets_all_go(port, held, n);
+    SCQ_ASIDE(answer = scq_send_many(port, held, n, topic, done));
+    return answer;
+}
+
+static inline uint32_t scq_give_back_many_told(scq_port *port, const scq_held *held, size_t n,
+    size_t *done) {
+    uint32_t answer;
+    scq_tell_lets_all_go(port, held, n);
+    SCQ_ASIDE(answer = scq_give_back_many(port, held, n, done));
+    return answer;
+}
+
 static inline uint32_t scq_end_told(scq_port *port, scq_ended *out, scq_counts *counts, size_t n) {
     uint32_t answer;
     scq_tell_lets_go(port, 0);
@@ -346,21 +397,42 @@ static inline SCQ_ANSWERED uint32_t scq_retired_told(scq_port *port) {
     return answer;
 }
 
+static inline uint32_t scq_capacity_told(scq_port *port, uint32_t *out) {
+    uint32_t answer;
+    SCQ_ASIDE(answer = scq_capacity(port, out));
+    return answer;
+}
+
+static inline SCQ_ANSWERED uint32_t scq_count_told(scq_port *port, uint32_t topic, uint32_t *out) {
+    uint32_t answer;
+    SCQ_ASIDE(answer = scq_count(port, topic, out));
+    return answer;
+}
+
 #define scq_lend_index scq_lend_index_told
 #define scq_take_index scq_take_index_told
 #define scq_send scq_send_told
 #define scq_give_back scq_give_back_told
+#define scq_lend_index_many scq_lend_index_many_told
+#define scq_take_index_many scq_take_index_many_told
+#define scq_send_many scq_send_many_told
+#define scq_give_back_many scq_give_back_many_told
 #define scq_end scq_end_told
 #define scq_retire scq_retire_told
 #define scq_retired scq_retired_told
+#define scq_capacity scq_capacity_told
+#define scq_count scq_count_told
 #undef SCQ_ASIDE
 #endif
 #undef SCQ_TSAN
 
-/* The calls that the next two functions are made of, with the same answers: they write the buffer's
- * index and place to `out`, and not where it lies. */
+/* The calls that scq_lend, scq_take, scq_lend_many and scq_take_many are made of, with the same
+ * answers: they write the index and the place of a buffer to `out`, and not where it lies. */
 SCQ_ANSWERED uint32_t scq_lend_index(scq_port *port, scq_held *out);
 SCQ_ANSWERED uint32_t scq_take_index(scq_port *port, uint32_t topic, scq_held *out);
+SCQ_ANSWERED uint32_t scq_lend_index_many(scq_port *port, scq_held *out, size_t n, size_t *done);
+SCQ_ANSWERED uint32_t scq_take_index_many(scq_port *port, uint32_t topic, scq_held *out, size_t n,
+    size_t *done);
 
 /* Writes to `out` where the buffer of its index lies, or null and 0 where there is none. */
 static inline void scq_locate(const scq_port *port, uint32_t answer, scq_held *out) {
@@ -411,6 +483,43 @@ SCQ_ANSWERED uint32_t scq_send(scq_port *port, uint32_t index, uint32_t topic, u
  * Answers: SCQ_OK, and the port doesn't hold the buffer; SCQ_CLOSED; SCQ_NOT_HELD; SCQ_SPENT, and scq_spent tells the ticket. */
 uint32_t scq_give_back(scq_port *port, uint32_t index);
 
+/* Several at a time. Each of these four makes the call of one buffer for each of `n` slots, in their
+ * order, until one is refused: it answers what that one was answered, and SCQ_OK where none was. To
+ * `done` it writes how many went, whatever it answers: n with SCQ_OK, and 0 with SCQ_CLOSED. Only the
+ * first *done slots are written. The others stay as they were, so that neither a head nor a ticket is
+ * told. For the queue they are calls of one buffer each: others may send and take between them.
+ *
+ * Asks: that n slots begin at the pointer; it isn't null where n is 0 either.
+ * Tested: what the call of one buffer tests; with n = 0 only that the port is open.
+ *
+ * Lends up to n buffers: writes to out[0], out[1].. where they lie. */
+static inline SCQ_ANSWERED uint32_t scq_lend_many(scq_port *port, scq_held *out, size_t n,
+    size_t *done) {
+    const uint32_t answer = scq_lend_index_many(port, out, n, done);
+    size_t k;
+    for (k = 0; k < *done; k++) scq_locate(port, SCQ_OK, &out[k]);
+    return answer;
+}
+
+/* Takes up to n buffers off a topic: writes to out[0], out[1].. where they lie and the places at which
+ * they were sent, which rise. */
+static inline SCQ_ANSWERED uint32_t scq_take_many(scq_port *port, uint32_t topic, scq_held *out,
+    size_t n, size_t *done) {
+    const uint32_t answer = scq_take_index_many(port, topic, out, n, done);
+    size_t k;
+    for (k = 0; k < *done; k++) scq_locate(port, SCQ_OK, &out[k]);
+    return answer;
+}
+
+/* Sends the buffers with the indices of held[0], held[1].., up to n, on a topic, and writes to the
+ * `place` of each at which place. The port doesn't hold the first *done of them any more. */
+SCQ_ANSWERED uint32_t scq_send_many(scq_port *port, scq_held *held, size_t n, uint32_t topic,
+    size_t *done);
+
+/* Gives the buffers with the indices of held[0], held[1].. back, up to n. The port doesn't hold the
+ * first *done of them any more. */
+uint32_t scq_give_back_many(scq_port *port, const scq_held *held, size_t n, size_t *done);
+
 /* Retires the port: it sends no more, on any topic. It still lends, takes and gives back. A close retires too.
  *
  * Tested: that the port is open.
@@ -424,6 +533,21 @@ uint32_t scq_retire(scq_port *port);
  * Tested: that the port is open.
  * Answers: SCQ_RETIRED where all have; SCQ_OK where some hadn't, as far as the call read; SCQ_CLOSED. */
 SCQ_ANSWERED uint32_t scq_retired(scq_port *port);
+
+/* Writes to `out` how many buffers the queue has: 2^order.
+ *
+ * Tested: that the port is open.
+ * Answers: SCQ_OK; SCQ_CLOSED. */
+uint32_t scq_capacity(scq_port *port, uint32_t *out);
+
+/* Writes to `out` about how many buffers stand on a topic. It is a hint, for a gauge or to share out
+ * work: others send and take meanwhile, and the number is read in two loads. Above how many buffers
+ * the queue has it never is. It may be too high, as places that were drawn and not used count too; and
+ * too low, so that only scq_take tells whether a topic is empty.
+ *
+ * Tested: that the port is open, and the topic.
+ * Answers: SCQ_OK; SCQ_CLOSED; SCQ_NO_TOPIC. */
+SCQ_ANSWERED uint32_t scq_count(scq_port *port, uint32_t topic, uint32_t *out);
 
 /* Writes to `out` how many sends, takes and SCQ_FULL answers the port had.
  *

@@ -372,6 +372,20 @@ public:
         return Taken(shared_, answer, held);
     }
 
+    // Writes how many buffers the queue has: Ok or Closed.
+    Answer capacity(std::uint32_t &out) noexcept {
+        if (shared_.is_none()) return Answer::Closed;
+        return static_cast<Answer>(scq_capacity(shared_.port(), &out));
+    }
+
+    // Writes about how many buffers stand on a topic, never above the queue's capacity: Ok, NoTopic
+    // or Closed. It is a hint: others send and take meanwhile, and places that were drawn and not used
+    // count too. Only a take tells whether a topic is empty.
+    SCQ_NODISCARD Answer count(std::uint32_t topic, std::uint32_t &out) noexcept {
+        if (shared_.is_none()) return Answer::Closed;
+        return static_cast<Answer>(scq_count(shared_.port(), topic, &out));
+    }
+
     // Sends no more: Ok or Closed. It still lends, takes and gives back.
     Answer retire() noexcept {
         if (shared_.is_none()) return Answer::Closed;
@@ -420,8 +434,110 @@ public:
 
 private:
     friend struct Queue;
+    template <std::size_t most> friend class Batch;
 
     detail::Shared shared_;
+};
+
+// What came of a call of several: how many buffers went, and Ok where all did, or why the next
+// didn't.
+struct Several {
+    Answer answer;
+    std::size_t done;
+
+    explicit operator bool() const noexcept { return answer == Answer::Ok; }
+};
+
+// The bytes of one buffer of a Batch.
+struct Bytes {
+    unsigned char *data_;
+    std::size_t size_;
+
+    unsigned char *data() const noexcept { return data_; }
+    std::size_t size() const noexcept { return size_; }
+    unsigned char *begin() const noexcept { return data_; }
+    unsigned char *end() const noexcept { return data_ + size_; }
+    unsigned char &operator[](std::size_t at) const noexcept { return data_[at]; }
+};
+
+// Up to `most` buffers that a port holds, which are got, sent and given back together: as many calls
+// of the queue as buffers, and one into the library. It takes no memory. Where it ends, the buffers
+// are given back; what can't be stays with the port.
+//
+//     scq::Batch<8> batch(port);
+//     if (!batch.take(0) && batch.size() == 0) std::this_thread::yield();
+//     for (std::size_t k = 0; k < batch.size(); k++) work_on(batch[k]);
+//     if (!batch.send(1)) return 1;
+template <std::size_t most> class Batch {
+    static_assert(most > 0, "a batch has room for a buffer");
+
+public:
+    explicit Batch(const Port &port) noexcept : shared_(port.shared_) {}
+    Batch(const Batch &) = delete;
+    Batch &operator=(const Batch &) = delete;
+    ~Batch() { give_back(); }
+
+    // How many buffers there are: none once the port is closed.
+    std::size_t size() const noexcept { return shared_.is_open() ? size_ : 0; }
+
+    // The bytes of a buffer, below size(), and the place at which it was taken: 0 where it was lent.
+    Bytes operator[](std::size_t at) const noexcept { return Bytes{held_[at].at, held_[at].len}; }
+    std::uint64_t place(std::size_t at) const noexcept { return held_[at].place; }
+
+    // Lends up to `count` buffers more, but no more than there is room for.
+    SCQ_NODISCARD Several lend(std::size_t count = most) noexcept {
+        Several came{Answer::Closed, 0};
+        if (shared_.is_none()) return came;
+        came.answer = static_cast<Answer>(
+            scq_lend_many(shared_.port(), held_ + size_, room(count), &came.done));
+        size_ += came.done;
+        return came;
+    }
+
+    // Takes up to `count` buffers more off a topic, but no more than there is room for.
+    SCQ_NODISCARD Several take(std::uint32_t topic, std::size_t count = most) noexcept {
+        Several came{Answer::Closed, 0};
+        if (shared_.is_none()) return came;
+        came.answer = static_cast<Answer>(
+            scq_take_many(shared_.port(), topic, held_ + size_, room(count), &came.done));
+        size_ += came.done;
+        return came;
+    }
+
+    // Sends all buffers on a topic, in their order. What was sent is gone from here; what was refused
+    // stays, in its order.
+    SCQ_NODISCARD Several send(std::uint32_t topic) noexcept {
+        Several sent{Answer::Closed, 0};
+        if (shared_.is_none()) return sent;
+        sent.answer = static_cast<Answer>(
+            scq_send_many(shared_.port(), held_, size_, topic, &sent.done));
+        let_go(sent.done);
+        return sent;
+    }
+
+    // Gives all buffers back. What is refused stays.
+    Several give_back() noexcept {
+        Several given{Answer::Closed, 0};
+        if (shared_.is_none()) return given;
+        given.answer = static_cast<Answer>(
+            scq_give_back_many(shared_.port(), held_, size_, &given.done));
+        let_go(given.done);
+        return given;
+    }
+
+private:
+    std::size_t room(std::size_t count) const noexcept {
+        return count < most - size_ ? count : most - size_;
+    }
+
+    void let_go(std::size_t count) noexcept {
+        for (std::size_t k = count; k < size_; k++) held_[k - count] = held_[k];
+        size_ -= count;
+    }
+
+    detail::Shared shared_;
+    scq_held held_[most];
+    std::size_t size_ = 0;
 };
 
 // The most ports of a queue.

@@ -5,8 +5,9 @@
 //! where they lie, and an answer "empty" or "full" has to be relied on. A queue has 2 to 4,096
 //! buffers, up to 17 topics, and a [`Port`] for each thread. A thread is [lent](Port::lend) a
 //! buffer, writes it in place and [sends](Lent::send) it on a topic; or it [takes](Port::take) one
-//! from a topic and reads it. A [`Lent`] or [`Taken`] that is dropped is given back. A [`Ring`] has
-//! values of any type in place of bytes, with `push` and `pop` as `ArrayQueue` has them.
+//! from a topic and reads it. A [`Lent`] or [`Taken`] that is dropped is given back. A [`Batch`] has
+//! several buffers, which are got, sent and given back together. A [`Ring`] has values of any type in
+//! place of bytes, with `push` and `pop` as `ArrayQueue` has them.
 //!
 //! ```
 //! use scq::{Queue, Setup, TakeError};
@@ -74,6 +75,7 @@
 #![deny(missing_docs)]
 #![deny(unsafe_op_in_unsafe_fn)]
 
+mod batch;
 mod bell;
 mod error;
 mod held;
@@ -88,6 +90,7 @@ mod rung;
 mod sys;
 mod told;
 
+pub use batch::{Batch, Several, Stopped};
 pub use bell::{Bell, Lending, Taking, TakingAny, WaitError};
 pub use error::{LendError, OpenError, Refused, SendRefusal, Spent, TakeError};
 pub use held::{Lent, OwnedLent, OwnedTaken, Taken};

@@ -128,6 +128,54 @@ impl Port {
         }
     }
 
+    /// Is lent the numbers of buffers, one for each slot: how many came, and the last answer.
+    pub(crate) fn lend_many(&self, into: &mut [sys::scq_held]) -> (usize, u32) {
+        let mut done = 0;
+        // SAFETY: one call at a time is made with the handle; the slots and `done` are apart from it.
+        let answer = unsafe {
+            sys::scq_lend_index_many(self.handle(), into.as_mut_ptr(), into.len(), &mut done)
+        };
+        // (What a port lets go of that is dropped was released there.)
+        told::acquire(self.memory().base);
+        (done, answer)
+    }
+
+    /// Takes the numbers of buffers off a topic, one into each slot, with their places.
+    pub(crate) fn take_many(&self, topic: u32, into: &mut [sys::scq_held]) -> (usize, u32) {
+        let mut done = 0;
+        let (first, n) = (into.as_mut_ptr(), into.len());
+        // SAFETY: as for `lend_many`.
+        let answer = unsafe { sys::scq_take_index_many(self.handle(), topic, first, n, &mut done) };
+        (done, answer)
+    }
+
+    /// Sends the buffers of these slots, which the port holds, and tells their places there.
+    pub(crate) fn send_many(&self, held: &mut [sys::scq_held], topic: u32) -> (usize, u32) {
+        let mut done = 0;
+        let (first, n) = (held.as_mut_ptr(), held.len());
+        // SAFETY: as for `lend_many`.
+        let answer = unsafe { sys::scq_send_many(self.handle(), first, n, topic, &mut done) };
+        (done, answer)
+    }
+
+    /// Gives the buffers of these slots back, which the port holds.
+    pub(crate) fn give_back_many(&self, held: &[sys::scq_held]) -> (usize, u32) {
+        let mut done = 0;
+        // SAFETY: as for `lend_many`.
+        let answer =
+            unsafe { sys::scq_give_back_many(self.handle(), held.as_ptr(), held.len(), &mut done) };
+        (done, answer)
+    }
+
+    /// Writes to a slot where the buffer of its number lies, which the port was given.
+    #[inline]
+    pub(crate) fn locate(&self, held: &mut sys::scq_held) {
+        let memory = self.memory();
+        // SAFETY: there are more buffers than the index says.
+        held.at = unsafe { memory.base.add(held.index as usize * memory.stride) };
+        held.len = memory.len;
+    }
+
     /// The buffer of a number that this port was given, and who keeps the port there meanwhile.
     #[inline]
     fn held<P: Deref<Target = Port>>(port: P, index: u32) -> Held<P> {
@@ -230,6 +278,37 @@ impl Port {
             }
             sys::OK => false,
             answer => unreachable!("scq_retired answered {}", answer),
+        }
+    }
+
+    /// How many buffers the queue has: 2^[`order`](crate::Setup::order).
+    pub fn capacity(&self) -> usize {
+        let mut out = 0;
+        // SAFETY: one call at a time is made with the handle, and `out` is apart from it.
+        match unsafe { sys::scq_capacity(self.handle(), &mut out) } {
+            sys::OK => out as usize,
+            answer => unreachable!("scq_capacity answered {}", answer),
+        }
+    }
+
+    /// About how many buffers stand on a topic, if there is such a topic. It is a hint, for a gauge or
+    /// to share out work, and never above [`capacity`](Port::capacity): others send and take meanwhile,
+    /// and places that were drawn and not used count too. Only [`take`](Port::take) tells whether a topic
+    /// is empty.
+    ///
+    /// ```
+    /// let port = scq::Queue::new(scq::Setup::default(), 1)?.into_ports().remove(0);
+    /// port.lend()?.send(0)?;
+    /// assert_eq!((port.count(0), port.count(1), port.capacity()), (Some(1), None, 64));
+    /// # Ok::<(), Box<dyn std::error::Error>>(())
+    /// ```
+    pub fn count(&self, topic: u32) -> Option<usize> {
+        let mut out = 0;
+        // SAFETY: one call at a time is made with the handle, and `out` is apart from it.
+        match unsafe { sys::scq_count(self.handle(), topic, &mut out) } {
+            sys::OK => Some(out as usize),
+            sys::NO_TOPIC => None,
+            answer => unreachable!("scq_count answered {}", answer),
         }
     }
 

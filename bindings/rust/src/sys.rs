@@ -68,8 +68,36 @@ extern "C" {
     pub fn scq_take_index(port: *mut scq_port, topic: u32, out: *mut scq_held) -> u32;
     pub fn scq_send(port: *mut scq_port, index: u32, topic: u32, place: *mut u64) -> u32;
     pub fn scq_give_back(port: *mut scq_port, index: u32) -> u32;
+    pub fn scq_lend_index_many(
+        port: *mut scq_port,
+        out: *mut scq_held,
+        n: usize,
+        done: *mut usize,
+    ) -> u32;
+    pub fn scq_take_index_many(
+        port: *mut scq_port,
+        topic: u32,
+        out: *mut scq_held,
+        n: usize,
+        done: *mut usize,
+    ) -> u32;
+    pub fn scq_send_many(
+        port: *mut scq_port,
+        held: *mut scq_held,
+        n: usize,
+        topic: u32,
+        done: *mut usize,
+    ) -> u32;
+    pub fn scq_give_back_many(
+        port: *mut scq_port,
+        held: *const scq_held,
+        n: usize,
+        done: *mut usize,
+    ) -> u32;
     pub fn scq_retire(port: *mut scq_port) -> u32;
     pub fn scq_retired(port: *mut scq_port) -> u32;
+    pub fn scq_capacity(port: *mut scq_port, out: *mut u32) -> u32;
+    pub fn scq_count(port: *mut scq_port, topic: u32, out: *mut u32) -> u32;
     pub fn scq_counts_of(port: *mut scq_port, out: *mut scq_counts) -> u32;
     pub fn scq_spent(port: *mut scq_port, ticket: *mut u64) -> u32;
     pub fn scq_end(

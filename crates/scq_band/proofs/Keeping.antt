@@ -8,7 +8,7 @@ use Rattle.std.proofs.lemmas.List.{length-append, length-set}
 use Rattle.atomic_table.specs.Seated.{TableId}
 use Rattle.atomic_table.specs.Table.{Me, rest}
 use Rattle.scq_word.specs.Sizes.{n_of}
-use Rattle.scq_core.specs.Machine.{Part}
+use Rattle.scq_core.specs.Machine.{Part, Location}
 use Rattle.scq_core.specs.Table.{hand_without, ends}
 use Rattle.scq_word.specs.declared.setup.Setup.{Setup}
 use Rattle.scq_core.specs.declared.ended.Ended.{Ended}
@@ -21,9 +21,10 @@ use Rattle.scq_band.specs.declared.slot.Slot.{Slot}
 use Rattle.scq_band.specs.declared.rule.Key.{Key}
 use Rattle.scq_band.specs.Numbers.{known_of, changed, finishes, sees, passes, drew, empties, RisesInHead}
 use Rattle.scq_band.specs.Known.{Member, Known}
-use Rattle.scq_band.specs.Sights.{Sight, StandsAfter, Went, Looked, retired_ones, WasShownRun}
+use Rattle.scq_band.specs.Layout.{at, IsLocation}
+use Rattle.scq_band.specs.Sights.{Sight, StandsAfter, Went, Looked, retired_ones, WasShownRun, HasFound}
 use Rattle.scq_law.specs.Prefixes.{IsRecordAfter}
-use Rattle.scq_band.specs.RunSeen.{Seen, Caller, EndsWith, IsCallInRun, WasEmptyInRun, IsReadingInRun, IsMomentInRun, AllWereSeenRetired}
+use Rattle.scq_band.specs.RunSeen.{Seen, Caller, EndsWith, IsCallInRun, WasEmptyInRun, IsReadingInRun, IsMomentInRun, WasFoundInRun, AllWereSeenRetired}
 use Rattle.scq_band.specs.Steps.{my, bytes_in, front_bytes}
 use Rattle.scq_band.specs.Seats.{IsAlone, looked, HasGotAfter, with_part, seated, put_at, got_at, nothing_at, drew_head, spent_at}
 use Rattle.scq_band.specs.Turns.{Fronts}
@@ -553,6 +554,26 @@ module _ {B : Type 0} where
 
 module _ {B : Type 0} where
   -- the run that was shown to a seat is a moment of the seat's
+  moment_of : (opening : List (List ℕ)) (table later : TableId) (key : Key B) (me me' : Me (Slot B) Sight) → IsAlone me.0.known
+      → (my me.0.known).part.phase ≡ Idle → me'.0.known ≡ me.0.known → WasShownRun key.setup opening me.0 me'.0
+      → IsMomentInRun key.setup opening (caller_of (standing_of table key me)) (caller_of (standing_of later key me'))
+  moment_of opening table later key me me' alone rests same its =
+      let x = my me.0.known in
+      let now = rests_after key.setup opening its.steps x x.number (its.stands alone.seats) rests refl in
+      record {
+        steps = its.steps;
+        had_seen = its.had_seen;
+        has_seen = its.has_seen;
+        now =
+            record {
+              recorded = now.recorded;
+              is_run = now.is_run;
+              idle = now.idle;
+              calls_are = now.calls_are ∙ sym (ap (λ (u : Known). (my u).part.calls) same);
+            };
+      }
+
+  -- the same, as contracts see the seat and the band
   pub moment_seen : (contents : B → List ℕ) (table later shared_table : TableId) (key shared : Key B) (self : Identity B) (s : Standing B)
       (me me' : Me (Slot B) Sight) → standing_of table key me ≡ s → s.band ≡ self → identity_of shared_table shared ≡ self
       → IsAlone me.0.known → (my me.0.known).part.phase ≡ Idle → me'.0.known ≡ me.0.known
@@ -563,18 +584,31 @@ module _ {B : Type 0} where
       let opening = opening_of contents key.given.value.items in
       let its : WasShownRun key.setup opening me.0 me'.0 =
       subst (λ (i : Identity B). WasShownRun i.setup (opening_of contents i.given) me.0 me'.0) (shared_is ∙ sym band) raised in
-      let x = my me.0.known in
-      let calls : (my me'.0.known).part.calls ≡ x.part.calls = ap (λ (u : Known). (my u).part.calls) same in
-      let here : IsMomentInRun key.setup opening (caller_of (standing_of table key me)) (caller_of (standing_of later key me')) = record {
-        steps = its.steps;
-        had_seen = its.had_seen;
-        has_seen = its.has_seen;
-        now =
-            subst (λ (l : List Ended). IsRecordAfter key.setup opening its.steps x.number l) (sym calls)
-            (rests_after key.setup opening its.steps x x.number (its.stands alone.seats) rests refl);
-      } in
       subst (λ (i : Identity B). IsMomentInRun i.setup (opening_of contents i.given) (caller_of s) (caller_of (standing_of later key me'))) band
-      (subst (λ (t : Standing B). IsMomentInRun key.setup opening (caller_of t) (caller_of (standing_of later key me'))) is here)
+      (subst (λ (t : Standing B). IsMomentInRun key.setup opening (caller_of t) (caller_of (standing_of later key me'))) is
+      (moment_of opening table later key me me' alone rests same its))
+
+  -- and what was found there
+  pub found_seen : (contents : B → List ℕ) (table later shared_table : TableId) (key shared : Key B) (self : Identity B) (s : Standing B)
+      (me me' : Me (Slot B) Sight) (word n : ℕ) → standing_of table key me ≡ s → s.band ≡ self → identity_of shared_table shared ≡ self
+      → IsAlone me.0.known → (my me.0.known).part.phase ≡ Idle → me'.0.known ≡ me.0.known
+      → HasFound shared.setup (opening_of contents shared.given.value.items) word n me.0 me'.0
+      → (l : Location) → IsLocation self.setup l → word ≡ at self.setup l
+      → WasFoundInRun self.setup (opening_of contents self.given) l n (caller_of s) (caller_of (standing_of later key me'))
+  unfolding moment_of rests_after
+  found_seen contents table later shared_table key shared self s me me' word n is own shared_is alone rests same raised l low at_l =
+      let band : identity_of table key ≡ self = ap (λ (t : Standing B). t.band) is ∙ own in
+      let opening = opening_of contents key.given.value.items in
+      let its : HasFound key.setup opening word n me.0 me'.0 =
+      subst (λ (i : Identity B). HasFound i.setup (opening_of contents i.given) word n me.0 me'.0) (shared_is ∙ sym band) raised in
+      let here : WasFoundInRun key.setup opening l n (caller_of (standing_of table key me)) (caller_of (standing_of later key me')) = record {
+        moment = moment_of opening table later key me me' alone rests same its.shown;
+        found =
+            its.found alone.seats l (subst (λ (i : Identity B). IsLocation i.setup l) (sym band) low)
+            (subst (λ (i : Identity B). word ≡ at i.setup l) (sym band) at_l);
+      } in
+      subst (λ (i : Identity B). WasFoundInRun i.setup (opening_of contents i.given) l n (caller_of s) (caller_of (standing_of later key me'))) band
+      (subst (λ (t : Standing B). WasFoundInRun key.setup opening l n (caller_of t) (caller_of (standing_of later key me'))) is here)
 
 -- one who has seen all seats retired reads 0
 pub all_told : (c : Setup) (opening : List (List ℕ)) (own : Option ℕ) (old new : Caller) (found : ℕ) → IsReadingInRun c opening own old new found

@@ -29,7 +29,7 @@ use Rattle.scq_band.specs.Known.{Member, Known}
 use Rattle.scq_band.specs.Shown.{Owns, Shown, awake, first_view}
 use Rattle.scq_band.specs.Standing.{IsReading}
 use Rattle.scq_band.specs.Seats.{IsAlone, looked, retired_at}
-use Rattle.scq_band.specs.Sights.{Sight, known_in, known_me, known_state, StandsAfter, Went, GoesOn, Looked, WasShownRun, retired_ones, first_sight, ShowsRun}
+use Rattle.scq_band.specs.Sights.{Sight, known_in, known_me, known_state, StandsAfter, Went, GoesOn, Looked, WasShownRun, HasFound, retired_ones, first_sight, ShowsRun}
 use Rattle.scq_band.specs.Steps.{my, my_of}
 use Rattle.scq_band.specs.Turns.{turned_member, MayTurn, Carries, Turned}
 use Rattle.scq_band.proofs.Moves.{Ground, moves_by}
@@ -307,18 +307,19 @@ module _ {S : Type 0} (Lies : ℕ → S → List ℕ → Type 0) where
       } in
       (w, a.1, a.2, shown, (a.4.0, a.4.1, a.4.2, its))
 
-  -- the rule's run may be shown to a seat
-  pub shows_run : {opening : List (List ℕ)} (c : Setup) (slots id : ℕ) (me : Me S Sight)
-      → Allows (ShowsRun Lies opening c) slots id me 0 (λ n. n)
-      (λ n later. (later.0.known ≡ me.0.known) × (later.1 ≡ me.1) × WasShownRun c opening me.0 later.0)
-  shows_run {opening} c slots id me s sh many here small =
+  -- the rule's run may be shown to a seat, which finds there what stands at a word
+  pub shows_run : {opening : List (List ℕ)} (c : Setup) (slots id : ℕ) (me : Me S Sight) (word : ℕ)
+      → Allows (ShowsRun Lies opening c) slots id me word (λ n. n)
+      (λ n later. (later.0.known ≡ me.0.known) × (later.1 ≡ me.1) × HasFound c opening word n me.0 later.0)
+  unfolding stands_after
+  shows_run {opening} c slots id me word s sh many here small =
       let there : get_elem? (map known_in s.views) id ≡ some me.0.known = known_at s.views id me.0 here in
       let w : Sight = record { known = me.0.known; seen = with_run sh.run me.0.seen } in
-      let ws = slice_set s.words 0 (slice_index s.words 0) in
+      let ws = slice_set s.words word (slice_index s.words word) in
       let words : Shown Lies opening c sh.gone sh.run (record { words = ws; homes = s.homes; views = map known_in s.views }) =
       subst (λ (l : List ℕ). Shown Lies opening c sh.gone sh.run (record { words = l; homes = s.homes; views = map known_in s.views })) (sym
-      (set-get_or s.words 0 0)) sh.shown in
-      let shown : ShowsRun Lies opening c (stepped s 0 (slice_index s.words 0) id me.1 w keeps) = record {
+      (set-get_or s.words word 0)) sh.shown in
+      let shown : ShowsRun Lies opening c (stepped s word (slice_index s.words word) id me.1 w keeps) = record {
         run = sh.run;
         shown = subst (λ (vs : List Known). Shown Lies opening c sh.gone sh.run (record { words = ws; homes = s.homes; views = vs })) (sym
             (known_set s.views id w ∙ set_again (map known_in s.views) id me.0.known there)) words;
@@ -336,11 +337,18 @@ module _ {S : Type 0} (Lies : ℕ → S → List ℕ → Type 0) where
               | inr other ↦ sh.retirees j v other.1 p has
             ];
       } in
-      let its : WasShownRun c opening me.0 w = record {
+      let was : WasShownRun c opening me.0 w = record {
         steps = sh.run;
         had_seen = sh.seen id me.0 here;
         has_seen = refl;
         stands = λ alone. stands_after opening c sh.gone sh.run (known_state s) id me.0.known sh.shown there alone;
+      } in
+      let its : HasFound c opening word (slice_index s.words word) me.0 w = record {
+        shown = was;
+        found =
+            λ alone l low is.
+            ap (slice_index s.words) is ∙ sh.shown.words.shows l low
+            ∙ ap (λ (m : Machine). read m.cells l) (sym sh.shown.leads.ends);
       } in
       (w, keeps, tt, shown, (refl, refl, its))
 

@@ -1,10 +1,12 @@
 -- What a seat, a pass or a note has seen of the run of all seats, and where in that run a call was made. The run is one list of steps,
 -- in the order in which they were made; what was seen of it is a list of its prefixes.
-use Rattle.std.specs.Prelude.{◌≡◌, ◌⊎◌, ℕ, ◌<◌, ◌≤◌, List, [], ◌∷◌, ◌++◌, length, Option, Some, None}
+use Rattle.std.specs.Prelude.{◌≡◌, ◌⊎◌, ℕ, ◌-◌, ◌<◌, ◌≤◌, min, List, [], ◌∷◌, ◌++◌, length, Option, Some, None}
 use Rattle.std.specs.List.{Contains}
 use Rattle.scq_word.specs.declared.setup.Setup.{Setup}
+use Rattle.scq_word.specs.Sizes.{n_of}
 use Rattle.scq_core.specs.declared.ended.Ended.{Ended}
 use Rattle.scq_core.specs.declared.step.Step.{Step}
+use Rattle.scq_core.specs.Machine.{Location, head_of, tail_of, read}
 use Rattle.scq_law.specs.EmptyCalls.{IsEmptyAtCall}
 use Rattle.scq_law.specs.Prefixes.{IsPrefix, AllPrefixes, IsRecordAfter}
 use Rattle.scq_law.specs.Run.{Recorded, IsRun}
@@ -97,6 +99,23 @@ pub record IsMomentInRun (c : Setup) (opening : List (List ℕ)) (old new : Call
   pub had_seen : AllPrefixes old.seen.runs steps
   pub has_seen : new.seen ≡ with_run steps old.seen
   pub now : IsRecordAfter c opening steps old.seat new.calls
+
+-- such a moment, at which this number stood at a location of the machine
+pub record WasFoundInRun (c : Setup) (opening : List (List ℕ)) (l : Location) (n : ℕ)
+    (old new : Caller) : Type 0 where
+  pub moment : IsMomentInRun c opening old new
+  pub found : n ≡ read moment.now.recorded.state.cells l
+
+-- a count of what stands in ring r: Tail less Head, where Head was found at one moment of the run and
+-- Tail at the next; and no more than there are buffers
+pub record WasCountedInRun (c : Setup) (opening : List (List ℕ)) (r count : ℕ) (old new : Caller)
+    : Type 0 where
+  pub head : ℕ
+  pub tail : ℕ
+  pub between : Seen
+  pub head_found : WasFoundInRun c opening (head_of r) head old (record old { seen = between })
+  pub tail_found : WasFoundInRun c opening (tail_of r) tail (record old { seen = between }) new
+  pub count_is : count ≡ min (tail - head) (n_of c.order)
 
 -- each seat was seen retired
 abbrev pub AllWereSeenRetired : Setup → Seen → Type 0

@@ -6,11 +6,13 @@ use lib.ListN.{get_elem?}
 use Rattle.atomic_table.specs.Table.{State, Me}
 use Rattle.scq_word.specs.declared.setup.Setup.{Setup}
 use Rattle.scq_core.specs.declared.step.Step.{Step}
+use Rattle.scq_core.specs.Machine.{Location, read}
 use Rattle.scq_law.specs.Run.{Recorded, IsRun}
 use Rattle.scq_law.specs.Prefixes.{IsPrefix, AllPrefixes}
 use Rattle.scq_band.specs.RunSeen.{Seen, nothing_seen, with_run, both_seen, EndsWith, HasSeenCalls}
 use Rattle.scq_band.specs.declared.numbers.Numbers.{Numbers}
 use Rattle.scq_band.specs.Numbers.{IsTrue}
+use Rattle.scq_band.specs.Layout.{at, IsLocation}
 use Rattle.scq_band.specs.Known.{Member, Known, nobody, note_of, others_of, first_of, both_of}
 use Rattle.scq_band.specs.Shown.{Shown, awake, first_view}
 use Rattle.scq_band.specs.Steps.{my}
@@ -79,6 +81,12 @@ pub record WasShownRun (c : Setup) (opening : List (List ℕ)) (old new : Sight)
   pub has_seen : new.seen ≡ with_run steps old.seen
   pub stands : old.known.seats ≡ my old.known ∷ []
       → StandsAfter c opening steps (my old.known)
+
+-- likewise, and it found this number at a word: what stood there at the end of the run
+pub record HasFound (c : Setup) (opening : List (List ℕ)) (word n : ℕ) (old new : Sight) : Type 0 where
+  pub shown : WasShownRun c opening old new
+  pub found : (alone : old.known.seats ≡ my old.known ∷ []) (l : Location) → IsLocation c l
+      → word ≡ at c l → n ≡ read (shown.stands alone).recorded.state.cells l
 
 -- a mark of a view: what it has seen, and nothing that it knows
 abbrev pub mark_with : Seen → Sight

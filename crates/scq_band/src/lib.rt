@@ -11,6 +11,7 @@ mod band;
 mod band_note;
 mod calls;
 mod closing;
+mod counting;
 mod dequeue;
 mod enqueue;
 mod gate;

@@ -1,7 +1,7 @@
 //! Marks: what one seat has seen of the run of all seats, carried to another. A mark has no bytes when
 //! the program runs.
 ghost use Rattle.std.specs.Prelude.{◌≡◌, ◌<◌, [], ◌∷◌};
-ghost use Rattle.scq_band.specs.Sights.{mark_sight, WasShownRun};
+ghost use Rattle.scq_band.specs.Sights.{mark_sight, HasFound};
 ghost use Rattle.scq_band.specs.Buffers.{opening_of};
 ghost use Rattle.scq_band.specs.RunSeen.{IsMomentInRun, HaveMet, HaveSeenOneRun, both_seen};
 ghost use Rattle.scq_band.specs.Standing.{having_seen, caller_of};
@@ -37,18 +37,20 @@ fn copy_seen<B: Buffer>(words: &Words<B>, token: &mut Token<B>) -> Badge<View>
     words.split_seat::<Marks>(token).into_badge()
 }
 
-/// The seat is shown the rule's run. Only the view changes, which it does at a step of the table: the
-/// gate is loaded, and its number isn't used.
-fn look<B: Buffer>(words: &Words<B>, token: &mut Token<B>)
+/// The seat is shown the rule's run, and finds what stands at a word there. Only the view changes, which
+/// it does at a step of the table: the load of the word.
+#[inline(always)]
+pub(crate) fn find<B: Buffer>(words: &Words<B>, token: &mut Token<B>, word: usize) -> u64
     requires own { token.old.table_id ≡ words.now.table_id }
-    requires room { 0 < words.now.table_id.words }
+    requires room { word < words.now.table_id.words }
     ensures own { (token.new.table_id ≡ token.old.table_id) × (token.new.id ≡ token.old.id) }
     ensures known { token.new.me.0.known ≡ token.old.me.0.known }
     ensures slots { token.new.me.1 ≡ token.old.me.1 }
-    ensures in_run { WasShownRun words.now.key.setup
-        (opening_of B.contents words.now.key.given.value.items) token.old.me.0 token.new.me.0 }
+    ensures found { HasFound words.now.key.setup
+        (opening_of B.contents words.now.key.given.value.items) word result
+        token.old.me.0 token.new.me.0 }
 {
-    words.load::<Brand>(token, GATE);
+    words.load::<Brand>(token, word)
 }
 
 /// What a seat had seen when the mark was made. It may be dropped.
@@ -79,7 +81,7 @@ impl<B: Buffer> Band<B> {
         ensures moment { IsMomentInRun self.now.setup (opening_of B.contents self.now.given)
             (caller_of seat.old) (caller_of seat.new) }
     {
-        look(&self.table.shared, &mut seat.token);
+        let _not_retired = find(&self.table.shared, &mut seat.token, GATE);
     }
 
     /// A mark of what the seat has seen: of the run, and of those that retired. Wait-free: one step.

@@ -4,3 +4,4 @@ pub mod Somes
 pub mod Handed
 pub mod Openings
 pub mod Written
+pub mod Rows

@@ -6,7 +6,7 @@ use Rattle.scq_word.specs.Sizes.{n_of}
 use Rattle.scq_word.specs.Ranges.{IsOutside}
 use Rattle.scq_queue.specs.Lists.{counts_of}
 use Rattle.scq_port.specs.Ports.{PortStanding}
-use Rattle.scq_port.specs.Calls.{IsLent, IsTaken, IsSent, IsGivenBack, WasFull, WasEmpty, IsSpentGet, IsSpentPut, HasNoRoom, HasTopic, HasNoTopic, HoldsNoSuch, HasRetired, HasAsked, retired_port, AreOpened, HasEnded}
+use Rattle.scq_port.specs.Calls.{IsLent, IsTaken, IsSent, IsGivenBack, WasFull, WasEmpty, IsSpentGet, IsSpentPut, HasNoRoom, HasTopic, HasNoTopic, HoldsNoSuch, HasRetired, HasAsked, HasCounted, retired_port, AreOpened, HasEnded}
 use Rattle.scq_queue.specs.Passes.{PassStanding, lists_of}
 use Rattle.scq_port.specs.declared.port_buffer.PortBuffer.{PortBuffer}
 use Rattle.scq_port.specs.Closed.{HasClosed}
@@ -66,6 +66,12 @@ pub record OfRetired (code : ℕ) (old new : PortStanding) : Type 0 where
   pub all : code ≡ 16 → found ≡ 0
   pub some : code ≡ 0 → 0 < found
   pub known : (code ≡ 0) ⊎ (code ≡ 16)
+
+-- of a count: 0 counted, 6 no topic
+pub record OfCount (topic code before after : ℕ) (old new : PortStanding) : Type 0 where
+  pub counted : code ≡ 0 → HasCounted topic after old new
+  pub no_topic : code ≡ 6 → (after ≡ before) × HasNoTopic topic old new
+  pub known : (code ≡ 0) ⊎ (code ≡ 6)
 
 -- the ports that C has, and where each was told that the buffers' bytes are
 abbrev pub ports_of : List CPort → List (Option PortStanding)

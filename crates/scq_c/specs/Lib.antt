@@ -1,3 +1,4 @@
 pub mod Handles
 pub mod Tallies
 pub mod Answers
+pub mod Many

@@ -1,10 +1,11 @@
 //! What C calls.
 ghost use Rattle.std.specs.Prelude.{◌≡◌, ℕ, Some, None};
+ghost use Rattle.scq_word.specs.Sizes.{n_of};
 ghost use Rattle.scq_queue.specs.Lists.{counts_of};
 ghost use Rattle.scq_queue.specs.Passes.{lists_of};
 ghost use Rattle.scq_port.specs.Ports.{PortStanding};
 ghost use Rattle.scq_port.specs.Calls.{retired_port};
-ghost use Rattle.scq_c.specs.Answers.{OfLend, OfTake, OfSend, OfGiveBack, OfOpen, OfEnd, OfRetired, shown_at};
+ghost use Rattle.scq_c.specs.Answers.{OfLend, OfTake, OfSend, OfGiveBack, OfOpen, OfEnd, OfRetired, OfCount, shown_at};
 
 use crate::answers::{CLOSED, EMPTY, FULL, NO_ROOM, NO_TOPIC, NOT_HELD, OK, RETIRED, SPENT};
 use crate::c_port::{CPort, Memory};
@@ -17,7 +18,7 @@ use std::alloc::Global;
 /// A buffer that a port holds: where its bytes lie and how many they are, which C finds by the index, and nothing here reads or writes; the
 /// place at which it was taken (0 where it was lent), and its index.
 #[repr(C)]
-#[derive(Drop)]
+#[derive(Clone, Copy)]
 pub struct Held {
     pub at: *const u8,
     pub len: usize,
@@ -67,7 +68,7 @@ fn show(index: u32, place: u64, out: &mut Held)
 
 /// Is lent a value, and tells its index.
 #[inline(always)]
-fn lend_into(port: &mut Port, out: &mut Held) -> u32
+pub(crate) fn lend_into(port: &mut Port, out: &mut Held) -> u32
     ensures { OfLend result out.old out.new port.old port.new }
 {
     match port.lend() {
@@ -104,7 +105,7 @@ pub extern "C" fn scq_lend_index(alloc: Global, handle: &mut Handle, out: &mut H
 
 /// Takes a value, and tells its index.
 #[inline(always)]
-fn take_into(port: &mut Port, topic: u32, out: &mut Held) -> u32
+pub(crate) fn take_into(port: &mut Port, topic: u32, out: &mut Held) -> u32
     ensures { OfTake topic result out.old out.new port.old port.new }
 {
     match port.take(topic) {
@@ -147,7 +148,7 @@ pub extern "C" fn scq_take_index(
 
 /// Sends a value, and tells its place.
 #[inline(always)]
-fn send_into(port: &mut Port, index: u32, topic: u32, place: &mut u64) -> u32
+pub(crate) fn send_into(port: &mut Port, index: u32, topic: u32, place: &mut u64) -> u32
     ensures { OfSend index topic result place.old place.new port.old port.new }
 {
     match port.send(index, topic) {
@@ -188,7 +189,7 @@ pub extern "C" fn scq_send(
 
 /// Gives a value back.
 #[inline(always)]
-fn give_back_into(port: &mut Port, index: u32) -> u32
+pub(crate) fn give_back_into(port: &mut Port, index: u32) -> u32
     ensures { OfGiveBack index result port.old port.new }
 {
     match port.give_back(index) {
@@ -293,6 +294,53 @@ pub extern "C" fn scq_spent(alloc: Global, handle: &mut Handle, ticket: &mut u64
         }
         None => OK,
     }
+}
+
+/// How many buffers a queue has.
+#[unsafe(no_mangle)]
+pub extern "C" fn scq_capacity(alloc: Global, handle: &mut Handle, out: &mut u32) -> u32
+    ensures same { handle.new.port ≡ handle.old.port }
+    ensures closed { handle.old.port ≡ None → (result ≡ 4) × (out.new ≡ out.old) }
+    ensures capacity { (x : PortStanding) → handle.old.port ≡ Some x
+        → (result ≡ 0) × (out.new ≡ n_of x.pass.queue.setup.order) }
+{
+    let Some(port) = taken(handle, alloc) else {
+        return CLOSED;
+    };
+    *out = port.capacity();
+    put(handle, port);
+    OK
+}
+
+/// Counts the values on a topic, and tells how many.
+#[inline(always)]
+fn count_into(port: &mut Port, topic: u32, out: &mut u32) -> u32
+    ensures { OfCount topic result out.old out.new port.old port.new }
+{
+    match port.count(topic) {
+        Some(count) => {
+            *out = count;
+            OK
+        }
+        None => NO_TOPIC,
+    }
+}
+
+/// About how many buffers stand on a topic.
+#[unsafe(no_mangle)]
+pub extern "C" fn scq_count(alloc: Global, handle: &mut Handle, topic: u32, out: &mut u32) -> u32
+    ensures closed { handle.old.port ≡ None → (result ≡ 4) × (handle.new.port ≡ None)
+        × (out.new ≡ out.old) }
+    ensures answered { (x : PortStanding) → handle.old.port ≡ Some x
+        → (y : PortStanding) × (handle.new.port ≡ Some y)
+        × OfCount topic result out.old out.new x y }
+{
+    let Some(mut port) = taken(handle, alloc) else {
+        return CLOSED;
+    };
+    let answer = count_into(&mut port, topic, out);
+    put(handle, port);
+    answer
 }
 
 /// Closes a port, and tells whether the queue closed with it; where it did, with the counts of all

@@ -8,5 +8,6 @@ mod c_port;
 mod exports;
 mod handle;
 mod loose;
+mod many;
 mod opening;
 mod tally;

@@ -1,14 +1,14 @@
 -- What calls make of a port, put together of what the queue says of them.
-use Rattle.std.proofs.Common.{◌≡◌, ℕ, ◌+◌, ◌<◌, ◌≤◌, List, length, refl, sym, ◌∙◌, ap, subst}
+use Rattle.std.proofs.Common.{◌≡◌, ℕ, suc, ◌+◌, ◌<◌, ◌≤◌, List, length, refl, sym, ◌∙◌, ap, subst}
 use Rattle.std.specs.Prelude.{◌==◌, Bool, true, false, is_none, Option, Some, None, Result, Err, slice_get, slice_set}
 use Rattle.std.proofs.lemmas.Bool.{eqb-true}
 use Rattle.scq_word.specs.Sizes.{n_of}
 use Rattle.scq_band.specs.Buffers.{opening_of}
-use Rattle.scq_band.specs.RunSeen.{IsCallInRun, WasEmptyInRun, IsReadingInRun, AllWereSeenRetired}
+use Rattle.scq_band.specs.RunSeen.{IsCallInRun, WasEmptyInRun, IsReadingInRun, WasCountedInRun, AllWereSeenRetired}
 use Rattle.scq_queue.specs.Passes.{PassStanding, lists_of, having_seen, caller_of, after_look}
 use Rattle.scq_port.specs.declared.port_buffer.PortBuffer.{PortBuffer}
 use Rattle.scq_port.specs.Ports.{PortStanding, PortQueue, Value, bytes_of}
-use Rattle.scq_port.specs.Calls.{Came, IsSpent, HasRetired, HasAsked}
+use Rattle.scq_port.specs.Calls.{Came, IsSpent, HasRetired, HasAsked, HasCounted}
 use Rattle.scq_band.specs.declared.calls.Spent.{Spent}
 use Rattle.scq_port.specs.Kept.{Keeps}
 use Rattle.scq_port.proofs.Lists.{set_back}
@@ -106,6 +106,22 @@ asked_of queue old new answer found own looked slots hold run told is =
           λ all.
           eqb-true found 0
           (sym is ∙ told (subst (λ (q : PortQueue). AllWereSeenRetired q.setup old.pass.seen) own all));
+    }
+
+-- a port that counted what stands on a topic
+pub counted_of : (queue : PortQueue) (old new : PortStanding) (topic count : ℕ) → old.pass.queue ≡ queue
+    → topic + 1 < queue.setup.rings → new.pass ≡ having_seen new.pass.seen old.pass → new.slots ≡ old.slots → new.hold ≡ old.hold
+    → count ≤ n_of queue.setup.order
+    → WasCountedInRun queue.setup (opening_of bytes_of queue.given) (suc topic) count (caller_of old.pass) (caller_of new.pass)
+    → HasCounted topic count old new
+counted_of queue old new topic count own there seen slots hold most run =
+    record {
+      there = there_of queue old.pass topic own there;
+      seen = same_port (record old { pass = having_seen new.pass.seen old.pass }) new seen slots hold;
+      at_most = subst (λ (q : PortQueue). count ≤ n_of q.setup.order) (sym own) most;
+      in_run =
+          subst (λ (q : PortQueue).
+          WasCountedInRun q.setup (opening_of bytes_of q.given) (suc topic) count (caller_of old.pass) (caller_of new.pass)) (sym own) run;
     }
 
 -- a port whose pass isn't awake has retired

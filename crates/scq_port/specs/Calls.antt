@@ -4,7 +4,7 @@ use Rattle.std.specs.List.{Contains}
 use Rattle.scq_word.specs.declared.setup.Setup.{Setup}
 use Rattle.scq_word.specs.Sizes.{n_of}
 use Rattle.scq_band.specs.Buffers.{opening_of}
-use Rattle.scq_band.specs.RunSeen.{IsCallInRun, WasEmptyInRun, IsReadingInRun, AllWereSeenRetired, with_retiree}
+use Rattle.scq_band.specs.RunSeen.{IsCallInRun, WasEmptyInRun, IsReadingInRun, WasCountedInRun, AllWereSeenRetired, with_retiree}
 use Rattle.scq_queue.specs.Lists.{with_send, with_take, with_full}
 use Rattle.scq_queue.specs.Passes.{PassStanding, lists_of, known_on, WasLent, HasGot, WasGivenBack, FoundNothing, FoundFull, having_seen, caller_of, after_put, after_spent_put, after_spent_get, after_look, first_passes}
 use Rattle.scq_port.specs.declared.port_buffer.PortBuffer.{PortBuffer}
@@ -159,6 +159,14 @@ pub record HasAsked (found : ℕ) (old new : PortStanding) : Type 0 where
   pub in_run : IsReadingInRun old.pass.queue.setup (opening_of bytes_of old.pass.queue.given) old.pass.retired
       (caller_of old.pass) (caller_of new.pass) found
   pub told : AllWereSeenRetired old.pass.queue.setup old.pass.seen → found ≡ 0
+
+-- a count of the values on a topic: nothing changed but what the port has seen of the run
+pub record HasCounted (topic count : ℕ) (old new : PortStanding) : Type 0 where
+  pub there : HasTopic topic old
+  pub seen : new ≡ record old { pass = having_seen new.pass.seen old.pass }
+  pub at_most : count ≤ n_of old.pass.queue.setup.order
+  pub in_run : WasCountedInRun old.pass.queue.setup (opening_of bytes_of old.pass.queue.given) (suc topic)
+      count (caller_of old.pass) (caller_of new.pass)
 
 -- the values that stand in these places, from the last on
 abbrev pub values_of : List (Option Value) → List Value

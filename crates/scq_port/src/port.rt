@@ -1,9 +1,10 @@
 //! A port.
 ghost use Rattle.std.specs.Prelude.{◌≡◌, ◌==◌, ℕ, suc, ◌+◌, ◌<◌, ◌≤◌, is_none, length, map, Some, None, Err, IfOk, IfErr, IfSome};
 ghost use Rattle.std.specs.Arc.{arc_value};
+ghost use Rattle.scq_word.specs.Sizes.{n_of};
 ghost use Rattle.scq_queue.specs.Lists.{counts_of};
 ghost use Rattle.scq_queue.specs.Passes.{lists_of};
-ghost use Rattle.scq_port.specs.Calls.{HasRetired, HasAsked, retired_pass, retired_port, IsLent, IsTaken, IsSent, IsGivenBack, WasFull, WasEmpty, IsSpentGet, IsSpentPut, HasNoRoom, HasTopic, HasNoTopic, HoldsNoSuch, HasEnded};
+ghost use Rattle.scq_port.specs.Calls.{HasRetired, HasAsked, HasCounted, retired_pass, retired_port, IsLent, IsTaken, IsSent, IsGivenBack, WasFull, WasEmpty, IsSpentGet, IsSpentPut, HasNoRoom, HasTopic, HasNoTopic, HoldsNoSuch, HasEnded};
 ghost use Rattle.scq_port.specs.Kept.{KeepsHand, seen_as};
 ghost use Rattle.scq_port.specs.Ports.{bytes_of};
 ghost use Rattle.scq_port.specs.Closed.{HasClosed};
@@ -138,6 +139,25 @@ impl Port {
         ensures { (found : ℕ) × HasAsked found self.old self.new × (result ≡ (found == 0)) }
     {
         self.owner.queue.closed(&mut self.pass)
+    }
+
+    /// How many buffers its queue has.
+    pub fn capacity(&self) -> u32
+        ensures { result ≡ n_of self.now.pass.queue.setup.order }
+    {
+        self.owner.queue.capacity()
+    }
+
+    /// About how many values stand on a topic, as `Queue::count` says; None where there are not so
+    /// many topics.
+    pub fn count(&mut self, topic: u32) -> Option<u32>
+        ensures counted { IfSome result (λ count. HasCounted topic count self.old self.new) }
+        ensures no_topic { result ≡ None → HasNoTopic topic self.old self.new }
+    {
+        if topic >= self.topics {
+            return None;
+        }
+        Some(self.owner.queue.count(&mut self.pass, topic))
     }
 
     /// How many sends, takes and Full replies it had.

@@ -8,6 +8,7 @@
 mod abandoning;
 mod calls;
 mod closing;
+mod counting;
 mod counts;
 mod fulls;
 mod heap_buffer;

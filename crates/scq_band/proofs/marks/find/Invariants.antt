@@ -1,7 +1,7 @@
 use Rattle.std.proofs.Common.{◌≡◌}
 use Rattle.scq_band.specs.Buffers.{opening_of}
-use Rattle.scq_band.specs.Sights.{WasShownRun}
-use Rattle.scq_band.proofs.marks.look.Given as goal
+use Rattle.scq_band.specs.Sights.{HasFound}
+use Rattle.scq_band.proofs.marks.find.Given as goal
 
 abbrev pub ghosts-load : goal.ghosts-load
 ghosts-load g a =
@@ -9,5 +9,6 @@ ghosts-load g a =
       then =
           λ st me n later.
           (later.0.known ≡ me.0.known) × (later.1 ≡ me.1)
-          × WasShownRun a.self.now.key.setup (opening_of g.B.Buffer.contents a.self.now.key.given.value.items) me.0 later.0;
+          × HasFound a.self.now.key.setup (opening_of g.B.Buffer.contents a.self.now.key.given.value.items)
+          a.word n me.0 later.0;
     }

@@ -1,0 +1,10 @@
+use Rattle.std.proofs.Common.{◌-◌, length}
+use Rattle.scq_c.specs.Answers.{OfLend}
+use Rattle.scq_c.proofs.Rows.{WentSoFar}
+use Rattle.scq_c.proofs.many.lend_each.Given as goal
+
+abbrev pub invariant-loop-k : goal.invariant-loop-k
+invariant-loop-k l = WentSoFar OfLend l.k l.fn.out l.out l.fn.port l.port
+
+abbrev pub decreases-loop-k : goal.decreases-loop-k
+decreases-loop-k l = length l.out - l.k
