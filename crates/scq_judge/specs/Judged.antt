@@ -25,21 +25,22 @@ pub record IsHistoryOf (recorded : Recording) (opening : List (List ℕ)) (event
   pub opens : opening ≡ recorded.opening
   pub merged : IsMergeOf recorded.events events places
 
--- the history is lawful, and the text is that of its report, which tells of refusals where it is known for how many values each queue has room
-pub record IsReportOf (room : Option ℕ) (opening : List (List ℕ)) (events : List Event) (places : List Place) (text : List ℕ) : Type 0 where
+-- the history is lawful, and the text is that of its report, which tells of files by these names, and of refusals where it is known for how
+-- many values each queue has room
+pub record IsReportOf (names : List (List ℕ)) (room : Option ℕ) (opening : List (List ℕ)) (events : List Event) (places : List Place) (text : List ℕ) : Type 0 where
   pub lawful : IsLawful events
   pub report : Report
   pub is_report : IsReport room opening events report
-  pub said : text ≡ report_lines places report
+  pub said : text ≡ report_lines (record { names = names; places = places; events = events }) report
 
 -- so of the history that what was read is merged to, of which each seat's events stand in one file
-pub record IsReported (room : Option ℕ) (recorded : Recording) (text : List ℕ) : Type 0 where
+pub record IsReported (names : List (List ℕ)) (room : Option ℕ) (recorded : Recording) (text : List ℕ) : Type 0 where
   pub seats : HaveOwnFiles recorded.events
   pub opening : List (List ℕ)
   pub events : List Event
   pub places : List Place
   pub history : IsHistoryOf recorded opening events places
-  pub reported : IsReportOf room opening events places text
+  pub reported : IsReportOf names room opening events places text
 
 -- the event of this place is the first of the history that is out of place
 pub record IsOutOfPlace (recorded : Recording) (place : Place) : Type 0 where
@@ -67,12 +68,12 @@ IsCauseIn recorded (Unlawful file line) = IsOutOfPlace recorded (record { file =
 IsCauseIn recorded NoMemory = Unit {0}
 IsCauseIn recorded _ = ⊥
 
--- recordings with these contents, of which none has too many bytes, are read, and tell this report
-pub record IsJudged (room : Option ℕ) (contents : List (List ℕ)) (text : List ℕ) : Type 0 where
+-- recordings of files with these names and contents, of which none has too many bytes, are read, and tell this report
+pub record IsJudged (names : List (List ℕ)) (room : Option ℕ) (contents : List (List ℕ)) (text : List ℕ) : Type 0 where
   pub small : AreSmall contents
   pub recorded : Recording
   pub read : recording_of contents ≡ Ok recorded
-  pub reported : IsReported room recorded text
+  pub reported : IsReported names room recorded text
 
 -- or are at fault so
 pub record IsCaused (contents : List (List ℕ)) (fault : JudgeFault) : Type 0 where

@@ -5,5 +5,6 @@ pub mod Reads
 pub mod Merged
 pub mod Seats
 pub mod Counted
+pub mod Telling
 pub mod Report
 pub mod Judged

@@ -12,6 +12,7 @@ mod merging;
 mod reading;
 mod recorded;
 mod seats;
+mod telling;
 mod text;
 
 pub use counting::Counts;
