@@ -6,10 +6,11 @@ use Rattle.scq_hist.specs.declared.events.Event.{Event}
 use Rattle.scq_judge.specs.Files.{AreSmall, IsLarge}
 use Rattle.scq_judge.specs.Merged.{IsMergeOf, HasStampOfAnother}
 use Rattle.scq_judge.specs.Recording.{Recording, nothing, after_files, recording_of}
+use Rattle.scq_judge.specs.Runs.{AreOfOneRun, IsOfAnotherRun}
 use Rattle.scq_judge.specs.Seats.{HaveOwnFiles, HasSeatOfAnother}
 use Rattle.scq_judge.specs.Report.{IsReport, report_lines}
 use Rattle.scq_judge.specs.declared.judging.JudgeFault.{JudgeFault}
-use Rattle.scq_judge.specs.declared.judging.JudgeFault.TheVariants.{BadLine, Shared as SharedBy, Unlawful, ReadFault, TooLarge, NoMemory}
+use Rattle.scq_judge.specs.declared.judging.JudgeFault.TheVariants.{BadLine, Shared as SharedBy, TwoRuns, Unlawful, ReadFault, TooLarge, NoMemory}
 use Rattle.scq_judge.specs.declared.judging.Report.{Report}
 use Rattle.scq_judge.specs.declared.judging.Shared.{Shared}
 use Rattle.scq_judge.specs.declared.judging.Shared.TheVariants.{Stamp, Seat}
@@ -33,8 +34,9 @@ pub record IsReportOf (names : List (List ℕ)) (room : Option ℕ) (opening : L
   pub is_report : IsReport room opening events report
   pub said : text ≡ report_lines (record { names = names; places = places; events = events }) report
 
--- so of the history that what was read is merged to, of which each seat's events stand in one file
+-- so of the history that what was read is merged to, which is that of one run, and of which each seat's events stand in one file
 pub record IsReported (names : List (List ℕ)) (room : Option ℕ) (recorded : Recording) (text : List ℕ) : Type 0 where
+  pub runs : AreOfOneRun recorded.runs
   pub seats : HaveOwnFiles recorded.events
   pub opening : List (List ℕ)
   pub events : List Event
@@ -64,6 +66,8 @@ shared_by what place other = SharedBy what place.file place.line other.file othe
 abbrev pub IsCauseIn : Recording → JudgeFault → Type 0
 IsCauseIn recorded (SharedBy what file line other_file other_line) =
     IsSharing recorded.events what (record { file = file; line = line }) (record { file = other_file; line = other_line })
+IsCauseIn recorded (TwoRuns file run other_file other_run) =
+    IsOfAnotherRun recorded.runs (record { file = file; number = run }) (record { file = other_file; number = other_run })
 IsCauseIn recorded (Unlawful file line) = IsOutOfPlace recorded (record { file = file; line = line })
 IsCauseIn recorded NoMemory = Unit {0}
 IsCauseIn recorded _ = ⊥
@@ -97,6 +101,7 @@ pub record IsFirstBad (contents : List (List ℕ)) (file line : ℕ) : Type 0 wh
 abbrev pub IsCause : List (List ℕ) → JudgeFault → Type 0
 IsCause contents (BadLine file line) = IsFirstBad contents file line
 IsCause contents (SharedBy what file line other_file other_line) = IsCaused contents (SharedBy what file line other_file other_line)
+IsCause contents (TwoRuns file run other_file other_run) = IsCaused contents (TwoRuns file run other_file other_run)
 IsCause contents (Unlawful file line) = IsCaused contents (Unlawful file line)
 IsCause contents (TooLarge file) = IsLarge contents file × AreSoundBefore contents file
 IsCause contents (ReadFault file) = AreSoundBefore contents file

@@ -4,6 +4,7 @@ ghost use Rattle.std.specs.Prelude.{◌≡◌, ◌<◌, ◌^◌, ◌⊎◌, ℕ,
 ghost use Rattle.scq_hist.specs.Aspects.{IsLawful};
 ghost use Rattle.scq_check.specs.Verdicts.{AreWithin};
 ghost use Rattle.scq_judge.specs.Files.{HaveContents};
+ghost use Rattle.scq_judge.specs.Runs.{AreOfOneRun};
 ghost use Rattle.scq_judge.specs.Seats.{HaveOwnFiles};
 ghost use Rattle.scq_judge.specs.Judged.{shared_by, IsJudged, IsCause, IsReported, IsReportOf, IsCauseIn, IsUnlawfulAt};
 ghost use Rattle.scq_judge.specs.Reads.{HasGiven, OfEach, AreReadWhole, AreReadUntil};
@@ -13,6 +14,7 @@ use crate::counting::{Counts, count};
 use crate::merging::{MergeFault, Merged, merge};
 use crate::reading::{ReadingFault, read_recordings};
 use crate::recorded::{Place, Recorded};
+use crate::runs::first_other_run;
 use crate::seats::first_apart;
 use crate::telling::Teller;
 use crate::text::report_text;
@@ -58,6 +60,14 @@ pub enum JudgeFault {
         line: u32,
         other_file: u32,
         other_line: u32,
+    },
+    /// The file is of another run than the other file.
+    #[error("file {file} is of run {run}, file {other_file} is of run {other_run}")]
+    TwoRuns {
+        file: u32,
+        run: u64,
+        other_file: u32,
+        other_run: u64,
     },
     /// In the merged history this line's event is the first that isn't lawful.
     #[error("file {file} line {line}: event out of place")]
@@ -164,6 +174,28 @@ fn judge_recorded(
     ensures reported { IfOk result (IsReported (map string_bytes names.now) room recorded) }
     ensures refused { IfErr result (IsCauseIn recorded) }
 {
+    match first_other_run(recorded.runs()) {
+        Some((run, first)) => Err(JudgeFault::TwoRuns {
+            file: run.file,
+            run: run.number,
+            other_file: first.file,
+            other_run: first.number,
+        }),
+        None => judge_one_run(alloc, room, names, recorded),
+    }
+}
+
+// The report of what was read, where the files are of one run.
+fn judge_one_run(
+    alloc: Global,
+    room: Option<u32>,
+    names: &[String],
+    recorded: Recorded,
+) -> Result<Bytes, JudgeFault>
+    requires { AreOfOneRun recorded.runs }
+    ensures reported { IfOk result (IsReported (map string_bytes names.now) room recorded) }
+    ensures refused { IfErr result (IsCauseIn recorded) }
+{
     match first_apart(alloc, recorded.events()) {
         Ok(None) => judge_apart(alloc, room, names, recorded),
         Ok(Some(apart)) => Err(sharing(Shared::Seat, apart.place, apart.other)),
@@ -178,7 +210,8 @@ fn judge_apart(
     names: &[String],
     recorded: Recorded,
 ) -> Result<Bytes, JudgeFault>
-    requires { HaveOwnFiles recorded.events }
+    requires runs { AreOfOneRun recorded.runs }
+    requires seats { HaveOwnFiles recorded.events }
     ensures reported { IfOk result (IsReported (map string_bytes names.now) room recorded) }
     ensures refused { IfErr result (IsCauseIn recorded) }
 {

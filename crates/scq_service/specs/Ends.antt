@@ -25,7 +25,7 @@ use Rattle.scq_service.specs.Contents.{IfVisible, IsMissing, without_names}
 use Rattle.scq_service.specs.Telling.{Tells, IsOfText}
 use Rattle.scq_service.specs.Writing.{written_with, WrotePart}
 use Rattle.scq_service.specs.declared.fault.Fault.{Fault}
-use Rattle.scq_service.specs.declared.fault.Fault.TheVariants.{Words, OpenFault, ReadFault, TooLong, TooLarge, WriteFault, BadLine, NotEnabled, Unlawful, Unfinished, BadLineOf, SharedOf, UnlawfulOf, NoMemory}
+use Rattle.scq_service.specs.declared.fault.Fault.TheVariants.{Words, OpenFault, ReadFault, TooLong, TooLarge, WriteFault, BadLine, NotEnabled, Unlawful, Unfinished, BadLineOf, SharedOf, TwoRunsOf, UnlawfulOf, NoMemory}
 
 -- a count or what is visible of an object, before a call and after it
 pub record Change (A : Type 0) : Type 0 where
@@ -155,6 +155,7 @@ ReadsOver size faults end_count left names got r (Some (Unlawful line)) = ⊥
 ReadsOver size faults end_count left names got r (Some (Unfinished seat)) = ⊥
 ReadsOver size faults end_count left names got r (Some (BadLineOf file line)) = ⊥
 ReadsOver size faults end_count left names got r (Some (SharedOf what file line g m)) = ⊥
+ReadsOver size faults end_count left names got r (Some (TwoRunsOf file run g s)) = ⊥
 ReadsOver size faults end_count left names got r (Some (UnlawfulOf file line)) = ⊥
 ReadsOver size faults end_count left names got r (Some (Words fault)) = ⊥
 

@@ -12,7 +12,8 @@ pub returns-in-Ok-clause-reported : goal.returns-in-Ok-clause-reported
 returns-in-Ok-clause-reported c =
     IfOk-weaker c.judge_merged.result _ (IsReported (map string_bytes c.args.names.now) c.args.room c.args.recorded)
     (λ text h. record {
-      seats = c.requires;
+      runs = c.requires.runs;
+      seats = c.requires.seats;
       opening = c.in-Ok.merged.opening.items;
       events = c.in-Ok.merged.events.items;
       places = c.in-Ok.merged.places.items;
