@@ -2,11 +2,13 @@ import java.io.BufferedWriter;
 import java.io.IOException;
 import java.nio.file.Files;
 import java.nio.file.Path;
+import java.time.Instant;
 import java.util.concurrent.atomic.AtomicLong;
 
 /**
  * A recorder of the calls that threads make of first-in-first-out queues. It needs nothing but the platform. What it writes
- * {@code scq judge} reads: a file for each thread, a line for each event, with its stamp in front.
+ * {@code scq judge} reads: a file for each thread, in its head the number of the run, and then a line for each event, with its stamp in
+ * front.
  *
  * <ol>
  * <li>One Recorder for all threads. One Seat for each thread, made by {@code seat} with a number of its own and room for all
@@ -25,6 +27,15 @@ public final class Recorder {
     private static final byte PUT = 0, GET = 1, DONE = 2, REFUSED = 3, GOT = 4, NOTHING = 5;
 
     private final AtomicLong next = new AtomicLong();
+
+    /** The number of this run: of microseconds, and behind them three digits of the process's number. */
+    private final long run = runNumber();
+
+    private static long runNumber() {
+        Instant now = Instant.now();
+        long micros = now.getEpochSecond() * 1_000_000 + now.getNano() / 1_000;
+        return micros * 1_000 + ProcessHandle.current().pid() % 1_000;
+    }
 
     public Seat seat(int seat, int room) {
         return new Seat(seat, room);
@@ -83,6 +94,7 @@ public final class Recorder {
         /** Writes the events. The content is {@code -}: which put a value is from is all that it says. */
         public void write(Path name) throws IOException {
             try (BufferedWriter file = Files.newBufferedWriter(name)) {
+                file.write("run " + run + "\n");
                 for (int i = 0; i < count; i++) {
                     file.write(stamps[i] + " " + line(kinds[i], whats[i]) + "\n");
                 }

@@ -1,5 +1,6 @@
 /* A recorder of the calls that threads make of first-in-first-out queues, for C11 and C++11 and later. It needs no library
- * but the C library's. What it writes `scq judge` reads: a file for each thread, a line for each event, with its stamp in front.
+ * but the C library's. What it writes `scq judge` reads: a file for each thread, in its head the number of the run, and then a line for
+ * each event, with its stamp in front.
  *
  * How to use it:
  *   1. One `scq_recorder` for all threads, set by `scq_recorder_init`. One `scq_seat` for each thread, with a number of its own,
@@ -35,6 +36,7 @@
 #include <stdio.h>
 #include <stdlib.h>
 #include <string.h>
+#include <time.h>
 
 /* Files that are written as events come need POSIX (in C, no `-std=c11` without `_POSIX_C_SOURCE`). */
 #if defined(__GNUC__) && defined(__unix__) && defined(SIG_BLOCK)
@@ -42,7 +44,6 @@
 #include <fcntl.h>
 #include <pthread.h>
 #include <sched.h>
-#include <time.h>
 #include <unistd.h>
 #endif
 
@@ -99,6 +100,7 @@ typedef struct {
     scq_counter lanes; /* how many were given out */
     scq_stamps stamps;
     uint64_t first; /* the reading of the clock that counts as none */
+    uint64_t run; /* the number of the run, which stands in the head of each file */
 } scq_recorder;
 
 enum { SCQ_PUT, SCQ_GET, SCQ_DONE, SCQ_REFUSED, SCQ_GOT, SCQ_NOTHING };
@@ -226,6 +228,17 @@ static inline const char *scq_clock_fault(void) {
 #endif
 }
 
+/* A number of this run: of microseconds, and behind them three digits of the process's number. It has at most 19 digits. */
+static inline uint64_t scq_run_number(void) {
+#ifdef SCQ_HAS_FILES
+    struct timespec now = {0, 0};
+    clock_gettime(CLOCK_REALTIME, &now);
+    return ((uint64_t)now.tv_sec * 1000000 + (uint64_t)now.tv_nsec / 1000) * 1000 + (uint64_t)getpid() % 1000;
+#else
+    return (uint64_t)time(NULL) * 1000000000;
+#endif
+}
+
 /* Begins a recording with stamps of the wanted kind. Where the clock can't be used it is the counter, and stderr says why. The kind
  * that it is. */
 static inline scq_stamps scq_recorder_init_as(scq_recorder *recorder, scq_stamps wanted) {
@@ -234,6 +247,7 @@ static inline scq_stamps scq_recorder_init_as(scq_recorder *recorder, scq_stamps
     SCQ_STORE(&recorder->next, 0);
     SCQ_STORE(&recorder->lanes, 0);
     recorder->stamps = fault ? SCQ_COUNTER : wanted;
+    recorder->run = scq_run_number();
     recorder->first = 0;
 #ifdef SCQ_HAS_CLOCK
     /* A little before now, since another processor's reading may be less. */
@@ -430,13 +444,19 @@ static inline char *scq_add_line(char *at, const scq_event *event, uint64_t seat
     }
 }
 
+/* The head of a file, of at most SCQ_LINE bytes; where it ends. */
+static inline char *scq_add_head(char *at, const scq_recorder *recorder) {
+    return scq_add_word(scq_add_number(scq_add_word(at, "run "), recorder->run), "\n");
+}
+
 /* Whether the whole file was written and no event was lost. */
 static inline int scq_seat_write(const scq_seat *seat, const char *name) {
     const scq_log *log = seat->log;
     char line[SCQ_LINE];
     FILE *file = fopen(name, "w");
     if (!file) return 0;
-    int good = 1;
+    size_t head = (size_t)(scq_add_head(line, log->recorder) - line);
+    int good = fwrite(line, 1, head, file) == head;
     for (size_t i = 0; i < log->count && good; i++) {
         size_t size = (size_t)(scq_add_line(line, &log->events[i], log->seat) - line);
         good = fwrite(line, 1, size, file) == size;
@@ -590,12 +610,14 @@ static inline void scq_list_log(scq_log *log, int is_open) {
  * the file could be made. */
 static inline int scq_lanes_open(scq_seat *seat, scq_recorder *recorder, uint32_t number, uint32_t lanes, size_t room, const char *name) {
     size_t least = 4 * (size_t)lanes;
+    char head[SCQ_LINE];
     if (!scq_lanes_init(seat, recorder, number, lanes, room < least ? least : room)) return 0;
     seat->log->file = open(name, O_WRONLY | O_CREAT | O_TRUNC, 0666);
     if (seat->log->file < 0) {
         scq_seat_free(seat);
         return 0;
     }
+    if (!scq_write_all(seat->log->file, head, (size_t)(scq_add_head(head, recorder) - head))) seat->log->bad = 1;
     scq_watch();
     scq_list_log(seat->log, 1);
     return 1;

@@ -1,5 +1,5 @@
 //! A recorder of the calls that threads make of first-in-first-out queues. It needs no crate but `std`. What it writes `scq judge`
-//! reads: a file for each thread, a line for each event, with its stamp in front.
+//! reads: a file for each thread, in its head the number of the run, and then a line for each event, with its stamp in front.
 //!
 //! How to use it:
 //! 1. One `Recorder` for all threads. One `Seat` for each thread, made by `Recorder::seat` with a number of its own and room for
@@ -33,7 +33,8 @@ use std::fs::File;
 use std::io::{BufWriter, Error, Write};
 use std::path::Path;
 use std::sync::atomic::{AtomicBool, AtomicU64, AtomicUsize, Ordering};
-use std::sync::Arc;
+use std::sync::{Arc, OnceLock};
+use std::time::SystemTime;
 
 /// A value is the number of its put, and above these bits its seat: seats are below 2^24 - 1, puts of a seat below 2^40. The seat
 /// 2^24 - 1 stands for the opening tokens.
@@ -60,6 +61,8 @@ struct Shared {
     lanes: AtomicU64,
     /// The reading of the clock that counts as none; 0 where stamps are of the counter.
     first: u64,
+    /// The number of the run.
+    run: OnceLock<u64>,
 }
 
 #[derive(Clone, Copy)]
@@ -137,6 +140,7 @@ impl Recorder {
             rest: Shared {
                 lanes: AtomicU64::new(0),
                 first: 0,
+                run: OnceLock::new(),
             },
         }
     }
@@ -166,10 +170,20 @@ impl Recorder {
     /// by `exit`, `abort` or a signal. SIGKILL leaves out what wasn't written yet.
     #[cfg(target_os = "linux")]
     pub fn open(&self, seat: u32, lanes: u32, room: usize, name: impl AsRef<Path>) -> Result<Seat<'_>, Error> {
-        let file = File::create(name)?;
+        let mut file = File::create(name)?;
+        file.write_all(self.head().as_bytes())?;
         let made = self.make(seat, lanes, room.max(4 * lanes as usize), Some(file));
         ending::list(&made.log);
         Ok(made)
+    }
+
+    // The head of each file. The number of the run is of microseconds, and behind them three digits of the process's number.
+    fn head(&self) -> String {
+        let run = self.rest.run.get_or_init(|| {
+            let since = SystemTime::now().duration_since(SystemTime::UNIX_EPOCH).unwrap_or_default();
+            since.as_micros() as u64 * 1000 + u64::from(std::process::id()) % 1000
+        });
+        format!("run {run}\n")
     }
 
     fn make(&self, seat: u32, lanes: u32, room: usize, file: Option<File>) -> Seat<'_> {
@@ -332,7 +346,9 @@ impl Seat<'_> {
     /// Writes the events of a seat that has no file open.
     pub fn write(&self, name: impl AsRef<Path>) -> Result<(), Error> {
         let events = unsafe { &*self.log.events.get() };
-        write_events(File::create(name)?, self.log.seat, events)
+        let mut file = File::create(name)?;
+        file.write_all(self.recorder.head().as_bytes())?;
+        write_events(file, self.log.seat, events)
     }
 
     /// Writes the rest of a seat that has its file open. Whether all was written.

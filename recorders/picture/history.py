@@ -17,7 +17,7 @@ CONTENT = rb"(?:-|(?:[0-9a-f]{2}){1,64})"
 START = rb"start \d{1,19} (?:put \d{1,19} " + CONTENT + rb"|get \d{1,19})"
 END = rb"end \d{1,19} (?:done|nothing|spent|got (?:o|\d{1,19}) \d{1,19} " + CONTENT + rb")"
 EVENT = rb"(?:\d{1,19} )?(?:" + START + rb"|" + END + rb")"
-BAD = re.compile(rb"^(?!(?:" + EVENT + rb"|opening " + CONTENT + rb")$).*$", re.MULTILINE)
+BAD = re.compile(rb"^(?!(?:" + EVENT + rb"|opening " + CONTENT + rb"|run [0-9]{1,19})$).*$", re.MULTILINE)
 
 
 class Event:
@@ -72,6 +72,7 @@ class Source:
         self.at = self.first_line = self.block_at = self.block_line = 0
         self.last = -1  # the last stamp of the lines before
         self.events, self.rest, self.ended, self.openings = [], b"", False, []
+        self.is_headed = False
         try:
             self.file = open(name, "rb", buffering=0)
         except OSError as fault:
@@ -80,7 +81,7 @@ class Source:
     def move(self, at, line):
         self.file.seek(at)
         self.at, self.first_line, self.rest, self.ended, self.events = at, line, b"", False, []
-        self.last = -1
+        self.last, self.is_headed = -1, False
 
     def fill(self):
         """Reads the next block with an event in it, if there is one."""
@@ -114,7 +115,9 @@ class Source:
             for it in lines:
                 line += 1
                 words = it.split(b" ")
-                if self.has_stamps and words[0] != b"opening":
+                if words[0] == b"run":
+                    self.head(line)
+                elif self.has_stamps and words[0] != b"opening":
                     stamp = int(words.pop(0))
                     if stamp <= last:
                         raise ValueError
@@ -129,8 +132,14 @@ class Source:
             raise self.bad(line) from None
         self.first_line, self.last = line, last
 
+    def head(self, line):
+        """The number of the run stands once, behind the opening tokens and before the events."""
+        if self.is_headed or self.last >= 0 or self.events:
+            raise self.bad(line)
+        self.is_headed = True
+
     def opening(self, line, words):
-        if len(words) != 2 or self.number or self.last >= 0 or self.events:
+        if len(words) != 2 or self.number or self.is_headed or self.last >= 0 or self.events:
             raise self.bad(line)
         if line > len(self.openings):
             self.openings.append(words[1])
@@ -218,7 +227,7 @@ class Merged:
 
 
 def has_stamps(names):
-    """Whether the first line that is no opening has a stamp."""
+    """Whether the first event has a stamp."""
     for name in names:
         try:
             with open(name, "rb") as file:
@@ -226,7 +235,7 @@ def has_stamps(names):
                     line = file.readline(LINE + 1)
                     if not line:
                         break
-                    if not line.startswith(b"opening "):
+                    if not line.startswith((b"opening ", b"run ")):
                         return not line.startswith((b"start ", b"end "))
         except OSError as fault:
             raise Refusal(f"{spelled(name)}: {fault.strerror}") from None

@@ -43,7 +43,7 @@ class Aspect:
         self.rule = NAMES.get(name, name)
         waiting = re.search(r"\b(\d{1,19}) waiting\b", text)
         self.waiting = int(waiting.group(1)) if waiting else None
-        self.never = text.endswith(", never got")
+        self.never = bool(re.search(r", never got(;|$)", text))
 
 
 def spelled(name):

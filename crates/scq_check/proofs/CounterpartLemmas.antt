@@ -2,7 +2,7 @@
 use Rattle.std.proofs.Common.{◌≡◌, ℕ, ◌<◌, List, Option, Some, None, length, slice_get, sym, subst, refl}
 use Rattle.std.specs.Prelude.{IfSome, MatchOption}
 use Rattle.std.proofs.lemmas.Option.{slice_get_within}
-use Rattle.scq_hist.specs.Aspects.{IsFreshAt, IsOnceAt, IsEmptyRightAt}
+use Rattle.scq_hist.specs.Aspects.{IsFreshAt, IsOnceAt, IsInOrderAt, IsEmptyRightAt}
 use Rattle.scq_hist.specs.Calls.{IsGot}
 use Rattle.scq_hist.specs.First.{IsFirstFailing}
 use Rattle.scq_hist.specs.Lookups.{got_name, IsFirstNamed}
@@ -38,6 +38,12 @@ no_repeat events e event at none name d names lt before = let n = named_there ev
 pub no_unfresh : (opening : List (List ℕ)) (events : List Event) (e : ℕ) (event : Event) → slice_get events e ≡ Some event → got_name event ≡ None → IsFreshAt opening events e
 no_unfresh opening events e event at none s seat queue name content call =
     let n = named_there events e event name at (record { seat = seat; content = content; ends = call.ends }) in absurd cc
+
+-- a Got that overtakes names a put
+pub no_overtaking : (opening : List (List ℕ)) (events : List Event) (e : ℕ) (event : Event) → slice_get events e ≡ Some event → got_name event ≡ None
+    → IsInOrderAt opening events e
+no_overtaking opening events e event at none s seat number queue start content get put =
+    let n = named_there events e event (Of seat number) at (record { seat = get.seat; content = get.content; ends = get.call.ends }) in absurd cc
 
 pub origin_there : (opening : List (List ℕ)) (events : List Event) (e : ℕ) (event : Event) (name : PutName) (origin : Origin) → slice_get events e ≡ Some event
     → got_name event ≡ Some name → IsOrigin opening events name origin → IsOfOrigin opening events e origin

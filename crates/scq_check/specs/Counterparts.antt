@@ -22,7 +22,7 @@ IsOrigin opening events (Of seat number) Nobody = NoPutBefore events seat number
 IsOrigin opening events (Of seat number) (Token token) = ⊥
 IsOrigin opening events (Of seat number) (Start s) = StartsPut events seat number s
 
--- fresh: the Got at position e names a put, and this is where that was put
+-- fresh, and in order: the Got at position e names a put, and this is where that was put
 pub record IsOfOrigin (opening : List (List ℕ)) (events : List Event) (e : ℕ) (origin : Origin) : Type 0 where
   pub name : PutName
   pub named : Names events e name

@@ -18,6 +18,7 @@ pub record HaveCounterparts (opening : List (List ℕ)) (events : List Event) (b
   pub fresh : AtFirst (IsOfOrigin opening events) breaches.fresh.first breaches.counterparts.fresh
   pub once : AtFirst (IsRepeatOf events) breaches.once.first breaches.counterparts.once
   pub in_order : AtFirst (IsOvertaking opening events) breaches.in_order.first breaches.counterparts.in_order
+  pub overtaker : AtFirst (IsOfOrigin opening events) breaches.in_order.first breaches.counterparts.overtaker
   pub empty_right : AtFirst (IsEmptyBeside opening events) breaches.empty_right.first breaches.counterparts.empty_right
   pub accepted : AtFirst (IsOfRefused events) breaches.accepted.first breaches.counterparts.accepted
 
@@ -31,6 +32,7 @@ pub record AreWithin (m : ℕ) (breaches : Breaches) : Type 0 where
   pub origin : IfSome breaches.counterparts.fresh (IsOriginWithin m)
   pub named : IfSome breaches.counterparts.once (λ d. d < m)
   pub overtaken : IfSome breaches.counterparts.in_order (IsToldWithin m)
+  pub overtaker : IfSome breaches.counterparts.overtaker (IsOriginWithin m)
   pub waiting : IfSome breaches.counterparts.empty_right (IsToldWithin m)
   pub refused : IfSome breaches.counterparts.accepted (λ d. d < m)
 

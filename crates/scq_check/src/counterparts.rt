@@ -38,6 +38,8 @@ pub struct Counterparts {
     pub once: Option<usize>,
     /// The puts that were finished before the one that was got had started, and wait when its get ends.
     pub in_order: Option<Waiting>,
+    /// Where the put that was got, which overtakes them, was put.
+    pub overtaker: Option<Origin>,
     /// The puts that are finished when the get ends with Nothing, and wait then.
     pub empty_right: Option<Waiting>,
     /// The position at which the put that the Got names ended with Spent.
@@ -113,6 +115,24 @@ pub(crate) fn overtaken(
     let e = overtaking.first?;
     let (start, queue) = put_got_at(tables, events, e)?;
     Some(find_waiting(tables, opening, events, queue, start, e))
+}
+
+/// Of the Gots that overtake: where the put that the first of them has got was put.
+pub(crate) fn overtaker_first(
+    tables: &Tables,
+    opening: &[Bytes],
+    events: &[Event],
+    overtaking: &Failures,
+) -> Option<Origin>
+    requires tables { IsTables events.now tables.now }
+    requires failures { AreFailures (IsInOrderAt opening.now events.now) overtaking.now }
+    requires within { IfSome overtaking.now.first (λ e. e < length events.now) }
+    ensures first { AtFirst (IsOfOrigin opening.now events.now) overtaking.now.first result }
+    ensures within { IfSome result (IsOriginWithin (length events.now)) }
+{
+    let e = overtaking.first?;
+    let name = got_name(&events[e])?;
+    Some(origin_of(tables, opening, events, name))
 }
 
 /// Of the wrong Empties: the puts that wait when the first of them ends.

@@ -8,7 +8,8 @@ ghost use Rattle.scq_check.specs.Refused.{IsAcceptedAt};
 ghost use Rattle.scq_check.specs.Verdicts.{AreWithin, HaveCounterparts, IsVerdict, aspect_line, verdict_lines};
 
 use crate::counterparts::{
-    Counterparts, named_first, origin_first, overtaken, refused_first, waiting_beside,
+    Counterparts, named_first, origin_first, overtaken, overtaker_first, refused_first,
+    waiting_beside,
 };
 use crate::failures::Failures;
 use crate::freshness::{repeated, unfresh};
@@ -78,6 +79,7 @@ pub fn find_breaches(
         fresh: origin_first(&tables, opening, events, &fresh),
         once: named_first(&tables, events, &once),
         in_order: overtaken(&tables, opening, events, &in_order),
+        overtaker: overtaker_first(&tables, opening, events, &in_order),
         empty_right: waiting_beside(&tables, opening, events, &empty_right),
         accepted: refused,
     };

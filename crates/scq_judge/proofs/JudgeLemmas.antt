@@ -9,9 +9,9 @@ use Rattle.scq_judge.specs.Judged.{IsHistoryOf, IsOutOfPlace, IsCause, IsCauseIn
 use Rattle.scq_judge.specs.Merged.{IsMergeOf, HasEqual, HasStampOfAnother}
 use Rattle.scq_judge.specs.Seats.{HasSeatOfAnother, IsAt}
 use Rattle.scq_judge.specs.Reads.{AreQuiet, AreReadUntil, AreReadWhole}
-use Rattle.scq_judge.specs.Recording.{Recording, AreOf, nothing, after_files, recording_of}
+use Rattle.scq_judge.specs.Recording.{Recording, AreOf, AreAllOf, nothing, after_files, recording_of}
 use Rattle.scq_judge.specs.declared.judging.JudgeFault.{JudgeFault}
-use Rattle.scq_judge.specs.declared.judging.JudgeFault.TheVariants.{BadLine, Shared as SharedBy, Unlawful, ReadFault, TooLarge, NoMemory}
+use Rattle.scq_judge.specs.declared.judging.JudgeFault.TheVariants.{BadLine, Shared as SharedBy, TwoRuns, Unlawful, ReadFault, TooLarge, NoMemory}
 use Rattle.scq_judge.specs.declared.judging.Shared.{Shared}
 use Rattle.scq_judge.specs.declared.judging.Shared.TheVariants.{Stamp, Seat}
 use Rattle.scq_judge.specs.declared.merging.MergeFault.{MergeFault}
@@ -19,6 +19,7 @@ use Rattle.scq_judge.specs.declared.merging.MergeFault.TheVariants as merging
 use Rattle.scq_judge.specs.declared.reading.ReadingFault.{ReadingFault}
 use Rattle.scq_judge.specs.declared.reading.ReadingFault.TheVariants as reading
 use Rattle.scq_judge.specs.declared.recorded.Place.{Place}
+use Rattle.scq_judge.specs.declared.recorded.RunOf.{RunOf}
 use Rattle.scq_judge.specs.declared.recorded.Stamped.{Stamped}
 
 -- there are as many places as events
@@ -33,6 +34,8 @@ cause_of_history recorded opening events places history (BadLine file line) (inl
 cause_of_history recorded opening events places history (BadLine file line) (inr h) = absurd h
 cause_of_history recorded opening events places history (SharedBy what file line g m) (inl is) = absurd cc
 cause_of_history recorded opening events places history (SharedBy what file line g m) (inr h) = absurd h
+cause_of_history recorded opening events places history (TwoRuns file run g s) (inl is) = absurd cc
+cause_of_history recorded opening events places history (TwoRuns file run g s) (inr h) = absurd h
 cause_of_history recorded opening events places history (Unlawful file line) (inl is) = absurd cc
 cause_of_history recorded opening events places history (Unlawful file line) (inr h) = record {
   opening = opening;
@@ -60,6 +63,7 @@ pub cause_of_recorded : (contents : List (List ℕ)) (recorded : Recording) → 
     → IsCauseIn recorded fault → IsCause contents fault
 cause_of_recorded contents recorded small read (BadLine file line) h = absurd h
 cause_of_recorded contents recorded small read (SharedBy what file line g m) h = record { small = small; recorded = recorded; read = read; cause = h }
+cause_of_recorded contents recorded small read (TwoRuns file run g s) h = record { small = small; recorded = recorded; read = read; cause = h }
 cause_of_recorded contents recorded small read (Unlawful file line) h = record { small = small; recorded = recorded; read = read; cause = h }
 cause_of_recorded contents recorded small read (ReadFault file) h = absurd h
 cause_of_recorded contents recorded small read (TooLarge file) h = absurd h
@@ -128,9 +132,15 @@ file_of_place count recorded place all h =
     (All-permutation (λ s. IsFile count s.place.file) recorded.events merged.merged merged.is_merged.same all)
     (subst (λ ps. slice_get ps h.e ≡ Some place) merged.places_are h.stands)
 
+file_of_run : (count : ℕ) (runs : List RunOf) (i : ℕ) (run : RunOf) → All (λ run. IsFile count run.file) runs → slice_get runs i ≡ Some run → IsFile count run.file
+file_of_run count runs i run all is =
+    let within = slice_get_within runs i run is in
+    let here : get_or runs i run ≡ run = (let read = slice_get-get_or runs i run within in cc) in
+    subst (λ (z : RunOf). IsFile count z.file) here (all i run within)
+
 -- all were read where what was read is at fault
 pub until_recorded : {S : Type 0} (faults end_count : S → ℕ) (left : S → Option (List ℕ)) (olds news : List S) (recorded : Recording)
-    → AreOf (length olds) recorded.events → AreReadWhole faults end_count left (length olds) olds news → (fault : JudgeFault) → IsCauseIn recorded fault
+    → AreAllOf (length olds) recorded → AreReadWhole faults end_count left (length olds) olds news → (fault : JudgeFault) → IsCauseIn recorded fault
     → AreReadUntil faults end_count left olds news fault
 until_recorded {S} faults end_count left olds news recorded all whole fault h = by fault h where
   quiet : AreQuiet faults olds news
@@ -139,9 +149,14 @@ until_recorded {S} faults end_count left olds news recorded all whole fault h = 
   by : (fault : JudgeFault) → IsCauseIn recorded fault → AreReadUntil faults end_count left olds news fault
   by (BadLine file line) h = absurd h
   by (SharedBy what file line g m) h =
-      let files = files_of_shared (length olds) recorded.events what (record { file = file; line = line }) (record { file = g; line = m }) all h in
+      let files = files_of_shared (length olds) recorded.events what (record { file = file; line = line }) (record { file = g; line = m }) all.events h in
       (files.0, files.1, whole)
-  by (Unlawful file line) h = (file_of_place (length olds) recorded (record { file = file; line = line }) all h, whole)
+  by (TwoRuns file run g s) h = (
+    file_of_run (length olds) recorded.runs h.i (record { file = file; number = run }) all.runs h.here,
+    file_of_run (length olds) recorded.runs h.k (record { file = g; number = s }) all.runs h.there,
+    whole,
+  )
+  by (Unlawful file line) h = (file_of_place (length olds) recorded (record { file = file; line = line }) all.events h, whole)
   by (ReadFault file) h = absurd h
   by (TooLarge file) h = absurd h
   by NoMemory h = quiet

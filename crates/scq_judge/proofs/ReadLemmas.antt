@@ -12,9 +12,9 @@ use Rattle.scq_lines.specs.Lines.{lines_of}
 use Rattle.scq_lines.proofs.Cutting.{lines_of-some-more, lines_of-none-more}
 use Rattle.scq_judge.specs.Entry.{said_by}
 use Rattle.scq_judge.specs.Files.{IsFile, AreSmall, most_bytes}
-use Rattle.scq_judge.specs.Recording.{Recording, AreOf, after_entry, after_lines, after_line, after_file, after_files, event_with, if_file, may_follow, nothing, with_entry}
+use Rattle.scq_judge.specs.Recording.{Recording, AreAllOf, after_entry, after_lines, after_line, after_file, after_files, event_with, if_file, may_follow, nothing, with_entry}
 use Rattle.scq_judge.specs.declared.entry.Entry.{Entry}
-use Rattle.scq_judge.specs.declared.entry.Entry.TheVariants.{Opening, Happens}
+use Rattle.scq_judge.specs.declared.entry.Entry.TheVariants.{Run, Opening, Happens}
 
 -- a line that ends is taken
 pub taken_more : (file : ℕ) (lone : Bool) (before : ℕ) (r next : Recording) (text : List ℕ) (n : ℕ) → IsFirstByte (is_byte 10) text (Some n)
@@ -141,7 +141,7 @@ on_ok (Err e) P Q to p = p
 
 -- the events that are added are of the file that is read
 pub files_more : (count file number : ℕ) (lone : Bool) (r next : Recording) (line : List ℕ) → IsFile count file → after_line file lone number r line ≡ Some next
-    → AreOf count r.events → AreOf count next.events
+    → AreAllOf count r → AreAllOf count next
 files_more count file number lone r next line is read all = by (said_by line) read where
   if_some : (b : Bool) (x : Recording) → (if b then Some x else None) ≡ Some next → x ≡ next
   if_some true x e = cc
@@ -151,14 +151,21 @@ files_more count file number lone r next line is read all = by (said_by line) re
   event_of None event = is
   event_of (Some stamp) event = is
 
-  by : (o : Option Entry) → after_entry file lone number r o ≡ Some next → AreOf count next.events
+  by : (o : Option Entry) → after_entry file lone number r o ≡ Some next → AreAllOf count next
   by None e = absurd cc
+  by (Some (Run run)) e =
+      subst (λ (z : Recording). AreAllOf count z) (if_some (may_follow file lone r.last (Run run)) (with_entry file number r (Run run)) e)
+      (record { runs = All-push (λ run. IsFile count run.file) r.runs (record { file = file; number = run }) all.runs is; events = all.events })
   by (Some (Opening content)) e =
-      subst (λ (z : Recording). AreOf count z.events) (if_some (may_follow file lone r.last (Opening content)) (with_entry file number r (Opening content)) e) all
+      subst (λ (z : Recording). AreAllOf count z) (if_some (may_follow file lone r.last (Opening content)) (with_entry file number r (Opening content)) e)
+      (record { runs = all.runs; events = all.events })
   by (Some (Happens stamp event)) e =
-      subst (λ (z : Recording). AreOf count z.events)
+      subst (λ (z : Recording). AreAllOf count z)
       (if_some (may_follow file lone r.last (Happens stamp event)) (with_entry file number r (Happens stamp event)) e)
-      (All-push (λ s. IsFile count s.place.file) r.events (event_with file number stamp event) all (event_of stamp event))
+      (record {
+        runs = all.runs;
+        events = All-push (λ s. IsFile count s.place.file) r.events (event_with file number stamp event) all.events (event_of stamp event);
+      })
 
 -- what was read of so many files, and of one file more
 after_push : (lone : Bool) (file : ℕ) (r mid next : Recording) (contents : List (List ℕ)) (content : List ℕ) → after_files lone file r contents ≡ Ok mid

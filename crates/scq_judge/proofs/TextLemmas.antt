@@ -20,7 +20,7 @@ grown t0 t1 t2 t3 t4 t5 t6 t7 t8 t9 t10 t11 a b c d e f g h i j k none p1 p2 p3 
     p11 ∙ ap (λ z. z ++ k) r10
 
 -- a part more behind those that a text had at first
-behind : (first before after front part : List ℕ) → before ≡ first ++ front → after ≡ before ++ part → after ≡ first ++ (front ++ part)
+pub behind : (first before after front part : List ℕ) → before ≡ first ++ front → after ≡ before ++ part → after ≡ first ++ (front ++ part)
 behind first before after front part had more = more ∙ ap (λ z. z ++ part) had ∙ append_assoc first front part
 
 -- five more

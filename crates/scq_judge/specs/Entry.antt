@@ -1,12 +1,14 @@
--- What a line of a recording says: an opening token, or an event with its stamp in front, or with none
-use Rattle.std.specs.Prelude.{ℕ, ◌-◌, ◌^◌, nat_le, List, [], ◌∷◌, Option, Some, None, length, if◌then◌else◌}
+-- What a line of a recording says: the number of the run, an opening token, or an event with its stamp in front, or with none
+use Rattle.std.specs.Prelude.{ℕ, ◌-◌, ◌^◌, nat_le, List, [], ◌∷◌, Option, Some, None, length, codes, if◌then◌else◌}
+use Rattle.std.specs.Option.{option_map}
+use Rattle.std.specs.Str.{bytes_eq}
 use Rattle.scq_lines.specs.Lines.{fields_of, number_of}
 use Rattle.scq_check.specs.Line.{said}
 use Rattle.scq_check.specs.declared.line.Bounds.{Bounds}
 use Rattle.scq_check.specs.declared.line.Line.{Line}
 use Rattle.scq_check.specs.declared.line.Line.TheVariants as line
 use Rattle.scq_judge.specs.declared.entry.Entry.{Entry}
-use Rattle.scq_judge.specs.declared.entry.Entry.TheVariants.{Opening, Happens}
+use Rattle.scq_judge.specs.declared.entry.Entry.TheVariants.{Run, Opening, Happens}
 
 -- seats, queues and numbers of opening tokens are below 2^32
 abbrev pub wide : Bounds
@@ -22,9 +24,14 @@ abbrev pub stamped : ℕ → Option Line → Option Entry
 stamped stamp (Some (line.Happens event)) = Some (Happens (Some stamp) event)
 stamped stamp _ = None
 
+-- the number of the run, of `run R`
+abbrev pub run_in : List (List ℕ) → Option Entry
+run_in (number ∷ []) = option_map Run (number_of number)
+run_in _ = None
+
 -- a first field that is a number is a stamp
 abbrev pub entry_in : Option ℕ → List ℕ → List (List ℕ) → Option Entry
-entry_in None field more = bare (said wide (field ∷ more))
+entry_in None field more = if bytes_eq field (codes "run") then run_in more else bare (said wide (field ∷ more))
 entry_in (Some stamp) field more = stamped stamp (said wide more)
 
 abbrev pub entry_of : List (List ℕ) → Option Entry

@@ -6,10 +6,11 @@ use Rattle.scq_hist.specs.declared.events.Event.{Event}
 use Rattle.scq_judge.specs.Files.{AreSmall, IsLarge}
 use Rattle.scq_judge.specs.Merged.{IsMergeOf, HasStampOfAnother}
 use Rattle.scq_judge.specs.Recording.{Recording, nothing, after_files, recording_of}
+use Rattle.scq_judge.specs.Runs.{AreOfOneRun, IsOfAnotherRun}
 use Rattle.scq_judge.specs.Seats.{HaveOwnFiles, HasSeatOfAnother}
 use Rattle.scq_judge.specs.Report.{IsReport, report_lines}
 use Rattle.scq_judge.specs.declared.judging.JudgeFault.{JudgeFault}
-use Rattle.scq_judge.specs.declared.judging.JudgeFault.TheVariants.{BadLine, Shared as SharedBy, Unlawful, ReadFault, TooLarge, NoMemory}
+use Rattle.scq_judge.specs.declared.judging.JudgeFault.TheVariants.{BadLine, Shared as SharedBy, TwoRuns, Unlawful, ReadFault, TooLarge, NoMemory}
 use Rattle.scq_judge.specs.declared.judging.Report.{Report}
 use Rattle.scq_judge.specs.declared.judging.Shared.{Shared}
 use Rattle.scq_judge.specs.declared.judging.Shared.TheVariants.{Stamp, Seat}
@@ -25,21 +26,23 @@ pub record IsHistoryOf (recorded : Recording) (opening : List (List ℕ)) (event
   pub opens : opening ≡ recorded.opening
   pub merged : IsMergeOf recorded.events events places
 
--- the history is lawful, and the text is that of its report, which tells of refusals where it is known for how many values each queue has room
-pub record IsReportOf (room : Option ℕ) (opening : List (List ℕ)) (events : List Event) (places : List Place) (text : List ℕ) : Type 0 where
+-- the history is lawful, and the text is that of its report, which tells of files by these names, and of refusals where it is known for how
+-- many values each queue has room
+pub record IsReportOf (names : List (List ℕ)) (room : Option ℕ) (opening : List (List ℕ)) (events : List Event) (places : List Place) (text : List ℕ) : Type 0 where
   pub lawful : IsLawful events
   pub report : Report
   pub is_report : IsReport room opening events report
-  pub said : text ≡ report_lines places report
+  pub said : text ≡ report_lines (record { names = names; places = places; events = events }) report
 
--- so of the history that what was read is merged to, of which each seat's events stand in one file
-pub record IsReported (room : Option ℕ) (recorded : Recording) (text : List ℕ) : Type 0 where
+-- so of the history that what was read is merged to, which is that of one run, and of which each seat's events stand in one file
+pub record IsReported (names : List (List ℕ)) (room : Option ℕ) (recorded : Recording) (text : List ℕ) : Type 0 where
+  pub runs : AreOfOneRun recorded.runs
   pub seats : HaveOwnFiles recorded.events
   pub opening : List (List ℕ)
   pub events : List Event
   pub places : List Place
   pub history : IsHistoryOf recorded opening events places
-  pub reported : IsReportOf room opening events places text
+  pub reported : IsReportOf names room opening events places text
 
 -- the event of this place is the first of the history that is out of place
 pub record IsOutOfPlace (recorded : Recording) (place : Place) : Type 0 where
@@ -63,16 +66,18 @@ shared_by what place other = SharedBy what place.file place.line other.file othe
 abbrev pub IsCauseIn : Recording → JudgeFault → Type 0
 IsCauseIn recorded (SharedBy what file line other_file other_line) =
     IsSharing recorded.events what (record { file = file; line = line }) (record { file = other_file; line = other_line })
+IsCauseIn recorded (TwoRuns file run other_file other_run) =
+    IsOfAnotherRun recorded.runs (record { file = file; number = run }) (record { file = other_file; number = other_run })
 IsCauseIn recorded (Unlawful file line) = IsOutOfPlace recorded (record { file = file; line = line })
 IsCauseIn recorded NoMemory = Unit {0}
 IsCauseIn recorded _ = ⊥
 
--- recordings with these contents, of which none has too many bytes, are read, and tell this report
-pub record IsJudged (room : Option ℕ) (contents : List (List ℕ)) (text : List ℕ) : Type 0 where
+-- recordings of files with these names and contents, of which none has too many bytes, are read, and tell this report
+pub record IsJudged (names : List (List ℕ)) (room : Option ℕ) (contents : List (List ℕ)) (text : List ℕ) : Type 0 where
   pub small : AreSmall contents
   pub recorded : Recording
   pub read : recording_of contents ≡ Ok recorded
-  pub reported : IsReported room recorded text
+  pub reported : IsReported names room recorded text
 
 -- or are at fault so
 pub record IsCaused (contents : List (List ℕ)) (fault : JudgeFault) : Type 0 where
@@ -96,6 +101,7 @@ pub record IsFirstBad (contents : List (List ℕ)) (file line : ℕ) : Type 0 wh
 abbrev pub IsCause : List (List ℕ) → JudgeFault → Type 0
 IsCause contents (BadLine file line) = IsFirstBad contents file line
 IsCause contents (SharedBy what file line other_file other_line) = IsCaused contents (SharedBy what file line other_file other_line)
+IsCause contents (TwoRuns file run other_file other_run) = IsCaused contents (TwoRuns file run other_file other_run)
 IsCause contents (Unlawful file line) = IsCaused contents (Unlawful file line)
 IsCause contents (TooLarge file) = IsLarge contents file × AreSoundBefore contents file
 IsCause contents (ReadFault file) = AreSoundBefore contents file

@@ -4,6 +4,8 @@ pub mod Files
 pub mod Reads
 pub mod Merged
 pub mod Seats
+pub mod Runs
 pub mod Counted
+pub mod Telling
 pub mod Report
 pub mod Judged

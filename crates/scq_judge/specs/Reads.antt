@@ -5,7 +5,7 @@ use Rattle.scq_outside.specs.Counts.{Rose}
 use Rattle.scq_outside.specs.Taking.{Took}
 use Rattle.scq_judge.specs.Files.{IsFile}
 use Rattle.scq_judge.specs.declared.judging.JudgeFault.{JudgeFault}
-use Rattle.scq_judge.specs.declared.judging.JudgeFault.TheVariants.{BadLine, Shared, Unlawful, ReadFault, TooLarge, NoMemory}
+use Rattle.scq_judge.specs.declared.judging.JudgeFault.TheVariants.{BadLine, Shared, TwoRuns, Unlawful, ReadFault, TooLarge, NoMemory}
 use Rattle.scq_judge.specs.declared.reading.ReadingFault.{ReadingFault}
 use Rattle.scq_judge.specs.declared.reading.ReadingFault.TheVariants as reading
 
@@ -38,11 +38,13 @@ abbrev pub HasFailed : {S : Type 0} → (S → ℕ) → List S → List S → �
 HasFailed {S} faults olds news file = (d : S) → Rose (faults (slice_index_or olds (file - 1) d)) (faults (slice_index_or news (file - 1) d))
 
 -- how far sources were read where recordings were refused: those before the file of the fault to their ends, and all of them where an event
--- is out of place, or shares what it may not with one of another file
+-- is out of place, or shares what it may not with one of another file, and where two files are of two runs
 abbrev pub AreReadUntil : {S : Type 0} → (S → ℕ) → (S → ℕ) → (S → Option (List ℕ)) → List S → List S → JudgeFault → Type 0
 AreReadUntil faults end_count left olds news (BadLine file line) =
     IsFile (length olds) file × AreReadWhole faults end_count left (file - 1) olds news × AreQuiet faults olds news
 AreReadUntil faults end_count left olds news (Shared what file line other_file other_line) =
+    IsFile (length olds) file × IsFile (length olds) other_file × AreReadWhole faults end_count left (length olds) olds news
+AreReadUntil faults end_count left olds news (TwoRuns file run other_file other_run) =
     IsFile (length olds) file × IsFile (length olds) other_file × AreReadWhole faults end_count left (length olds) olds news
 AreReadUntil faults end_count left olds news (Unlawful file line) =
     IsFile (length olds) file × AreReadWhole faults end_count left (length olds) olds news

@@ -5,28 +5,34 @@ use Rattle.scq_hist.specs.declared.events.Event.{Event}
 use Rattle.scq_judge.specs.Entry.{said_by}
 use Rattle.scq_judge.specs.Files.{IsFile}
 use Rattle.scq_judge.specs.declared.entry.Entry.{Entry}
-use Rattle.scq_judge.specs.declared.entry.Entry.TheVariants.{Opening, Happens}
+use Rattle.scq_judge.specs.declared.entry.Entry.TheVariants.{Run, Opening, Happens}
 use Rattle.scq_judge.specs.declared.recorded.Last.{Last}
-use Rattle.scq_judge.specs.declared.recorded.Last.TheVariants.{NoEvent, Bare, Stamp}
+use Rattle.scq_judge.specs.declared.recorded.Last.TheVariants.{NoEvent, Headed, Bare, Stamp}
 use Rattle.scq_judge.specs.declared.recorded.Place.{Place}
+use Rattle.scq_judge.specs.declared.recorded.RunOf.{RunOf}
 use Rattle.scq_judge.specs.declared.recorded.Stamped.{Stamped}
 
--- what has been read: the opening tokens, the events, and of the file that is being read what stood in front of its last event
+-- what has been read: of which run each file is that says so, the opening tokens, the events, and of the file that is being read what stood
+-- in front of its last event
 pub record Recording : Type 0 where
+  pub runs : List RunOf
   pub opening : List (List ℕ)
   pub events : List Stamped
   pub last : Last
 
 -- before the first file
 abbrev pub nothing : Recording
-nothing = record { opening = []; events = []; last = NoEvent }
+nothing = record { runs = []; opening = []; events = []; last = NoEvent }
 
--- whether an entry may follow in the file of this number. Opening tokens stand at the head of file 1; stamps rise; events without
--- stamps are those of a lone file, which has no others
+-- whether an entry may follow in the file of this number. Opening tokens stand at the head of file 1, and then the run's number, once, before
+-- the file's events; stamps rise; events without stamps are those of a lone file, which has no others
 abbrev pub may_follow : ℕ → Bool → Last → Entry → Bool
+may_follow file lone NoEvent (Run number) = true
 may_follow file lone NoEvent (Opening content) = file == 1
 may_follow file lone NoEvent (Happens None event) = lone
 may_follow file lone NoEvent (Happens (Some stamp) event) = true
+may_follow file lone Headed (Happens None event) = lone
+may_follow file lone Headed (Happens (Some stamp) event) = true
 may_follow file lone Bare (Happens None event) = true
 may_follow file lone (Stamp last) (Happens (Some stamp) event) = nat_lt last stamp
 may_follow file lone _ _ = false
@@ -42,6 +48,7 @@ last_of None = Bare
 
 -- with what the line of this number says
 abbrev pub with_entry : ℕ → ℕ → Recording → Entry → Recording
+with_entry file line r (Run number) = record r { runs = r.runs ++ (record { file = file; number = number }) ∷ []; last = Headed }
 with_entry file line r (Opening content) = record r { opening = r.opening ++ content ∷ [] }
 with_entry file line r (Happens stamp event) = record r { events = r.events ++ event_with file line stamp event ∷ []; last = last_of stamp }
 
@@ -83,6 +90,10 @@ after_files lone file r (content ∷ contents) =
 abbrev pub recording_of : List (List ℕ) → Result Recording Place
 recording_of contents = after_files (length contents == 1) 1 nothing contents
 
--- For private calls: each event is of one of so many files
+-- For private calls: each event is of one of so many files, and so is each number of a run
 abbrev pub AreOf : ℕ → List Stamped → Type 0
 AreOf count events = All (λ s. IsFile count s.place.file) events
+
+pub record AreAllOf (count : ℕ) (r : Recording) : Type 0 where
+  pub runs : All (λ run. IsFile count run.file) r.runs
+  pub events : AreOf count r.events

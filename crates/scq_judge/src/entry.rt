@@ -1,7 +1,9 @@
 //! What a line of a recording says.
 
-ghost use Rattle.std.specs.Prelude.{◌≡◌, ◌∷◌, IfOk};
-ghost use Rattle.scq_judge.specs.Entry.{bare, stamped, said_by};
+ghost use Rattle.std.specs.Prelude.{◌≡◌, ◌∷◌, codes, IfOk};
+ghost use Rattle.std.specs.Str.{bytes_eq};
+ghost use Rattle.scq_lines.specs.Lines.{fields_after};
+ghost use Rattle.scq_judge.specs.Entry.{bare, run_in, stamped, said_by};
 
 use scq_check::{Bounds, Line, read_fields};
 use scq_hist::Event;
@@ -22,6 +24,8 @@ pub(crate) const MOST_LINE: usize = 1024;
 /// What a line says.
 #[derive(Drop)]
 pub(crate) enum Entry {
+    /// The number of the run that the file is of.
+    Run { number: u64 },
     Opening { content: Bytes },
     Happens { stamp: Option<u64>, event: Event },
 }
@@ -35,12 +39,32 @@ pub(crate) fn read_entry(alloc: Global, line: &[u8]) -> Result<Option<Entry>, No
     }
     let (field, rest) = first_field(line);
     match number(field) {
+        None if is_run(field) => Ok(run(rest)),
         None => Ok(bare(read_fields(alloc, WIDE, field, rest)?)),
         Some(stamp) => match next_field(rest) {
             None => Ok(None),
             Some((word, rest)) => Ok(stamped(stamp, read_fields(alloc, WIDE, word, rest)?)),
         },
     }
+}
+
+// Whether a field is the word in front of the run's number.
+fn is_run(field: &[u8]) -> bool
+    ensures { result ≡ bytes_eq field.now (codes "run") }
+{
+    field == b"run".as_slice()
+}
+
+// `run R`, from the space on.
+fn run(rest: &[u8]) -> Option<Entry>
+    ensures { result ≡ run_in (fields_after rest.now) }
+{
+    let (field, rest) = next_field(rest)?;
+    if next_field(rest).is_some() {
+        return None;
+    }
+    let number = number(field)?;
+    Some(Entry::Run { number })
 }
 
 fn bare(line: Option<Line>) -> Option<Entry>

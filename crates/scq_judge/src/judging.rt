@@ -1,9 +1,10 @@
 //! Recordings read, merged and judged.
 
-ghost use Rattle.std.specs.Prelude.{◌≡◌, ◌<◌, ◌^◌, ◌⊎◌, ℕ, List, length, IfOk, IfErr, IfSome, OnOk};
+ghost use Rattle.std.specs.Prelude.{◌≡◌, ◌<◌, ◌^◌, ◌⊎◌, ℕ, List, length, map, string_bytes, IfOk, IfErr, IfSome, OnOk};
 ghost use Rattle.scq_hist.specs.Aspects.{IsLawful};
 ghost use Rattle.scq_check.specs.Verdicts.{AreWithin};
 ghost use Rattle.scq_judge.specs.Files.{HaveContents};
+ghost use Rattle.scq_judge.specs.Runs.{AreOfOneRun};
 ghost use Rattle.scq_judge.specs.Seats.{HaveOwnFiles};
 ghost use Rattle.scq_judge.specs.Judged.{shared_by, IsJudged, IsCause, IsReported, IsReportOf, IsCauseIn, IsUnlawfulAt};
 ghost use Rattle.scq_judge.specs.Reads.{HasGiven, OfEach, AreReadWhole, AreReadUntil};
@@ -13,7 +14,9 @@ use crate::counting::{Counts, count};
 use crate::merging::{MergeFault, Merged, merge};
 use crate::reading::{ReadingFault, read_recordings};
 use crate::recorded::{Place, Recorded};
+use crate::runs::first_other_run;
 use crate::seats::first_apart;
+use crate::telling::Teller;
 use crate::text::report_text;
 use scq_check::{Breaches, Failures, find_breaches, find_wrong_refusals, first_unlawful};
 use scq_hist::Event;
@@ -57,6 +60,14 @@ pub enum JudgeFault {
         line: u32,
         other_file: u32,
         other_line: u32,
+    },
+    /// The file is of another run than the other file.
+    #[error("file {file} is of run {run}, file {other_file} is of run {other_run}")]
+    TwoRuns {
+        file: u32,
+        run: u64,
+        other_file: u32,
+        other_run: u64,
     },
     /// In the merged history this line's event is the first that isn't lawful.
     #[error("file {file} line {line}: event out of place")]
@@ -115,17 +126,18 @@ impl From<MergeFault> for JudgeFault {
 }
 
 /// The report of the history that the recordings of these files are merged to, as text. Where it is told for how many values
-/// each queue has room, refused puts are judged too. Memory and time grow little faster than
+/// each queue has room, refused puts are judged too. Files are told by these names, in the order of the sources. Memory and time grow little faster than
 /// the number of events. Files are read one after the other, up to the first that has a fault of its own.
 pub fn judge_recordings<S: Source>(
     alloc: Global,
     room: Option<u32>,
+    names: &[String],
     sources: &mut [S],
 ) -> Result<Bytes, JudgeFault>
     requires { length sources.old < 2 ^ 31 }
 
     // What the contents tell, where all are visible: the report, or the cause of a fault.
-    ensures judged { IfOk result (λ text. (contents : List (List ℕ)) → HaveContents S.left sources.old contents → IsJudged room contents text) }
+    ensures judged { IfOk result (λ text. (contents : List (List ℕ)) → HaveContents S.left sources.old contents → IsJudged (map string_bytes names.now) room contents text) }
     ensures refused { IfErr result (λ fault. (contents : List (List ℕ)) → HaveContents S.left sources.old contents → IsCause contents fault) }
 
     // How far the sources were read, visible or not.
@@ -134,7 +146,7 @@ pub fn judge_recordings<S: Source>(
     ensures given { OfEach (length sources.old) (HasGiven S.faults S.left) sources.old sources.new }
 {
     match read_recordings(alloc, sources) {
-        Ok(recorded) => judge_recorded(alloc, room, recorded),
+        Ok(recorded) => judge_recorded(alloc, room, names, recorded),
         Err(fault) => Err(JudgeFault::from(fault)),
     }
 }
@@ -153,39 +165,82 @@ fn sharing(what: Shared, place: Place, other: Place) -> JudgeFault
 }
 
 // The report of what was read, as text.
-fn judge_recorded(alloc: Global, room: Option<u32>, recorded: Recorded) -> Result<Bytes, JudgeFault>
-    ensures reported { IfOk result (IsReported room recorded) }
+fn judge_recorded(
+    alloc: Global,
+    room: Option<u32>,
+    names: &[String],
+    recorded: Recorded,
+) -> Result<Bytes, JudgeFault>
+    ensures reported { IfOk result (IsReported (map string_bytes names.now) room recorded) }
+    ensures refused { IfErr result (IsCauseIn recorded) }
+{
+    match first_other_run(recorded.runs()) {
+        Some((run, first)) => Err(JudgeFault::TwoRuns {
+            file: run.file,
+            run: run.number,
+            other_file: first.file,
+            other_run: first.number,
+        }),
+        None => judge_one_run(alloc, room, names, recorded),
+    }
+}
+
+// The report of what was read, where the files are of one run.
+fn judge_one_run(
+    alloc: Global,
+    room: Option<u32>,
+    names: &[String],
+    recorded: Recorded,
+) -> Result<Bytes, JudgeFault>
+    requires { AreOfOneRun recorded.runs }
+    ensures reported { IfOk result (IsReported (map string_bytes names.now) room recorded) }
     ensures refused { IfErr result (IsCauseIn recorded) }
 {
     match first_apart(alloc, recorded.events()) {
-        Ok(None) => judge_apart(alloc, room, recorded),
+        Ok(None) => judge_apart(alloc, room, names, recorded),
         Ok(Some(apart)) => Err(sharing(Shared::Seat, apart.place, apart.other)),
         Err(NoMemory) => Err(JudgeFault::NoMemory),
     }
 }
 
 // The report of what was read, where each seat's events stand in one file.
-fn judge_apart(alloc: Global, room: Option<u32>, recorded: Recorded) -> Result<Bytes, JudgeFault>
-    requires { HaveOwnFiles recorded.events }
-    ensures reported { IfOk result (IsReported room recorded) }
+fn judge_apart(
+    alloc: Global,
+    room: Option<u32>,
+    names: &[String],
+    recorded: Recorded,
+) -> Result<Bytes, JudgeFault>
+    requires runs { AreOfOneRun recorded.runs }
+    requires seats { HaveOwnFiles recorded.events }
+    ensures reported { IfOk result (IsReported (map string_bytes names.now) room recorded) }
     ensures refused { IfErr result (IsCauseIn recorded) }
 {
     match merge(alloc, recorded) {
-        Ok(merged) => judge_merged(alloc, room, &merged),
+        Ok(merged) => judge_merged(alloc, room, names, &merged),
         Err(fault) => Err(JudgeFault::from(fault)),
     }
 }
 
 // The report of a merged history, as text.
-fn judge_merged(alloc: Global, room: Option<u32>, merged: &Merged) -> Result<Bytes, JudgeFault>
+fn judge_merged(
+    alloc: Global,
+    room: Option<u32>,
+    names: &[String],
+    merged: &Merged,
+) -> Result<Bytes, JudgeFault>
     requires { length merged.now.places.items ≡ length merged.now.events.items }
-    ensures reported { IfOk result (IsReportOf room merged.now.opening.items merged.now.events.items merged.now.places.items) }
+    ensures reported { IfOk result (IsReportOf (map string_bytes names.now) room merged.now.opening.items merged.now.events.items merged.now.places.items) }
     ensures refused { IfErr result (λ fault. (fault ≡ JudgeFault.NoMemory) ⊎ IsUnlawfulAt merged.now.events.items merged.now.places.items fault) }
 {
     let opening = merged.opening.as_slice();
     let events = merged.events.as_slice();
     let places = merged.places.as_slice();
-    judge_history(alloc, room, opening, events, places)
+    let teller = Teller {
+        names,
+        places,
+        events,
+    };
+    judge_history(alloc, room, opening, teller)
 }
 
 // The report of a history, as text.
@@ -193,20 +248,19 @@ fn judge_history(
     alloc: Global,
     room: Option<u32>,
     opening: &[Bytes],
-    events: &[Event],
-    places: &[Place],
+    teller: Teller<'_>,
 ) -> Result<Bytes, JudgeFault>
-    requires { length places.now ≡ length events.now }
-    ensures reported { IfOk result (IsReportOf room opening.now events.now places.now) }
-    ensures refused { IfErr result (λ fault. (fault ≡ JudgeFault.NoMemory) ⊎ IsUnlawfulAt events.now places.now fault) }
+    requires { length teller.places.now ≡ length teller.events.now }
+    ensures reported { IfOk result (IsReportOf (map string_bytes teller.entry.names.now) room opening.now teller.entry.events.now teller.entry.places.now) }
+    ensures refused { IfErr result (λ fault. (fault ≡ JudgeFault.NoMemory) ⊎ IsUnlawfulAt teller.entry.events.now teller.entry.places.now fault) }
 {
-    let first = first_unlawful(alloc, events)?;
+    let first = first_unlawful(alloc, teller.events)?;
     match first {
         Some(e) => {
-            let Place { file, line } = places[e];
+            let Place { file, line } = teller.places[e];
             Err(JudgeFault::Unlawful { file, line })
         }
-        None => judge_lawful(alloc, room, opening, events, places),
+        None => judge_lawful(alloc, room, opening, teller),
     }
 }
 
@@ -215,16 +269,15 @@ fn judge_lawful(
     alloc: Global,
     room: Option<u32>,
     opening: &[Bytes],
-    events: &[Event],
-    places: &[Place],
+    teller: Teller<'_>,
 ) -> Result<Bytes, JudgeFault>
-    requires many { length places.now ≡ length events.now }
-    requires lawful { IsLawful events.now }
-    ensures reported { IfOk result (IsReportOf room opening.now events.now places.now) }
+    requires many { length teller.places.now ≡ length teller.events.now }
+    requires lawful { IsLawful teller.events.now }
+    ensures reported { IfOk result (IsReportOf (map string_bytes teller.entry.names.now) room opening.now teller.entry.events.now teller.entry.places.now) }
     ensures refused { IfErr result (λ fault. fault ≡ JudgeFault.NoMemory) }
 {
-    let report = report_on(alloc, room, opening, events)?;
-    let text = report_text(alloc, places, &report)?;
+    let report = report_on(alloc, room, opening, teller.events)?;
+    let text = report_text(alloc, teller, &report)?;
     Ok(text)
 }
 

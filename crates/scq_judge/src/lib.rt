@@ -11,9 +11,11 @@ mod judging;
 mod merging;
 mod reading;
 mod recorded;
+mod runs;
 mod seats;
+mod telling;
 mod text;
 
 pub use counting::Counts;
 pub use judging::{JudgeFault, Report, Shared, judge_recordings};
-pub use recorded::Place;
+pub use recorded::{Place, RunOf};

@@ -18,6 +18,13 @@ pub struct Place {
     pub line: u32,
 }
 
+/// The run that a file is of. Files are numbered from 1.
+#[derive(Clone, Copy)]
+pub struct RunOf {
+    pub file: u32,
+    pub number: u64,
+}
+
 /// An event with its stamp and its place.
 #[derive(Drop)]
 pub struct Stamped {
@@ -26,17 +33,19 @@ pub struct Stamped {
     pub event: Event,
 }
 
-/// What stood in front of the last event of a file.
+/// What stood in front of the last event of a file, or that there was none, behind the run's number.
 #[derive(Clone, Copy)]
 pub enum Last {
     NoEvent,
+    Headed,
     Bare,
     Stamp(u64),
 }
 
-/// The opening tokens and the events of all files that were read. Contracts see the lists.
+/// The numbers of runs, the opening tokens and the events of all files that were read. Contracts see the lists.
 #[derive(Drop)]
 pub struct Recorded {
+    runs: Vec<RunOf>,
     opening: Vec<Bytes>,
     events: Vec<Stamped>,
     last: Last,
@@ -47,7 +56,7 @@ impl Model for Recorded {
 
     ghost Value = { Recording };
 
-    ghost view = { λ r. record { opening = r.opening.items; events = r.events.items; last = r.last } };
+    ghost view = { λ r. record { runs = r.runs.items; opening = r.opening.items; events = r.events.items; last = r.last } };
 }
 
 /// Why a line was not taken.
@@ -77,15 +86,18 @@ impl<T: Drop> From<AllocFailed<T>> for LineFault {
     }
 }
 
-/// Whether an entry may follow in this file. Opening tokens stand at the head of file 1; stamps rise; events without
-/// stamps are those of a lone file, which has no others.
+/// Whether an entry may follow in this file. Opening tokens stand at the head of file 1, and then the run's number, once, before the file's
+/// events; stamps rise; events without stamps are those of a lone file, which has no others.
 fn may_follow(file: u32, lone: bool, last: Last, entry: &Entry) -> bool
     ensures { result ≡ may_follow file lone last entry.now }
 {
     match (last, entry) {
+        (Last::NoEvent, Entry::Run { .. }) => true,
         (Last::NoEvent, Entry::Opening { .. }) => file == 1,
         (Last::NoEvent, Entry::Happens { stamp: None, .. }) => lone,
         (Last::NoEvent, Entry::Happens { stamp: Some(_), .. }) => true,
+        (Last::Headed, Entry::Happens { stamp: None, .. }) => lone,
+        (Last::Headed, Entry::Happens { stamp: Some(_), .. }) => true,
         (Last::Bare, Entry::Happens { stamp: None, .. }) => true,
         (
             Last::Stamp(last),
@@ -103,6 +115,7 @@ impl Recorded {
         ensures { result ≡ nothing }
     {
         Recorded {
+            runs: Vec::new(alloc),
             opening: Vec::new(alloc),
             events: Vec::new(alloc),
             last: Last::NoEvent,
@@ -141,6 +154,13 @@ impl Recorded {
         ensures { OnOk result (self.new ≡ with_entry place.file place.line self.old entry) }
     {
         match entry {
+            Entry::Run { number } => {
+                let file = place.file;
+                self.runs
+                    .push(RunOf { file, number })
+                    .map_err(|_| NoMemory)?;
+                self.last = Last::Headed;
+            }
             Entry::Opening { content } => self.opening.push(content).map_err(|_| NoMemory)?,
             Entry::Happens { stamp: None, event } => {
                 let stamp = u64::from(place.line);
@@ -171,6 +191,13 @@ impl Recorded {
         Ok(())
     }
 
+    /// Of which run each file is that says so.
+    pub(crate) fn runs(&self) -> &[RunOf]
+        ensures { result.now ≡ self.now.runs }
+    {
+        self.runs.as_slice()
+    }
+
     /// The events of all files, in the order in which they were read.
     pub(crate) fn events(&self) -> &[Stamped]
         ensures { result.now ≡ self.now.events }
@@ -184,6 +211,7 @@ impl Recorded {
         ensures events { result.1.items ≡ self.events }
     {
         let Recorded {
+            runs: _,
             opening,
             events,
             last: _,

@@ -4,61 +4,63 @@ ghost use Rattle.std.specs.Prelude.{◌≡◌, ◌<◌, ◌^◌, ◌++◌, decim
 ghost use Rattle.scq_check.specs.Counterparts.{IsOriginWithin};
 ghost use Rattle.scq_check.specs.Verdicts.{AreWithin};
 ghost use Rattle.scq_check.specs.Waiting.{IsToldWithin};
-ghost use Rattle.scq_judge.specs.Report.{beside_line, count_line, event_text, full_line, got_text, origin_line, origin_text, place_text, plain_line, put_text, report_lines, verdict_text, waiting_line, waiting_text};
+ghost use Rattle.scq_judge.specs.Telling.{told_by};
+ghost use Rattle.scq_judge.specs.Report.{beside_line, count_line, event_text, full_line, got_text, order_line, origin_line, origin_text, overtaker_text, plain_line, put_text, report_lines, verdict_text, waiting_line, waiting_text};
 
 use crate::judging::Report;
-use crate::recorded::Place;
-use itoa::Buffer;
+use crate::telling::{Teller, add_event_at, add_number, add_token};
 use scq_check::{Failures, Origin, Waiting};
 use scq_word::{Bytes, NoMemory};
 use std::alloc::Global;
 
-/// A report as text: a line for each aspect and one for each count. `NAME holds`, or `NAME fails at file F line L, COUNT in all`, and
-/// behind that what the event at that line stands against.
+/// A report as text: a line for each aspect and one for each count. `NAME holds`, or `NAME fails at EVENT, COUNT in all`, and
+/// behind that what this event stands against.
 pub(crate) fn report_text(
     alloc: Global,
-    places: &[Place],
+    teller: Teller<'_>,
     report: &Report,
 ) -> Result<Bytes, NoMemory>
-    requires within { AreWithin (length places.now) report.now.breaches }
-    requires full_within { IfSome report.now.full (λ full. IfSome full.first (λ e. e < length places.now)) }
-    ensures { IfOk result (λ text. text ≡ report_lines places.now report.now) }
+    requires many { length teller.places.now ≡ length teller.events.now }
+    requires within { AreWithin (length teller.events.now) report.now.breaches }
+    requires full_within { IfSome report.now.full (λ full. IfSome full.first (λ e. e < length teller.events.now)) }
+    ensures { IfOk result (λ text. text ≡ report_lines (told_by teller.entry) report.now) }
 {
     let breaches = &report.breaches;
     let told = &breaches.counterparts;
     let mut text = Vec::new(alloc);
-    add_origin(&mut text, b"fresh", places, &breaches.fresh, told.fresh)?;
+    add_origin(&mut text, b"fresh", teller, &breaches.fresh, told.fresh)?;
     add_beside(
         &mut text,
         b"once",
-        places,
+        teller,
         &breaches.once,
         b"; named before at ",
         told.once,
     )?;
-    add_waiting(
+    add_order(
         &mut text,
         b"in order",
-        places,
+        teller,
         &breaches.in_order,
         told.in_order,
+        told.overtaker,
     )?;
     add_waiting(
         &mut text,
         b"empty",
-        places,
+        teller,
         &breaches.empty_right,
         told.empty_right,
     )?;
     add_beside(
         &mut text,
         b"refused never got",
-        places,
+        teller,
         &breaches.accepted,
         b"; put refused at ",
         told.accepted,
     )?;
-    add_full(&mut text, places, report.full)?;
+    add_full(&mut text, teller, report.full)?;
     add_count(&mut text, b"events", report.counts.events)?;
     add_count(&mut text, b"queues", report.counts.queues)?;
     add_count(&mut text, b"seats", report.counts.seats)?;
@@ -71,13 +73,14 @@ pub(crate) fn report_text(
 fn add_plain(
     text: &mut Vec<u8>,
     name: &[u8],
-    places: &[Place],
+    teller: Teller<'_>,
     failures: &Failures,
 ) -> Result<(), NoMemory>
-    requires { IfSome failures.now.first (λ e. e < length places.now) }
-    ensures { OnOk result (text.new.items ≡ text.old.items ++ plain_line name.now places.now failures.now) }
+    requires many { length teller.places.now ≡ length teller.events.now }
+    requires within { IfSome failures.now.first (λ e. e < length teller.events.now) }
+    ensures { OnOk result (text.new.items ≡ text.old.items ++ plain_line name.now (told_by teller.entry) failures.now) }
 {
-    add_verdict(text, name, places, failures)?;
+    add_verdict(text, name, teller, failures)?;
     text.extend_from_slice(b"\n")?;
     Ok(())
 }
@@ -86,26 +89,28 @@ fn add_plain(
 fn add_origin(
     text: &mut Vec<u8>,
     name: &[u8],
-    places: &[Place],
+    teller: Teller<'_>,
     failures: &Failures,
     origin: Option<Origin>,
 ) -> Result<(), NoMemory>
-    requires first { IfSome failures.now.first (λ e. e < length places.now) }
-    requires origin { IfSome origin (IsOriginWithin (length places.now)) }
-    ensures { OnOk result (text.new.items ≡ text.old.items ++ origin_line name.now places.now failures.now origin) }
+    requires many { length teller.places.now ≡ length teller.events.now }
+    requires first { IfSome failures.now.first (λ e. e < length teller.events.now) }
+    requires origin { IfSome origin (IsOriginWithin (length teller.events.now)) }
+    ensures { OnOk result (text.new.items ≡ text.old.items ++ origin_line name.now (told_by teller.entry) failures.now origin) }
 {
-    add_verdict(text, name, places, failures)?;
+    add_verdict(text, name, teller, failures)?;
     if let Some(origin) = origin {
-        add_put_of(text, places, origin)?;
+        add_put_of(text, teller, origin)?;
     }
     text.extend_from_slice(b"\n")?;
     Ok(())
 }
 
 // Where the put that a Got names was put.
-fn add_put_of(text: &mut Vec<u8>, places: &[Place], origin: Origin) -> Result<(), NoMemory>
-    requires { IsOriginWithin (length places.now) origin }
-    ensures { OnOk result (text.new.items ≡ text.old.items ++ origin_text places.now (Some origin)) }
+fn add_put_of(text: &mut Vec<u8>, teller: Teller<'_>, origin: Origin) -> Result<(), NoMemory>
+    requires many { length teller.places.now ≡ length teller.events.now }
+    requires within { IsOriginWithin (length teller.events.now) origin }
+    ensures { OnOk result (text.new.items ≡ text.old.items ++ origin_text (told_by teller.entry) (Some origin)) }
 {
     match origin {
         Origin::Nobody => {
@@ -114,25 +119,26 @@ fn add_put_of(text: &mut Vec<u8>, places: &[Place], origin: Origin) -> Result<()
             )?;
         }
         Origin::Token { number } => {
-            text.extend_from_slice(b"; names the opening at file 1 line ")?;
-            add_number(text, number as u64 + 1)?;
+            text.extend_from_slice(b"; names the opening at ")?;
+            add_token(text, teller, number as usize)?;
         }
         Origin::Start { position } => {
             text.extend_from_slice(b"; names the put started at ")?;
-            add_place(text, places[position])?;
+            add_event_at(text, teller, position)?;
         }
     }
     Ok(())
 }
 
 // The line on refusals, where they are judged.
-fn add_full(text: &mut Vec<u8>, places: &[Place], full: Option<Failures>) -> Result<(), NoMemory>
-    requires { IfSome full (λ full. IfSome full.first (λ e. e < length places.now)) }
-    ensures { OnOk result (text.new.items ≡ text.old.items ++ full_line places.now full) }
+fn add_full(text: &mut Vec<u8>, teller: Teller<'_>, full: Option<Failures>) -> Result<(), NoMemory>
+    requires many { length teller.places.now ≡ length teller.events.now }
+    requires within { IfSome full (λ full. IfSome full.first (λ e. e < length teller.events.now)) }
+    ensures { OnOk result (text.new.items ≡ text.old.items ++ full_line (told_by teller.entry) full) }
 {
     match full {
         None => Ok(()),
-        Some(failures) => add_plain(text, b"full", places, &failures),
+        Some(failures) => add_plain(text, b"full", teller, &failures),
     }
 }
 
@@ -140,17 +146,18 @@ fn add_full(text: &mut Vec<u8>, places: &[Place], full: Option<Failures>) -> Res
 fn add_beside(
     text: &mut Vec<u8>,
     name: &[u8],
-    places: &[Place],
+    teller: Teller<'_>,
     failures: &Failures,
     words: &[u8],
     event: Option<usize>,
 ) -> Result<(), NoMemory>
-    requires first { IfSome failures.now.first (λ e. e < length places.now) }
-    requires event { IfSome event (λ e. e < length places.now) }
-    ensures { OnOk result (text.new.items ≡ text.old.items ++ beside_line name.now places.now failures.now words.now event) }
+    requires many { length teller.places.now ≡ length teller.events.now }
+    requires first { IfSome failures.now.first (λ e. e < length teller.events.now) }
+    requires event { IfSome event (λ e. e < length teller.events.now) }
+    ensures { OnOk result (text.new.items ≡ text.old.items ++ beside_line name.now (told_by teller.entry) failures.now words.now event) }
 {
-    add_verdict(text, name, places, failures)?;
-    add_event(text, words, places, event)?;
+    add_verdict(text, name, teller, failures)?;
+    add_event(text, words, teller, event)?;
     text.extend_from_slice(b"\n")?;
     Ok(())
 }
@@ -159,35 +166,76 @@ fn add_beside(
 fn add_waiting(
     text: &mut Vec<u8>,
     name: &[u8],
-    places: &[Place],
+    teller: Teller<'_>,
     failures: &Failures,
     waiting: Option<Waiting>,
 ) -> Result<(), NoMemory>
-    requires first { IfSome failures.now.first (λ e. e < length places.now) }
-    requires waiting { IfSome waiting (IsToldWithin (length places.now)) }
-    ensures { OnOk result (text.new.items ≡ text.old.items ++ waiting_line name.now places.now failures.now waiting) }
+    requires many { length teller.places.now ≡ length teller.events.now }
+    requires first { IfSome failures.now.first (λ e. e < length teller.events.now) }
+    requires waiting { IfSome waiting (IsToldWithin (length teller.events.now)) }
+    ensures { OnOk result (text.new.items ≡ text.old.items ++ waiting_line name.now (told_by teller.entry) failures.now waiting) }
 {
-    add_verdict(text, name, places, failures)?;
-    add_puts(text, places, waiting)?;
+    add_verdict(text, name, teller, failures)?;
+    add_puts(text, teller, waiting)?;
     text.extend_from_slice(b"\n")?;
+    Ok(())
+}
+
+// The line of an aspect whose first breach overtakes puts that wait.
+fn add_order(
+    text: &mut Vec<u8>,
+    name: &[u8],
+    teller: Teller<'_>,
+    failures: &Failures,
+    waiting: Option<Waiting>,
+    overtaker: Option<Origin>,
+) -> Result<(), NoMemory>
+    requires many { length teller.places.now ≡ length teller.events.now }
+    requires first { IfSome failures.now.first (λ e. e < length teller.events.now) }
+    requires waiting { IfSome waiting (IsToldWithin (length teller.events.now)) }
+    requires overtaker { IfSome overtaker (IsOriginWithin (length teller.events.now)) }
+    ensures { OnOk result (text.new.items ≡ text.old.items ++ order_line name.now (told_by teller.entry) failures.now waiting overtaker) }
+{
+    add_verdict(text, name, teller, failures)?;
+    add_puts(text, teller, waiting)?;
+    add_overtaker(text, teller, overtaker)?;
+    text.extend_from_slice(b"\n")?;
+    Ok(())
+}
+
+// Where the put that has overtaken others was put.
+fn add_overtaker(
+    text: &mut Vec<u8>,
+    teller: Teller<'_>,
+    overtaker: Option<Origin>,
+) -> Result<(), NoMemory>
+    requires many { length teller.places.now ≡ length teller.events.now }
+    requires within { IfSome overtaker (IsOriginWithin (length teller.events.now)) }
+    ensures { OnOk result (text.new.items ≡ text.old.items ++ overtaker_text (told_by teller.entry) overtaker) }
+{
+    if let Some(Origin::Start { position }) = overtaker {
+        text.extend_from_slice(b"; overtaken by the put started at ")?;
+        add_event_at(text, teller, position)?;
+    }
     Ok(())
 }
 
 fn add_verdict(
     text: &mut Vec<u8>,
     name: &[u8],
-    places: &[Place],
+    teller: Teller<'_>,
     failures: &Failures,
 ) -> Result<(), NoMemory>
-    requires { IfSome failures.now.first (λ e. e < length places.now) }
-    ensures { OnOk result (text.new.items ≡ text.old.items ++ verdict_text name.now places.now failures.now) }
+    requires many { length teller.places.now ≡ length teller.events.now }
+    requires within { IfSome failures.now.first (λ e. e < length teller.events.now) }
+    ensures { OnOk result (text.new.items ≡ text.old.items ++ verdict_text name.now (told_by teller.entry) failures.now) }
 {
     text.extend_from_slice(name)?;
     match failures.first {
         None => text.extend_from_slice(b" holds")?,
         Some(e) => {
             text.extend_from_slice(b" fails at ")?;
-            add_place(text, places[e])?;
+            add_event_at(text, teller, e)?;
             text.extend_from_slice(b", ")?;
             add_number(text, failures.count as u64)?;
             text.extend_from_slice(b" in all")?;
@@ -200,43 +248,50 @@ fn add_verdict(
 fn add_event(
     text: &mut Vec<u8>,
     words: &[u8],
-    places: &[Place],
+    teller: Teller<'_>,
     event: Option<usize>,
 ) -> Result<(), NoMemory>
-    requires { IfSome event (λ e. e < length places.now) }
-    ensures { OnOk result (text.new.items ≡ text.old.items ++ event_text words.now places.now event) }
+    requires many { length teller.places.now ≡ length teller.events.now }
+    requires within { IfSome event (λ e. e < length teller.events.now) }
+    ensures { OnOk result (text.new.items ≡ text.old.items ++ event_text words.now (told_by teller.entry) event) }
 {
     if let Some(at) = event {
         text.extend_from_slice(words)?;
-        add_place(text, places[at])?;
+        add_event_at(text, teller, at)?;
     }
     Ok(())
 }
 
 // How many puts wait, and of the one that is told where it was put and where it is got.
-fn add_puts(text: &mut Vec<u8>, places: &[Place], waiting: Option<Waiting>) -> Result<(), NoMemory>
-    requires { IfSome waiting (IsToldWithin (length places.now)) }
-    ensures { OnOk result (text.new.items ≡ text.old.items ++ waiting_text places.now waiting) }
+fn add_puts(
+    text: &mut Vec<u8>,
+    teller: Teller<'_>,
+    waiting: Option<Waiting>,
+) -> Result<(), NoMemory>
+    requires many { length teller.places.now ≡ length teller.events.now }
+    requires within { IfSome waiting (IsToldWithin (length teller.events.now)) }
+    ensures { OnOk result (text.new.items ≡ text.old.items ++ waiting_text (told_by teller.entry) waiting) }
 {
     if let Some(told) = waiting {
         text.extend_from_slice(b"; ")?;
         add_number(text, told.tokens.count as u64 + told.puts.count as u64)?;
         text.extend_from_slice(b" waiting, one put at ")?;
-        add_put(text, places, told.token, told.put)?;
-        add_got(text, places, told.got)?;
+        add_put(text, teller, told.token, told.put)?;
+        add_got(text, teller, told.got)?;
     }
     Ok(())
 }
 
-fn add_got(text: &mut Vec<u8>, places: &[Place], got: Option<usize>) -> Result<(), NoMemory>
-    requires { IfSome got (λ e. e < length places.now) }
-    ensures { OnOk result (text.new.items ≡ text.old.items ++ got_text places.now got) }
+fn add_got(text: &mut Vec<u8>, teller: Teller<'_>, got: Option<usize>) -> Result<(), NoMemory>
+    requires many { length teller.places.now ≡ length teller.events.now }
+    requires within { IfSome got (λ e. e < length teller.events.now) }
+    ensures { OnOk result (text.new.items ≡ text.old.items ++ got_text (told_by teller.entry) got) }
 {
     match got {
         None => text.extend_from_slice(b", never got")?,
         Some(at) => {
             text.extend_from_slice(b", got at ")?;
-            add_place(text, places[at])?;
+            add_event_at(text, teller, at)?;
         }
     }
     Ok(())
@@ -245,31 +300,20 @@ fn add_got(text: &mut Vec<u8>, places: &[Place], got: Option<usize>) -> Result<(
 // Where the one that is told was put: the line of its opening token, or that of its End.
 fn add_put(
     text: &mut Vec<u8>,
-    places: &[Place],
+    teller: Teller<'_>,
     token: Option<usize>,
     put: Option<usize>,
 ) -> Result<(), NoMemory>
+    requires many { length teller.places.now ≡ length teller.events.now }
     requires token { IfSome token (λ number. number < 2 ^ 32) }
-    requires put { IfSome put (λ d. d < length places.now) }
-    ensures { OnOk result (text.new.items ≡ text.old.items ++ put_text places.now token put) }
+    requires put { IfSome put (λ d. d < length teller.events.now) }
+    ensures { OnOk result (text.new.items ≡ text.old.items ++ put_text (told_by teller.entry) token put) }
 {
     match (token, put) {
-        (Some(number), _) => {
-            text.extend_from_slice(b"file 1 line ")?;
-            add_number(text, number as u64 + 1)
-        }
-        (None, Some(d)) => add_place(text, places[d]),
+        (Some(number), _) => add_token(text, teller, number),
+        (None, Some(d)) => add_event_at(text, teller, d),
         (None, None) => Ok(()),
     }
-}
-
-fn add_place(text: &mut Vec<u8>, place: Place) -> Result<(), NoMemory>
-    ensures { OnOk result (text.new.items ≡ text.old.items ++ place_text place) }
-{
-    text.extend_from_slice(b"file ")?;
-    add_number(text, u64::from(place.file))?;
-    text.extend_from_slice(b" line ")?;
-    add_number(text, u64::from(place.line))
 }
 
 fn add_count(text: &mut Vec<u8>, name: &[u8], count: usize) -> Result<(), NoMemory>
@@ -279,12 +323,5 @@ fn add_count(text: &mut Vec<u8>, name: &[u8], count: usize) -> Result<(), NoMemo
     text.extend_from_slice(b" ")?;
     add_number(text, count as u64)?;
     text.extend_from_slice(b"\n")?;
-    Ok(())
-}
-
-fn add_number(text: &mut Vec<u8>, number: u64) -> Result<(), NoMemory>
-    ensures { OnOk result (text.new.items ≡ text.old.items ++ decimal number) }
-{
-    text.extend_from_slice(Buffer::new().format(number).as_bytes())?;
     Ok(())
 }

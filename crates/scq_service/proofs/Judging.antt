@@ -100,6 +100,8 @@ ends_refused {S} left faults end_count room names table opens olds news w fault 
       (have, (judge.BadLine file line, refl, (until, told_of left olds (λ contents. IsCause contents (judge.BadLine file line)) cause)), unwritten)
   by (judge.Shared what file line g m) cause until =
       (have, (judge.Shared what file line g m, refl, (until, told_of left olds (λ contents. IsCause contents (judge.Shared what file line g m)) cause)), unwritten)
+  by (judge.TwoRuns file run g s) cause until =
+      (have, (judge.TwoRuns file run g s, refl, (until, told_of left olds (λ contents. IsCause contents (judge.TwoRuns file run g s)) cause)), unwritten)
   by (judge.Unlawful file line) cause until =
       (have, (judge.Unlawful file line, refl, (until, told_of left olds (λ contents. IsCause contents (judge.Unlawful file line)) cause)), unwritten)
   by (judge.TooLarge file) cause until =

@@ -25,7 +25,7 @@ use Rattle.scq_service.specs.Contents.{IfVisible, IsMissing, without_names}
 use Rattle.scq_service.specs.Telling.{Tells, IsOfText}
 use Rattle.scq_service.specs.Writing.{written_with, WrotePart}
 use Rattle.scq_service.specs.declared.fault.Fault.{Fault}
-use Rattle.scq_service.specs.declared.fault.Fault.TheVariants.{Words, OpenFault, ReadFault, TooLong, TooLarge, WriteFault, BadLine, NotEnabled, Unlawful, Unfinished, BadLineOf, SharedOf, UnlawfulOf, NoMemory}
+use Rattle.scq_service.specs.declared.fault.Fault.TheVariants.{Words, OpenFault, ReadFault, TooLong, TooLarge, WriteFault, BadLine, NotEnabled, Unlawful, Unfinished, BadLineOf, SharedOf, TwoRunsOf, UnlawfulOf, NoMemory}
 
 -- a count or what is visible of an object, before a call and after it
 pub record Change (A : Type 0) : Type 0 where
@@ -155,6 +155,7 @@ ReadsOver size faults end_count left names got r (Some (Unlawful line)) = ⊥
 ReadsOver size faults end_count left names got r (Some (Unfinished seat)) = ⊥
 ReadsOver size faults end_count left names got r (Some (BadLineOf file line)) = ⊥
 ReadsOver size faults end_count left names got r (Some (SharedOf what file line g m)) = ⊥
+ReadsOver size faults end_count left names got r (Some (TwoRunsOf file run g s)) = ⊥
 ReadsOver size faults end_count left names got r (Some (UnlawfulOf file line)) = ⊥
 ReadsOver size faults end_count left names got r (Some (Words fault)) = ⊥
 
@@ -273,9 +274,10 @@ pub record HaveAll {S : Type 0} (names : List (List ℕ)) (r : Inputs S) : Type 
   pub table : r.table.new ≡ option_map (without_names names) r.table.old
   pub read : r.read ≡ 0
 
--- what recordings tell of queues with this room, where that is known, meets P, where each source told its own when it was got
-abbrev pub IsReported : {S : Type 0} → (S → Option (List ℕ)) → Option ℕ → List S → (List ℕ → Type 0) → Type 0
-IsReported left room got P = IfTold left got (λ contents. (text : List ℕ) × IsJudged room contents text × P text)
+-- what recordings of files with these names tell of queues with this room, where that is known, meets P, where each source told its own
+-- when it was got
+abbrev pub IsReported : {S : Type 0} → (S → Option (List ℕ)) → List (List ℕ) → Option ℕ → List S → (List ℕ → Type 0) → Type 0
+IsReported left names room got P = IfTold left got (λ contents. (text : List ℕ) × IsJudged names room contents text × P text)
 
 -- recordings were refused: sources were read so far, and this is at fault in what they told
 abbrev pub IsRefusedBy : {S : Type 0} → (S → ℕ) → (S → ℕ) → (S → Option (List ℕ)) → List S → Inputs S → JudgeFault → Type 0
@@ -287,10 +289,10 @@ IsRefusedBy faults end_count left got r refused =
 abbrev pub EndsJudged : {S : Type 0} → (S → ℕ) → (S → ℕ) → (S → Option (List ℕ)) → Option ℕ → List (List ℕ) → List S → Inputs S → Wrote → Option Fault → Type 0
 EndsJudged faults end_count left room names got r w None =
     HaveAll names r × AreReadWhole faults end_count left (length names) got r.sources × IsUnchanged w.faults
-    × IsReported left room got (λ text. w.written.new ≡ written_with w.written.old text)
+    × IsReported left names room got (λ text. w.written.new ≡ written_with w.written.old text)
 EndsJudged faults end_count left room names got r w (Some WriteFault) =
     HaveAll names r × AreReadWhole faults end_count left (length names) got r.sources × Rose w.faults.old w.faults.new
-    × IsReported left room got (λ text. WrotePart w.written.old w.written.new text)
+    × IsReported left names room got (λ text. WrotePart w.written.old w.written.new text)
 EndsJudged faults end_count left room names got r w (Some (OpenFault file)) =
     (file ≡ length r.sources + 1) × (length r.sources < length names) × HasMissed names r × (r.sources ≡ got) × (r.read ≡ 0) × IsUnwritten w
 EndsJudged faults end_count left room names got r w (Some NoMemory) =

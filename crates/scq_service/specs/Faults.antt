@@ -9,7 +9,7 @@ use Rattle.scq_work.specs.declared.worked.WorkFault.TheVariants as work
 use Rattle.scq_stages.specs.declared.staged.StageFault.{StageFault}
 use Rattle.scq_stages.specs.declared.staged.StageFault.TheVariants as stage
 use Rattle.scq_service.specs.declared.fault.Fault.{Fault}
-use Rattle.scq_service.specs.declared.fault.Fault.TheVariants.{Words, OpenFault, ReadFault, TooLong, TooLarge, WriteFault, BadLine, NotEnabled, Unlawful, Unfinished, BadLineOf, SharedOf, UnlawfulOf, NoMemory}
+use Rattle.scq_service.specs.declared.fault.Fault.TheVariants.{Words, OpenFault, ReadFault, TooLong, TooLarge, WriteFault, BadLine, NotEnabled, Unlawful, Unfinished, BadLineOf, SharedOf, TwoRunsOf, UnlawfulOf, NoMemory}
 use Rattle.scq_outside.specs.declared.read_all_fault.ReadAllFault.{ReadAllFault}
 use Rattle.scq_outside.specs.declared.read_all_fault.ReadAllFault.TheVariants as whole
 use Rattle.scq_check.specs.declared.history.HistoryFault.{HistoryFault}
@@ -35,6 +35,7 @@ status_of_fault (Unlawful line) = 10
 status_of_fault (Unfinished seat) = 11
 status_of_fault (BadLineOf file line) = 8
 status_of_fault (SharedOf what file line other_file other_line) = 8
+status_of_fault (TwoRunsOf file run other_file other_run) = 8
 status_of_fault (UnlawfulOf file line) = 10
 status_of_fault NoMemory = 5
 
@@ -85,6 +86,10 @@ text_line line what = codes "line " ++ decimal line ++ what
 abbrev pub place_line : ℕ → ℕ → List ℕ → List ℕ
 place_line file line what = file_line file (codes " line ") ++ (decimal line ++ what)
 
+-- what is said of a file and of the run that it is of
+abbrev pub run_line : ℕ → ℕ → List ℕ → List ℕ
+run_line file run what = file_line file (codes " is of run ") ++ (decimal run ++ what)
+
 -- what is said of a seat of a schedule
 abbrev pub seat_line : ℕ → List ℕ → List ℕ
 seat_line seat what = codes "seat " ++ decimal seat ++ what
@@ -108,6 +113,7 @@ fault_line (Unlawful line) = text_line line (codes ": event out of place\n")
 fault_line (Unfinished seat) = seat_line seat (codes ": call not ended\n")
 fault_line (BadLineOf file line) = place_line file line (codes ": not understood\n")
 fault_line (SharedOf what file line other_file other_line) = place_line file line (shared_words what) ++ place_line other_file other_line (codes "\n")
+fault_line (TwoRunsOf file run other_file other_run) = run_line file run (codes ", ") ++ run_line other_file other_run (codes "\n")
 fault_line (UnlawfulOf file line) = place_line file line (codes ": event out of place\n")
 fault_line NoMemory = codes "out of memory\n"
 
@@ -156,6 +162,7 @@ fault_of_schedule schedule.NoMemory = NoMemory
 abbrev pub fault_of_judge : JudgeFault → Fault
 fault_of_judge (judge.BadLine file line) = BadLineOf file line
 fault_of_judge (judge.Shared what file line other_file other_line) = SharedOf what file line other_file other_line
+fault_of_judge (judge.TwoRuns file run other_file other_run) = TwoRunsOf file run other_file other_run
 fault_of_judge (judge.Unlawful file line) = UnlawfulOf file line
 fault_of_judge (judge.ReadFault file) = ReadFault file
 fault_of_judge (judge.TooLarge file) = TooLarge file (2 ^ 31 - 2)

@@ -61,6 +61,13 @@ pub enum Fault {
         other_file: u32,
         other_line: u32,
     },
+    /// This file of recordings is of another run than the other file.
+    TwoRunsOf {
+        file: u32,
+        run: u64,
+        other_file: u32,
+        other_run: u64,
+    },
     /// The event of this line of this file of recordings is out of place.
     UnlawfulOf {
         file: u32,
@@ -83,7 +90,8 @@ impl Fault {
             Fault::WriteFault => 4,
             Fault::NoMemory => 5,
             Fault::TooLarge { .. } => 6,
-            Fault::BadLine { .. } | Fault::BadLineOf { .. } | Fault::SharedOf { .. } => 8,
+            Fault::BadLine { .. } | Fault::BadLineOf { .. } => 8,
+            Fault::SharedOf { .. } | Fault::TwoRunsOf { .. } => 8,
             Fault::NotEnabled { .. } => 9,
             Fault::Unlawful { .. } | Fault::UnlawfulOf { .. } => 10,
             Fault::Unfinished { .. } => 11,
@@ -154,6 +162,17 @@ impl From<JudgeFault> for Fault {
                 line,
                 other_file,
                 other_line,
+            },
+            JudgeFault::TwoRuns {
+                file,
+                run,
+                other_file,
+                other_run,
+            } => Fault::TwoRunsOf {
+                file,
+                run,
+                other_file,
+                other_run,
             },
             JudgeFault::Unlawful { file, line } => Fault::UnlawfulOf { file, line },
             JudgeFault::ReadFault { file } => Fault::ReadFault { file },

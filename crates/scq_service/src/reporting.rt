@@ -1,6 +1,6 @@
 ghost use Rattle.std.specs.Prelude.{◌≡◌, ◌++◌, codes, decimal, OnOk, OnErr};
 ghost use Rattle.scq_outside.specs.Counts.{Rose};
-ghost use Rattle.scq_service.specs.Faults.{entry_line, fault_line, file_line, limit_line, payload_line, place_line, seat_line, shared_words, text_line, topics_line, words_line};
+ghost use Rattle.scq_service.specs.Faults.{entry_line, fault_line, file_line, limit_line, payload_line, place_line, run_line, seat_line, shared_words, text_line, topics_line, words_line};
 ghost use Rattle.scq_service.specs.Writing.{written_with, WrotePart};
 
 use crate::Fault;
@@ -47,6 +47,12 @@ pub fn report<K: Sink>(sink: &mut K, fault: &Fault) -> Result<(), Failed>
             other_file,
             other_line,
         } => write_of_shared(sink, *what, *file, *line, *other_file, *other_line),
+        Fault::TwoRunsOf {
+            file,
+            run,
+            other_file,
+            other_run,
+        } => write_of_runs(sink, *file, *run, *other_file, *other_run),
         Fault::UnlawfulOf { file, line } => {
             write_of_place(sink, *file, *line, b": event out of place\n")
         }
@@ -190,6 +196,32 @@ fn write_shared<K: Sink>(sink: &mut K, what: Shared, file: u32, line: u32) -> Re
         Shared::Stamp => write_of_place(sink, file, line, b": same stamp as "),
         Shared::Seat => write_of_place(sink, file, line, b": same seat as "),
     }
+}
+
+fn write_of_runs<K: Sink>(
+    sink: &mut K,
+    file: u32,
+    run: u64,
+    other_file: u32,
+    other_run: u64,
+) -> Result<(), Failed>
+    ensures whole { OnOk result (K.written sink.new ≡ written_with (K.written sink.old) (run_line file run (codes ", ") ++ run_line other_file other_run (codes "\n"))) }
+    ensures part { WrotePart (K.written sink.old) (K.written sink.new) (run_line file run (codes ", ") ++ run_line other_file other_run (codes "\n")) }
+    ensures kept { OnOk result (K.faults sink.new ≡ K.faults sink.old) }
+    ensures rose { OnErr result (Rose (K.faults sink.old) (K.faults sink.new)) }
+{
+    write_run(sink, file, run, b", ")?;
+    write_run(sink, other_file, other_run, b"\n")
+}
+
+fn write_run<K: Sink>(sink: &mut K, file: u32, run: u64, what: &[u8]) -> Result<(), Failed>
+    ensures whole { OnOk result (K.written sink.new ≡ written_with (K.written sink.old) (run_line file run what.now)) }
+    ensures part { WrotePart (K.written sink.old) (K.written sink.new) (run_line file run what.now) }
+    ensures kept { OnOk result (K.faults sink.new ≡ K.faults sink.old) }
+    ensures rose { OnErr result (Rose (K.faults sink.old) (K.faults sink.new)) }
+{
+    write_about(sink, file, b" is of run ")?;
+    write_count(sink, run, what)
 }
 
 fn write_of_seat<K: Sink>(sink: &mut K, seat: u32, what: &[u8]) -> Result<(), Failed>

@@ -43,7 +43,7 @@ pub fn run_judge<F: Files, K: Sink>(
     let all = get_sources(names, files, &mut sources);
     if all {
         let got = Snapshot::of(&sources);
-        let (sources, report) = report_on(alloc, room, sources);
+        let (sources, report) = report_on(alloc, room, names, sources);
         match report {
             Ok(text) => match write_all(out, text.bytes()) {
                 Ok(()) => Outcome::whole(sources).behind(got, None, None, None),
@@ -63,17 +63,18 @@ pub fn run_judge<F: Files, K: Sink>(
 fn report_on<S: Source>(
     alloc: Global,
     room: Option<u32>,
+    names: &[String],
     sources: Vec<S>,
 ) -> (Vec<S>, Result<Bytes, JudgeFault>)
     requires { length sources.items < 2 ^ 31 }
     ensures count { length result.0.items ≡ length sources.items }
-    ensures judged { IfOk result.1 (λ text. (contents : List (List ℕ)) → HaveContents S.left sources.items contents → IsJudged room contents text) }
+    ensures judged { IfOk result.1 (λ text. (contents : List (List ℕ)) → HaveContents S.left sources.items contents → IsJudged (map string_bytes names.now) room contents text) }
     ensures refused { IfErr result.1 (λ fault. (contents : List (List ℕ)) → HaveContents S.left sources.items contents → IsCause contents fault) }
     ensures whole { OnOk result.1 (AreReadWhole S.faults S.ends S.left (length sources.items) sources.items result.0.items) }
     ensures until { IfErr result.1 (AreReadUntil S.faults S.ends S.left sources.items result.0.items) }
     ensures given { OfEach (length sources.items) (HasGiven S.faults S.left) sources.items result.0.items }
 {
     let mut sources = sources;
-    let report = judge_recordings(alloc, room, &mut sources);
+    let report = judge_recordings(alloc, room, names, &mut sources);
     (sources, report)
 }

@@ -6,6 +6,7 @@ returns-clause-counterparts c =
       fresh = c.origin_first.ensures.first;
       once = c.named_first.ensures.first;
       in_order = c.overtaken.ensures.first;
+      overtaker = c.overtaker_first.ensures.first;
       empty_right = c.waiting_beside.ensures.first;
       accepted = c.in_ok-refused.ensures.first;
     }
@@ -21,6 +22,7 @@ returns-clause-within c =
       origin = c.origin_first.ensures.within;
       named = c.named_first.ensures.within;
       overtaken = c.overtaken.ensures.within;
+      overtaker = c.overtaker_first.ensures.within;
       waiting = c.waiting_beside.ensures.within;
       refused = c.in_ok-refused.ensures.within;
     }

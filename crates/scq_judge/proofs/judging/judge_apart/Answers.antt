@@ -1,4 +1,5 @@
-use Rattle.std.proofs.Common.{ap, Err}
+use Rattle.std.proofs.Common.{ap, map, Err}
+use Rattle.std.specs.Prelude.{string_bytes}
 use Rattle.std.proofs.lemmas.Result.{IfOk-weaker, IfErr-weaker}
 use Rattle.scq_judge.specs.Judged.{IsReported, IsCauseIn}
 use Rattle.scq_judge.proofs.JudgeLemmas.{as_many, cause_of_history, cause_of_merging}
@@ -9,9 +10,10 @@ judge_merged-requires c = as_many _ _ _ c.in-Ok.ensures.merged
 
 pub returns-in-Ok-clause-reported : goal.returns-in-Ok-clause-reported
 returns-in-Ok-clause-reported c =
-    IfOk-weaker c.judge_merged.result _ (IsReported c.args.room c.args.recorded)
+    IfOk-weaker c.judge_merged.result _ (IsReported (map string_bytes c.args.names.now) c.args.room c.args.recorded)
     (λ text h. record {
-      seats = c.requires;
+      runs = c.requires.runs;
+      seats = c.requires.seats;
       opening = c.in-Ok.merged.opening.items;
       events = c.in-Ok.merged.events.items;
       places = c.in-Ok.merged.places.items;

@@ -1,20 +1,16 @@
 use Rattle.std.proofs.Common.{List, Option, subst}
 use Rattle.std.specs.Prelude.{MatchOption}
-use Rattle.scq_judge.specs.Seats.{HaveOwnFiles, HasSeatOfAnother}
-use Rattle.scq_judge.specs.declared.recorded.Stamped.{Stamped}
-use Rattle.scq_judge.specs.declared.seats.Apart.{Apart}
+use Rattle.scq_judge.specs.Runs.{AreOfOneRun, IsOfAnotherRun}
+use Rattle.scq_judge.specs.declared.recorded.RunOf.{RunOf}
 use Rattle.scq_judge.proofs.judging.judge_recorded.Goals as goal
 
-abbrev Found : List Stamped → Option Apart → Type 0
-Found events found = MatchOption found (HaveOwnFiles events) (λ apart. HasSeatOfAnother events apart.place apart.other)
+abbrev Found : List RunOf → Option (RunOf × RunOf) → Type 0
+Found runs found = MatchOption found (AreOfOneRun runs) (λ pair. IsOfAnotherRun runs pair.0 pair.1)
 
-pub judge_apart-requires : goal.judge_apart-requires
-judge_apart-requires c =
-    subst (λ o. Found c.args.recorded.events o) c.in-Ok-None.field-0-is
-    (subst (λ es. Found es c.in-Ok-None.field-0) c.events.ensures c.in-Ok-None.ensures)
+pub judge_one_run-requires : goal.judge_one_run-requires
+judge_one_run-requires c =
+    subst (λ o. Found c.args.recorded.runs o) c.in-None.is (subst (λ rs. Found rs c.first_other_run.result) c.runs.ensures c.first_other_run.ensures)
 
-pub returns-in-Ok-Some-clause-refused : goal.returns-in-Ok-Some-clause-refused
-returns-in-Ok-Some-clause-refused c =
-    rw c.sharing.ensures
-    (subst (λ o. Found c.args.recorded.events o) c.in-Ok-Some.field-0-is
-    (subst (λ es. Found es c.in-Ok-Some.field-0) c.events.ensures c.in-Ok-Some.ensures))
+pub returns-in-Some-clause-refused : goal.returns-in-Some-clause-refused
+returns-in-Some-clause-refused c =
+    subst (λ o. Found c.args.recorded.runs o) c.in-Some.is (subst (λ rs. Found rs c.first_other_run.result) c.runs.ensures c.first_other_run.ensures)

@@ -25,6 +25,16 @@ returns-in-SharedOf-clause-part g c =
     let W : Fault → Type 0 = λ fault. WrotePart (g.K.Sink.written c.args.sink.now) (g.K.Sink.written c.write_of_shared.new.sink) (fault_line fault) in
     subst W (sym c.in-SharedOf.is) c.write_of_shared.ensures.part
 
+pub returns-in-TwoRunsOf-clause-whole : goal.returns-in-TwoRunsOf-clause-whole
+returns-in-TwoRunsOf-clause-whole g c =
+    let W : Fault → Type 0 = λ fault. OnOk c.write_of_runs.result (g.K.Sink.written c.write_of_runs.new.sink ≡ written_with (g.K.Sink.written c.args.sink.now) (fault_line fault)) in
+    subst W (sym c.in-TwoRunsOf.is) c.write_of_runs.ensures.whole
+
+pub returns-in-TwoRunsOf-clause-part : goal.returns-in-TwoRunsOf-clause-part
+returns-in-TwoRunsOf-clause-part g c =
+    let W : Fault → Type 0 = λ fault. WrotePart (g.K.Sink.written c.args.sink.now) (g.K.Sink.written c.write_of_runs.new.sink) (fault_line fault) in
+    subst W (sym c.in-TwoRunsOf.is) c.write_of_runs.ensures.part
+
 pub returns-in-UnlawfulOf-clause-whole : goal.returns-in-UnlawfulOf-clause-whole
 returns-in-UnlawfulOf-clause-whole g c =
     let W : Fault → Type 0 = λ fault. OnOk c.write_of_place-in-UnlawfulOf.result (g.K.Sink.written c.write_of_place-in-UnlawfulOf.new.sink ≡ written_with (g.K.Sink.written c.args.sink.now) (fault_line fault)) in

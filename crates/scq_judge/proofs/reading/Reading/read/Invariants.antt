@@ -2,7 +2,7 @@ use Rattle.std.proofs.Common.{◌≡◌, ◌+◌, ◌-◌, ◌≤◌, ℕ, None,
 use Rattle.std.specs.Option.{option_map}
 use Rattle.memchr.specs.Find.{IsFirstByte, is_byte}
 use Rattle.scq_judge.specs.Files.{IsFile, most_bytes}
-use Rattle.scq_judge.specs.Recording.{AreOf}
+use Rattle.scq_judge.specs.Recording.{AreAllOf}
 use Rattle.scq_judge.specs.declared.recorded.Last.TheVariants.{NoEvent}
 use Rattle.scq_judge.proofs.ReadLemmas.{IsTaken}
 use Rattle.scq_judge.proofs.SourceLemmas.{HasTaken}
@@ -16,7 +16,7 @@ invariant-reads g l = record {
   taken : IsTaken l.fn.self.file l.fn.self.lone (record l.fn.recorded { last = NoEvent }) l.recorded l.lines l.front.items
       (g.S.Source.left l.fn.source) (g.S.Source.left l.source);
   left : option_map length (g.S.Source.left l.fn.source) ≡ option_map (λ rest. l.size + length rest) (g.S.Source.left l.source);
-  files : (count : ℕ) → IsFile count l.fn.self.file → AreOf count l.fn.recorded.events → AreOf count l.recorded.events;
+  files : (count : ℕ) → IsFile count l.fn.self.file → AreAllOf count l.fn.recorded → AreAllOf count l.recorded;
   source : HasTaken g.S.Source.faults g.S.Source.ends g.S.Source.left l.fn.source l.source;
 }
 

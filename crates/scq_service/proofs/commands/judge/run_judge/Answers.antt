@@ -49,7 +49,7 @@ returns-in-Ok-write_all-clause-ends g c =
     let end = c.whole.ensures in
     let after = c.behind.ensures in
     let were : c.behind.result.got.value.items ≡ olds = ap (λ v. v.value.items) after.got ∙ ap (λ v. v.items) c.of-got.ensures in
-    let J : Result (List ℕ) JudgeFault → Type 0 = λ r. IfOk r (λ text. (contents : List (List ℕ)) → HaveContents left olds contents → IsJudged c.args.room contents text) in
+    let J : Result (List ℕ) JudgeFault → Type 0 = λ r. IfOk r (λ text. (contents : List (List ℕ)) → HaveContents left olds contents → IsJudged names c.args.room contents text) in
     let judged = subst J c.in-Ok-report.is read.judged in
     let R : Result (List ℕ) JudgeFault → Type 0 = λ r. OnOk r (AreReadWhole faults end_count left (length olds) olds news) in
     let whole = subst R c.in-Ok-report.is read.whole in
@@ -58,7 +58,7 @@ returns-in-Ok-write_all-clause-ends g c =
       have_all left faults names table opens olds news read.count came.come all,
       subst (λ n. AreReadWhole faults end_count left n olds news) all.0 whole,
       c.in-Ok-write_all.ensures.kept,
-      told_of left olds (λ contents. (text : List ℕ) × IsJudged c.args.room contents text × W text)
+      told_of left olds (λ contents. (text : List ℕ) × IsJudged names c.args.room contents text × W text)
           (λ contents have. (c.in-Ok-report.text, judged contents have, subst W c.bytes.ensures c.in-Ok-write_all.ensures.whole)),
     )
 
@@ -99,7 +99,7 @@ returns-in-Ok-report-clause-ends g c =
     let end = c.at-in-Err-write_all.ensures in
     let after = c.behind-in-Err-write_all.ensures in
     let were : c.behind-in-Err-write_all.result.got.value.items ≡ olds = ap (λ v. v.value.items) after.got ∙ ap (λ v. v.items) c.of-got.ensures in
-    let J : Result (List ℕ) JudgeFault → Type 0 = λ r. IfOk r (λ text. (contents : List (List ℕ)) → HaveContents left olds contents → IsJudged c.args.room contents text) in
+    let J : Result (List ℕ) JudgeFault → Type 0 = λ r. IfOk r (λ text. (contents : List (List ℕ)) → HaveContents left olds contents → IsJudged names c.args.room contents text) in
     let judged = subst J c.in-Ok-report.is read.judged in
     let R : Result (List ℕ) JudgeFault → Type 0 = λ r. OnOk r (AreReadWhole faults end_count left (length olds) olds news) in
     let whole = subst R c.in-Ok-report.is read.whole in
@@ -108,7 +108,7 @@ returns-in-Ok-report-clause-ends g c =
       have_all left faults names table opens olds news read.count came.come all,
       subst (λ n. AreReadWhole faults end_count left n olds news) all.0 whole,
       c.in-Err-write_all.ensures.rose,
-      told_of left olds (λ contents. (text : List ℕ) × IsJudged c.args.room contents text × W text)
+      told_of left olds (λ contents. (text : List ℕ) × IsJudged names c.args.room contents text × W text)
           (λ contents have. (c.in-Ok-report.text, judged contents have, subst W c.bytes.ensures c.in-Err-write_all.ensures.part)),
     )
 
